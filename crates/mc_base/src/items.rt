@@ -1,0 +1,129 @@
+// Short lists, of which contracts see the items alone.
+ghost use Rattle.std.specs.Prelude.{◌≡◌, ◌++◌, ◌∷◌, [], length, IfOk, OnOk, OnErr, IsOk};
+
+use smallvec::SmallVec;
+use std::alloc::{AllocError, AllocFailed, Global};
+use std::marker::Model;
+
+/// A list on the heap.
+#[derive(Drop)]
+pub struct Items<T> {
+    items: Vec<T>,
+}
+
+impl<T> Model for Items<T> {
+    ghost use Rattle.std.specs.Prelude.{List};
+
+    ghost Value = { List T };
+
+    ghost view = { λ list. list.items.items };
+}
+
+impl<T> Items<T> {
+    /// The empty list.
+    pub fn new(alloc: Global) -> Items<T>
+        ensures { result ≡ [] }
+    {
+        Items {
+            items: Vec::new(alloc),
+        }
+    }
+
+    /// The list of these items.
+    pub fn of(items: Vec<T>) -> Items<T>
+        ensures { result ≡ items.items }
+    {
+        Items { items }
+    }
+
+    pub fn as_slice(&self) -> &[T]
+        ensures { result.now ≡ self.now }
+    {
+        self.items.as_slice()
+    }
+
+    pub fn len(&self) -> usize
+        ensures { result ≡ length self.now }
+    {
+        self.items.len()
+    }
+}
+
+impl<T: Drop> Items<T> {
+    /// Adds an item at the end. Without memory the list stays.
+    pub fn push(&mut self, item: T) -> Result<(), AllocError>
+        ensures ok { OnOk result (self.new ≡ self.old ++ item ∷ []) }
+        ensures err { OnErr result (self.new ≡ self.old) }
+    {
+        self.items.push(item)?;
+        Ok(())
+    }
+}
+
+impl<T: Copy> Items<T> {
+    /// The same items again.
+    pub fn copy(&self, alloc: Global) -> Result<Items<T>, AllocError>
+        ensures { IfOk result (λ list. list ≡ self.now) }
+    {
+        Ok(Items {
+            items: Vec::from_slice(alloc, self.items.as_slice())?,
+        })
+    }
+}
+
+/// A list that keeps up to four items in itself.
+#[derive(Drop)]
+pub struct Args<T> {
+    items: SmallVec<T, 4>,
+}
+
+impl<T> Model for Args<T> {
+    ghost use Rattle.std.specs.Prelude.{List};
+
+    ghost Value = { List T };
+
+    ghost view = { λ list. list.items.items };
+}
+
+impl<T> Args<T> {
+    pub fn as_slice(&self) -> &[T]
+        ensures { result.now ≡ self.now }
+    {
+        self.items.as_slice()
+    }
+
+    pub fn len(&self) -> usize
+        ensures { result ≡ length self.now }
+    {
+        self.items.len()
+    }
+}
+
+impl<T: Default + Copy> Args<T> {
+    /// The empty list.
+    pub fn new(alloc: Global) -> Args<T>
+        ensures { result ≡ [] }
+    {
+        Args {
+            items: SmallVec::new(alloc),
+        }
+    }
+
+    /// Adds an item at the end. Without memory the list stays.
+    pub fn push(&mut self, item: T) -> Result<(), AllocError>
+        ensures ok { OnOk result (self.new ≡ self.old ++ item ∷ []) }
+        ensures err { OnErr result (self.new ≡ self.old) }
+    {
+        self.items.push(item)?;
+        Ok(())
+    }
+
+    /// The same items again.
+    pub fn copy(&self, alloc: Global) -> Result<Args<T>, AllocError>
+        ensures { IfOk result (λ list. list ≡ self.now) }
+    {
+        Ok(Args {
+            items: SmallVec::from_slice(alloc, self.items.as_slice())?,
+        })
+    }
+}

@@ -1,0 +1,34 @@
+// Places, kinds, atoms and variables.
+use crate::{Items, NodeId};
+
+/// The one error of calls that fail only for want of memory.
+pub type NoMemory = std::alloc::AllocError;
+
+/// A place in a text: line and column in bytes, both from 1.
+#[derive(Clone, Copy, Debug, PartialEq, Eq, PartialOrd, Ord)]
+pub struct Place {
+    pub line: u32,
+    pub column: u32,
+}
+
+/// The kind of a value. `Int` goes from -2147483648 to 2147483647, and `Ptr` from 0 to 2^62 - 1.
+#[derive(Clone, Copy, Debug, PartialEq, Eq, PartialOrd, Ord)]
+pub enum Kind {
+    Int,
+    Ptr,
+}
+
+/// A fact about nodes: `Eq` is `a = b + c`, `Ne` is `a != b + c`, and `In` is `lo <= a <= hi`.
+#[derive(Clone, Copy, Debug, PartialEq, Eq)]
+pub enum Atom {
+    Eq(NodeId, NodeId, i64),
+    Ne(NodeId, NodeId, i64),
+    In(NodeId, i64, i64),
+}
+
+/// A variable's name, which is empty for a temporary, and its kind.
+#[derive(Drop)]
+pub struct VarInfo {
+    pub name: Items<u8>,
+    pub kind: Kind,
+}
