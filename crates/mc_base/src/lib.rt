@@ -8,4 +8,4 @@ mod plain;
 
 pub use ids::{EdgeId, Id, NodeId, PointId, PredId, StructId, VarId};
 pub use items::{Args, Items};
-pub use plain::{Atom, Kind, NoMemory, Place, VarInfo};
+pub use plain::{Atom, FaultKind, Kind, NoMemory, Place, VarInfo};
