@@ -1,5 +1,5 @@
 // Blocks at addresses, which are read, written, made and freed.
-ghost use Rattle.std.specs.Prelude.{◌≡◌, ◌↔◌, IsTrue, IsSome, IsNone, IsSomeAnd, IfOk, OnErr, true, false};
+ghost use Rattle.std.specs.Prelude.{◌≡◌, ◌↔◌, IsTrue, IsSome, IsNone, IsSomeAnd, IfOk, OnErr, true, false, None, replicate};
 ghost use Rattle.std.specs.FinMap as map;
 ghost use Rattle.mc_heap.specs.Access.{block_field, field_at, read_of, with_field, fresh_block};
 ghost use Rattle.mc_heap.specs.Heap.{IsAddress, HasAddresses};
@@ -35,6 +35,13 @@ impl Model for Cell {
     ghost coded = { block_code };
 
     ghost view = { λ c. record { shape = c.shape; fields = c.fields.items } };
+}
+
+// So many undefined fields.
+fn undefined(alloc: Global, fields: u64) -> Result<Vec<Option<i64>>, NoMemory>
+    ensures { IfOk result (λ made. made.items ≡ replicate fields None) }
+{
+    vec![in alloc; None; fields as usize]
 }
 
 impl Cell {
@@ -100,5 +107,63 @@ impl Heap {
             blocks: BTreeMap::new(alloc),
             alloc,
         }
+    }
+
+    /// What a field of a block holds. Absent exactly where the address is not allocated as that
+    /// struct, or the struct has no such field.
+    pub fn read(&self, address: u64, shape: u64, field: u64) -> Read
+        ensures answer { result ≡ read_of (field_at (map.get self.now address) shape field) }
+        ensures addresses { HasAddresses self.now }
+    {
+        let Some(cell) = self.blocks.get(&address) else {
+            return Read::Absent;
+        };
+        cell.read(shape, field)
+    }
+
+    /// Writes a field, and answers whether it is there. With false nothing changes.
+    pub fn write(&mut self, address: u64, shape: u64, field: u64, value: i64) -> bool
+        ensures there { IsTrue result ↔ IsSome (field_at (map.get self.old address) shape field) }
+        ensures written { IsTrue result → IsSomeAnd (map.get self.old address) (λ block. self.new ≡ map.insert self.old address (with_field block field value)) }
+        ensures kept { result ≡ false → self.new ≡ self.old }
+    {
+        let Some(cell) = self.blocks.get_mut(&address) else {
+            return false;
+        };
+        cell.write(shape, field, value)
+    }
+
+    /// Allocates a block of undefined fields, and answers whether the address was free. With false,
+    /// and without memory, nothing changes.
+    pub fn add(&mut self, address: u64, shape: u64, fields: u64) -> Result<bool, NoMemory>
+        requires { IsAddress address }
+        ensures answer { IfOk result (λ added. IsTrue added ↔ IsNone (map.get self.old address)) }
+        ensures added { result ≡ Ok true → self.new ≡ map.insert self.old address (fresh_block shape fields) }
+        ensures kept { result ≡ Ok false → self.new ≡ self.old }
+        ensures err { OnErr result (self.new ≡ self.old) }
+    {
+        if self.blocks.contains_key(&address) {
+            return Ok(false);
+        }
+        let fields = undefined(self.alloc, fields)?;
+        self.blocks.insert(address, Cell { shape, fields })?;
+        Ok(true)
+    }
+
+    /// Frees a block, and answers whether the address was allocated. With false nothing changes.
+    pub fn remove(&mut self, address: u64) -> bool
+        ensures was { IsTrue result ↔ IsSome (map.get self.old address) }
+        ensures removed { self.new ≡ map.remove self.old address }
+        ensures kept { result ≡ false → self.new ≡ self.old }
+    {
+        self.blocks.remove(&address).is_some()
+    }
+
+    /// How many addresses are allocated.
+    pub fn len(&self) -> u64
+        ensures count { result ≡ map.len self.now }
+        ensures addresses { HasAddresses self.now }
+    {
+        self.blocks.len() as u64
     }
 }
