@@ -1,7 +1,6 @@
 -- What is read and written in a heap.
 use Rattle.std.specs.Prelude.{ℕ, ℤ, Option, Some, None, slice_get, slice_set, replicate, nat_eq, if◌then◌else◌}
-use Rattle.std.specs.FinMap as map
-use Rattle.mc_heap.specs.Heap.{Block, Heap, region_of}
+use Rattle.mc_heap.specs.Heap.{Block}
 use Rattle.mc_heap.specs.declared.blocks.Read.{Read}
 use Rattle.mc_heap.specs.declared.blocks.Read.TheVariants.{Value, Undefined, Absent}
 

@@ -1,2 +1,5 @@
 pub mod Access
 pub mod Heap
+pub mod Instances
+pub mod PartLaws
+pub mod Parts

@@ -2,5 +2,7 @@
 #![tactic(auto)]
 
 mod blocks;
+mod laws;
 
 pub use blocks::{Heap, NoMemory, Read};
+pub use laws::{changes_are_local, heaps_change_one_address, parts_regroup, two_blocks_are_parts};

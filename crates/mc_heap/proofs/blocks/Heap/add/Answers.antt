@@ -1,6 +1,5 @@
-use Rattle.std.proofs.Common.{sym, ap, ◌∙◌, Some, refl}
+use Rattle.std.proofs.Common.{sym, ap, ◌∙◌, refl}
 use Rattle.std.specs.Prelude.{is_some, List, Option, ℤ}
-use Rattle.mc_heap.specs.Heap.{Block}
 use Rattle.mc_heap.proofs.Entries.{found_view, fresh_of, added_view, addresses_kept, is_taken, is_free}
 use Rattle.mc_heap.proofs.blocks.Heap.add.Goals as goal
 

@@ -1,11 +1,8 @@
 use Rattle.std.proofs.Common.{sym, ap, ◌∙◌, Some, None}
-use Rattle.std.specs.Prelude.{Option, IsSomeAnd}
 use Rattle.std.specs.Option.{option_copied_mut}
 use Rattle.std.proofs.Math.Facts.{to_z-of_z}
-use Rattle.std.specs.FinMap as map
-use Rattle.mc_heap.specs.Heap.{Block, Heap}
 use Rattle.mc_heap.specs.Access.{with_field}
-use Rattle.mc_heap.proofs.Entries.{found_view, is_written, kept_view, addresses_kept, none_there, is_field_there, written_addresses}
+use Rattle.mc_heap.proofs.Entries.{found_view, is_written, kept_view, none_there, is_field_there, written_addresses}
 use Rattle.mc_heap.proofs.blocks.Heap.write.Goals as goal
 
 pub returns-in_default-clause-there : goal.returns-in_default-clause-there
