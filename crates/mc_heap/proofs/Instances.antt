@@ -1,0 +1,50 @@
+-- The heap of two blocks.
+use Rattle.std.proofs.Common.{◌≡◌, ℕ, Option, Some, None, [], ◌∷◌, Bool, true, false, cond, refl, arith}
+use Rattle.std.specs.Prelude.{nat_eq}
+use Rattle.std.specs.FinMap.{gets}
+use Rattle.std.proofs.lemmas.Bool.Decides.{nat_tests}
+use Rattle.mc_heap.specs.Heap.{Block, region_of}
+use Rattle.mc_heap.specs.Parts.{Joins, Split, IsEmpty, Changes, Star, StarAt}
+use Rattle.mc_heap.specs.Instances.{block_at, two_blocks, one_block, nowhere, only_at, IsBlockAt, IsNothingAt}
+use Rattle.mc_heap.proofs.Splits.{split_turned, split_whole, insert_changes}
+
+joins_two : (b c : Bool) (p q : Block) (x : Option Block) → x ≡ cond b (Some p) (cond c (Some q) None) → (b ≡ true → c ≡ false) → Joins x (cond b (Some p) None) (cond c (Some q) None)
+joins_two true true p q x e apart = absurd (cc (apart refl))
+joins_two true false p q x e apart = e
+joins_two false c p q x e apart = e
+
+apart : (a : ℕ) → nat_eq a 7 ≡ true → nat_eq a 9 ≡ false
+apart a e = grind (arith, nat_tests)
+
+both : (a : ℕ) → region_of two_blocks a ≡ cond (nat_eq a 7) (Some (block_at 7)) (cond (nat_eq a 9) (Some (block_at 9)) None)
+both a = grind (arith, gets, nat_tests)
+
+pub two_split : Split (region_of two_blocks) (only_at 7) (only_at 9)
+two_split = record { joins = λ a. joins_two (nat_eq a 7) (nat_eq a 9) (block_at 7) (block_at 9) (region_of two_blocks a) (both a) (apart a) }
+
+pub nowhere_empty : IsEmpty nowhere
+nowhere_empty = record { none = λ a. refl }
+
+pub nine_split : Split (only_at 9) nowhere (only_at 9)
+nine_split = split_whole (only_at 9) nowhere_empty
+
+pub seven_cell : IsBlockAt 7 (only_at 7)
+seven_cell = record { here = refl; only = λ a ne. grind (arith, nat_tests) }
+
+pub nine_cell : IsBlockAt 9 (only_at 9)
+nine_cell = record { here = refl; only = λ a ne. grind (arith, nat_tests) }
+
+pub two_star : Star IsBlockAt (7 ∷ 9 ∷ []) (region_of two_blocks)
+two_star = (only_at 7, only_at 9, two_split, seven_cell, (only_at 9, nowhere, split_turned nine_split, nine_cell, nowhere_empty))
+
+pub two_star_at : StarAt IsBlockAt IsNothingAt 1 (7 ∷ 8 ∷ 9 ∷ []) (region_of two_blocks)
+two_star_at = (only_at 7, only_at 9, two_split, seven_cell, (nowhere, only_at 9, nine_split, nowhere_empty, (only_at 9, nowhere, split_turned nine_split, nine_cell, nowhere_empty)))
+
+pub nine_added : Changes (region_of one_block) (region_of two_blocks) 9 (Some (block_at 9))
+nine_added = insert_changes one_block 9 (block_at 9)
+
+pub nine_free : region_of one_block 9 ≡ None
+nine_free = grind (arith, gets, nat_tests)
+
+pub nine_gone : Changes (region_of two_blocks) (only_at 7) 9 None
+nine_gone = record { here = refl; others = λ a ne. grind (arith, gets, nat_tests) }

@@ -1,0 +1,4 @@
+pub mod Entries
+pub mod Instances
+pub mod Splits
+pub mod Stars

@@ -1,0 +1,6 @@
+pub mod Access
+pub mod Choices
+pub mod Heap
+pub mod Instances
+pub mod PartLaws
+pub mod Parts

@@ -1,0 +1,47 @@
+// What holds of regions, their parts and their changes. Each law is what a function with no body ensures.
+ghost use Rattle.std.specs.Prelude.{◌≡◌, ◌∷◌, [], Some, None};
+ghost use Rattle.mc_heap.specs.Heap.{region_of};
+ghost use Rattle.mc_heap.specs.Parts.{Split, IsEmpty, Star, StarAt, Changes};
+ghost use Rattle.mc_heap.specs.PartLaws.{SplitCommutes, SplitRegroupsLeft, SplitRegroupsRight, SplitDropsEmpty, SplitAddsEmpty, EmptyHeapIsEmpty, RegionTellsHeap, InsertChanges, RemoveChanges, InsertKeepsAddresses, RemoveKeepsAddresses, CellIsRead, CellIsAdded, CellIsReplaced, CellIsRemoved};
+ghost use Rattle.mc_heap.specs.Instances.{block_at, one_block, two_blocks, nowhere, only_at, IsBlockAt, IsNothingAt};
+
+/// Parts may be named and grouped in any order, and an empty part plays no role.
+pub fn parts_regroup()
+    ensures commutes { SplitCommutes }
+    ensures left { SplitRegroupsLeft }
+    ensures right { SplitRegroupsRight }
+    ensures drops_empty { SplitDropsEmpty }
+    ensures adds_empty { SplitAddsEmpty }
+{}
+
+/// How a finite map's region changes.
+pub fn heaps_change_one_address()
+    ensures empty { EmptyHeapIsEmpty }
+    ensures tells { RegionTellsHeap }
+    ensures insert { InsertChanges }
+    ensures remove { RemoveChanges }
+    ensures insert_keeps { InsertKeepsAddresses }
+    ensures remove_keeps { RemoveKeepsAddresses }
+{}
+
+/// A change of one block is a change of its part, and the other parts stay.
+pub fn changes_are_local()
+    ensures read { CellIsRead }
+    ensures added { CellIsAdded }
+    ensures replaced { CellIsReplaced }
+    ensures removed { CellIsRemoved }
+{}
+
+/// A heap of two blocks meets the premises of each of these laws.
+pub fn two_blocks_are_parts()
+    ensures split { Split (region_of two_blocks) (only_at 7) (only_at 9) }
+    ensures inner { Split (only_at 9) nowhere (only_at 9) }
+    ensures empty { IsEmpty nowhere }
+    ensures first { IsBlockAt 7 (only_at 7) }
+    ensures second { IsBlockAt 9 (only_at 9) }
+    ensures each { Star IsBlockAt (7 ∷ 9 ∷ []) (region_of two_blocks) }
+    ensures each_but_one { StarAt IsBlockAt IsNothingAt 1 (7 ∷ 8 ∷ 9 ∷ []) (region_of two_blocks) }
+    ensures free { region_of one_block 9 ≡ None }
+    ensures added { Changes (region_of one_block) (region_of two_blocks) 9 (Some (block_at 9)) }
+    ensures removed { Changes (region_of two_blocks) (only_at 7) 9 None }
+{}
