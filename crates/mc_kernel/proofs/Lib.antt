@@ -1,3 +1,4 @@
 pub mod Moves
 pub mod Standing
 pub mod Sound
+pub mod Once
