@@ -14,6 +14,8 @@ mod plain;
 mod streams;
 mod sure_files;
 mod sure_sink;
+#[cfg(test)]
+mod tests;
 
 pub use host::{HostFiles, HostSink};
 pub use ids::{EdgeId, Id, NodeId, PointId, PredId, StructId, VarId};
