@@ -96,7 +96,9 @@ impl<R: Print + Drop> Sink for HostSink<R> {
 
 // Counts a failure.
 fn counted<T>(faults: &mut u64, answer: io::Result<T>) -> Result<T, FileFault>
-    ensures same { MatchResult answer (λ value. result ≡ Ok value) (λ _. result ≡ Err FileFault.Failed) }
+    ensures same { MatchResult answer
+        (λ value. result ≡ Ok value)
+        (λ _. result ≡ Err FileFault.Failed) }
     ensures cause { HasCause faults.old faults.new result }
 {
     match answer {

@@ -125,8 +125,10 @@ fn lists_and_numbers_keep_what_they_are_given(rt: HostRuntime) -> Result<(), Fai
     }
     let more = items.copy(alloc)?;
     assert_eq!(rt; more.len(), 6);
+    assert!(rt; more == items);
+    assert!(rt; more.get(5) == Some(&NodeId(5)));
+    assert!(rt; more.get(6).is_none());
     assert_eq!(rt; args.copy(alloc)?.len(), 6);
-    assert!(rt; more.as_slice().last() == Some(&NodeId(5)));
     assert_eq!(rt; EdgeId::of(7).number(), 7);
     Ok(())
 }
