@@ -53,16 +53,16 @@ abbrev skipped : List Stmt → Config
 skipped body = at_point (record { 0 = 1 }) (start (flow_of body))
 
 copy_steps : (body : List Stmt) (choices : List Choice) (r : Result) → Step (flow_of body) (skipped body) choices r → r ≡ next (copied body) choices
-copy_steps body choices r s = subst (λ o. StepAt o (skipped body) choices r) (copy_point (length body + 2) body) s
+copy_steps body choices r s = subst (λ o. StepAt (flow_of body).structs o (skipped body) choices r) (copy_point (length body + 2) body) s
 
 copy_step : (body : List Stmt) (choices : List Choice) → Step (flow_of body) (skipped body) choices (next (copied body) choices)
-copy_step body choices = subst (λ o. StepAt o (skipped body) choices (next (copied body) choices)) (sym (copy_point (length body + 2) body)) refl
+copy_step body choices = subst (λ o. StepAt (flow_of body).structs o (skipped body) choices (next (copied body) choices)) (sym (copy_point (length body + 2) body)) refl
 
 end_steps : (body : List Stmt) (choices : List Choice) (r : Result) → Step (flow_of body) (copied body) choices r → r ≡ last ended
-end_steps body choices r s = subst (λ o. StepAt o (copied body) choices r) (end_point body) s
+end_steps body choices r s = subst (λ o. StepAt (flow_of body).structs o (copied body) choices r) (end_point body) s
 
 end_step : (body : List Stmt) (choices : List Choice) → Step (flow_of body) (copied body) choices (last ended)
-end_step body choices = subst (λ o. StepAt o (copied body) choices (last ended)) (sym (end_point body)) refl
+end_step body choices = subst (λ o. StepAt (flow_of body).structs o (copied body) choices (last ended)) (sym (end_point body)) refl
 
 flow_ends : (body : List Stmt) (choices : List Choice) → Reaches (Step (flow_of body)) 3 (start (flow_of body)) choices ended
 flow_ends body choices = inr (skipped body, choices, refl, inr (copied body, choices, copy_step body choices, inl (end_step body choices)))
