@@ -1,5 +1,5 @@
 -- Symbolic states.
-use Rattle.std.specs.Prelude.{◌==◌, ◌+◌, ◌&&◌, ◌||◌, ℕ, List, [], ◌∷◌, ◌++◌, ℤ, pos, Bool, true, false, not, Option, Some, None, find, int_le, map, filter, length, nat_lt, replicate, slice_index_or, slice_set, if◌then◌else◌}
+use Rattle.std.specs.Prelude.{◌==◌, ◌+◌, ◌&&◌, ◌||◌, ℕ, zero, suc, List, [], ◌∷◌, ◌++◌, ℤ, pos, Bool, true, false, not, Option, Some, None, int_le, map, option_map, position, remove, replicate, slice_get, slice_index_or, slice_set}
 use Rattle.std.specs.List.{list_any}
 use Rattle.std.specs.Ordering.{int_eq}
 use Rattle.mc_base.specs.declared.ids.EdgeId.{EdgeId}
@@ -116,45 +116,41 @@ has_shape shape (Block at t fields) = shape.0 == t.0
 abbrev pub is_shaped_block_at : List Atom → NodeId → StructId → EdgeId × Edge → Bool
 is_shaped_block_at atoms n shape e = has_shape shape e.1 && is_block_at atoms n e
 
--- the first block at the node, and the first of this struct
-abbrev pub block_at : State → NodeId → Option (EdgeId × Edge)
-block_at s n = find (is_block_at s.atoms n) s.edges
+-- the place in the list of edges of the first block at the node, and of the first of this struct
+abbrev pub block_place : State → NodeId → Option ℕ
+block_place s n = position (is_block_at s.atoms n) s.edges
 
-abbrev pub shaped_block_at : State → NodeId → StructId → Option (EdgeId × Edge)
-shaped_block_at s n shape = find (is_shaped_block_at s.atoms n shape) s.edges
+abbrev pub shaped_block_place : State → NodeId → StructId → Option ℕ
+shaped_block_place s n shape = position (is_shaped_block_at s.atoms n shape) s.edges
 
--- the node of a block's field, where it is known
-abbrev pub field_node : Edge → ℕ → Option NodeId
-field_node (Block at shape fields) f = slice_index_or fields f None
+-- the fields of a block, each with its node where it is known
+abbrev pub fields_of : Edge → List (Option NodeId)
+fields_of (Block at shape fields) = fields
 
-abbrev pub has_field : Edge → ℕ → Bool
-has_field (Block at shape fields) f = nat_lt f (length fields)
+-- what stands at a place of the edges
+abbrev pub edge_at : State → ℕ → Option Edge
+edge_at s place = option_map (λ e. e.1) (slice_get s.edges place)
 
-abbrev pub with_field_node : Edge → ℕ → NodeId → Edge
-with_field_node (Block at shape fields) f n = Block at shape (slice_set fields f (Some n))
+abbrev pub with_field_node : ℕ → NodeId → Edge → Edge
+with_field_node f n (Block at shape fields) = Block at shape (slice_set fields f (Some n))
 
-abbrev pub put_field : EdgeId → ℕ → NodeId → EdgeId × Edge → EdgeId × Edge
-put_field id f n e = if e.0.0 == id.0 then (e.0, with_field_node e.1 f n) else e
+-- the edges with a node in a field of the block at a place
+abbrev pub put_field : List (EdgeId × Edge) → ℕ → ℕ → NodeId → List (EdgeId × Edge)
+put_field [] place f n = []
+put_field (e ∷ es) zero f n = (e.0, with_field_node f n e.1) ∷ es
+put_field (e ∷ es) (suc place) f n = e ∷ put_field es place f n
 
--- the field of the block with this id has the node
-abbrev pub with_field : State → EdgeId → ℕ → NodeId → State
-with_field s id f n = record s { edges = map (put_field id f n) s.edges }
-
-abbrev pub is_other : EdgeId → EdgeId × Edge → Bool
-is_other id e = not (e.0.0 == id.0)
-
--- the edges but the one with this id
-abbrev pub other_edges : EdgeId → List (EdgeId × Edge) → List (EdgeId × Edge)
-other_edges id es = filter (is_other id) es
+abbrev pub with_field : State → ℕ → ℕ → NodeId → State
+with_field s place f n = record s { edges = put_field s.edges place f n }
 
 -- the node differs from the start of each of these blocks
 abbrev pub apart : NodeId → List (EdgeId × Edge) → List Atom
 apart a es = map (λ e. Ne a (start_of e.1) (pos 0)) es
 
--- the block with this id, which starts at the node, is gone; its address is no null and none of the other blocks'
-abbrev pub without_block : State → EdgeId → NodeId → State
-without_block s id a =
+-- the block at a place, which starts at this node, is gone; its address is no null and none of the other blocks'
+abbrev pub without_block : State → ℕ → NodeId → State
+without_block s place a =
     record s {
-      edges = other_edges id s.edges;
-      atoms = s.atoms ++ (In a (pos 1) (pos 4611686018427387903) ∷ apart a (other_edges id s.edges));
+      edges = remove s.edges place;
+      atoms = s.atoms ++ (In a (pos 1) (pos 4611686018427387903) ∷ apart a (remove s.edges place));
     }
