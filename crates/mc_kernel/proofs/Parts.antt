@@ -35,7 +35,8 @@ all_at P (y ∷ ys) zero x e a = let same : y ≡ x = cc in subst P same a.0
 all_at P (y ∷ ys) (suc place) x e a = all_at P ys place x e a.1
 
 pub all_without : {X : Type 0} (P : X → Type 0) (xs : List X) (place : ℕ) → AllByRecursion P xs → AllByRecursion P (remove xs place)
-all_without P [] place a = a
+all_without P [] zero a = a
+all_without P [] (suc place) a = a
 all_without P (y ∷ ys) zero a = a.1
 all_without P (y ∷ ys) (suc place) a = (a.0, all_without P ys place a.1)
 

@@ -78,7 +78,7 @@ stands_agree v w values region s bounded agree st = record {
     rest = st.parts.rest;
     split = st.parts.split;
     each = star_map (λ (e : EdgeId × Edge). EdgeMeets v e.1) (λ (e : EdgeId × Edge). EdgeMeets w e.1) (λ (e : EdgeId × Edge). EdgeIsBelow s.next e.1) (edge_agrees v w s.next agree) s.edges st.parts.held bounded.edges st.parts.each;
-    whole = st.parts.whole;
+    alone = st.parts.alone;
   };
 }
 
@@ -92,7 +92,7 @@ vars_get v (None ∷ xs) (z ∷ zs) zero n m e = cc
 vars_get v (Some k ∷ xs) (z ∷ zs) zero n m e = m.0 ∙ (let same : k ≡ n = cc in ap (λ (j : NodeId). Some (v j.0)) same)
 vars_get v (k ∷ xs) (z ∷ zs) (suc x) n m e = vars_get v xs zs x n m.1 e
 
-vars_set : (v : Valuation) (xs : List (Option NodeId)) (zs : List (Option ℤ)) (x : ℕ) (n : NodeId) → VarsMeet v xs zs → VarsMeet v (slice_set xs x (Some n)) (slice_set zs x (Some (v n.0)))
+pub vars_set : (v : Valuation) (xs : List (Option NodeId)) (zs : List (Option ℤ)) (x : ℕ) (n : NodeId) → VarsMeet v xs zs → VarsMeet v (slice_set xs x (Some n)) (slice_set zs x (Some (v n.0)))
 vars_set v [] [] x n m = m
 vars_set v [] (z ∷ zs) x n m = absurd m
 vars_set v (k ∷ xs) [] x n m = absurd m
@@ -233,7 +233,7 @@ unknown_stands laws n region empty = record {
   kinds = tt;
   atoms = tt;
   vars = unknown_vars (λ k. pos 0) n;
-  parts = record { held = region; rest = region; split = laws.adds_empty region region empty; each = empty; whole = λ whole. empty };
+  parts = record { held = region; rest = region; split = laws.adds_empty region region empty; each = empty; alone = λ whole. empty };
 }
 
 pub unknown_bounded : (n : ℕ) → IsBounded (unknown n)

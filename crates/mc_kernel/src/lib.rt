@@ -15,15 +15,19 @@ mod proof;
 mod rules;
 
 pub use branch::Branch;
+use mc_heap::{changes_are_local, heaps_change_one_address, parts_regroup};
 pub use proof::{ApplyFault, Complete, Proof};
 
 /// A certificate of a valid flow graph means that no run of it has a fault.
 pub fn certified_is_safe()
     ensures { (flow : Flow) (defs : Defs) (lines : List Line) → IsValid flow defs → IsCertificate flow lines → IsSafeFlow flow }
-{}
+{
+    parts_regroup();
+    heaps_change_one_address();
+    changes_are_local();
+}
 
 /// A line gives a branch one list of successors at most.
 pub fn successors_are_determined()
     ensures { (flow : Flow) (line : Line) (b : Open) (n m : List Open) → Instance flow line b n → Instance flow line b m → n ≡ m }
-{
-}
+{}

@@ -100,11 +100,16 @@ impl<'f> Proof<'f> {
             self.ended = true;
             return Ok(());
         };
+        self.waiting.reserve(1)?;
         match advance(self.flow, *line, branch)? {
             None => Err(ApplyFault::Refused),
             Some(Next::Moved) => Ok(()),
             Some(Next::Closed) => {
                 self.current = self.waiting.pop();
+                Ok(())
+            }
+            Some(Next::Forked(other)) => {
+                self.waiting.push(other).unwrap();
                 Ok(())
             }
         }

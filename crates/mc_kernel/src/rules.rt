@@ -18,6 +18,8 @@ pub enum Next {
     Moved,
     /// It is closed.
     Closed,
+    /// It has moved on, and this one comes of it too.
+    Forked(Branch),
 }
 
 fn instr_at(flow: &Flow, point: u64) -> Option<&Instr>
@@ -96,5 +98,6 @@ pub fn advance(flow: &Flow, line: Line, branch: &mut Branch) -> Result<Option<Ne
         Line::S17 => Ok(end(flow, branch)),
         Line::Header(_, _) => Ok(None),
         Line::End => Ok(None),
+        _ => Ok(None),
     }
 }

@@ -1,6 +1,7 @@
 -- Which configurations a symbolic state stands for.
-use Rattle.std.specs.Prelude.{◌≡◌, ◌≢◌, ◌<◌, ◌^◌, ℕ, List, [], ◌∷◌, ℤ, pos, negsuc, ◌+ℤ◌, ◌≤ℤ◌, Option, Some, None, IsTrue}
+use Rattle.std.specs.Prelude.{◌≡◌, ◌≢◌, ◌<◌, ◌^◌, ℕ, List, [], ◌∷◌, ℤ, pos, negsuc, ◌+ℤ◌, ◌≤ℤ◌, Bool, Option, Some, None, IsTrue}
 use Rattle.std.specs.List.{AllByRecursion}
+use Rattle.mc_base.specs.declared.ids.EdgeId.{EdgeId}
 use Rattle.mc_base.specs.declared.ids.NodeId.{NodeId}
 use Rattle.mc_base.specs.declared.plain.Kind.{Kind}
 use Rattle.mc_base.specs.declared.plain.Kind.TheVariants.{Int, Ptr}
@@ -45,12 +46,12 @@ EdgeMeets v (edge.Block at shape fields) part =
     (address : ℕ) × (v at.0 ≡ pos address) × ((values : List (Option ℤ)) × IsCell part address (record { shape = shape.0; fields = values }) × VarsMeet v fields values)
 
 -- each edge has a part of the heap, disjoint from the others; the rest is free, or nothing where the state is whole
-pub record Parts (v : Valuation) (region : Region) (s : State) : Type 0 where
+pub record Parts (v : Valuation) (region : Region) (edges : List (EdgeId × Edge)) (whole : Bool) : Type 0 where
   pub held : Region
   pub rest : Region
   pub split : Split region held rest
-  pub each : Star (λ e. EdgeMeets v e.1) s.edges held
-  pub whole : IsTrue s.whole → IsEmpty rest
+  pub each : Star (λ e. EdgeMeets v e.1) edges held
+  pub alone : IsTrue whole → IsEmpty rest
 
 -- the variables' values and the heap stand for the state by the valuation
 pub record StandsBy (v : Valuation) (values : List (Option ℤ)) (region : Region) (s : State) : Type 0 where
@@ -58,7 +59,7 @@ pub record StandsBy (v : Valuation) (values : List (Option ℤ)) (region : Regio
   pub kinds : AllByRecursion (λ k. InKind k.1 (v k.0.0)) s.kinds
   pub atoms : AllByRecursion (IsTrueAtom v) s.atoms
   pub vars : VarsMeet v s.env values
-  pub parts : Parts v region s
+  pub parts : Parts v region s.edges s.whole
 
 -- they stand for it by some valuation
 abbrev pub Stands : List (Option ℤ) → Region → State → Type 0
