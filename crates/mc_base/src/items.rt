@@ -1,5 +1,5 @@
 // Short lists, of which contracts see the items alone.
-ghost use Rattle.std.specs.Prelude.{◌≡◌, ◌++◌, ◌∷◌, ◌↔◌, [], length, slice_get, IfOk, IsTrue, OnOk, OnErr};
+ghost use Rattle.std.specs.Prelude.{◌≡◌, ◌++◌, ◌∷◌, ◌↔◌, [], length, slice_get, slice_set, IfOk, IsTrue, OnOk, OnErr};
 ghost use Rattle.std.specs.Option.{option_copied};
 
 use smallvec::SmallVec;
@@ -64,6 +64,15 @@ impl<T> Items<T> {
 }
 
 impl<T: Drop> Items<T> {
+    /// Puts an item in place of one. Past the end it is let go.
+    pub fn set(&mut self, place: usize, item: T)
+        ensures { self.new ≡ slice_set self.old place item }
+    {
+        if let Some(slot) = self.items.get_mut(place) {
+            *slot = item;
+        }
+    }
+
     /// Adds an item at the end. Without memory the list stays.
     pub fn push(&mut self, item: T) -> Result<(), AllocError>
         ensures ok { OnOk result (self.new ≡ self.old ++ item ∷ []) }

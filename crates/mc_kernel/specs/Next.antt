@@ -1,5 +1,5 @@
 -- What became of a branch, as a list of the branches that come of it.
-use Rattle.std.specs.Prelude.{◌≡◌, List, [], ◌∷◌}
+use Rattle.std.specs.Prelude.{◌≡◌, List, [], ◌∷◌, Option, Some, None}
 use Rattle.mc_kernel.specs.declared.branch.Branch.{Branch}
 use Rattle.mc_kernel.specs.declared.rules.Next.{Next}
 use Rattle.mc_kernel.specs.declared.rules.Next.TheVariants.{Moved, Closed, Forked}
@@ -9,6 +9,7 @@ branches Moved b = b ∷ []
 branches Closed b = []
 branches (Forked other) b = b ∷ other ∷ []
 
--- no branches come of it by the rule, and it has stayed
-abbrev pub WasRefused : (Branch → List Branch → Type 0) → Branch → Branch → Type 0
-WasRefused Rule old new = ((next : List Branch) → Rule old next → ⊥) × (new ≡ old)
+-- these branches come of it by the rule; or none could, and it has stayed
+abbrev pub Becomes : (Branch → List Branch → Type 0) → Branch → Branch → Option Next → Type 0
+Becomes Rule old new None = ((next : List Branch) → Rule old next → ⊥) × (new ≡ old)
+Becomes Rule old new (Some next) = Rule old (branches next new)

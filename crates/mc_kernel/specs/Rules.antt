@@ -29,10 +29,15 @@ entry flow = record { point = 0; state = unknown (length flow.vars) }
 abbrev pub instr_at : Flow → ℕ → Option Instr
 instr_at flow p = option_map (λ point. point.code) (slice_get flow.points p)
 
--- the operand's node, and the state in which it stands: a constant other than 0 is a new node
-abbrev pub operand : State → Operand → Option (NodeId × State)
-operand s (Var x) = option_map (λ n. (n, s)) (var_node s x)
-operand s (Const c) = if int_eq c (pos 0) then Some (null, s) else Some (record { 0 = s.next }, with_number s c)
+-- the operand's node, where it is known: node 0 for the constant 0, and the next node for another constant
+abbrev pub operand_node : State → Operand → Option NodeId
+operand_node s (Var x) = var_node s x
+operand_node s (Const c) = Some (if int_eq c (pos 0) then null else next_node s)
+
+-- the state in which that node stands
+abbrev pub with_operand : State → Operand → State
+with_operand s (Var x) = s
+with_operand s (Const c) = if int_eq c (pos 0) then s else with_number s c
 
 -- the branch has come to a point with this state
 abbrev pub moved_to : PointId → State → Branch
@@ -53,9 +58,8 @@ pub record S2Is (flow : Flow) (b : Branch) (next : List Branch) : Type 0 where
   pub at : instr_at flow b.point ≡ Some (Copy x from q)
   pub sound : is_false b.state ≡ false
   pub n : NodeId
-  pub s : State
-  pub known : operand b.state from ≡ Some (n, s)
-  pub gives : next ≡ moved_to q (with_var s x (Some n)) ∷ []
+  pub known : operand_node b.state from ≡ Some n
+  pub gives : next ≡ moved_to q (with_var (with_operand b.state from) x (Some n)) ∷ []
 
 -- S3: at an Undef the variables are known no more
 pub record S3Is (flow : Flow) (b : Branch) (next : List Branch) : Type 0 where
@@ -94,16 +98,15 @@ pub record S9Is (flow : Flow) (b : Branch) (next : List Branch) : Type 0 where
   pub at : instr_at flow b.point ≡ Some (Store y shape f from q)
   pub sound : is_false b.state ≡ false
   pub m : NodeId
-  pub s : State
-  pub value : operand b.state from ≡ Some (m, s)
+  pub value : operand_node b.state from ≡ Some m
   pub n : NodeId
-  pub known : var_node s y ≡ Some n
+  pub known : var_node b.state y ≡ Some n
   pub place : ℕ
-  pub there : shaped_block_place s n shape ≡ Some place
+  pub there : shaped_block_place b.state n shape ≡ Some place
   pub edge : Edge
-  pub block : edge_at s place ≡ Some edge
+  pub block : edge_at b.state place ≡ Some edge
   pub field : f < length (fields_of edge)
-  pub gives : next ≡ moved_to q (with_field s place f m) ∷ []
+  pub gives : next ≡ moved_to q (with_field (with_operand b.state from) place f m) ∷ []
 
 -- S10: at a Malloc the variable is null, or points to a new block, of whose fields nothing is known
 pub record S10Is (flow : Flow) (b : Branch) (next : List Branch) : Type 0 where
@@ -114,17 +117,16 @@ pub record S10Is (flow : Flow) (b : Branch) (next : List Branch) : Type 0 where
   pub sound : is_false b.state ≡ false
   pub gives : next ≡ moved_to q (with_var b.state x (Some null)) ∷ moved_to q (with_var (with_block b.state shape (field_count flow.structs shape)) x (Some (next_node b.state))) ∷ []
 
--- S11: at a Free the operand is known to be null
+-- S11: at a Free the operand is known to be null; a pointer that is a constant is null, so no node is made
 pub record S11Is (flow : Flow) (b : Branch) (next : List Branch) : Type 0 where
   pub from : Operand
   pub q : PointId
   pub at : instr_at flow b.point ≡ Some (Free from q)
   pub sound : is_false b.state ≡ false
   pub n : NodeId
-  pub s : State
-  pub known : operand b.state from ≡ Some (n, s)
-  pub zero : is_null s.atoms n ≡ true
-  pub gives : next ≡ moved_to q s ∷ []
+  pub known : operand_node b.state from ≡ Some n
+  pub zero : is_null b.state.atoms n ≡ true
+  pub gives : next ≡ moved_to q b.state ∷ []
 
 -- S12: at a Free a block lies where the operand points, and it goes
 pub record S12Is (flow : Flow) (b : Branch) (next : List Branch) : Type 0 where
@@ -133,25 +135,23 @@ pub record S12Is (flow : Flow) (b : Branch) (next : List Branch) : Type 0 where
   pub at : instr_at flow b.point ≡ Some (Free from q)
   pub sound : is_false b.state ≡ false
   pub n : NodeId
-  pub s : State
-  pub known : operand b.state from ≡ Some (n, s)
+  pub known : operand_node b.state from ≡ Some n
   pub place : ℕ
-  pub there : block_place s n ≡ Some place
+  pub there : block_place b.state n ≡ Some place
   pub edge : Edge
-  pub block : edge_at s place ≡ Some edge
-  pub gives : next ≡ moved_to q (without_block s place (start_of edge)) ∷ []
+  pub block : edge_at b.state place ≡ Some edge
+  pub gives : next ≡ moved_to q (without_block b.state place (start_of edge)) ∷ []
 
--- S13: at a test against 0 the operand is known; it is null, or it is not
+-- S13: at a test of a variable against 0 the variable is known; it is null, or it is not
 pub record S13Is (flow : Flow) (b : Branch) (next : List Branch) : Type 0 where
-  pub from : Operand
+  pub x : VarId
   pub t : PointId
   pub f : PointId
-  pub at : instr_at flow b.point ≡ Some (TestEq from (Const (pos 0)) t f)
+  pub at : instr_at flow b.point ≡ Some (TestEq (Var x) (Const (pos 0)) t f)
   pub sound : is_false b.state ≡ false
   pub n : NodeId
-  pub s : State
-  pub known : operand b.state from ≡ Some (n, s)
-  pub gives : next ≡ moved_to t (with_atom s (Eq n null (pos 0))) ∷ moved_to f (with_atom s (Ne n null (pos 0))) ∷ []
+  pub known : var_node b.state x ≡ Some n
+  pub gives : next ≡ moved_to t (with_atom b.state (Eq n null (pos 0))) ∷ moved_to f (with_atom b.state (Ne n null (pos 0))) ∷ []
 
 -- S17: at an End the branch is closed
 pub record S17Is (flow : Flow) (b : Branch) (next : List Branch) : Type 0 where

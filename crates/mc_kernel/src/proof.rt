@@ -40,6 +40,7 @@ pub struct Complete {
 /// A document that is being read.
 #[derive(Drop)]
 pub struct Proof<'f> {
+    alloc: Global,
     flow: &'f Flow,
     form: Form,
     current: Option<Branch>,
@@ -76,6 +77,7 @@ impl<'f> Proof<'f> {
             Form::Chain => None,
         };
         Ok(Proof {
+            alloc,
             flow,
             form,
             current,
@@ -101,7 +103,7 @@ impl<'f> Proof<'f> {
             return Ok(());
         };
         self.waiting.reserve(1)?;
-        match advance(self.flow, *line, branch)? {
+        match advance(self.alloc, self.flow, *line, branch)? {
             None => Err(ApplyFault::Refused),
             Some(Next::Moved) => Ok(()),
             Some(Next::Closed) => {

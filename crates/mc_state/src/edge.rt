@@ -40,6 +40,15 @@ impl Edge {
         }
     }
 
+    /// Gives a field a node, if there is such a field.
+    pub fn set_field(&mut self, f: u64, node: NodeId)
+        ensures { self.new ≡ with_field_node f node self.old }
+    {
+        match self {
+            Edge::Block(_, _, fields) => fields.set(f as usize, Some(node)),
+        }
+    }
+
     /// The same edge again.
     pub fn copy(&self, alloc: Global) -> Result<Edge, AllocError>
         ensures { IfOk result (λ e. e ≡ self.now) }

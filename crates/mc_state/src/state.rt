@@ -1,14 +1,16 @@
 // Symbolic states.
-ghost use Rattle.std.specs.Prelude.{◌≡◌, ◌<◌, IfOk, OnErr, OnOk, IfSome, IfNone, slice_index_or, slice_set, None, Some};
-ghost use Rattle.mc_state.specs.State.{unknown, var_node, with_var, with_number};
+ghost use Rattle.std.specs.Prelude.{◌≡◌, ◌<◌, ◌+◌, ◌++◌, ◌∷◌, [], IfOk, OnErr, OnOk, pos, option_map, remove, take, drop};
+ghost use Rattle.std.specs.List.{list_any, position_from};
+ghost use Rattle.mc_base.specs.declared.plain.Atom.TheVariants.{Eq, Ne, In};
+ghost use Rattle.mc_state.specs.State.{unknown, null, var_node, with_var, without_vars, with_number, with_atom, with_block, with_field, without_block, says_null, is_null, are_same, is_wrong, is_at_null, is_false, is_block_at, is_shaped_block_at, block_place, shaped_block_place, edge_at, apart, put_field, next_node};
 
 use crate::Edge;
-use mc_base::{Atom, EdgeId, Kind, NodeId, VarId};
+use mc_base::{Atom, EdgeId, Items, Kind, NodeId, StructId, VarId};
 use std::alloc::{AllocError, Global};
 use std::marker::Model;
 
 /// What is known at a point: for each variable its node, where it is known; the kinds of the nodes;
-/// facts about nodes; and whether nothing is allocated.
+/// the blocks; facts about nodes; and whether the blocks are all that is allocated.
 #[derive(Drop)]
 pub struct State {
     env: Vec<Option<NodeId>>,
@@ -28,6 +30,115 @@ impl Model for State {
     ghost view = { λ s. record { env = s.env.items; kinds = s.kinds.items; edges = s.edges.items; atoms = s.atoms.items; next = s.next; next_edge = s.next_edge; whole = s.whole } };
 }
 
+const NULL: NodeId = NodeId(0);
+
+fn says_null(n: NodeId, atom: &Atom) -> bool
+    ensures { result ≡ says_null n atom.now }
+{
+    match atom {
+        Atom::Eq(a, b, c) => a.0 == n.0 && b.0 == 0 && *c == 0,
+        Atom::Ne(_, _, _) => false,
+        Atom::In(_, _, _) => false,
+    }
+}
+
+fn some_says_null(atoms: &[Atom], n: NodeId) -> bool
+    ensures { result ≡ list_any (says_null n) atoms.now }
+{
+    for atom in atoms {
+        if says_null(n, atom) {
+            return true;
+        }
+    }
+    false
+}
+
+fn is_null(atoms: &[Atom], n: NodeId) -> bool
+    ensures { result ≡ is_null atoms.now n }
+{
+    n.0 == 0 || some_says_null(atoms, n)
+}
+
+fn are_same(atoms: &[Atom], a: NodeId, b: NodeId) -> bool
+    ensures { result ≡ are_same atoms.now a b }
+{
+    a.0 == b.0 || is_null(atoms, a) && is_null(atoms, b)
+}
+
+fn is_wrong(atoms: &[Atom], atom: &Atom) -> bool
+    ensures { result ≡ is_wrong atoms.now atom.now }
+{
+    match atom {
+        Atom::Eq(_, _, _) => false,
+        Atom::Ne(a, b, c) => *c == 0 && is_null(atoms, *a) && is_null(atoms, *b),
+        Atom::In(a, lo, hi) => is_null(atoms, *a) && !(*lo <= 0 && 0 <= *hi),
+    }
+}
+
+fn is_block_at(atoms: &[Atom], n: NodeId, e: &(EdgeId, Edge)) -> bool
+    ensures { result ≡ is_block_at atoms.now n e.now }
+{
+    are_same(atoms, n, e.1.start())
+}
+
+fn is_shaped_block_at(atoms: &[Atom], n: NodeId, shape: StructId, e: &(EdgeId, Edge)) -> bool
+    ensures { result ≡ is_shaped_block_at atoms.now n shape e.now }
+{
+    e.1.has_shape(shape) && is_block_at(atoms, n, e)
+}
+
+// Whether one of these atoms is wrong beside all the atoms.
+fn some_is_wrong(atoms: &[Atom], some: &[Atom]) -> bool
+    ensures { result ≡ list_any (is_wrong atoms.now) some.now }
+{
+    for atom in some {
+        if is_wrong(atoms, atom) {
+            return true;
+        }
+    }
+    false
+}
+
+fn some_is_at_null(atoms: &[Atom], edges: &[(EdgeId, Edge)]) -> bool
+    ensures { result ≡ list_any (is_at_null atoms.now) edges.now }
+{
+    for e in edges {
+        if is_null(atoms, e.1.start()) {
+            return true;
+        }
+    }
+    false
+}
+
+// The place of the first block at a node.
+fn place_of(atoms: &[Atom], edges: &[(EdgeId, Edge)], n: NodeId) -> Option<usize>
+    ensures { result ≡ position_from (is_block_at atoms.now n) 0 edges.now }
+{
+    for (place, e) in edges.iter().enumerate() {
+        if is_block_at(atoms, n, e) {
+            return Some(place);
+        }
+    }
+    None
+}
+
+// The place of the first block of this struct at a node.
+fn shaped_place_of(
+    atoms: &[Atom],
+    edges: &[(EdgeId, Edge)],
+    n: NodeId,
+    shape: StructId,
+) -> Option<usize>
+    ensures { result ≡ position_from (is_shaped_block_at atoms.now n shape) 0 edges.now }
+{
+    for (place, e) in edges.iter().enumerate() {
+        if is_shaped_block_at(atoms, n, shape, e) {
+            return Some(place);
+        }
+    }
+    None
+}
+
 impl State {
     /// The state of a run that begins: no variable is known, and nothing is allocated.
     pub fn unknown(alloc: Global, vars: usize) -> Result<State, AllocError>
@@ -44,11 +155,33 @@ impl State {
         })
     }
 
+    /// The same state again.
+    pub fn copy(&self, alloc: Global) -> Result<State, AllocError>
+        ensures { IfOk result (λ s. s ≡ self.now) }
+    {
+        Ok(State {
+            env: Vec::from_slice(alloc, self.env.as_slice())?,
+            kinds: Vec::from_slice(alloc, self.kinds.as_slice())?,
+            edges: copied(alloc, self.edges.as_slice())?,
+            atoms: Vec::from_slice(alloc, self.atoms.as_slice())?,
+            next: self.next,
+            next_edge: self.next_edge,
+            whole: self.whole,
+        })
+    }
+
     /// The node of a variable, where it is known.
     pub fn var(&self, x: VarId) -> Option<NodeId>
         ensures { result ≡ var_node self.now x }
     {
         self.env.get(x.0 as usize).copied().flatten()
+    }
+
+    /// The node that would be the next new one.
+    pub fn next_node(&self) -> NodeId
+        ensures { result ≡ next_node self.now }
+    {
+        NodeId(self.next)
     }
 
     /// Gives a variable a node, or forgets its node.
@@ -58,6 +191,30 @@ impl State {
         if let Some(slot) = self.env.get_mut(x.0 as usize) {
             *slot = node;
         }
+    }
+
+    /// Forgets the nodes of variables.
+    pub fn forget(&mut self, xs: &[VarId])
+        ensures { self.new ≡ without_vars self.old xs.now }
+    {
+        for x in xs {
+            self.set_var(*x, None);
+        }
+    }
+
+    /// Whether the node is null.
+    pub fn is_null(&self, n: NodeId) -> bool
+        ensures { result ≡ is_null self.now.atoms n }
+    {
+        is_null(self.atoms.as_slice(), n)
+    }
+
+    /// Whether no configuration stands for the state.
+    pub fn is_false(&self) -> bool
+        ensures { result ≡ is_false self.now }
+    {
+        let atoms = self.atoms.as_slice();
+        some_is_wrong(atoms, atoms) || some_is_at_null(atoms, self.edges.as_slice())
     }
 
     /// Adds a new node of kind `Int` that is this number. Without memory the state stays.
@@ -77,4 +234,157 @@ impl State {
         self.next += 1;
         Ok(node)
     }
+
+    /// Takes the node to be null. Without memory the state stays.
+    pub fn assume_null(&mut self, n: NodeId) -> Result<(), AllocError>
+        ensures state { OnOk result (self.new ≡ with_atom self.old (Eq n null (pos 0))) }
+        ensures err { OnErr result (self.new ≡ self.old) }
+    {
+        self.atoms.push(Atom::Eq(n, NULL, 0))?;
+        Ok(())
+    }
+
+    /// Takes the node not to be null. Without memory the state stays.
+    pub fn assume_not_null(&mut self, n: NodeId) -> Result<(), AllocError>
+        ensures state { OnOk result (self.new ≡ with_atom self.old (Ne n null (pos 0))) }
+        ensures err { OnErr result (self.new ≡ self.old) }
+    {
+        self.atoms.push(Atom::Ne(n, NULL, 0))?;
+        Ok(())
+    }
+
+    /// The place of the first block at the node.
+    pub fn block(&self, n: NodeId) -> Option<usize>
+        ensures { result ≡ block_place self.now n }
+    {
+        place_of(self.atoms.as_slice(), self.edges.as_slice(), n)
+    }
+
+    /// The place of the first block of this struct at the node.
+    pub fn shaped_block(&self, n: NodeId, shape: StructId) -> Option<usize>
+        ensures { result ≡ shaped_block_place self.now n shape }
+    {
+        shaped_place_of(self.atoms.as_slice(), self.edges.as_slice(), n, shape)
+    }
+
+    /// Adds a new block of this struct at a new node, of whose fields nothing is known, and answers the node.
+    /// Without memory the state stays.
+    pub fn add_block(
+        &mut self,
+        alloc: Global,
+        shape: StructId,
+        fields: u64,
+    ) -> Result<NodeId, AllocError>
+        ensures node { IfOk result (λ n. n.0 ≡ self.old.next) }
+        ensures state { OnOk result (self.new ≡ with_block self.old shape fields) }
+        ensures err { OnErr result (self.new ≡ self.old) }
+    {
+        if self.next == u64::MAX || self.next_edge == u64::MAX {
+            return Err(AllocError);
+        }
+        let unknown = vec![in alloc; None; fields as usize]?;
+        self.kinds.reserve(1)?;
+        self.edges.reserve(1)?;
+        let node = NodeId(self.next);
+        let id = EdgeId(self.next_edge);
+        self.kinds.push((node, Kind::Ptr)).unwrap();
+        self.edges
+            .push((id, Edge::Block(node, shape, Items::of(unknown))))
+            .unwrap();
+        self.next += 1;
+        self.next_edge += 1;
+        Ok(node)
+    }
+
+    /// Takes away the block at a place, which starts at this node: its address is no null, and none of
+    /// the other blocks'. Without memory the state stays.
+    pub fn free_block(&mut self, alloc: Global, place: usize, at: NodeId) -> Result<(), AllocError>
+        ensures state { OnOk result (self.new ≡ without_block self.old place at) }
+        ensures err { OnErr result (self.new ≡ self.old) }
+    {
+        let facts = freed_facts(alloc, self.edges.as_slice(), place, at)?;
+        self.atoms.extend_from_slice(facts.as_slice())?;
+        if place < self.edges.len() {
+            let _ = self.edges.remove(place);
+        }
+        Ok(())
+    }
+
+    /// Gives a field of the block at a place a node.
+    pub fn set_field(&mut self, place: usize, f: u64, node: NodeId)
+        ensures { self.new ≡ with_field self.old place f node }
+    {
+        put_field(&mut self.edges, place, f, node);
+    }
+
+    /// The edge at a place.
+    pub fn edge(&self, place: usize) -> Option<&Edge>
+        ensures { option_map (λ e. e.now) result ≡ edge_at self.now place }
+    {
+        self.edges.get(place).map(|e| &e.1)
+    }
+}
+
+fn put_field(edges: &mut [(EdgeId, Edge)], place: usize, f: u64, node: NodeId)
+    ensures { edges.new ≡ put_field edges.old place f node }
+{
+    if place < edges.len() {
+        let e = &mut edges[place];
+        e.1.set_field(f, node);
+    }
+}
+
+// Adds for each of the edges that the node is not its start.
+fn push_apart(facts: &mut Vec<Atom>, edges: &[(EdgeId, Edge)], at: NodeId) -> Result<(), AllocError>
+    ensures { OnOk result (facts.new.items ≡ facts.old.items ++ apart at edges.now) }
+{
+    for e in edges {
+        facts.push(Atom::Ne(at, e.1.start(), 0))?;
+    }
+    Ok(())
+}
+
+// What is known of the node of a block that is freed.
+fn freed_facts(
+    alloc: Global,
+    edges: &[(EdgeId, Edge)],
+    place: usize,
+    at: NodeId,
+) -> Result<Vec<Atom>, AllocError>
+    ensures { IfOk result (λ v. v.items ≡ In at (pos 1) (pos 4611686018427387903) ∷ apart at (remove edges.now place)) }
+{
+    let mut facts = vec![in alloc; Atom::In(at, 1, 4_611_686_018_427_387_903)]?;
+    push_apart(&mut facts, before(edges, place), at)?;
+    push_apart(&mut facts, behind(edges, place), at)?;
+    Ok(facts)
+}
+
+fn before(edges: &[(EdgeId, Edge)], place: usize) -> &[(EdgeId, Edge)]
+    ensures { result.now ≡ take place edges.now }
+{
+    if place < edges.len() {
+        &edges[..place]
+    } else {
+        edges
+    }
+}
+
+fn behind(edges: &[(EdgeId, Edge)], place: usize) -> &[(EdgeId, Edge)]
+    ensures { result.now ≡ drop (place + 1) edges.now }
+{
+    if place < edges.len() {
+        &edges[place + 1..]
+    } else {
+        &[]
+    }
+}
+
+fn copied(alloc: Global, edges: &[(EdgeId, Edge)]) -> Result<Vec<(EdgeId, Edge)>, AllocError>
+    ensures { IfOk result (λ v. v.items ≡ edges.now) }
+{
+    let mut copies = Vec::new(alloc);
+    for e in edges {
+        copies.push((e.0, e.1.copy(alloc)?))?;
+    }
+    Ok(copies)
 }
