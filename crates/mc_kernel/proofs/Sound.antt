@@ -43,11 +43,11 @@ use Rattle.mc_state.specs.State as st
 use Rattle.mc_state.specs.State.{State, null, unknown, var_node, with_var, without_vars, with_number, with_atom, with_block, next_node, is_null, is_false, is_wrong, is_at_null, are_same, is_block_at, has_shape, is_shaped_block_at, block_place, shaped_block_place, edge_at, fields_of, start_of, put_field, without_block, apart}
 use Rattle.mc_state.specs.Stands.{Valuation, InKind, IsTrueAtom, VarsMeet, EdgeMeets, Parts, StandsBy, Stands, EdgeIsBelow, AtomIsBelow, IsBelow, IsBounded}
 use Rattle.mc_kernel.specs.declared.branch.Branch.{Branch}
-use Rattle.mc_kernel.specs.Rules.{entry, instr_at, operand, moved_to, S1Is, S2Is, S3Is, S8Is, S9Is, S10Is, S11Is, S12Is, S13Is, S17Is, L12Is, Instance, Proves, IsCertificate}
+use Rattle.mc_kernel.specs.Rules.{entry, instr_at, operand_node, with_operand, moved_to, S1Is, S2Is, S3Is, S8Is, S9Is, S10Is, S11Is, S12Is, S13Is, S17Is, L12Is, Instance, Proves, IsCertificate}
 use Rattle.mc_kernel.proofs.Parts.{HeapLaws, all_append, all_at, all_without, all_set}
 use Rattle.mc_kernel.proofs.Facts.{any_gives, and_true, or_true, null_value, same_value, wrong_false, at_position}
 use Rattle.mc_kernel.proofs.Blocks.{Meets, BlockOut, block_out, there, is_address, freed_parts, written_parts, made_parts, Lies, all_lie, apart_true, put_is_set, apart_below}
-use Rattle.mc_kernel.proofs.Standing.{extended, extended_at, extended_below, vars_get, vars_slice, vars_length, known_below, set_stands, set_bounded, forget_stands, forget_bounded, atom_stands, atom_bounded, stands_agree, number_stands, number_bounded, block_bounded, unknown_stands, unknown_bounded}
+use Rattle.mc_kernel.proofs.Standing.{AgreeBelow, extended, extended_at, extended_below, vars_get, vars_slice, vars_length, known_below, set_stands, set_bounded, forget_stands, forget_bounded, atom_stands, atom_bounded, stands_agree, number_stands, number_bounded, block_bounded, unknown_stands, unknown_bounded}
 
 -- the configuration is at the branch's point and stands for its state
 pub record StandsAt (c : Config) (b : Branch) : Type 0 where
@@ -82,54 +82,71 @@ step_at flow b i c choices r e at s = at_instr flow.structs (slice_get flow.poin
 
 -- ---- operands
 
--- the operand has the value of its node, in a state that the configuration still stands for
-pub record OperandMet (values : List (Option ℤ)) (region : Region) (o : Operand) (n : NodeId) (s : State) : Type 0 where
-  pub v : Valuation
-  pub stands : StandsBy v values region s
-  pub bounded : IsBounded s
-  pub value : value_of values o ≡ Some (v n.0)
-  pub below : n.0 < s.next
-
-var_met : (values : List (Option ℤ)) (region : Region) (v : Valuation) (s : State) (x : VarId) (n : NodeId) (t : State) (known : Option NodeId) → var_node s x ≡ known → option_map {U = NodeId × State} (λ m. (m, s)) known ≡ Some (n, t) → IsBounded s → StandsBy v values region s → OperandMet values region (Var x) n t
-var_met values region v s x n t None e h b st = cc
-var_met values region v s x n t (Some m) e h b st =
-    let node : m ≡ n = ap (λ (o : Option (NodeId × State)). unwrap_or (option_map (λ p. p.0) o) m) h in
-    let state : s ≡ t = ap (λ (o : Option (NodeId × State)). unwrap_or (option_map (λ p. p.1) o) s) h in
-    let here : var_node s x ≡ Some n = e ∙ ap Some node in
-    subst (λ (u : State). OperandMet values region (Var x) n u) state
-    (record { v = v; stands = st; bounded = b; value = vars_get v s.env values x.0 n st.vars here; below = known_below s x n b here })
+-- the operand has the value of its node, in the state in which that stands; what was known before has stayed
+pub record OperandMet (values : List (Option ℤ)) (region : Region) (o : Operand) (n : NodeId) (v : Valuation) (s : State) : Type 0 where
+  pub w : Valuation
+  pub agrees : AgreeBelow s.next v w
+  pub edges : (with_operand s o).edges ≡ s.edges
+  pub stands : StandsBy w values region (with_operand s o)
+  pub bounded : IsBounded (with_operand s o)
+  pub value : value_of values o ≡ Some (w n.0)
+  pub below : n.0 < (with_operand s o).next
 
 -- a constant that is not 0 is no pointer
 is_int : (vars : List VarInfo) (k : Kind) (c : ℤ) → IsOperand vars k (Const c) → int_eq c (pos 0) ≡ false → IsInt c
 is_int vars Int c h e = h
 is_int vars Ptr c h e = let f : int_eq c (pos 0) ≡ true = (Decides-int_eq c (pos 0)).1 h in cc
 
-const_met : (values : List (Option ℤ)) (region : Region) (v : Valuation) (s : State) (vars : List VarInfo) (k : Kind) (c : ℤ) (n : NodeId) (t : State) (zero : Bool) → IsOperand vars k (Const c) → int_eq c (pos 0) ≡ zero
-    → if◌then◌else◌ {A = Option (NodeId × State)} zero (Some (null, s)) (Some (record { 0 = s.next }, with_number s c)) ≡ Some (n, t) → IsBounded s → StandsBy v values region s → OperandMet values region (Const c) n t
-const_met values region v s vars k c n t true fits e h b st =
-    let node : null ≡ n = ap (λ (o : Option (NodeId × State)). unwrap_or (option_map (λ p. p.0) o) null) h in
-    let state : s ≡ t = ap (λ (o : Option (NodeId × State)). unwrap_or (option_map (λ p. p.1) o) s) h in
-    let value : c ≡ pos 0 = (Decides-int_eq c (pos 0)).0 e in
-    subst (λ (u : State). OperandMet values region (Const c) n u) state
-    (subst (λ (m : NodeId). OperandMet values region (Const c) m s) node (record { v = v; stands = st; bounded = b; value = ap Some (value ∙ sym st.null); below = b.positive }))
-const_met values region v s vars k c n t false fits e h b st =
-    let new : NodeId = record { 0 = s.next } in
-    let node : new ≡ n = ap (λ (o : Option (NodeId × State)). unwrap_or (option_map (λ p. p.0) o) new) h in
-    let state : with_number s c ≡ t = ap (λ (o : Option (NodeId × State)). unwrap_or (option_map (λ p. p.1) o) s) h in
-    let int = is_int vars k c fits e in
-    subst (λ (u : State). OperandMet values region (Const c) n u) state
-    (subst (λ (m : NodeId). OperandMet values region (Const c) m (with_number s c)) node
-    (record {
-      v = extended v s.next c;
-      stands = number_stands v values region s c b int st;
-      bounded = number_bounded s c b;
-      value = ap Some (sym (extended_at v s.next c));
-      below = (let lt : s.next < s.next + 1 = omega arith in lt);
-    }))
+-- the same for a constant, by whether it is 0
+pub record ConstMet (values : List (Option ℤ)) (region : Region) (c : ℤ) (v : Valuation) (s : State) (n : NodeId) (t : State) : Type 0 where
+  pub w : Valuation
+  pub agrees : AgreeBelow s.next v w
+  pub edges : t.edges ≡ s.edges
+  pub stands : StandsBy w values region t
+  pub bounded : IsBounded t
+  pub value : Some c ≡ Some (w n.0)
+  pub below : n.0 < t.next
 
-operand_met : (values : List (Option ℤ)) (region : Region) (v : Valuation) (s : State) (vars : List VarInfo) (k : Kind) (o : Operand) (n : NodeId) (t : State) → IsOperand vars k o → operand s o ≡ Some (n, t) → IsBounded s → StandsBy v values region s → OperandMet values region o n t
-operand_met values region v s vars k (Var x) n t fits h b st = var_met values region v s x n t (var_node s x) refl h b st
-operand_met values region v s vars k (Const c) n t fits h b st = const_met values region v s vars k c n t (int_eq c (pos 0)) fits refl h b st
+const_met : (values : List (Option ℤ)) (region : Region) (v : Valuation) (s : State) (vars : List VarInfo) (k : Kind) (c : ℤ) (zero : Bool) → IsOperand vars k (Const c) → int_eq c (pos 0) ≡ zero → IsBounded s → StandsBy v values region s
+    → ConstMet values region c v s (if◌then◌else◌ {A = NodeId} zero null (next_node s)) (if◌then◌else◌ {A = State} zero s (with_number s c))
+const_met values region v s vars k c true fits e b st =
+    let value : c ≡ pos 0 = (Decides-int_eq c (pos 0)).0 e in
+    record { w = v; agrees = λ m lt. refl; edges = refl; stands = st; bounded = b; value = ap Some (value ∙ sym st.null); below = b.positive }
+const_met values region v s vars k c false fits e b st = record {
+  w = extended v s.next c;
+  agrees = extended_below v s.next c;
+  edges = refl;
+  stands = number_stands v values region s c b (is_int vars k c fits e) st;
+  bounded = number_bounded s c b;
+  value = ap Some (sym (extended_at v s.next c));
+  below = (let lt : s.next < s.next + 1 = omega arith in lt);
+}
+
+operand_met : (values : List (Option ℤ)) (region : Region) (v : Valuation) (s : State) (vars : List VarInfo) (k : Kind) (o : Operand) (n : NodeId) → IsOperand vars k o → operand_node s o ≡ Some n → IsBounded s → StandsBy v values region s → OperandMet values region o n v s
+operand_met values region v s vars k (Var x) n fits h b st =
+    record { w = v; agrees = λ m lt. refl; edges = refl; stands = st; bounded = b; value = vars_get v s.env values x.0 n st.vars h; below = known_below s x n b h }
+operand_met values region v s vars k (Const c) n fits h b st =
+    let m = const_met values region v s vars k c (int_eq c (pos 0)) fits refl b st in
+    let node : (if int_eq c (pos 0) then null else next_node s) ≡ n = cc in
+    record {
+      w = m.w;
+      agrees = m.agrees;
+      edges = m.edges;
+      stands = m.stands;
+      bounded = m.bounded;
+      value = m.value ∙ ap (λ (j : NodeId). Some (m.w j.0)) node;
+      below = subst (λ (j : NodeId). j.0 < (with_operand s (Const c)).next) node m.below;
+    }
+
+-- a pointer that is a constant is null
+pointer_value : (values : List (Option ℤ)) (region : Region) (v : Valuation) (s : State) (vars : List VarInfo) (o : Operand) (n : NodeId) → IsOperand vars Ptr o → operand_node s o ≡ Some n → StandsBy v values region s → value_of values o ≡ Some (v n.0)
+pointer_value values region v s vars (Var x) n fits h st = vars_get v s.env values x.0 n st.vars h
+pointer_value values region v s vars (Const c) n fits h st =
+    let zero : c ≡ pos 0 = fits in
+    let so : int_eq c (pos 0) ≡ true = (Decides-int_eq c (pos 0)).1 zero in
+    let node : (if int_eq c (pos 0) then null else next_node s) ≡ n = cc in
+    let is : null ≡ n = sym (ap (λ (b : Bool). if b then null else next_node s) so) ∙ node in
+    ap Some (zero ∙ sym st.null ∙ ap (λ (j : NodeId). v j.0) is)
 
 fits_at : (flow : Flow) (defs : Defs) (p : ℕ) (i : Instr) → IsValid flow defs → (o : Option Point) → slice_get flow.points p ≡ o → option_map (λ q. q.code) o ≡ Some i → FitsKinds flow.vars flow.structs defs i
 fits_at flow defs p i valid None e h = cc
@@ -163,8 +180,8 @@ s2_sound : (flow : Flow) (defs : Defs) (b : Branch) (bs : List Branch) → IsVal
 s2_sound flow defs b bs valid i c choices r st step =
     let s = step_at flow b (Copy i.x i.from i.q) c choices r i.at st.point step in
     let fits = fits_at flow defs b.point (Copy i.x i.from i.q) valid (slice_get flow.points b.point) refl i.at in
-    let m = operand_met c.vars (region_of c.heap) st.v b.state flow.vars fits.0 i.from i.n i.s fits.2 i.known st.bounded st.stands in
-    copied_leads i.x i.q s.0 c choices r (value_of c.vars i.from) i.n i.s bs m.v s.1 m.value st.addresses m.stands m.bounded m.below i.gives
+    let m = operand_met c.vars (region_of c.heap) st.v b.state flow.vars fits.0 i.from i.n fits.2 i.known st.bounded st.stands in
+    copied_leads i.x i.q s.0 c choices r (value_of c.vars i.from) i.n (with_operand b.state i.from) bs m.w s.1 m.value st.addresses m.stands m.bounded m.below i.gives
 
 s3_sound : (flow : Flow) (b : Branch) (bs : List Branch) → S3Is flow b bs → IsSound flow b bs
 s3_sound flow b bs i c choices r st step =
@@ -263,32 +280,37 @@ put_ids n [] place f m b = b
 put_ids n (e ∷ es) zero f m b = (b.0, b.1)
 put_ids n (e ∷ es) (suc place) f m b = (b.0, put_ids n es place f m b.1)
 
-s9_block : (laws : HeapLaws) (flow : Flow) (b : Branch) (bs : List Branch) (i : S9Is flow b bs) (c : Config) (choices : List Choice) (r : Result) (place : Place) (id : EdgeId) (e : Edge) → HasAddresses c.heap → OperandMet c.vars (region_of c.heap) i.from i.m i.s
-    → slice_get i.s.edges i.place ≡ Some (id, e) → is_shaped_block_at i.s.atoms i.n i.shape (id, e) ≡ true → i.f < length (fields_of e)
+s9_block : (laws : HeapLaws) (flow : Flow) (b : Branch) (bs : List Branch) (i : S9Is flow b bs) (c : Config) (choices : List Choice) (r : Result) (place : Place) (id : EdgeId) (e : Edge) (stands : StandsAt c b) → OperandMet c.vars (region_of c.heap) i.from i.m stands.v b.state
+    → slice_get b.state.edges i.place ≡ Some (id, e) → is_shaped_block_at b.state.atoms i.n i.shape (id, e) ≡ true → i.f < length (fields_of e)
     → r ≡ stored i.shape i.f i.q place c choices (value_of c.vars i.from) (value_in c.vars i.y) → LeadsTo bs r
-s9_block laws flow b bs i c choices r place id (edge.Block at own fields) has met e passes field step =
-    let s = i.s in
-    let v = met.v in
-    let both = and_true (has_shape i.shape (edge.Block at own fields)) (is_block_at s.atoms i.n (id, edge.Block at own fields)) passes in
-    let out = block_out laws v (region_of c.heap) s.edges s.whole i.place id at own fields e met.stands.parts in
+s9_block laws flow b bs i c choices r place id (edge.Block at own fields) stands met e passes field step =
+    let s = with_operand b.state i.from in
+    let has = stands.addresses in
+    let v = stands.v in
+    let w = met.w in
+    let both = and_true (has_shape i.shape (edge.Block at own fields)) (is_block_at b.state.atoms i.n (id, edge.Block at own fields)) passes in
+    let listed : slice_get s.edges i.place ≡ Some (id, edge.Block at own fields) = ap (λ es. slice_get es i.place) met.edges ∙ e in
+    let out = block_out laws w (region_of c.heap) s.edges s.whole i.place id at own fields listed met.stands.parts in
     let block : Block = record { shape = own.0; fields = out.values } in
-    let here = there laws v c.heap s.edges s.whole i.place at own fields out in
-    let is = is_address laws v c.heap s.edges s.whole i.place at own fields out has in
-    let same : v i.n.0 ≡ v at.0 = same_value v s.atoms met.stands.null met.stands.atoms i.n at both.1 in
-    let value : value_in c.vars i.y ≡ Some (v i.n.0) = vars_get v s.env c.vars i.y.0 i.n met.stands.vars i.known in
-    let lengths : length out.values ≡ length fields = vars_length v fields out.values out.meets in
+    let here = there laws w c.heap s.edges s.whole i.place at own fields out in
+    let is = is_address laws w c.heap s.edges s.whole i.place at own fields out has in
+    let same : v i.n.0 ≡ v at.0 = same_value v b.state.atoms stands.stands.null stands.stands.atoms i.n at both.1 in
+    let edge_below = all_at (λ (y : EdgeId × Edge). EdgeIsBelow b.state.next y.1) b.state.edges i.place (id, edge.Block at own fields) e stands.bounded.edges in
+    let leads : v i.n.0 ≡ pos out.address = same ∙ sym (met.agrees at.0 edge_below.0) ∙ out.leads in
+    let value : value_in c.vars i.y ≡ Some (v i.n.0) = vars_get v b.state.env c.vars i.y.0 i.n stands.stands.vars i.known in
+    let lengths : length out.values ≡ length fields = vars_length w fields out.values out.meets in
     let inside : i.f < length out.values = omega arith in
     let there_is : is_some (block_field block i.shape.0 i.f) ≡ true = ap is_some (block_field_is i.shape.0 own.0 out.values i.f (shape_same i.shape own at fields both.0)) ∙ some_field out.values i.f inside in
-    let after = map.insert c.heap out.address (with_field block i.f (v i.m.0)) in
+    let after = map.insert c.heap out.address (with_field block i.f (w i.m.0)) in
     let gets : r ≡ with_heap i.q c choices after =
-    step ∙ ap (λ o. stored i.shape i.f i.q place c choices o (value_in c.vars i.y)) met.value ∙ ap (stored i.shape i.f i.q place c choices (Some (v i.m.0))) value
-    ∙ stored_is i.shape i.f i.q place c choices (v i.m.0) (v i.n.0) out.address block (same ∙ out.leads) is here there_is in
-    let parts = written_parts laws v c.heap s.edges s.whole i.place at own fields out i.f i.m id e in
-    let put = put_is_set s.edges i.place i.f i.m id at own fields e in
+      step ∙ ap (λ o. stored i.shape i.f i.q place c choices o (value_in c.vars i.y)) met.value ∙ ap (stored i.shape i.f i.q place c choices (Some (w i.m.0))) value
+      ∙ stored_is i.shape i.f i.q place c choices (w i.m.0) (v i.n.0) out.address block leads is here there_is in
+    let parts = written_parts laws w c.heap s.edges s.whole i.place at own fields out i.f i.m id listed in
+    let put = put_is_set s.edges i.place i.f i.m id at own fields listed in
     leads_one _ choices r (moved_to i.q (st.with_field s i.place i.f i.m)) bs gets i.gives
     (record {
       point = refl;
-      addresses = laws.insert_keeps c.heap out.address (with_field block i.f (v i.m.0)) is has;
+      addresses = laws.insert_keeps c.heap out.address (with_field block i.f (w i.m.0)) is has;
       bounded = record {
         positive = met.bounded.positive;
         kinds = met.bounded.kinds;
@@ -297,23 +319,23 @@ s9_block laws flow b bs i c choices r place id (edge.Block at own fields) has me
         atoms = met.bounded.atoms;
         vars = met.bounded.vars;
       };
-      v = v;
+      v = w;
       stands = record {
         null = met.stands.null;
         kinds = met.stands.kinds;
         atoms = met.stands.atoms;
         vars = met.stands.vars;
-        parts = subst (λ (es : List (EdgeId × Edge)). Parts v (region_of after) es s.whole) (sym put) parts;
+        parts = subst (λ (es : List (EdgeId × Edge)). Parts w (region_of after) es s.whole) (sym put) parts;
       };
     })
 
 s9_sound : HeapLaws → (flow : Flow) (defs : Defs) (b : Branch) (bs : List Branch) → IsValid flow defs → S9Is flow b bs → IsSound flow b bs
-s9_sound laws flow defs b bs valid i c choices r st step =
-    let s = step_at flow b (Store i.y i.shape i.f i.from i.q) c choices r i.at st.point step in
+s9_sound laws flow defs b bs valid i c choices r stands step =
+    let s = step_at flow b (Store i.y i.shape i.f i.from i.q) c choices r i.at stands.point step in
     let fits = fits_at flow defs b.point (Store i.y i.shape i.f i.from i.q) valid (slice_get flow.points b.point) refl i.at in
-    let met = operand_met c.vars (region_of c.heap) st.v b.state flow.vars fits.0 i.from i.m i.s fits.3 i.value st.bounded st.stands in
-    let e = edge_with_id (slice_get i.s.edges i.place) i.edge i.block in
-    s9_block laws flow b bs i c choices r s.0 e.0 i.edge st.addresses met e.1 (at_position (is_shaped_block_at i.s.atoms i.n i.shape) i.s.edges i.place (e.0, i.edge) i.there e.1) i.field s.1
+    let met = operand_met c.vars (region_of c.heap) stands.v b.state flow.vars fits.0 i.from i.m fits.3 i.value stands.bounded stands.stands in
+    let e = edge_with_id (slice_get b.state.edges i.place) i.edge i.block in
+    s9_block laws flow b bs i c choices r s.0 e.0 i.edge stands met e.1 (at_position (is_shaped_block_at b.state.atoms i.n i.shape) b.state.edges i.place (e.0, i.edge) i.there e.1) i.field s.1
 
 -- ---- allocation
 
@@ -368,11 +390,10 @@ s11_sound : (flow : Flow) (defs : Defs) (b : Branch) (bs : List Branch) → IsVa
 s11_sound flow defs b bs valid i c choices r st step =
     let s = step_at flow b (Free i.from i.q) c choices r i.at st.point step in
     let fits = fits_at flow defs b.point (Free i.from i.q) valid (slice_get flow.points b.point) refl i.at in
-    let met = operand_met c.vars (region_of c.heap) st.v b.state flow.vars Ptr i.from i.n i.s fits i.known st.bounded st.stands in
-    let zero : met.v i.n.0 ≡ pos 0 = null_value met.v i.s.atoms met.stands.null met.stands.atoms i.n i.zero in
-    let value : value_of c.vars i.from ≡ Some (pos 0) = met.value ∙ ap Some zero in
-    leads_one (at_point i.q c) choices r (moved_to i.q i.s) bs (s.1 ∙ ap (freed i.q s.0 c choices) value) i.gives
-    (record { point = refl; addresses = st.addresses; bounded = met.bounded; v = met.v; stands = met.stands })
+    let zero : st.v i.n.0 ≡ pos 0 = null_value st.v b.state.atoms st.stands.null st.stands.atoms i.n i.zero in
+    let value : value_of c.vars i.from ≡ Some (pos 0) = pointer_value c.vars (region_of c.heap) st.v b.state flow.vars i.from i.n fits i.known st.stands ∙ ap Some zero in
+    leads_one (at_point i.q c) choices r (moved_to i.q b.state) bs (s.1 ∙ ap (freed i.q s.0 c choices) value) i.gives
+    (record { point = refl; addresses = st.addresses; bounded = st.bounded; v = st.v; stands = st.stands })
 
 freed_is : (q : PointId) (place : Place) (c : Config) (choices : List Choice) (p : ℤ) (a : ℕ) (block : Block) → p ≡ pos a → IsAddress a → region_of c.heap a ≡ Some block → freed q place c choices (Some p) ≡ with_heap q c choices (map.remove c.heap a)
 freed_is q place c choices p a block leads is there =
@@ -381,25 +402,27 @@ freed_is q place c choices p a block leads is there =
     if_not (address p == 0) (next (at_point q c) choices) (freed_at q place c choices (address p) (region_of c.heap (address p))) nonzero
     ∙ ap (λ n. freed_at q place c choices n (region_of c.heap n)) at ∙ ap (freed_at q place c choices a) there
 
-s12_block : (laws : HeapLaws) (flow : Flow) (b : Branch) (bs : List Branch) (i : S12Is flow b bs) (c : Config) (choices : List Choice) (r : Result) (place : Place) (id : EdgeId) (e : Edge) → HasAddresses c.heap → OperandMet c.vars (region_of c.heap) i.from i.n i.s
-    → slice_get i.s.edges i.place ≡ Some (id, e) → is_block_at i.s.atoms i.n (id, e) ≡ true → bs ≡ moved_to i.q (without_block i.s i.place (start_of e)) ∷ []
+s12_block : (laws : HeapLaws) (flow : Flow) (b : Branch) (bs : List Branch) (i : S12Is flow b bs) (c : Config) (choices : List Choice) (r : Result) (place : Place) (id : EdgeId) (e : Edge) (stands : StandsAt c b) → value_of c.vars i.from ≡ Some (stands.v i.n.0)
+    → slice_get b.state.edges i.place ≡ Some (id, e) → is_block_at b.state.atoms i.n (id, e) ≡ true → bs ≡ moved_to i.q (without_block b.state i.place (start_of e)) ∷ []
     → r ≡ freed i.q place c choices (value_of c.vars i.from) → LeadsTo bs r
-s12_block laws flow b bs i c choices r place id (edge.Block at own fields) has met e passes gives step =
-    let s = i.s in
-    let v = met.v in
+s12_block laws flow b bs i c choices r place id (edge.Block at own fields) stands value e passes gives step =
+    let s = b.state in
+    let v = stands.v in
+    let met = stands in
+    let has = stands.addresses in
     let out = block_out laws v (region_of c.heap) s.edges s.whole i.place id at own fields e met.stands.parts in
     let block : Block = record { shape = own.0; fields = out.values } in
     let here = there laws v c.heap s.edges s.whole i.place at own fields out in
     let is = is_address laws v c.heap s.edges s.whole i.place at own fields out has in
     let same : v i.n.0 ≡ v at.0 = same_value v s.atoms met.stands.null met.stands.atoms i.n at passes in
     let gets : r ≡ with_heap i.q c choices (map.remove c.heap out.address) =
-    step ∙ ap (freed i.q place c choices) met.value ∙ freed_is i.q place c choices (v i.n.0) out.address block (same ∙ out.leads) is here in
+      step ∙ ap (freed i.q place c choices) value ∙ freed_is i.q place c choices (v i.n.0) out.address block (same ∙ out.leads) is here in
     let after = region_of (map.remove c.heap out.address) in
     let parts = freed_parts laws v c.heap s.edges s.whole i.place at own fields out in
     let free : after out.address ≡ None = (laws.remove c.heap out.address).here in
     let lie = all_lie laws v after parts.held parts.rest (remove s.edges i.place) parts.split parts.each in
     let range : IsTrueAtom v (In at (pos 1) (pos 4611686018427387903)) =
-    (let l : v at.0 ≡ pos out.address = out.leads in let low : 1 ≤ out.address = is.0 in let high : out.address < 2 ^ 62 = is.1 in (omega (arith, ints), omega (arith, ints))) in
+      (let l : v at.0 ≡ pos out.address = out.leads in let low : 1 ≤ out.address = is.0 in let high : out.address < 2 ^ 62 = is.1 in (omega (arith, ints), omega (arith, ints))) in
     let edge_below = all_at (λ (y : EdgeId × Edge). EdgeIsBelow s.next y.1) s.edges i.place (id, edge.Block at own fields) e met.bounded.edges in
     let others_below = all_without (λ (y : EdgeId × Edge). EdgeIsBelow s.next y.1) s.edges i.place met.bounded.edges in
     leads_one _ choices r (moved_to i.q (without_block s i.place at)) bs gets gives
@@ -425,12 +448,12 @@ s12_block laws flow b bs i c choices r place id (edge.Block at own fields) has m
     })
 
 s12_sound : HeapLaws → (flow : Flow) (defs : Defs) (b : Branch) (bs : List Branch) → IsValid flow defs → S12Is flow b bs → IsSound flow b bs
-s12_sound laws flow defs b bs valid i c choices r st step =
-    let s = step_at flow b (Free i.from i.q) c choices r i.at st.point step in
+s12_sound laws flow defs b bs valid i c choices r stands step =
+    let s = step_at flow b (Free i.from i.q) c choices r i.at stands.point step in
     let fits = fits_at flow defs b.point (Free i.from i.q) valid (slice_get flow.points b.point) refl i.at in
-    let met = operand_met c.vars (region_of c.heap) st.v b.state flow.vars Ptr i.from i.n i.s fits i.known st.bounded st.stands in
-    let e = edge_with_id (slice_get i.s.edges i.place) i.edge i.block in
-    s12_block laws flow b bs i c choices r s.0 e.0 i.edge st.addresses met e.1 (at_position (is_block_at i.s.atoms i.n) i.s.edges i.place (e.0, i.edge) i.there e.1) i.gives s.1
+    let value = pointer_value c.vars (region_of c.heap) stands.v b.state flow.vars i.from i.n fits i.known stands.stands in
+    let e = edge_with_id (slice_get b.state.edges i.place) i.edge i.block in
+    s12_block laws flow b bs i c choices r s.0 e.0 i.edge stands value e.1 (at_position (is_block_at b.state.atoms i.n) b.state.edges i.place (e.0, i.edge) i.there e.1) i.gives s.1
 
 -- ---- tests
 
@@ -450,12 +473,11 @@ tested_leads c choices r t f n s v bs false test e has stands b lt g =
     subst (LeadsTo bs) (sym e) (subst (StandsAtSome (at_point f c)) (sym g)
     (inr (inl (record { point = refl; addresses = has; bounded = atom_bounded s (Ne n null (pos 0)) (lt, b.positive) b; v = v; stands = atom_stands v c.vars (region_of c.heap) s (Ne n null (pos 0)) holds stands }))))
 
-s13_sound : (flow : Flow) (defs : Defs) (b : Branch) (bs : List Branch) → IsValid flow defs → S13Is flow b bs → IsSound flow b bs
-s13_sound flow defs b bs valid i c choices r st step =
-    let s = step_at flow b (TestEq i.from (Const (pos 0)) i.t i.f) c choices r i.at st.point step in
-    let fits = fits_at flow defs b.point (TestEq i.from (Const (pos 0)) i.t i.f) valid (slice_get flow.points b.point) refl i.at in
-    let met = operand_met c.vars (region_of c.heap) st.v b.state flow.vars fits.0 i.from i.n i.s fits.1 i.known st.bounded st.stands in
-    tested_leads c choices r i.t i.f i.n i.s met.v bs (int_eq (met.v i.n.0) (pos 0)) refl (s.1 ∙ ap (λ o. tested i.t i.f s.0 c choices o (Some (pos 0))) met.value) st.addresses met.stands met.bounded met.below i.gives
+s13_sound : (flow : Flow) (b : Branch) (bs : List Branch) → S13Is flow b bs → IsSound flow b bs
+s13_sound flow b bs i c choices r st step =
+    let s = step_at flow b (TestEq (Var i.x) (Const (pos 0)) i.t i.f) c choices r i.at st.point step in
+    let value : value_in c.vars i.x ≡ Some (st.v i.n.0) = vars_get st.v b.state.env c.vars i.x.0 i.n st.stands.vars i.known in
+    tested_leads c choices r i.t i.f i.n b.state st.v bs (int_eq (st.v i.n.0) (pos 0)) refl (s.1 ∙ ap (λ o. tested i.t i.f s.0 c choices o (Some (pos 0))) value) st.addresses st.stands st.bounded (known_below b.state i.x i.n st.bounded i.known) i.gives
 
 s17_sound : (flow : Flow) (b : Branch) (bs : List Branch) → S17Is flow b bs → IsSound flow b bs
 s17_sound flow b bs i c choices r st step =
@@ -494,7 +516,7 @@ line_sound laws flow defs S9 b bs valid i = s9_sound laws flow defs b bs valid i
 line_sound laws flow defs S10 b bs valid i = s10_sound laws flow b bs i
 line_sound laws flow defs S11 b bs valid i = s11_sound flow defs b bs valid i
 line_sound laws flow defs S12 b bs valid i = s12_sound laws flow defs b bs valid i
-line_sound laws flow defs S13 b bs valid i = s13_sound flow defs b bs valid i
+line_sound laws flow defs S13 b bs valid i = s13_sound flow b bs i
 line_sound laws flow defs S17 b bs valid i = s17_sound flow b bs i
 line_sound laws flow defs L12 b bs valid i = l12_sound laws flow b bs i
 line_sound laws flow defs (Header version form) b bs valid i = absurd i
