@@ -2,7 +2,7 @@
 ghost use Rattle.std.specs.Prelude.{◌≡◌, ◌∷◌, [], Some, None};
 ghost use Rattle.mc_heap.specs.Heap.{region_of};
 ghost use Rattle.mc_heap.specs.Parts.{Split, IsEmpty, Star, StarAt, Changes};
-ghost use Rattle.mc_heap.specs.PartLaws.{SplitCommutes, SplitRegroupsLeft, SplitRegroupsRight, SplitDropsEmpty, SplitAddsEmpty, EmptyHeapIsEmpty, RegionTellsHeap, InsertChanges, RemoveChanges, InsertKeepsAddresses, RemoveKeepsAddresses, CellIsRead, CellIsAdded, CellIsReplaced, CellIsRemoved};
+ghost use Rattle.mc_heap.specs.PartLaws.{SplitCommutes, SplitRegroupsLeft, SplitRegroupsRight, SplitDropsEmpty, SplitAddsEmpty, SplitKeepsAddresses, EmptyHeapIsEmpty, RegionTellsHeap, InsertChanges, RemoveChanges, InsertKeepsAddresses, RemoveKeepsAddresses, CellIsRead, CellIsAdded, CellIsReplaced, CellIsRemoved};
 ghost use Rattle.mc_heap.specs.Instances.{block_at, one_block, two_blocks, nowhere, only_at, IsBlockAt, IsNothingAt};
 
 /// Parts may be named and grouped in any order, and an empty part plays no role.
@@ -12,6 +12,7 @@ pub fn parts_regroup()
     ensures right { SplitRegroupsRight }
     ensures drops_empty { SplitDropsEmpty }
     ensures adds_empty { SplitAddsEmpty }
+    ensures keeps_addresses { SplitKeepsAddresses }
 {}
 
 /// How a finite map's region changes.
