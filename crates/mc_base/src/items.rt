@@ -1,5 +1,5 @@
 // Short lists, of which contracts see the items alone.
-ghost use Rattle.std.specs.Prelude.{◌≡◌, ◌++◌, ◌∷◌, [], length, IfOk, OnOk, OnErr, IsOk};
+ghost use Rattle.std.specs.Prelude.{◌≡◌, ◌++◌, ◌∷◌, ◌↔◌, [], length, IfOk, IsTrue, OnOk, OnErr};
 
 use smallvec::SmallVec;
 use std::alloc::{AllocError, AllocFailed, Global};
@@ -46,6 +46,12 @@ impl<T> Items<T> {
         ensures { result ≡ length self.now }
     {
         self.items.len()
+    }
+
+    pub fn is_empty(&self) -> bool
+        ensures { IsTrue result ↔ (self.now ≡ []) }
+    {
+        self.items.is_empty()
     }
 }
 
@@ -96,6 +102,12 @@ impl<T> Args<T> {
         ensures { result ≡ length self.now }
     {
         self.items.len()
+    }
+
+    pub fn is_empty(&self) -> bool
+        ensures { IsTrue result ↔ (self.now ≡ []) }
+    {
+        self.items.is_empty()
     }
 }
 

@@ -18,6 +18,25 @@ pub enum Kind {
     Ptr,
 }
 
+/// What can go wrong when a program runs.
+#[derive(Clone, Copy, Debug, PartialEq, Eq)]
+pub enum FaultKind {
+    /// Reading or writing through null.
+    Null,
+    /// Reading or writing through an address that is not allocated as that struct.
+    Freed,
+    /// Using an undefined value.
+    Uninit,
+    /// Freeing what is neither null nor allocated.
+    BadFree,
+    /// A false `assert`.
+    Assertion,
+    /// An `assert_shape` that no part of the heap meets.
+    Shape,
+    /// An `assert_empty` while something is allocated.
+    NotEmpty,
+}
+
 /// A fact about nodes: `Eq` is `a = b + c`, `Ne` is `a != b + c`, and `In` is `lo <= a <= hi`.
 #[derive(Clone, Copy, Debug, PartialEq, Eq)]
 pub enum Atom {

@@ -1,4 +1,5 @@
 pub mod Access
+pub mod Choices
 pub mod Heap
 pub mod Instances
 pub mod PartLaws

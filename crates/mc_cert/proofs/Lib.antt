@@ -1,0 +1,2 @@
+pub mod LineFirst
+pub mod Lengths

@@ -1,0 +1,22 @@
+//! Judges documents, a line at a time.
+#![tactic(auto)]
+
+ghost use Rattle.std.specs.Prelude.{List};
+ghost use Rattle.mc_flow.specs.declared.graph.Flow.{Flow};
+ghost use Rattle.mc_flow.specs.declared.graph.Defs.{Defs};
+ghost use Rattle.mc_flow.specs.Valid.{IsValid};
+ghost use Rattle.mc_flow.specs.Steps.{IsSafeFlow};
+ghost use Rattle.mc_state.specs.declared.line.Line.{Line};
+ghost use Rattle.mc_kernel.specs.Rules.{IsCertificate};
+
+mod branch;
+mod proof;
+mod rules;
+
+pub use branch::Branch;
+pub use proof::{ApplyFault, Complete, Proof};
+
+/// A certificate of a valid flow graph means that no run of it has a fault.
+pub fn certified_is_safe()
+    ensures { (flow : Flow) (defs : Defs) (lines : List Line) → IsValid flow defs → IsCertificate flow lines → IsSafeFlow flow }
+{}

@@ -1,0 +1,65 @@
+-- Which configurations a symbolic state stands for.
+use Rattle.std.specs.Prelude.{◌≡◌, ◌≢◌, ◌<◌, ◌^◌, ℕ, List, [], ◌∷◌, ℤ, pos, negsuc, ◌+ℤ◌, ◌≤ℤ◌, Option, Some, None, IsTrue}
+use Rattle.std.specs.List.{AllByRecursion}
+use Rattle.mc_base.specs.declared.ids.NodeId.{NodeId}
+use Rattle.mc_base.specs.declared.plain.Kind.{Kind}
+use Rattle.mc_base.specs.declared.plain.Kind.TheVariants.{Int, Ptr}
+use Rattle.mc_base.specs.declared.plain.Atom.{Atom}
+use Rattle.mc_base.specs.declared.plain.Atom.TheVariants.{Eq, Ne, In}
+use Rattle.mc_heap.specs.Heap.{Region}
+use Rattle.mc_state.specs.State.{State}
+
+-- a whole number for each node
+abbrev pub Valuation : Type 0
+Valuation = ℕ → ℤ
+
+-- the number lies in the range of the kind
+abbrev pub InKind : Kind → ℤ → Type 0
+InKind Int z = (negsuc 2147483647 ≤ℤ z) × (z ≤ℤ pos 2147483647)
+InKind Ptr z = (pos 0 ≤ℤ z) × (z ≤ℤ pos 4611686018427387903)
+
+-- the atom is true
+abbrev pub IsTrueAtom : Valuation → Atom → Type 0
+IsTrueAtom v (Eq a b c) = v a.0 ≡ v b.0 +ℤ c
+IsTrueAtom v (Ne a b c) = v a.0 ≢ v b.0 +ℤ c
+IsTrueAtom v (In a lo hi) = (lo ≤ℤ v a.0) × (v a.0 ≤ℤ hi)
+
+-- a known variable has the value of its node; an unknown one is free
+abbrev pub VarMeets : Valuation → Option NodeId → Option ℤ → Type 0
+VarMeets v None value = Unit {0}
+VarMeets v (Some n) value = value ≡ Some (v n.0)
+
+-- each variable does so, and there are as many values as variables
+abbrev pub VarsMeet : Valuation → List (Option NodeId) → List (Option ℤ) → Type 0
+VarsMeet v [] [] = Unit {0}
+VarsMeet v (x ∷ xs) (z ∷ zs) = VarMeets v x z × VarsMeet v xs zs
+VarsMeet v [] (z ∷ zs) = ⊥
+VarsMeet v (x ∷ xs) [] = ⊥
+
+-- the variables' values and the heap stand for the state by the valuation
+pub record StandsBy (v : Valuation) (values : List (Option ℤ)) (region : Region) (s : State) : Type 0 where
+  pub null : v 0 ≡ pos 0
+  pub kinds : AllByRecursion (λ k. InKind k.1 (v k.0.0)) s.kinds
+  pub atoms : AllByRecursion (IsTrueAtom v) s.atoms
+  pub vars : VarsMeet v s.env values
+  pub heap : IsTrue s.whole → (at : ℕ) → region at ≡ None
+
+-- they stand for it by some valuation
+abbrev pub Stands : List (Option ℤ) → Region → State → Type 0
+Stands values region s = (v : Valuation) × StandsBy v values region s
+
+abbrev pub IsBelow : ℕ → Option NodeId → Type 0
+IsBelow n None = Unit {0}
+IsBelow n (Some m) = m.0 < n
+
+abbrev pub AtomIsBelow : ℕ → Atom → Type 0
+AtomIsBelow n (Eq a b c) = (a.0 < n) × (b.0 < n)
+AtomIsBelow n (Ne a b c) = (a.0 < n) × (b.0 < n)
+AtomIsBelow n (In a lo hi) = a.0 < n
+
+-- every node of the state is below the next one
+pub record IsBounded (s : State) : Type 0 where
+  pub positive : 0 < s.next
+  pub kinds : AllByRecursion (λ k. k.0.0 < s.next) s.kinds
+  pub atoms : AllByRecursion (AtomIsBelow s.next) s.atoms
+  pub vars : AllByRecursion (IsBelow s.next) s.env
