@@ -1,0 +1,100 @@
+-- The conditions that definitions meet.
+use Rattle.std.specs.Prelude.{◌≡◌, ◌≢◌, ℕ, zero, suc, ◌+◌, ◌<◌, ℤ, pos, negsuc, ◌≤ℤ◌, Bool, true, false, ◌⊎◌, Option, Some, None, List, [], ◌∷◌, ◌++◌, map, take, length, slice_get, option_map}
+use Rattle.std.specs.List.{AllByRecursion}
+use Rattle.mc_base.specs.declared.ids.StructId.{StructId}
+use Rattle.mc_base.specs.declared.plain.Kind.{Kind}
+use Rattle.mc_base.specs.declared.plain.Kind.TheVariants.{Int, Ptr}
+use Rattle.mc_defs.specs.declared.rules.Call.{Call}
+use Rattle.mc_defs.specs.declared.rules.Def.{Def}
+use Rattle.mc_defs.specs.declared.rules.Rule.{Rule}
+use Rattle.mc_defs.specs.declared.rules.DefAtom.{DefAtom}
+use Rattle.mc_defs.specs.declared.rules.DefAtom.TheVariants.{Eq, Ne, In}
+use Rattle.mc_defs.specs.declared.shapes.FieldInfo.{FieldInfo}
+use Rattle.mc_defs.specs.declared.shapes.StructInfo.{StructInfo}
+
+-- so many numbers from one on
+abbrev pub numbers_from : ℕ → ℕ → List ℕ
+numbers_from first zero = []
+numbers_from first (suc count) = first ∷ numbers_from (suc first) count
+
+-- the fields of a rule's block; a rule without a block has none
+abbrev pub fields_of : List StructInfo → Option StructId → Option (List FieldInfo)
+fields_of structs None = Some []
+fields_of structs (Some shape) = option_map (λ info. info.fields) (slice_get structs shape.0)
+
+-- the kinds of the names that a rule has before its fixed names
+abbrev pub front_kinds : List Kind → List FieldInfo → List Kind
+front_kinds params fields = Ptr ∷ (params ++ map (λ field. field.kind) fields)
+
+-- a number that may be written in a definition, with or without a sign
+abbrev pub IsNumber : ℤ → Type 0
+IsNumber z = (negsuc 2147483646 ≤ℤ z) × (z ≤ℤ pos 2147483647)
+
+-- the name is one of the first so many, and has the kind
+abbrev pub IsKnown : List Kind → ℕ → Kind → ℕ → Type 0
+IsKnown names known kind name = (name < known) × (slice_get names name ≡ Some kind)
+
+-- a sum of the kind: zero or a known name, and an offset, which pointers do not have
+abbrev pub BaseFits : List Kind → ℕ → Kind → Option ℕ → Type 0
+BaseFits names known kind None = Unit {0}
+BaseFits names known kind (Some name) = IsKnown names known kind name
+
+abbrev pub OffsetFits : Kind → ℤ → Type 0
+OffsetFits Int add = IsNumber add
+OffsetFits Ptr add = add ≡ pos 0
+
+abbrev pub SumFits : List Kind → ℕ → Kind → Option ℕ → ℤ → Type 0
+SumFits names known kind base add = BaseFits names known kind base × OffsetFits kind add
+
+-- `x <= number` or `x >= number`: the other bound is the kind's end
+abbrev pub BoundsFit : ℤ → ℤ → Type 0
+BoundsFit lo hi = ((lo ≡ negsuc 2147483647) × IsNumber hi) ⊎ (IsNumber lo × (hi ≡ pos 2147483647))
+
+-- an atom speaks of names that are known by then, and an atom that fixes a name fixes the next one
+abbrev pub AtomFits : List Kind → ℕ → DefAtom → Type 0
+AtomFits names known (Eq left base add true) = (left ≡ known) × (kind : Kind) × (slice_get names left ≡ Some kind) × SumFits names known kind base add
+AtomFits names known (Eq left base add false) = (kind : Kind) × IsKnown names known kind left × SumFits names known kind base add
+AtomFits names known (Ne left base add) = (kind : Kind) × IsKnown names known kind left × SumFits names known kind base add
+AtomFits names known (In left lo hi) = IsKnown names known Int left × BoundsFit lo hi
+
+-- how many names are known after an atom
+abbrev pub known_after : ℕ → DefAtom → ℕ
+known_after known (Eq left base add true) = suc known
+known_after known (Eq left base add false) = known
+known_after known (Ne left base add) = known
+known_after known (In left lo hi) = known
+
+-- each atom fits where it stands, and in the end every name is known
+abbrev pub AtomsFit : List Kind → ℕ → List DefAtom → Type 0
+AtomsFit names known [] = known ≡ length names
+AtomsFit names known (atom ∷ atoms) = AtomFits names known atom × AtomsFit names (known_after known atom) atoms
+
+-- a call names a predicate of the list, at a pointer, with arguments of the parameters' kinds
+pub record CallFits (defs : List Def) (names : List Kind) (call : Call) : Type 0 where
+  pub def : Def
+  pub defined : slice_get defs call.pred.0 ≡ Some def
+  pub pointer : slice_get names call.at ≡ Some Ptr
+  pub args : map (slice_get names) call.args ≡ map Some def.params
+
+-- a rule of a definition with these parameters, for some structs
+pub record RuleFits (structs : List StructInfo) (defs : List Def) (params : List Kind) (rule : Rule) : Type 0 where
+  pub fields : List FieldInfo
+  pub block : fields_of structs rule.block ≡ Some fields
+  pub contents : rule.contents ≡ numbers_from (suc (length params)) (length fields)
+  pub front : take (length (front_kinds params fields)) rule.names ≡ front_kinds params fields
+  pub atoms : AtomsFit rule.names (length (front_kinds params fields)) rule.atoms
+  pub guarded : rule.block ≡ None → rule.calls ≡ []
+  pub calls : AllByRecursion (CallFits defs rule.names) rule.calls
+
+-- a definition has rules, and each of them fits
+pub record DefFits (structs : List StructInfo) (defs : List Def) (def : Def) : Type 0 where
+  pub some : def.rules ≢ []
+  pub rules : AllByRecursion (RuleFits structs defs def.params) def.rules
+
+-- the definitions fit these structs
+abbrev pub DefsFit : List StructInfo → List Def → Type 0
+DefsFit structs defs = AllByRecursion (DefFits structs defs) defs
+
+-- the definitions fit some structs
+abbrev pub IsDefs : List Def → Type 0
+IsDefs defs = (structs : List StructInfo) × DefsFit structs defs

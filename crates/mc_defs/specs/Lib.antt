@@ -1,0 +1,5 @@
+pub mod Conditions
+pub mod Instances
+pub mod Laws
+pub mod Meaning
+pub mod Values

@@ -1,0 +1,14 @@
+//! Inductive definitions over structs: their data, what they mean, and their instances.
+#![tactic(auto)]
+
+mod instance;
+mod laws;
+mod rules;
+mod shapes;
+
+pub use instance::{Instance, instantiate};
+pub use laws::{
+    heights_grow, null_is_empty, predicates_are_bodies, segments_are_bodies, segments_join,
+};
+pub use rules::{Call, Def, DefAtom, Rule};
+pub use shapes::{FieldInfo, StructInfo, Structs};
