@@ -1,7 +1,6 @@
 -- Segments: how they begin, what they are made of, and what they make with what stands at their end.
 use Rattle.std.proofs.Common.{◌≡◌, ℕ, zero, suc, ◌≤◌, ◌<◌, ◌⊎◌, ℤ, pos, Option, Some, None, List, [], ◌∷◌, map, slice_get, refl, sym, ◌∙◌, subst, inl, inr, arith}
-use Rattle.std.specs.Prelude.{IsSome}
-use Rattle.std.specs.List.{AllByRecursion}
+use Rattle.std.specs.Prelude.{IsSome, All}
 use Rattle.mc_base.specs.declared.ids.PredId.{PredId}
 use Rattle.mc_base.specs.declared.ids.StructId.{StructId}
 use Rattle.mc_heap.specs.Heap.{Region, IsAtAddresses}
@@ -11,7 +10,7 @@ use Rattle.mc_heap.proofs.Stars.{star_fill, star_at_fill, star_at_map, star_at_s
 use Rattle.mc_defs.specs.declared.rules.Call.{Call}
 use Rattle.mc_defs.specs.declared.rules.Def.{Def}
 use Rattle.mc_defs.specs.declared.rules.Rule.{Rule}
-use Rattle.mc_defs.specs.Conditions.{IsDefs, DefFits, RuleFits}
+use Rattle.mc_defs.specs.Conditions.{IsDefs, DefFits, RuleFitsStructs}
 use Rattle.mc_defs.specs.Values.{value_of}
 use Rattle.mc_defs.specs.Meaning.{RuleValues, BlockMeets, CallMeets, SegCallMeets, BodyMeets, SegBodyMeets, SatAt, Sat, EndsThere, SegAt, Seg}
 use Rattle.mc_defs.specs.Laws.{SegBegins, SegOfBody, SegThenSat, SegThenSeg, SatOfNull}
@@ -92,14 +91,14 @@ pub seg_then_seg : SegThenSeg
 seg_then_seg defs p v args u mids w ends h l r q s t = seg_seg_at defs p u mids w ends r t s.height v args l h q s.holds
 
 -- ---- null
-all_at : {A : Type 0} (P : A → Type 0) (xs : List A) (i : ℕ) (x : A) → slice_get xs i ≡ Some x → AllByRecursion P xs → P x
+all_at : {A : Type 0} (P : A → Type 0) (xs : List A) (i : ℕ) (x : A) → slice_get xs i ≡ Some x → All P xs → P x
 all_at P [] i x e a = cc
-all_at P (y ∷ ys) zero x e a = let is : y ≡ x = cc in subst P is a.0
-all_at P (y ∷ ys) (suc i) x e a = all_at P ys i x e a.1
+all_at P (y ∷ ys) zero x e a = let is : y ≡ x = cc in subst P is (a 0 y (omega arith))
+all_at P (y ∷ ys) (suc i) x e a = all_at P ys i x e (λ k d lt. a (suc k) d (omega arith))
 
 -- a rule of definitions that fit some structs
-pub rule_fits : (defs : List Def) (p : PredId) (v : ℤ) (args : List ℤ) → (d : IsDefs defs) → (i : RuleValues defs p v args) → RuleFits d.0 defs i.def.params i.rule
-rule_fits defs p v args d i = all_at _ i.def.rules i.place i.rule i.listed (all_at _ defs p.0 i.def i.defined d.1).rules
+pub rule_fits : (defs : List Def) (p : PredId) (v : ℤ) (args : List ℤ) → (d : IsDefs defs) → (i : RuleValues defs p v args) → RuleFitsStructs d.0 defs i.def.params i.rule
+rule_fits defs p v args d i = all_at (RuleFitsStructs d.0 defs i.def.params) i.def.rules i.place i.rule i.listed (all_at (DefFits d.0 defs) defs p.0 i.def i.defined d.1).rules
 
 -- a block is not at null
 no_block : (s : StructId) (contents : List ℕ) (names : List ℤ) (h : Region) → value_of names 0 ≡ pos 0 → IsAtAddresses h → BlockMeets (Some s) contents names h → ⊥
@@ -121,5 +120,5 @@ sat_of_null defs p args h d all s =
     let b = body_of defs p (pos 0) args h s in
     let fits = rule_fits defs p (pos 0) args d b.0 in
     let null : value_of b.0.names 0 ≡ pos 0 = rw b.0.front refl in
-    let e = empty_body b.0.rule.block b.0.rule.contents b.0.names b.0.rule.calls _ h b.1 b.2 null all fits.guarded b.3 b.4 b.5 in
+    let e = empty_body b.0.rule.block b.0.rule.contents b.0.names b.0.rule.calls _ h b.1 b.2 null all fits.fits.guarded b.3 b.4 b.5 in
     (b.0, e.0, e.1)

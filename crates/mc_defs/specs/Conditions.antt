@@ -1,6 +1,5 @@
 -- The conditions that definitions meet.
-use Rattle.std.specs.Prelude.{◌≡◌, ◌≢◌, ℕ, zero, suc, ◌+◌, ◌<◌, ℤ, pos, negsuc, ◌≤ℤ◌, Bool, true, false, ◌⊎◌, Option, Some, None, List, [], ◌∷◌, ◌++◌, map, take, length, slice_get, option_map}
-use Rattle.std.specs.List.{AllByRecursion}
+use Rattle.std.specs.Prelude.{◌≡◌, ◌≢◌, ℕ, zero, suc, ◌+◌, ◌<◌, ℤ, pos, negsuc, ◌≤ℤ◌, Bool, true, false, ◌⊎◌, Option, Some, None, List, [], ◌∷◌, ◌++◌, map, take, drop, length, slice_get, option_map, All}
 use Rattle.mc_base.specs.declared.ids.StructId.{StructId}
 use Rattle.mc_base.specs.declared.plain.Kind.{Kind}
 use Rattle.mc_base.specs.declared.plain.Kind.TheVariants.{Int, Ptr}
@@ -9,7 +8,6 @@ use Rattle.mc_defs.specs.declared.rules.Def.{Def}
 use Rattle.mc_defs.specs.declared.rules.Rule.{Rule}
 use Rattle.mc_defs.specs.declared.rules.DefAtom.{DefAtom}
 use Rattle.mc_defs.specs.declared.rules.DefAtom.TheVariants.{Eq, Ne, In}
-use Rattle.mc_defs.specs.declared.shapes.FieldInfo.{FieldInfo}
 use Rattle.mc_defs.specs.declared.shapes.StructInfo.{StructInfo}
 
 -- so many numbers from one on
@@ -17,14 +15,10 @@ abbrev pub numbers_from : ℕ → ℕ → List ℕ
 numbers_from first zero = []
 numbers_from first (suc count) = first ∷ numbers_from (suc first) count
 
--- the fields of a rule's block; a rule without a block has none
-abbrev pub fields_of : List StructInfo → Option StructId → Option (List FieldInfo)
-fields_of structs None = Some []
-fields_of structs (Some shape) = option_map (λ info. info.fields) (slice_get structs shape.0)
-
--- the kinds of the names that a rule has before its fixed names
-abbrev pub front_kinds : List Kind → List FieldInfo → List Kind
-front_kinds params fields = Ptr ∷ (params ++ map (λ field. field.kind) fields)
+-- the kinds of the fields of a rule's block; without a block there are none
+abbrev pub kinds_of : List StructInfo → Option StructId → Option (List Kind)
+kinds_of structs None = Some []
+kinds_of structs (Some shape) = option_map (λ info. map (λ field. field.kind) info.fields) (slice_get structs shape.0)
 
 -- a number that may be written in a definition, with or without a sign
 abbrev pub IsNumber : ℤ → Type 0
@@ -50,11 +44,19 @@ SumFits names known kind base add = BaseFits names known kind base × OffsetFits
 abbrev pub BoundsFit : ℤ → ℤ → Type 0
 BoundsFit lo hi = ((lo ≡ negsuc 2147483647) × IsNumber hi) ⊎ (IsNumber lo × (hi ≡ pos 2147483647))
 
--- an atom speaks of names that are known by then, and an atom that fixes a name fixes the next one
+-- a known name, and a sum of its kind
+abbrev pub SidesFit : List Kind → ℕ → ℕ → Option ℕ → ℤ → Type 0
+SidesFit names known left base add = (kind : Kind) × IsKnown names known kind left × SumFits names known kind base add
+
+-- the next name, and a sum of its kind
+abbrev pub FixingFits : List Kind → ℕ → ℕ → Option ℕ → ℤ → Type 0
+FixingFits names known left base add = (kind : Kind) × (left ≡ known) × (slice_get names left ≡ Some kind) × SumFits names known kind base add
+
+-- an atom speaks of names that are known by then, or fixes the next one
 abbrev pub AtomFits : List Kind → ℕ → DefAtom → Type 0
-AtomFits names known (Eq left base add true) = (left ≡ known) × (kind : Kind) × (slice_get names left ≡ Some kind) × SumFits names known kind base add
-AtomFits names known (Eq left base add false) = (kind : Kind) × IsKnown names known kind left × SumFits names known kind base add
-AtomFits names known (Ne left base add) = (kind : Kind) × IsKnown names known kind left × SumFits names known kind base add
+AtomFits names known (Eq left base add true) = FixingFits names known left base add
+AtomFits names known (Eq left base add false) = SidesFit names known left base add
+AtomFits names known (Ne left base add) = SidesFit names known left base add
 AtomFits names known (In left lo hi) = IsKnown names known Int left × BoundsFit lo hi
 
 -- how many names are known after an atom
@@ -69,31 +71,46 @@ abbrev pub AtomsFit : List Kind → ℕ → List DefAtom → Type 0
 AtomsFit names known [] = known ≡ length names
 AtomsFit names known (atom ∷ atoms) = AtomFits names known atom × AtomsFit names (known_after known atom) atoms
 
+-- one name for each parameter, of its kind
+abbrev pub ArgsFit : List Kind → List ℕ → List Kind → Type 0
+ArgsFit names args params = map (slice_get names) args ≡ map Some params
+
 -- a call names a predicate of the list, at a pointer, with arguments of the parameters' kinds
 pub record CallFits (defs : List Def) (names : List Kind) (call : Call) : Type 0 where
   pub def : Def
   pub defined : slice_get defs call.pred.0 ≡ Some def
   pub pointer : slice_get names call.at ≡ Some Ptr
-  pub args : map (slice_get names) call.args ≡ map Some def.params
+  pub args : ArgsFit names call.args def.params
 
--- a rule of a definition with these parameters, for some structs
-pub record RuleFits (structs : List StructInfo) (defs : List Def) (params : List Kind) (rule : Rule) : Type 0 where
-  pub fields : List FieldInfo
-  pub block : fields_of structs rule.block ≡ Some fields
-  pub contents : rule.contents ≡ numbers_from (suc (length params)) (length fields)
-  pub front : take (length (front_kinds params fields)) rule.names ≡ front_kinds params fields
-  pub atoms : AtomsFit rule.names (length (front_kinds params fields)) rule.atoms
+-- the kinds of the contents, which are the names after `this` and the parameters
+abbrev pub content_kinds : List Kind → Rule → List Kind
+content_kinds params rule = take (length rule.contents) (drop (suc (length params)) rule.names)
+
+-- the names of a rule are `this`, the parameters, the contents, and those that the rule fixes
+pub record HasNames (params : List Kind) (rule : Rule) : Type 0 where
+  pub front : take (suc (length params)) rule.names ≡ Ptr ∷ params
+  pub contents : rule.contents ≡ numbers_from (suc (length params)) (length rule.contents)
+  pub atoms : AtomsFit rule.names (suc (length params) + length rule.contents) rule.atoms
+
+-- a rule of a definition with these parameters
+pub record RuleFits (defs : List Def) (params : List Kind) (rule : Rule) : Type 0 where
+  pub names : HasNames params rule
   pub guarded : rule.block ≡ None → rule.calls ≡ []
-  pub calls : AllByRecursion (CallFits defs rule.names) rule.calls
+  pub calls : All (CallFits defs rule.names) rule.calls
+
+-- and the contents have the kinds of the fields of the block's struct
+pub record RuleFitsStructs (structs : List StructInfo) (defs : List Def) (params : List Kind) (rule : Rule) : Type 0 where
+  pub block : kinds_of structs rule.block ≡ Some (content_kinds params rule)
+  pub fits : RuleFits defs params rule
 
 -- a definition has rules, and each of them fits
 pub record DefFits (structs : List StructInfo) (defs : List Def) (def : Def) : Type 0 where
   pub some : def.rules ≢ []
-  pub rules : AllByRecursion (RuleFits structs defs def.params) def.rules
+  pub rules : All (RuleFitsStructs structs defs def.params) def.rules
 
 -- the definitions fit these structs
 abbrev pub DefsFit : List StructInfo → List Def → Type 0
-DefsFit structs defs = AllByRecursion (DefFits structs defs) defs
+DefsFit structs defs = All (DefFits structs defs) defs
 
 -- the definitions fit some structs
 abbrev pub IsDefs : List Def → Type 0

@@ -1,6 +1,7 @@
 //! Inductive definitions over structs: their data, what they mean, and their instances.
 #![tactic(auto)]
 
+mod fits;
 mod instance;
 mod laws;
 mod rules;
