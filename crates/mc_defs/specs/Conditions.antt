@@ -115,3 +115,20 @@ DefsFit structs defs = All (DefFits structs defs) defs
 -- the definitions fit some structs
 abbrev pub IsDefs : List Def → Type 0
 IsDefs defs = (structs : List StructInfo) × DefsFit structs defs
+
+-- ---- the same without structs
+-- two rules with blocks of one struct have contents of the same kinds
+abbrev pub Agree : List Kind → Rule → List Kind → Rule → Type 0
+Agree params rule params' rule' =
+    (shape : StructId) → rule.block ≡ Some shape → rule'.block ≡ Some shape → content_kinds params rule ≡ content_kinds params' rule'
+
+-- a rule fits, has no contents without a block, and agrees with every rule of the definitions
+pub record RuleFitsAlone (defs : List Def) (params : List Kind) (rule : Rule) : Type 0 where
+  pub fits : RuleFits defs params rule
+  pub bare : rule.block ≡ None → rule.contents ≡ []
+  pub agrees : All (λ def. All (λ other. Agree params rule def.params other) def.rules) defs
+
+-- a definition has rules, and each of them fits so
+pub record DefFitsAlone (defs : List Def) (def : Def) : Type 0 where
+  pub some : def.rules ≢ []
+  pub rules : All (RuleFitsAlone defs def.params) def.rules

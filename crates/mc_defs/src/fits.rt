@@ -146,7 +146,7 @@ fn calls_fit(defs: &[Def], names: &[Kind], calls: &[Call]) -> bool
     calls.iter().all(|call| call_fits(defs, names, call))
 }
 
-fn same_kinds(left: &[Kind], right: &[Kind]) -> bool
+pub fn same_kinds(left: &[Kind], right: &[Kind]) -> bool
     ensures { IsTrue result ↔ (left.now ≡ right.now) }
 {
     if left.len() != right.len() {
@@ -202,7 +202,7 @@ fn has_names(params: &[Kind], rule: &Rule) -> bool
         )
 }
 
-fn rule_fits(defs: &[Def], params: &[Kind], rule: &Rule) -> bool
+pub fn rule_fits(defs: &[Def], params: &[Kind], rule: &Rule) -> bool
     ensures { IsTrue result ↔ RuleFits defs.now params.now rule.now }
 {
     has_names(params, rule)

@@ -6,6 +6,7 @@ mod instance;
 mod laws;
 mod rules;
 mod shapes;
+mod structs_fit;
 
 pub use instance::{Instance, instantiate};
 pub use laws::{
