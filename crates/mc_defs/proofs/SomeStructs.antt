@@ -88,20 +88,20 @@ agree_of structs p r q o e f = λ shape is same.
 pub fit_alone : (defs : List Def) → IsDefs defs → All (DefFitsAlone defs) defs
 fit_alone defs d =
     all_from (DefFitsAlone defs) defs (λ i def at.
-        let fits = all_at (DefFits d.0 defs) defs i def at d.1 in
-        record {
-          some = fits.some;
-          rules = all_from (RuleFitsAlone defs def.params) def.rules (λ j rule in_def.
-              let one = all_at (RuleFitsStructs d.0 defs def.params) def.rules j rule in_def fits.rules in
-              record {
-                fits = one.fits;
-                bare = bare_of d.0 def.params rule one.fits.names one.block;
-                agrees = all_from (λ e. All (λ o. Agree def.params rule e.params o) e.rules) defs (λ k e there.
-                    let others = all_at (DefFits d.0 defs) defs k e there d.1 in
-                    all_from (λ o. Agree def.params rule e.params o) e.rules (λ l o in_e.
-                        agree_of d.0 def.params rule e.params o one.block (all_at (RuleFitsStructs d.0 defs e.params) e.rules l o in_e others.rules).block));
-              });
-        })
+    let fits = all_at (DefFits d.0 defs) defs i def at d.1 in
+    record {
+      some = fits.some;
+      rules = all_from (RuleFitsAlone defs def.params) def.rules (λ j rule in_def.
+          let one = all_at (RuleFitsStructs d.0 defs def.params) def.rules j rule in_def fits.rules in
+          record {
+            fits = one.fits;
+            bare = bare_of d.0 def.params rule one.fits.names one.block;
+            agrees = all_from (λ e. All (λ o. Agree def.params rule e.params o) e.rules) defs (λ k e there.
+                let others = all_at (DefFits d.0 defs) defs k e there d.1 in
+                all_from (λ o. Agree def.params rule e.params o) e.rules (λ l o in_e.
+                agree_of d.0 def.params rule e.params o one.block (all_at (RuleFitsStructs d.0 defs e.params) e.rules l o in_e others.rules).block));
+          });
+    })
 
 -- ---- definitions that fit alone fit the structs that they show
 is_shape : Option StructId → ℕ → Bool
@@ -204,15 +204,15 @@ unfolding shown struct_with
 shown_has defs all i d at j r in_d shape is =
     let one = all_at (RuleFitsAlone defs d.params) d.rules j r in_d (all_at (DefFitsAlone defs) defs i d at all).rules in
     let found : in_defs shape.0 defs ≡ Some (content_kinds d.params r) =
-        defs_found shape.0 (content_kinds d.params r) defs
-            (all_from (DefShows shape.0 (content_kinds d.params r)) defs (λ k e there.
-                all_from (Shows shape.0 (content_kinds d.params r) e.params) e.rules (λ l o in_e yes.
-                    sym (all_at (λ x. Agree d.params r e.params x) e.rules l o in_e (all_at (λ e. All (λ x. Agree d.params r e.params x) e.rules) defs k e there one.agrees) shape is (same_shape o.block shape yes)))))
-            i d at j r in_d (is_itself r.block shape is) in
+    defs_found shape.0 (content_kinds d.params r) defs
+    (all_from (DefShows shape.0 (content_kinds d.params r)) defs (λ k e there.
+    all_from (Shows shape.0 (content_kinds d.params r) e.params) e.rules (λ l o in_e yes.
+    sym (all_at (λ x. Agree d.params r e.params x) e.rules l o in_e (all_at (λ e. All (λ x. Agree d.params r e.params x) e.rules) defs k e there one.agrees) shape is (same_shape o.block shape yes)))))
+    i d at j r in_d (is_itself r.block shape is) in
     let made = get_numbers (λ s. struct_with (unwrap_or (in_defs s defs) [])) 0 (total_of def_bound defs) shape.0 (within defs i d at j r in_d shape is) in
     let number : 0 + shape.0 ≡ shape.0 = omega arith in
     let here : slice_get (shown defs) shape.0 ≡ Some (struct_with (content_kinds d.params r)) =
-        made ∙ ap (λ n. Some (struct_with (unwrap_or (in_defs n defs) []))) number ∙ ap (λ o. Some (struct_with (unwrap_or o []))) found in
+    made ∙ ap (λ n. Some (struct_with (unwrap_or (in_defs n defs) []))) number ∙ ap (λ o. Some (struct_with (unwrap_or o []))) found in
     ap (option_map (λ (info : StructInfo). map (λ (field : FieldInfo). field.kind) info.fields)) here ∙ ap Some (kinds_back (content_kinds d.params r))
 
 block_of : (defs : List Def) → All (DefFitsAlone defs) defs → (i : ℕ) (d : Def) → slice_get defs i ≡ Some d → (j : ℕ) (r : Rule) → slice_get d.rules j ≡ Some r → (block : Option StructId) → r.block ≡ block → kinds_of (shown defs) block ≡ Some (content_kinds d.params r)

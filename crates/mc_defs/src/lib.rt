@@ -1,6 +1,7 @@
 //! Inductive definitions over structs: their data, what they mean, and their instances.
 #![tactic(auto)]
 
+mod defs;
 mod fits;
 mod instance;
 mod laws;
@@ -8,6 +9,7 @@ mod rules;
 mod shapes;
 mod structs_fit;
 
+pub use defs::Defs;
 pub use instance::{Instance, instantiate};
 pub use laws::{
     heights_grow, null_is_empty, predicates_are_bodies, segments_are_bodies, segments_join,
