@@ -15,6 +15,7 @@ use Rattle.mc_defs.specs.Values.{value_of}
 use Rattle.mc_defs.specs.Meaning.{RuleValues, BlockMeets, CallMeets, SegCallMeets, BodyMeets, SegBodyMeets, SatAt, Sat, EndsThere, SegAt, Seg}
 use Rattle.mc_defs.specs.Laws.{SegBegins, SegOfBody, SegThenSat, SegThenSeg, SatOfNull}
 use Rattle.mc_defs.proofs.Heights.{fold, body_of}
+use Rattle.mc_defs.proofs.SomeStructs.{all_at}
 
 module _ (defs : List Def) where
   seg_sat_at : (p : PredId) (w : ℤ) (ends : List ℤ) (r : Region) → Sat defs p w ends r → (k : ℕ) (v : ℤ) (args : List ℤ) (l h : Region) → Split h l r → SegAt defs p w ends k v args l → Sat defs p v args h
@@ -91,11 +92,6 @@ pub seg_then_seg : SegThenSeg
 seg_then_seg defs p v args u mids w ends h l r q s t = seg_seg_at defs p u mids w ends r t s.height v args l h q s.holds
 
 -- ---- null
-all_at : {A : Type 0} (P : A → Type 0) (xs : List A) (i : ℕ) (x : A) → slice_get xs i ≡ Some x → All P xs → P x
-all_at P [] i x e a = cc
-all_at P (y ∷ ys) zero x e a = let is : y ≡ x = cc in subst P is (a 0 y (omega arith))
-all_at P (y ∷ ys) (suc i) x e a = all_at P ys i x e (λ k d lt. a (suc k) d (omega arith))
-
 -- a rule of definitions that fit some structs
 pub rule_fits : (defs : List Def) (p : PredId) (v : ℤ) (args : List ℤ) → (d : IsDefs defs) → (i : RuleValues defs p v args) → RuleFitsStructs d.0 defs i.def.params i.rule
 rule_fits defs p v args d i = all_at (RuleFitsStructs d.0 defs i.def.params) i.def.rules i.place i.rule i.listed (all_at (DefFits d.0 defs) defs p.0 i.def i.defined d.1).rules

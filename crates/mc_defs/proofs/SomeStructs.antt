@@ -20,6 +20,16 @@ module _ {A : Type 0} where
   all_head : (P : A → Type 0) (x : A) (xs : List A) → All P (x ∷ xs) → P x
   all_head P x xs a = a 0 x (omega arith)
 
+  pub all_nil : (P : A → Type 0) → All P []
+  all_nil P = λ k d lt. absurd (omega arith)
+
+  pub all_cons : (P : A → Type 0) (x : A) (xs : List A) → P x → All P xs → All P (x ∷ xs)
+  all_cons P x xs p a = λ k d lt. go P x xs p a k d lt
+    where
+      go : (P : A → Type 0) (x : A) (xs : List A) → P x → All P xs → (k : ℕ) (d : A) → k < length (x ∷ xs) → P (get_or (x ∷ xs) k d)
+      go P x xs p a zero d lt = p
+      go P x xs p a (suc k) d lt = a k d (omega arith)
+
   pub all_at : (P : A → Type 0) (xs : List A) (i : ℕ) (x : A) → slice_get xs i ≡ Some x → All P xs → P x
   all_at P [] i x e a = cc
   all_at P (y ∷ ys) zero x e a = let is : y ≡ x = cc in subst P is (all_head P y ys a)

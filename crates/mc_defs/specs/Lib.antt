@@ -1,4 +1,5 @@
 pub mod Conditions
+pub mod Examples
 pub mod Instances
 pub mod Laws
 pub mod Meaning

@@ -2,6 +2,7 @@
 #![tactic(auto)]
 
 mod defs;
+mod examples;
 mod fits;
 mod instance;
 mod laws;
@@ -10,6 +11,7 @@ mod shapes;
 mod structs_fit;
 
 pub use defs::Defs;
+pub use examples::{example_predicates, example_premises, example_segments, examples_fit};
 pub use instance::{Instance, instantiate};
 pub use laws::{
     heights_grow, null_is_empty, predicates_are_bodies, segments_are_bodies, segments_join,
