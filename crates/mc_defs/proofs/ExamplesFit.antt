@@ -1,10 +1,13 @@
 -- The examples' definitions fit their structs.
-use Rattle.std.proofs.Common.{◌≡◌, [], ◌∷◌, refl, arith}
+use Rattle.std.proofs.Common.{◌≡◌, [], ◌∷◌, refl, sym, subst, arith}
+use Rattle.std.specs.Prelude.{All}
 use Rattle.std.proofs.lemmas.Int.{ints}
 use Rattle.mc_base.specs.declared.plain.Kind.TheVariants.{Int, Ptr}
 use Rattle.mc_defs.specs.declared.rules.Call.{Call}
-use Rattle.mc_defs.specs.Conditions.{CallFits, RuleFits, RuleFitsStructs, DefFits, DefsFit}
-use Rattle.mc_defs.specs.Examples.{structs, defs, list_id, lenlist_id, tree_id, null_rule, list_rule, no_length_rule, lenlist_rule, tree_rule, list_def, lenlist_def, tree_def}
+use Rattle.mc_defs.specs.declared.rules.Def.{Def}
+use Rattle.mc_defs.specs.declared.rules.Rule.{Rule}
+use Rattle.mc_defs.specs.Conditions.{CallFits, RuleFitsStructs, DefFits, DefsFit}
+use Rattle.mc_defs.specs.Examples.{structs, defs, tree_id, null_rule, list_rule, no_length_rule, lenlist_rule, tree_rule, list_def, lenlist_def, tree_def}
 use Rattle.mc_defs.proofs.SomeStructs.{all_nil, all_cons}
 
 null_fits : RuleFitsStructs structs defs [] null_rule
@@ -69,12 +72,16 @@ tree_fits =
       };
     }
 
+def_fits : (def : Def) (first second : Rule) → def.rules ≡ first ∷ second ∷ [] → RuleFitsStructs structs defs def.params first → RuleFitsStructs structs defs def.params second → DefFits structs defs def
+def_fits def first second e f g =
+    let fits = RuleFitsStructs structs defs def.params in
+    record {
+      some = λ none. cc;
+      rules = subst (All fits) (sym e) (all_cons fits first (second ∷ []) f (all_cons fits second [] g (all_nil fits)));
+    }
+
 pub examples_fit : DefsFit structs defs
 examples_fit =
-    all_cons (DefFits structs defs) list_def _
-    (record { some = λ e. cc; rules = all_cons (RuleFitsStructs structs defs []) null_rule _ null_fits (all_cons (RuleFitsStructs structs defs []) list_rule [] list_fits (all_nil (RuleFitsStructs structs defs []))) })
-    (all_cons (DefFits structs defs) lenlist_def _
-    (record { some = λ e. cc; rules = all_cons (RuleFitsStructs structs defs (Int ∷ [])) no_length_rule _ no_length_fits (all_cons (RuleFitsStructs structs defs (Int ∷ [])) lenlist_rule [] lenlist_fits (all_nil (RuleFitsStructs structs defs (Int ∷ [])))) })
-    (all_cons (DefFits structs defs) tree_def []
-    (record { some = λ e. cc; rules = all_cons (RuleFitsStructs structs defs []) null_rule _ null_fits (all_cons (RuleFitsStructs structs defs []) tree_rule [] tree_fits (all_nil (RuleFitsStructs structs defs []))) })
-    (all_nil (DefFits structs defs))))
+    all_cons (DefFits structs defs) list_def (lenlist_def ∷ tree_def ∷ []) (def_fits list_def null_rule list_rule refl null_fits list_fits)
+    (all_cons (DefFits structs defs) lenlist_def (tree_def ∷ []) (def_fits lenlist_def no_length_rule lenlist_rule refl no_length_fits lenlist_fits)
+    (all_cons (DefFits structs defs) tree_def [] (def_fits tree_def null_rule tree_rule refl null_fits tree_fits) (all_nil (DefFits structs defs))))

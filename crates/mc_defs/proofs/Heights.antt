@@ -1,12 +1,12 @@
 -- Heights may grow, and many heights have one above them all.
-use Rattle.std.proofs.Common.{ℕ, zero, suc, ◌≤◌, ◌+◌, ◌⊎◌, ℤ, List, [], ◌∷◌, inl, inr, arith}
+use Rattle.std.proofs.Common.{ℕ, zero, suc, ◌≤◌, ◌+◌, ℤ, List, [], ◌∷◌, inl, inr, arith}
 use Rattle.mc_base.specs.declared.ids.PredId.{PredId}
 use Rattle.mc_heap.specs.Heap.{Region}
 use Rattle.mc_heap.specs.Parts.{Star}
 use Rattle.mc_heap.proofs.Stars.{star_map, star_at_map}
 use Rattle.mc_defs.specs.declared.rules.Call.{Call}
 use Rattle.mc_defs.specs.declared.rules.Def.{Def}
-use Rattle.mc_defs.specs.Meaning.{CallMeets, SegCallMeets, BodyMeets, SatAt, Sat, SegAt, Seg}
+use Rattle.mc_defs.specs.Meaning.{CallMeets, SegCallMeets, BodyMeets, SatAt, Sat, SegAt}
 use Rattle.mc_defs.specs.Laws.{SatIsMonotone, SegIsMonotone, SatUnfolds, SatFolds}
 
 module _ (defs : List Def) where

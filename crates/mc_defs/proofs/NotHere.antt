@@ -4,13 +4,13 @@ use Rattle.std.specs.List.{AllByRecursion}
 use Rattle.std.specs.Cmp.{nat_cmp_total}
 use Rattle.std.specs.FinMap.{get-from_entries}
 use Rattle.mc_heap.specs.Heap.{Block, Region}
-use Rattle.mc_heap.specs.Parts.{Joins, Split, IsEmpty, IsCell, Star}
+use Rattle.mc_heap.specs.Parts.{Joins, Split, IsCell, Star}
 use Rattle.mc_heap.proofs.Splits.{split_turned}
 use Rattle.mc_defs.specs.declared.rules.Def.{Def}
 use Rattle.mc_defs.specs.declared.rules.Rule.{Rule}
 use Rattle.mc_defs.specs.Values.{value_of, IsTrueAtom}
-use Rattle.mc_defs.specs.Meaning.{RuleValues, BlockMeets, CallMeets, Sat}
-use Rattle.mc_defs.specs.Examples.{defs, cell_id, fork_id, lenlist_id, tree_id, null_rule, no_length_rule, lenlist_rule, tree_rule, lenlist_def, tree_def, cell_with, fork_with, blocks, two_cells, shared_fork}
+use Rattle.mc_defs.specs.Meaning.{BlockMeets, CallMeets, Sat}
+use Rattle.mc_defs.specs.Examples.{defs, lenlist_id, tree_id, null_rule, no_length_rule, lenlist_rule, tree_rule, lenlist_def, tree_def, cell_with, fork_with, blocks, two_cells, shared_fork}
 use Rattle.mc_defs.proofs.Heights.{body_of}
 
 -- what the one region holds, the other holds

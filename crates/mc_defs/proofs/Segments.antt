@@ -1,6 +1,6 @@
 -- Segments: how they begin, what they are made of, and what they make with what stands at their end.
-use Rattle.std.proofs.Common.{◌≡◌, ℕ, zero, suc, ◌≤◌, ◌<◌, ◌⊎◌, ℤ, pos, Option, Some, None, List, [], ◌∷◌, map, slice_get, refl, sym, ◌∙◌, subst, inl, inr, arith}
-use Rattle.std.specs.Prelude.{IsSome, All}
+use Rattle.std.proofs.Common.{◌≡◌, ℕ, zero, suc, ◌⊎◌, ℤ, pos, Option, Some, None, List, [], map, refl, sym, subst, inl, inr, arith}
+use Rattle.std.specs.Prelude.{IsSome}
 use Rattle.mc_base.specs.declared.ids.PredId.{PredId}
 use Rattle.mc_base.specs.declared.ids.StructId.{StructId}
 use Rattle.mc_heap.specs.Heap.{Region, IsAtAddresses}
@@ -9,10 +9,9 @@ use Rattle.mc_heap.proofs.Splits.{split_right, split_empty, split_keeps_addresse
 use Rattle.mc_heap.proofs.Stars.{star_fill, star_at_fill, star_at_map, star_at_some, star_without}
 use Rattle.mc_defs.specs.declared.rules.Call.{Call}
 use Rattle.mc_defs.specs.declared.rules.Def.{Def}
-use Rattle.mc_defs.specs.declared.rules.Rule.{Rule}
 use Rattle.mc_defs.specs.Conditions.{IsDefs, DefFits, RuleFitsStructs}
 use Rattle.mc_defs.specs.Values.{value_of}
-use Rattle.mc_defs.specs.Meaning.{RuleValues, BlockMeets, CallMeets, SegCallMeets, BodyMeets, SegBodyMeets, SatAt, Sat, EndsThere, SegAt, Seg}
+use Rattle.mc_defs.specs.Meaning.{RuleValues, BlockMeets, CallMeets, SegCallMeets, SegBodyMeets, Sat, EndsThere, SegAt, Seg}
 use Rattle.mc_defs.specs.Laws.{SegBegins, SegOfBody, SegThenSat, SegThenSeg, SatOfNull}
 use Rattle.mc_defs.proofs.Heights.{fold, body_of}
 use Rattle.mc_defs.proofs.SomeStructs.{all_at}

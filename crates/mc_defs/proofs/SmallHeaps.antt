@@ -1,22 +1,19 @@
 -- Lists, segments and trees on small heaps.
-use Rattle.std.proofs.Common.{◌≡◌, ◌≢◌, ℕ, zero, suc, ◌≤◌, ◌<◌, ◌⊎◌, ℤ, pos, negsuc, ◌+ℤ◌, ◌≤ℤ◌, Option, Some, None, List, [], ◌∷◌, map, slice_get, length, refl, sym, ap, subst, ◌∙◌, inl, inr, arith, nat_cmp}
-use Rattle.std.specs.Prelude.{IsSome, All}
+use Rattle.std.proofs.Common.{◌≡◌, ℕ, ℤ, pos, negsuc, ◌+ℤ◌, None, List, [], ◌∷◌, refl, sym, subst, ◌∙◌, inl, inr, arith}
 use Rattle.std.specs.Cmp.{nat_cmp_total}
 use Rattle.std.specs.FinMap as finmap
 use Rattle.std.specs.FinMap.{get-from_entries}
 use Rattle.std.proofs.lemmas.Bool.{cases_eq}
 use Rattle.std.proofs.lemmas.Int.{ints}
 use mathlib.Core.Path.{fun_ext}
-use Rattle.mc_base.specs.declared.ids.PredId.{PredId}
-use Rattle.mc_base.specs.declared.plain.Kind.{Kind}
 use Rattle.mc_base.specs.declared.plain.Kind.TheVariants.{Int, Ptr}
 use Rattle.mc_heap.specs.Heap.{Block, Region, IsAtAddresses}
-use Rattle.mc_heap.specs.Parts.{Split, IsEmpty, IsCell, Star}
+use Rattle.mc_heap.specs.Parts.{Split, IsEmpty, IsCell}
 use Rattle.mc_heap.proofs.Splits.{split_turned, split_empty, split_whole, nothing, nothing-IsEmpty, empty_heap_is_empty, insert_changes, cell_is_added}
 use Rattle.mc_defs.specs.Values.{InKinds}
 use Rattle.mc_defs.specs.Meaning.{RuleValues, BodyMeets, SatAt, Sat, SegAt, Seg}
-use Rattle.mc_defs.specs.Examples.{structs, defs, list_id, lenlist_id, tree_id, null_rule, list_rule, no_length_rule, lenlist_rule, tree_rule, list_def, lenlist_def, tree_def, cell_with, fork_with, blocks, two_cells, first_cell, second_cell, two_forks}
-use Rattle.mc_defs.proofs.Heights.{fold, body_of}
+use Rattle.mc_defs.specs.Examples.{defs, list_id, lenlist_id, tree_id, null_rule, list_rule, no_length_rule, lenlist_rule, tree_rule, list_def, lenlist_def, tree_def, cell_with, fork_with, blocks, two_cells, first_cell, second_cell, two_forks}
+use Rattle.mc_defs.proofs.Heights.{fold}
 use Rattle.mc_defs.proofs.Segments.{seg_of_body}
 
 -- ---- heaps of blocks

@@ -1,5 +1,5 @@
 -- Definitions whose blocks agree fit some structs: each struct has the fields that the first rule with a block of it has.
-use Rattle.std.proofs.Common.{◌≡◌, ◌≢◌, ℕ, zero, suc, ◌+◌, ◌<◌, ◌≤◌, ◌⊎◌, Bool, true, false, cond, Option, Some, None, List, [], ◌∷◌, map, take, drop, length, get_or, slice_get, refl, sym, ◌∙◌, ap, subst, inl, inr, arith, length-take, length-drop}
+use Rattle.std.proofs.Common.{◌≡◌, ℕ, zero, suc, ◌+◌, ◌<◌, ◌≤◌, ◌⊎◌, Bool, true, false, cond, Option, Some, None, List, [], ◌∷◌, map, take, drop, length, get_or, slice_get, refl, sym, ◌∙◌, ap, subst, inl, inr, arith, length-take, length-drop}
 use Rattle.std.specs.Prelude.{All, nat_eq, unwrap_or, option_map}
 use Rattle.std.proofs.lemmas.Bool.Decides.{nat_tests}
 use Rattle.mc_base.specs.declared.ids.StructId.{StructId}
@@ -10,7 +10,7 @@ use Rattle.mc_defs.specs.declared.rules.DefAtom.TheVariants.{Eq, Ne, In}
 use Rattle.mc_defs.specs.declared.rules.Rule.{Rule}
 use Rattle.mc_defs.specs.declared.shapes.FieldInfo.{FieldInfo}
 use Rattle.mc_defs.specs.declared.shapes.StructInfo.{StructInfo}
-use Rattle.mc_defs.specs.Conditions.{numbers_from, kinds_of, content_kinds, known_after, AtomsFit, HasNames, RuleFits, RuleFitsStructs, DefFits, DefsFit, IsDefs, Agree, RuleFitsAlone, DefFitsAlone}
+use Rattle.mc_defs.specs.Conditions.{numbers_from, kinds_of, content_kinds, known_after, AtomsFit, HasNames, RuleFitsStructs, DefFits, IsDefs, Agree, RuleFitsAlone, DefFitsAlone}
 
 -- ---- lists
 module _ {A : Type 0} where

@@ -1,18 +1,13 @@
 -- Lists, lists of a length, and trees, on small heaps.
 use Rattle.std.specs.Prelude.{ℕ, ℤ, pos, negsuc, true, false, Some, None, List, [], ◌∷◌, codes}
-use Rattle.std.specs.Ordering.{nat_cmp}
 use Rattle.std.specs.FinMap as map
 use Rattle.mc_base.specs.declared.ids.PredId.{PredId}
 use Rattle.mc_base.specs.declared.ids.StructId.{StructId}
-use Rattle.mc_base.specs.declared.plain.Kind.{Kind}
 use Rattle.mc_base.specs.declared.plain.Kind.TheVariants.{Int, Ptr}
-use Rattle.mc_heap.specs.Heap.{Block, Heap, Region, region_of}
-use Rattle.mc_defs.specs.declared.rules.Call.{Call}
+use Rattle.mc_heap.specs.Heap.{Block, Region, region_of}
 use Rattle.mc_defs.specs.declared.rules.Def.{Def}
-use Rattle.mc_defs.specs.declared.rules.DefAtom.{DefAtom}
-use Rattle.mc_defs.specs.declared.rules.DefAtom.TheVariants.{Eq, Ne, In}
+use Rattle.mc_defs.specs.declared.rules.DefAtom.TheVariants.{Eq}
 use Rattle.mc_defs.specs.declared.rules.Rule.{Rule}
-use Rattle.mc_defs.specs.declared.shapes.FieldInfo.{FieldInfo}
 use Rattle.mc_defs.specs.declared.shapes.StructInfo.{StructInfo}
 
 -- struct cell { int data; struct cell *next; }; struct fork { struct fork *left, *right; };
