@@ -1,2 +1,3 @@
 mod EntriesLemmas
 mod OutsideLemmas
+mod StreamLemmas

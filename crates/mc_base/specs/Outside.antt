@@ -67,6 +67,10 @@ Adds old bytes new (Err _) = (n : ℕ) × (new ≡ old ++ take n bytes)
 abbrev pub AddsIfTold : Option (List ℕ) → List ℕ → Option (List ℕ) → Result ⊤ FileFault → Type 0
 AddsIfTold old bytes new result = Told old (λ before. (now : List ℕ) × (new ≡ Some now) × Adds before bytes now result)
 
--- a file that grew is within the limit of a file
+-- a file that is told has no more bytes than a file may have
+abbrev pub IsWithinLimit : Option (List ℕ) → Type 0
+IsWithinLimit held = Told held (λ bytes. length bytes ≤ file_limit)
+
+-- a file that grew is within the limit
 abbrev pub GrowsWithin : Option (List ℕ) → Option (List ℕ) → Type 0
 GrowsWithin old new = Told old (λ before. Told new (λ now. length before < length now → length now ≤ file_limit))

@@ -1,9 +1,9 @@
 // Files in memory, one entry for each.
-ghost use Rattle.std.specs.Prelude.{◌≡◌, ◌-◌, min, take, drop, ◌≤◌, ◌++◌, ◌∷◌, [], length, None, Some, OnOk, OnErr};
+ghost use Rattle.std.specs.Prelude.{◌≡◌, ◌++◌, [], None, Some, OnOk, OnErr};
 ghost use Rattle.std.specs.List.{position};
 ghost use Rattle.std.specs.Option.{option_copied};
-ghost use Rattle.mc_base.specs.Entries.{bytes_at, bytes_or_empty, is_named};
-ghost use Rattle.mc_base.specs.Outside.{OthersStay, Stays, Told, file_limit};
+ghost use Rattle.mc_base.specs.Entries.{bytes_at, bytes_or_empty, is_named, read_len, IsFilled};
+ghost use Rattle.mc_base.specs.Outside.{OthersStay, Stays, IsWithinLimit};
 
 use crate::NoMemory;
 use std::alloc::Global;
@@ -11,8 +11,8 @@ use std::marker::Model;
 
 // Copies what lies from a place on into the front of the buffer, and answers how many bytes.
 pub fn copied(bytes: &[u8], at: u64, buf: &mut [u8]) -> usize
-    ensures count { result ≡ min (length buf.old) (length bytes.now - at) }
-    ensures after { buf.new ≡ take result (drop at bytes.now) ++ drop result buf.old }
+    ensures count { result ≡ read_len bytes.now at buf.old }
+    ensures filled { IsFilled bytes.now at result buf.old buf.new }
 {
     if at >= bytes.len() as u64 {
         return 0;
@@ -78,8 +78,9 @@ impl Entries {
 
     // Adds bytes at the end of a file. A missing file counts as an empty one.
     pub fn extend(&mut self, name: &str, bytes: &[u8]) -> Result<(), NoMemory>
-        ensures ok { OnOk result (bytes_at self.new name.now ≡ Some (bytes_or_empty self.old name.now ++ bytes.now)) }
-        ensures limit { OnOk result (Told (bytes_at self.new name.now) (λ now. length now ≤ file_limit)) }
+        ensures ok { OnOk result
+            (bytes_at self.new name.now ≡ Some (bytes_or_empty self.old name.now ++ bytes.now)) }
+        ensures limit { OnOk result (IsWithinLimit (bytes_at self.new name.now)) }
         ensures err { OnErr result (Stays (bytes_at self.old) (bytes_at self.new)) }
         ensures others { OthersStay name.now (bytes_at self.old) (bytes_at self.new) }
     {

@@ -1,5 +1,6 @@
 // Short lists, of which contracts see the items alone.
-ghost use Rattle.std.specs.Prelude.{◌≡◌, ◌++◌, ◌∷◌, ◌↔◌, [], length, IfOk, IsTrue, OnOk, OnErr};
+ghost use Rattle.std.specs.Prelude.{◌≡◌, ◌++◌, ◌∷◌, ◌↔◌, [], length, slice_get, IfOk, IsTrue, OnOk, OnErr};
+ghost use Rattle.std.specs.Option.{option_copied};
 
 use smallvec::SmallVec;
 use std::alloc::{AllocError, AllocFailed, Global};
@@ -53,6 +54,13 @@ impl<T> Items<T> {
     {
         self.items.is_empty()
     }
+
+    /// The item at a place, from 0 on.
+    pub fn get(&self, place: usize) -> Option<&T>
+        ensures { option_copied result ≡ slice_get self.now place }
+    {
+        self.items.as_slice().get(place)
+    }
 }
 
 impl<T: Drop> Items<T> {
@@ -75,6 +83,24 @@ impl<T: Copy> Items<T> {
             items: Vec::from_slice(alloc, self.items.as_slice())?,
         })
     }
+}
+
+impl<T: PartialEq> PartialEq for Items<T> {
+    ghost use Rattle.std.specs.Cmp.Lexicographic.{pointwise, lists_per};
+
+    ghost eq = { λ a b. pointwise T.eq a b };
+
+    ghost laws = { lists_per T.laws };
+
+    fn eq(&self, other: &Self) -> bool {
+        self.items.as_slice() == other.items.as_slice()
+    }
+}
+
+impl<T: Eq> Eq for Items<T> {
+    ghost use Rattle.std.specs.Cmp.Lexicographic.{lists_equiv};
+
+    ghost laws = { lists_equiv T.Eq.laws };
 }
 
 /// A list that keeps up to four items in itself.
@@ -109,6 +135,13 @@ impl<T> Args<T> {
     {
         self.items.is_empty()
     }
+
+    /// The item at a place, from 0 on.
+    pub fn get(&self, place: usize) -> Option<&T>
+        ensures { option_copied result ≡ slice_get self.now place }
+    {
+        self.items.as_slice().get(place)
+    }
 }
 
 impl<T: Default + Copy> Args<T> {
@@ -138,4 +171,22 @@ impl<T: Default + Copy> Args<T> {
             items: SmallVec::from_slice(alloc, self.items.as_slice())?,
         })
     }
+}
+
+impl<T: PartialEq> PartialEq for Args<T> {
+    ghost use Rattle.std.specs.Cmp.Lexicographic.{pointwise, lists_per};
+
+    ghost eq = { λ a b. pointwise T.eq a b };
+
+    ghost laws = { lists_per T.laws };
+
+    fn eq(&self, other: &Self) -> bool {
+        self.items.as_slice() == other.items.as_slice()
+    }
+}
+
+impl<T: Eq> Eq for Args<T> {
+    ghost use Rattle.std.specs.Cmp.Lexicographic.{lists_equiv};
+
+    ghost laws = { lists_equiv T.Eq.laws };
 }

@@ -4,15 +4,20 @@
 
 mod calls;
 mod entries;
+mod host;
 mod ids;
 mod items;
 mod mem_files;
 mod mem_sink;
 mod outside;
 mod plain;
+mod streams;
 mod sure_files;
 mod sure_sink;
+#[cfg(test)]
+mod tests;
 
+pub use host::{HostFiles, HostSink};
 pub use ids::{EdgeId, Id, NodeId, PointId, PredId, StructId, VarId};
 pub use items::{Args, Items};
 pub use mem_files::MemFiles;

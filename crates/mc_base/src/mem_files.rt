@@ -1,9 +1,9 @@
 // Files in memory that fail at the calls listed.
-ghost use Rattle.std.specs.Prelude.{◌≡◌, ◌≤◌, ◌-◌, ◌++◌, ◌||◌, [], Some, length, min, take, drop, is_none, IfSome, IfOk, OnOk, OnErr};
+ghost use Rattle.std.specs.Prelude.{◌≡◌, ◌≤◌, ◌++◌, ◌||◌, [], Some, length, is_none, IfSome, IfOk, OnOk, OnErr};
 ghost use Rattle.std.specs.Option.{option_copied};
 ghost use Rattle.mc_base.specs.Calls.{no_calls, fails_next, after_call, read_answer, is_failed};
-ghost use Rattle.mc_base.specs.Entries.{bytes_at, bytes_or_empty};
-ghost use Rattle.mc_base.specs.Outside.{Stays, OthersStay, Told, file_limit};
+ghost use Rattle.mc_base.specs.Entries.{bytes_at, bytes_or_empty, read_len, IsFilled};
+ghost use Rattle.mc_base.specs.Outside.{Stays, OthersStay, IsWithinLimit, file_limit};
 
 use crate::calls::Calls;
 use crate::entries::{Entries, copied};
@@ -54,7 +54,8 @@ impl Files for MemFiles {
     ghost faults = { λ f. f.calls.faults };
 
     fn size(&mut self, name: &str) -> Result<u64, FileFault>
-        ensures answer { result ≡ read_answer (fails_next self.old.calls) (bytes_at self.old.entries name.now) length }
+        ensures answer { result ≡
+            read_answer (fails_next self.old.calls) (bytes_at self.old.entries name.now) length }
         ensures limit { IfOk result (λ n. n ≤ file_limit) }
         ensures same { self.new.entries ≡ self.old.entries }
         ensures counted { self.new.calls ≡ after_call self.old.calls result }
@@ -67,8 +68,11 @@ impl Files for MemFiles {
     }
 
     fn read_at(&mut self, name: &str, at: u64, buf: &mut [u8]) -> Result<usize, FileFault>
-        ensures answer { result ≡ read_answer (fails_next self.old.calls) (bytes_at self.old.entries name.now) (λ bytes. min (length buf.old) (length bytes - at)) }
-        ensures copied { IfSome (bytes_at self.old.entries name.now) (λ bytes. IfOk result (λ n. buf.new ≡ take n (drop at bytes) ++ drop n buf.old)) }
+        ensures answer { result ≡
+            read_answer (fails_next self.old.calls) (bytes_at self.old.entries name.now)
+            (λ bytes. read_len bytes at buf.old) }
+        ensures filled { IfSome (bytes_at self.old.entries name.now)
+            (λ bytes. IfOk result (λ n. IsFilled bytes at n buf.old buf.new)) }
         ensures untouched { OnErr result (buf.new ≡ buf.old) }
         ensures same { self.new.entries ≡ self.old.entries }
         ensures counted { self.new.calls ≡ after_call self.old.calls result }
@@ -93,9 +97,11 @@ impl Files for MemFiles {
     }
 
     fn append(&mut self, name: &str, bytes: &[u8]) -> Result<(), FileFault>
-        ensures failed { is_failed result ≡ (fails_next self.old.calls || is_none (bytes_at self.old.entries name.now)) }
-        ensures added { OnOk result (bytes_at self.new.entries name.now ≡ Some (bytes_or_empty self.old.entries name.now ++ bytes.now)) }
-        ensures limit { OnOk result (Told (bytes_at self.new.entries name.now) (λ now. length now ≤ file_limit)) }
+        ensures failed { is_failed result ≡
+            (fails_next self.old.calls || is_none (bytes_at self.old.entries name.now)) }
+        ensures added { OnOk result (bytes_at self.new.entries name.now ≡
+            Some (bytes_or_empty self.old.entries name.now ++ bytes.now)) }
+        ensures limit { OnOk result (IsWithinLimit (bytes_at self.new.entries name.now)) }
         ensures fault { OnErr result (Stays (bytes_at self.old.entries) (bytes_at self.new.entries)) }
         ensures others { OthersStay name.now (bytes_at self.old.entries) (bytes_at self.new.entries) }
         ensures counted { self.new.calls ≡ after_call self.old.calls result }

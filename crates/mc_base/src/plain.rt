@@ -46,7 +46,7 @@ pub enum Atom {
 }
 
 /// A variable's name, which is empty for a temporary, and its kind.
-#[derive(Drop)]
+#[derive(PartialEq, Eq, Drop)]
 pub struct VarInfo {
     pub name: Items<u8>,
     pub kind: Kind,

@@ -1,8 +1,8 @@
 // Files in memory that never fail.
-ghost use Rattle.std.specs.Prelude.{◌≡◌, ◌≢◌, ◌≤◌, ◌-◌, ◌++◌, [], Some, Ok, length, min, take, drop, IfOk, OnOk, OnErr};
+ghost use Rattle.std.specs.Prelude.{◌≡◌, ◌≢◌, ◌≤◌, ◌++◌, [], Some, Ok, length, IfOk, OnOk, OnErr};
 ghost use Rattle.std.specs.Option.{option_copied};
-ghost use Rattle.mc_base.specs.Entries.{bytes_at, bytes_or_empty};
-ghost use Rattle.mc_base.specs.Outside.{Stays, OthersStay, Told, file_limit};
+ghost use Rattle.mc_base.specs.Entries.{bytes_at, bytes_or_empty, read_len, IsFilled};
+ghost use Rattle.mc_base.specs.Outside.{Stays, OthersStay, IsWithinLimit, file_limit};
 
 use crate::entries::{Entries, copied};
 use crate::{FileFault, Files};
@@ -60,8 +60,9 @@ impl Files for SureFiles {
     }
 
     fn read_at(&mut self, name: &str, at: u64, buf: &mut [u8]) -> Result<usize, FileFault>
-        ensures answer { result ≡ Ok (min (length buf.old) (length (bytes_or_empty self.old name.now) - at)) }
-        ensures copied { IfOk result (λ n. buf.new ≡ take n (drop at (bytes_or_empty self.old name.now)) ++ drop n buf.old) }
+        ensures answer { result ≡ Ok (read_len (bytes_or_empty self.old name.now) at buf.old) }
+        ensures filled { IfOk result
+            (λ n. IsFilled (bytes_or_empty self.old name.now) at n buf.old buf.new) }
         ensures same { self.new ≡ self.old }
     {
         match self.entries.bytes(name) {
@@ -81,9 +82,10 @@ impl Files for SureFiles {
     }
 
     fn append(&mut self, name: &str, bytes: &[u8]) -> Result<(), FileFault>
-        ensures added { OnOk result (bytes_at self.new name.now ≡ Some (bytes_or_empty self.old name.now ++ bytes.now)) }
+        ensures added { OnOk result
+            (bytes_at self.new name.now ≡ Some (bytes_or_empty self.old name.now ++ bytes.now)) }
         ensures sure { result ≢ Err FileFault.Failed }
-        ensures limit { OnOk result (Told (bytes_at self.new name.now) (λ now. length now ≤ file_limit)) }
+        ensures limit { OnOk result (IsWithinLimit (bytes_at self.new name.now)) }
         ensures fault { OnErr result (Stays (bytes_at self.old) (bytes_at self.new)) }
         ensures others { OthersStay name.now (bytes_at self.old) (bytes_at self.new) }
     {

@@ -1,2 +1,3 @@
 pub mod LineFirst
 pub mod Lengths
+pub mod Once

@@ -72,3 +72,14 @@ ReadsAs bytes (Err faults.Form) = (d : Data) × IsJson bytes d × DataReadsAs d 
 ReadsAs bytes (Err faults.Version) = (d : Data) × IsJson bytes d × DataReadsAs d (Err faults.Version)
 ReadsAs bytes (Err faults.NotJson) = (d : Data) → IsJson bytes d → ⊥
 ReadsAs bytes (Err faults.NoMemory) = Unit {0}
+
+-- the bytes are JSON of the line's array
+abbrev pub Spells : List ℕ → Line → Type 0
+Spells bytes line = ReadsAs bytes (Ok line)
+
+-- for this reason the bytes spell no line
+abbrev pub SpellsNone : List ℕ → LineFault → Type 0
+SpellsNone bytes faults.NotJson = (line : Line) → Spells bytes line → ⊥
+SpellsNone bytes faults.Form = (line : Line) → Spells bytes line → ⊥
+SpellsNone bytes faults.Version = (line : Line) → Spells bytes line → ⊥
+SpellsNone bytes faults.NoMemory = Unit {0}

@@ -1,10 +1,10 @@
 // What a line of a document says.
-ghost use Rattle.std.specs.Prelude.{◌≡◌, ◌↔◌, IsTrue, MatchOption};
+ghost use Rattle.std.specs.Prelude.{◌≡◌, ◌↔◌, IfErr, IsTrue, MatchOption};
 ghost use Rattle.serde_json.specs.View.{view, items_view};
 ghost use Rattle.serde_json.specs.Data.{array, item, no_items, string};
 ghost use Rattle.mc_state.specs.declared.line.Form.{Form};
 ghost use Rattle.mc_state.specs.declared.line.Line.{Line};
-ghost use Rattle.mc_cert.specs.Document.{DataReadsAs, IsWholeNumber, ReadsAs, data_of, form_name};
+ghost use Rattle.mc_cert.specs.Document.{DataReadsAs, IsWholeNumber, ReadsAs, SpellsNone, data_of, form_name};
 
 use mc_state::{Form, Line, Version};
 use serde_json::Value;
@@ -107,7 +107,8 @@ fn line_in(entries: &[Value]) -> Result<Line, LineFault>
 
 /// The line that bytes spell, or why they are none.
 pub fn line_of(alloc: Global, bytes: &[u8]) -> Result<Line, LineFault>
-    ensures { ReadsAs bytes.now result }
+    ensures reads { ReadsAs bytes.now result }
+    ensures none { IfErr result (SpellsNone bytes.now) }
 {
     match Value::from_slice(alloc, bytes) {
         Err(e) => Err(if e.is_memory() {

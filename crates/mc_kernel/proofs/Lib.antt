@@ -1,3 +1,5 @@
 pub mod Moves
+pub mod Parts
 pub mod Standing
 pub mod Sound
+pub mod Once

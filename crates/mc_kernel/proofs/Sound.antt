@@ -22,6 +22,7 @@ use Rattle.mc_flow.specs.declared.instr.Instr.{Instr}
 use Rattle.mc_flow.specs.declared.instr.Instr.TheVariants.{Skip, Copy}
 use Rattle.mc_flow.specs.declared.instr.Instr.TheVariants as instr
 use Rattle.mc_flow.specs.declared.graph.Point.{Point}
+use Rattle.mc_flow.specs.declared.graph.Structs.{Structs}
 use Rattle.mc_flow.specs.declared.graph.Flow.{Flow}
 use Rattle.mc_flow.specs.declared.graph.Defs.{Defs}
 use Rattle.mc_flow.specs.Valid.{IsValid, IsInt, IsOperand, FitsKinds}
@@ -54,12 +55,12 @@ IsSound flow b bs = (c : Config) (choices : List Choice) (r : Result) → Stands
 
 -- ---- the instruction at a point
 
-at_instr : (o : Option Point) (i : Instr) (c : Config) (choices : List Choice) (r : Result) → option_map (λ p. p.code) o ≡ Some i → StepAt o c choices r → (place : Place) × StepOf place i c choices r
-at_instr None i c choices r e s = absurd s
-at_instr (Some p) i c choices r e s = (p.place, (let same : p.code ≡ i = cc in subst (λ (j : Instr). StepOf p.place j c choices r) same s))
+at_instr : (structs : Structs) (o : Option Point) (i : Instr) (c : Config) (choices : List Choice) (r : Result) → option_map (λ p. p.code) o ≡ Some i → StepAt structs o c choices r → (place : Place) × StepOf structs place i c choices r
+at_instr structs None i c choices r e s = absurd s
+at_instr structs (Some p) i c choices r e s = (p.place, (let same : p.code ≡ i = cc in subst (λ (j : Instr). StepOf structs p.place j c choices r) same s))
 
-step_at : (flow : Flow) (b : Branch) (i : Instr) (c : Config) (choices : List Choice) (r : Result) → instr_at flow b.point ≡ Some i → c.point ≡ b.point → Step flow c choices r → (place : Place) × StepOf place i c choices r
-step_at flow b i c choices r e at s = at_instr (slice_get flow.points c.point) i c choices r (ap (instr_at flow) at ∙ e) s
+step_at : (flow : Flow) (b : Branch) (i : Instr) (c : Config) (choices : List Choice) (r : Result) → instr_at flow b.point ≡ Some i → c.point ≡ b.point → Step flow c choices r → (place : Place) × StepOf flow.structs place i c choices r
+step_at flow b i c choices r e at s = at_instr flow.structs (slice_get flow.points c.point) i c choices r (ap (instr_at flow) at ∙ e) s
 
 -- ---- operands
 

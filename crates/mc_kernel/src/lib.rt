@@ -1,13 +1,14 @@
 //! Judges documents, a line at a time.
 #![tactic(auto)]
 
-ghost use Rattle.std.specs.Prelude.{List};
+ghost use Rattle.std.specs.Prelude.{◌≡◌, List};
 ghost use Rattle.mc_flow.specs.declared.graph.Flow.{Flow};
 ghost use Rattle.mc_flow.specs.declared.graph.Defs.{Defs};
 ghost use Rattle.mc_flow.specs.Valid.{IsValid};
 ghost use Rattle.mc_flow.specs.Steps.{IsSafeFlow};
 ghost use Rattle.mc_state.specs.declared.line.Line.{Line};
-ghost use Rattle.mc_kernel.specs.Rules.{IsCertificate};
+ghost use Rattle.mc_kernel.specs.declared.branch.Branch.{Branch as Open};
+ghost use Rattle.mc_kernel.specs.Rules.{Instance, IsCertificate};
 
 mod branch;
 mod proof;
@@ -20,3 +21,9 @@ pub use proof::{ApplyFault, Complete, Proof};
 pub fn certified_is_safe()
     ensures { (flow : Flow) (defs : Defs) (lines : List Line) → IsValid flow defs → IsCertificate flow lines → IsSafeFlow flow }
 {}
+
+/// A line gives a branch one list of successors at most.
+pub fn successors_are_determined()
+    ensures { (flow : Flow) (line : Line) (b : Open) (n m : List Open) → Instance flow line b n → Instance flow line b m → n ≡ m }
+{
+}

@@ -1,8 +1,10 @@
 //! Symbolic states, and the lines of documents.
 #![tactic(auto)]
 
+mod edge;
 mod line;
 mod state;
 
+pub use edge::Edge;
 pub use line::{Form, Line, Version};
 pub use state::State;

@@ -13,12 +13,31 @@ pub enum Form {
     Chain,
 }
 
-/// A line of a document. `S1`, `S2` and `S17` are the rules of Skip, Copy and End.
+/// A line of a document: the header, a rule, or the end.
 #[derive(Clone, Copy, Debug, PartialEq, Eq)]
 pub enum Line {
     Header(Version, Form),
+    /// Skip.
     S1,
+    /// Copy.
     S2,
+    /// Undef.
+    S3,
+    /// Load.
+    S8,
+    /// Store.
+    S9,
+    /// Malloc.
+    S10,
+    /// Free of null.
+    S11,
+    /// Free of a block.
+    S12,
+    /// A test for equality.
+    S13,
+    /// End.
     S17,
+    /// The state is false.
+    L12,
     End,
 }

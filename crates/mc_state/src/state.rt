@@ -2,7 +2,8 @@
 ghost use Rattle.std.specs.Prelude.{◌≡◌, ◌<◌, IfOk, OnErr, OnOk, IfSome, IfNone, slice_index_or, slice_set, None, Some};
 ghost use Rattle.mc_state.specs.State.{unknown, var_node, with_var, with_number};
 
-use mc_base::{Atom, Kind, NodeId, VarId};
+use crate::Edge;
+use mc_base::{Atom, EdgeId, Kind, NodeId, VarId};
 use std::alloc::{AllocError, Global};
 use std::marker::Model;
 
@@ -12,8 +13,10 @@ use std::marker::Model;
 pub struct State {
     env: Vec<Option<NodeId>>,
     kinds: Vec<(NodeId, Kind)>,
+    edges: Vec<(EdgeId, Edge)>,
     atoms: Vec<Atom>,
     next: u64,
+    next_edge: u64,
     whole: bool,
 }
 
@@ -22,7 +25,7 @@ impl Model for State {
 
     ghost Value = { Symbolic };
 
-    ghost view = { λ s. record { env = s.env.items; kinds = s.kinds.items; atoms = s.atoms.items; next = s.next; whole = s.whole } };
+    ghost view = { λ s. record { env = s.env.items; kinds = s.kinds.items; edges = s.edges.items; atoms = s.atoms.items; next = s.next; next_edge = s.next_edge; whole = s.whole } };
 }
 
 impl State {
@@ -33,8 +36,10 @@ impl State {
         Ok(State {
             env: vec![in alloc; None; vars]?,
             kinds: Vec::new(alloc),
+            edges: Vec::new(alloc),
             atoms: Vec::new(alloc),
             next: 1,
+            next_edge: 0,
             whole: true,
         })
     }

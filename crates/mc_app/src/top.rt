@@ -1,0 +1,65 @@
+// The top call.
+ghost use Rattle.std.specs.Prelude.{◌≡◌, ◌<◌, ◌⊎◌, List, ℕ, Ok, IfSome, IfOk, map, string_bytes};
+ghost use Rattle.mc_base.specs.Outside.{HasCause, Stays, Rose, AddsIfTold, Told};
+ghost use Rattle.mc_straight.specs.Program.{IsSafe};
+ghost use Rattle.mc_app.specs.Answers.{Asks, IsWhyWords, IsGiven, PrintsPart, answer_of, text_of};
+ghost use Rattle.mc_app.specs.Faults.{fault_status};
+
+use crate::words::asked;
+use crate::work::answer;
+use crate::{Answer, Status};
+use mc_base::{FileFault, Files, Sink};
+use std::alloc::Global;
+
+fn found<F: Files>(alloc: Global, words: &[String], files: &mut F) -> Result<Answer, FileFault>
+    ensures why { IfOk result (λ a. IsWhyWords (F.holds files.old) (map string_bytes words.now) a) }
+    ensures safe { IfOk result (λ a. a ≡ Answer.Good → (p d c : List ℕ) → Asks (map string_bytes words.now) p d c → Told (F.holds files.old p) IsSafe) }
+    ensures same { Stays (F.holds files.old) (F.holds files.new) }
+    ensures cause { HasCause (F.faults files.old) (F.faults files.new) result }
+{
+    match asked(words) {
+        None => Ok(Answer::Words),
+        Some(command) => {
+            let answer = answer(alloc, files, command)?;
+            Ok(answer)
+        }
+    }
+}
+
+fn status_of(fault: FileFault) -> Status
+    ensures { result ≡ fault_status fault }
+{
+    match fault {
+        FileFault::Failed => Status::Device,
+        FileFault::NoMemory => Status::Memory,
+    }
+}
+
+/// Does what the words ask for, which is to check a certificate. The answer is printed in one line.
+pub fn memcad<F: Files, K: Sink>(
+    alloc: Global,
+    words: &[String],
+    files: &mut F,
+    out: &mut K,
+) -> Status
+    // Where the answer is that all is well, no run of the program has a fault.
+    ensures safe { result ≡ Status.Good → (p d c : List ℕ) → Asks (map string_bytes words.now) p d c → Told (F.holds files.old p) IsSafe }
+    // Each answer has its cause, and want of memory alone has none.
+    ensures why { IfSome (answer_of result) (IsWhyWords (F.holds files.old) (map string_bytes words.now)) }
+    ensures given { IsGiven result }
+    ensures device { result ≡ Status.Device → Rose (F.faults files.old) (F.faults files.new) ⊎ Rose (K.faults out.old) (K.faults out.new) }
+    ensures only_device { (F.faults files.old < F.faults files.new) ⊎ (K.faults out.old < K.faults out.new) → result ≡ Status.Device }
+    // An answer prints its text. Another status prints nothing, or the front of the text of an answer that has its cause.
+    ensures prints { IfSome (answer_of result) (λ a. AddsIfTold (K.written out.old) (text_of a) (K.written out.new) (Ok tt)) }
+    ensures prints_part { PrintsPart (F.holds files.old) (map string_bytes words.now) (K.written out.old) (K.written out.new) }
+    // No file changes.
+    ensures same { Stays (F.holds files.old) (F.holds files.new) }
+{
+    match found(alloc, words, files) {
+        Err(fault) => status_of(fault),
+        Ok(answer) => match out.write(answer.text()) {
+            Err(fault) => status_of(fault),
+            Ok(()) => answer.status(),
+        },
+    }
+}

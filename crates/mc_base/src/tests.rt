@@ -1,0 +1,134 @@
+use crate::{
+    Args, EdgeId, FileFault, Files, HostFiles, HostSink, Id, Items, MemFiles, MemSink, NodeId,
+    Sink, SureFiles, SureSink,
+};
+use std::alloc::{AllocError, Global};
+use std::test::Fail;
+use std::{fs, process};
+
+// Two entries of one name, and an empty file.
+fn entries(alloc: Global) -> Result<Vec<(String, Vec<u8>)>, AllocError> {
+    let mut entries = Vec::new(alloc);
+    for (name, bytes) in [("a", "first"), ("a", "second"), ("b", "")] {
+        let name = String::from_str(alloc, name)?;
+        entries.push((name, Vec::from_slice(alloc, bytes.as_bytes())?))?;
+    }
+    Ok(entries)
+}
+
+#[test]
+fn files_in_memory_answer_and_fail(rt: HostRuntime) -> Result<(), Fail> {
+    let alloc = rt.alloc();
+    let failing = vec![in alloc; 3u64, 6]?;
+    let mut files = MemFiles::new(alloc, entries(alloc)?, failing);
+    let mut buf = [0u8; 3];
+    assert_eq!(rt; files.size("a"), Ok(5));
+    assert_eq!(rt; files.read_at("a", 1, &mut buf), Ok(3));
+    assert!(rt; buf.as_slice() == b"irs".as_slice());
+    assert_eq!(rt; files.size("a"), Err(FileFault::Failed), "call 3 is listed");
+    assert_eq!(rt;
+        files.size("c"),
+        Err(FileFault::Failed),
+        "the file is missing"
+    );
+    assert_eq!(rt; files.create("c"), Ok(()));
+    assert_eq!(rt;
+        files.append("c", b"x"),
+        Err(FileFault::Failed),
+        "call 6 is listed"
+    );
+    assert_eq!(rt; files.append("c", b"yz"), Ok(()));
+    assert_eq!(rt;
+        files.append("d", b"yz"),
+        Err(FileFault::Failed),
+        "the file is missing"
+    );
+    assert_eq!(rt; files.create("a"), Ok(()));
+    assert_eq!(rt; files.read_at("a", 0, &mut buf), Ok(0));
+    assert!(rt; files.bytes("c") == Some(b"yz".as_slice()));
+    assert!(rt; files.bytes("a") == Some(b"".as_slice()));
+    assert!(rt; files.bytes("d").is_none());
+    Ok(())
+}
+
+#[test]
+fn sure_files_never_fail(rt: HostRuntime) -> Result<(), Fail> {
+    let alloc = rt.alloc();
+    let mut files = SureFiles::new(alloc, entries(alloc)?);
+    let mut buf = [0u8; 8];
+    assert_eq!(rt; files.size("a"), Ok(5));
+    assert_eq!(rt; files.read_at("a", 4, &mut buf), Ok(1));
+    assert_eq!(rt; buf[0], b't');
+    assert_eq!(rt; files.size("c"), Ok(0));
+    assert_eq!(rt; files.read_at("c", 0, &mut buf), Ok(0));
+    assert!(rt; files.bytes("c").is_none());
+    assert_eq!(rt; files.append("c", b"yz"), Ok(()));
+    assert_eq!(rt; files.append("c", b"!"), Ok(()));
+    assert_eq!(rt; files.create("a"), Ok(()));
+    assert!(rt; files.bytes("c") == Some(b"yz!".as_slice()));
+    assert!(rt; files.bytes("a") == Some(b"".as_slice()));
+    Ok(())
+}
+
+#[test]
+fn sinks_in_memory_keep_what_was_written(rt: HostRuntime) -> Result<(), Fail> {
+    let alloc = rt.alloc();
+    let mut counted = MemSink::new(alloc, vec![in alloc; 2u64]?);
+    let mut sure = SureSink::new(alloc);
+    for (word, answer) in [
+        ("one ", Ok(())),
+        ("two ", Err(FileFault::Failed)),
+        ("three", Ok(())),
+    ] {
+        assert_eq!(rt; counted.write(word.as_bytes()), answer);
+        assert_eq!(rt; sure.write(word.as_bytes()), Ok(()));
+    }
+    assert!(rt; counted.bytes() == b"one three".as_slice());
+    assert!(rt; sure.bytes() == b"one two three".as_slice());
+    Ok(())
+}
+
+#[test]
+fn real_files_and_output_work(rt: HostRuntime) -> Result<(), Fail> {
+    let name = format!(in rt.alloc(); "/tmp/mc_base_{}", process::id(rt.process()))?;
+    let mut files = HostFiles::new(rt);
+    let mut buf = [0u8; 8];
+    assert_eq!(rt; files.create(name.as_str()), Ok(()));
+    assert_eq!(rt; files.append(name.as_str(), b"hello "), Ok(()));
+    assert_eq!(rt; files.append(name.as_str(), b"world"), Ok(()));
+    assert_eq!(rt; files.size(name.as_str()), Ok(11));
+    assert_eq!(rt; files.read_at(name.as_str(), 3, &mut buf), Ok(8));
+    assert!(rt; buf.as_slice() == b"lo world".as_slice());
+    assert_eq!(rt; files.read_at(name.as_str(), 9, &mut buf), Ok(2));
+    assert_eq!(rt; files.read_at(name.as_str(), 11, &mut buf), Ok(0));
+    assert_eq!(rt; files.create(name.as_str()), Ok(()));
+    assert_eq!(rt; files.size(name.as_str()), Ok(0));
+    fs::remove_file(&rt, name.as_str())?;
+    assert_eq!(rt;
+        files.size(name.as_str()),
+        Err(FileFault::Failed),
+        "the file is missing"
+    );
+    assert_eq!(rt; files.append(name.as_str(), b"!"), Err(FileFault::Failed));
+    assert_eq!(rt; HostSink::new(rt).write(b"written\n"), Ok(()));
+    Ok(())
+}
+
+#[test]
+fn lists_and_numbers_keep_what_they_are_given(rt: HostRuntime) -> Result<(), Fail> {
+    let alloc = rt.alloc();
+    let mut items = Items::new(alloc);
+    let mut args = Args::new(alloc);
+    for n in 0..6u64 {
+        items.push(NodeId::of(n))?;
+        args.push(EdgeId(n))?;
+    }
+    let more = items.copy(alloc)?;
+    assert_eq!(rt; more.len(), 6);
+    assert!(rt; more == items);
+    assert!(rt; more.get(5) == Some(&NodeId(5)));
+    assert!(rt; more.get(6).is_none());
+    assert_eq!(rt; args.copy(alloc)?.len(), 6);
+    assert_eq!(rt; EdgeId::of(7).number(), 7);
+    Ok(())
+}

@@ -1,0 +1,6 @@
+//! Judges certificates.
+#![tactic(auto)]
+
+mod judge;
+
+pub use judge::check;

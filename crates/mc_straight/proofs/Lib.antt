@@ -1,0 +1,4 @@
+pub mod Lexemes
+pub mod Bodies
+pub mod Matching
+pub mod Validity

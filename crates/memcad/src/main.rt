@@ -1,0 +1,33 @@
+//! Reads the words of the command line, and ends with the status of what they ask for.
+#![tactic(auto)]
+
+use mc_app::memcad;
+use mc_base::{HostFiles, HostSink};
+use std::process::ExitCode;
+use std::{env, io};
+
+// The words of the command line without the program's own name.
+fn words(rt: &HostRuntime) -> io::Result<Vec<String>> {
+    let mut words = Vec::new(rt.alloc());
+    for word in env::args(rt)?.skip(1) {
+        words.push(word)?;
+    }
+    Ok(words)
+}
+
+fn main(rt: HostRuntime) -> ExitCode {
+    match words(&rt) {
+        Err(_) => ExitCode::from(9),
+        Ok(words) => {
+            let alloc = rt.alloc();
+            let first: Result<_, _> = rt.clone();
+            let Ok(first) = first else {
+                return ExitCode::from(8);
+            };
+            let mut files = HostFiles::new(first);
+            let mut out = HostSink::new(rt);
+            let status = memcad(alloc, words.as_slice(), &mut files, &mut out);
+            ExitCode::from(status.code())
+        }
+    }
+}
