@@ -3,10 +3,12 @@ use Rattle.std.proofs.Common.{◌≡◌, ℕ, Option, Some, None, [], ◌∷◌,
 use Rattle.std.specs.Prelude.{nat_eq}
 use Rattle.std.specs.FinMap.{gets}
 use Rattle.std.proofs.lemmas.Bool.Decides.{nat_tests}
-use Rattle.mc_heap.specs.Heap.{Block, region_of}
+use mathlib.Core.Path.{fun_ext}
+use Rattle.std.specs.FinMap as map
+use Rattle.mc_heap.specs.Heap.{Block, region_of, HasAddresses}
 use Rattle.mc_heap.specs.Parts.{Joins, Split, IsEmpty, Changes, Star, StarAt}
-use Rattle.mc_heap.specs.Instances.{block_at, two_blocks, one_block, nowhere, only_at, IsBlockAt, IsNothingAt}
-use Rattle.mc_heap.proofs.Splits.{split_turned, split_whole, insert_changes}
+use Rattle.mc_heap.specs.Instances.{block_at, two_blocks, two_blocks_turned, one_block, nowhere, only_at, IsBlockAt, IsNothingAt}
+use Rattle.mc_heap.proofs.Splits.{split_turned, split_whole, insert_changes, insert_keeps_addresses, empty_heap_is_empty}
 
 joins_two : (b c : Bool) (p q : Block) (x : Option Block) → x ≡ cond b (Some p) (cond c (Some q) None) → (b ≡ true → c ≡ false) → Joins x (cond b (Some p) None) (cond c (Some q) None)
 joins_two true true p q x e apart = absurd (cc (apart refl))
@@ -48,3 +50,18 @@ nine_free = grind (arith, gets, nat_tests)
 
 pub nine_gone : Changes (region_of two_blocks) (only_at 7) 9 None
 nine_gone = record { here = refl; others = λ a ne. grind (arith, gets, nat_tests) }
+
+pub nine_replaced : Changes (region_of two_blocks) (region_of (map.insert two_blocks 9 (block_at 7))) 9 (Some (block_at 7))
+nine_replaced = insert_changes two_blocks 9 (block_at 7)
+
+pub one_at_addresses : HasAddresses one_block
+one_at_addresses = insert_keeps_addresses map.empty 7 (block_at 7) (omega arith, omega arith) none_there
+  where
+    none_there : HasAddresses map.empty
+    none_there at s = let none = empty_heap_is_empty.none at in absurd (cc (s, none))
+
+turned : (a : ℕ) → region_of two_blocks a ≡ region_of two_blocks_turned a
+turned a = grind (arith, gets, nat_tests)
+
+pub same_region : region_of two_blocks ≡ region_of two_blocks_turned
+same_region = fun_ext turned

@@ -1,6 +1,6 @@
 -- Regions in parts: the four laws of splits, and what changes do to parts.
 use Rattle.std.proofs.Common.{◌≡◌, ◌≢◌, ℕ, Option, Some, None, refl, sym, ap, subst, ◌∙◌, arith, inl, inr}
-use Rattle.std.specs.Prelude.{IsSome, nat_eq, if◌then◌else◌}
+use Rattle.std.specs.Prelude.{IsSome, is_some, nat_eq, if◌then◌else◌}
 use Rattle.std.specs.FinMap as map
 use Rattle.std.specs.FinMap.{gets, get-empty, same_map, nat_cmp-IsAntisymmetric}
 use Rattle.std.specs.Ordering.{nat_cmp}
@@ -10,7 +10,7 @@ use Rattle.std.proofs.lemmas.Bool.Decides.{nat_tests}
 use mathlib.Core.Path.{fun_ext}
 use Rattle.mc_heap.specs.Heap.{Block, Heap, Region, region_of, IsAddress, HasAddresses}
 use Rattle.mc_heap.specs.Parts.{Joins, Split, IsEmpty, IsCell, Changes}
-use Rattle.mc_heap.specs.PartLaws.{SplitCommutes, SplitRegroupsLeft, SplitRegroupsRight, SplitDropsEmpty, SplitAddsEmpty, EmptyHeapIsEmpty, RegionTellsHeap, InsertChanges, RemoveChanges, InsertKeepsAddresses, RemoveKeepsAddresses, CellIsRead, CellIsAdded, CellIsReplaced, CellIsRemoved}
+use Rattle.mc_heap.specs.PartLaws.{SplitCommutes, SplitRegroupsLeft, SplitRegroupsRight, SplitDropsEmpty, SplitAddsEmpty, SplitKeepsAddresses, EmptyHeapIsEmpty, RegionTellsHeap, InsertChanges, RemoveChanges, InsertKeepsAddresses, RemoveKeepsAddresses, CellIsRead, CellIsAdded, CellIsReplaced, CellIsRemoved}
 
 either : Option Block → Option Block → Option Block
 either None right = right
@@ -94,6 +94,14 @@ split_drops_empty h l r e s = split_empty e s
 
 pub split_adds_empty : SplitAddsEmpty
 split_adds_empty h n e = split_whole h e
+
+joins_there : (x l r : Option Block) → Joins x l r → IsSome l → IsSome x
+joins_there x None r j s = absurd (cc s)
+joins_there x (Some b) None j s = ap is_some j
+joins_there x (Some b) (Some c) j s = absurd j
+
+pub split_keeps_addresses : SplitKeepsAddresses
+split_keeps_addresses h l r s all at there = all at (joins_there (h at) (l at) (r at) (s.joins at) there)
 
 -- ---- finite maps
 pub empty_heap_is_empty : EmptyHeapIsEmpty

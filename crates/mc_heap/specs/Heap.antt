@@ -26,8 +26,12 @@ abbrev pub IsAddress : ℕ → Type 0
 IsAddress at = (1 ≤ at) × (at < 2 ^ 62)
 
 -- blocks are at addresses alone
+abbrev pub IsAtAddresses : Region → Type 0
+IsAtAddresses region = (at : ℕ) → IsSome (region at) → IsAddress at
+
+-- the same of a heap
 abbrev pub HasAddresses : Heap → Type 0
-HasAddresses heap = (at : ℕ) → IsSome (region_of heap at) → IsAddress at
+HasAddresses heap = IsAtAddresses (region_of heap)
 
 -- a block is stored as the pair of its struct and its fields
 abbrev pub block_code : Coded Block

@@ -35,3 +35,7 @@ IsBlockAt at region = IsCell region at (block_at at)
 -- the region is empty, whatever the address
 abbrev pub IsNothingAt : ℕ → Region → Type 0
 IsNothingAt at region = IsEmpty region
+
+-- the same blocks, put there in the other order
+abbrev pub two_blocks_turned : Heap
+two_blocks_turned = map.insert (map.insert map.empty 9 (block_at 9)) 7 (block_at 7)

@@ -1,7 +1,7 @@
 -- What holds of parts and changes of regions.
 use Rattle.std.specs.Prelude.{◌≡◌, ℕ, Some, None}
 use Rattle.std.specs.FinMap as map
-use Rattle.mc_heap.specs.Heap.{Block, Heap, Region, region_of, IsAddress, HasAddresses}
+use Rattle.mc_heap.specs.Heap.{Block, Heap, Region, region_of, IsAddress, IsAtAddresses, HasAddresses}
 use Rattle.mc_heap.specs.Parts.{Split, IsEmpty, IsCell, Changes}
 
 -- two parts in either order
@@ -25,6 +25,10 @@ SplitRegroupsRight =
 -- an empty part drops out
 abbrev pub SplitDropsEmpty : Type 0
 SplitDropsEmpty = (whole left right : Region) → IsEmpty left → Split whole left right → whole ≡ right
+
+-- the blocks of a part are at addresses where the whole's are
+abbrev pub SplitKeepsAddresses : Type 0
+SplitKeepsAddresses = (whole left right : Region) → Split whole left right → IsAtAddresses whole → IsAtAddresses left
 
 -- a region with an empty one is itself
 abbrev pub SplitAddsEmpty : Type 0

@@ -1,9 +1,10 @@
 // What holds of regions, their parts and their changes. Each law is what a function with no body ensures.
 ghost use Rattle.std.specs.Prelude.{◌≡◌, ◌∷◌, [], Some, None};
-ghost use Rattle.mc_heap.specs.Heap.{region_of};
+ghost use Rattle.std.specs.FinMap as map;
+ghost use Rattle.mc_heap.specs.Heap.{region_of, HasAddresses};
 ghost use Rattle.mc_heap.specs.Parts.{Split, IsEmpty, Star, StarAt, Changes};
-ghost use Rattle.mc_heap.specs.PartLaws.{SplitCommutes, SplitRegroupsLeft, SplitRegroupsRight, SplitDropsEmpty, SplitAddsEmpty, EmptyHeapIsEmpty, RegionTellsHeap, InsertChanges, RemoveChanges, InsertKeepsAddresses, RemoveKeepsAddresses, CellIsRead, CellIsAdded, CellIsReplaced, CellIsRemoved};
-ghost use Rattle.mc_heap.specs.Instances.{block_at, one_block, two_blocks, nowhere, only_at, IsBlockAt, IsNothingAt};
+ghost use Rattle.mc_heap.specs.PartLaws.{SplitCommutes, SplitRegroupsLeft, SplitRegroupsRight, SplitDropsEmpty, SplitAddsEmpty, SplitKeepsAddresses, EmptyHeapIsEmpty, RegionTellsHeap, InsertChanges, RemoveChanges, InsertKeepsAddresses, RemoveKeepsAddresses, CellIsRead, CellIsAdded, CellIsReplaced, CellIsRemoved};
+ghost use Rattle.mc_heap.specs.Instances.{block_at, one_block, two_blocks, two_blocks_turned, nowhere, only_at, IsBlockAt, IsNothingAt};
 
 /// Parts may be named and grouped in any order, and an empty part plays no role.
 pub fn parts_regroup()
@@ -12,6 +13,7 @@ pub fn parts_regroup()
     ensures right { SplitRegroupsRight }
     ensures drops_empty { SplitDropsEmpty }
     ensures adds_empty { SplitAddsEmpty }
+    ensures keeps_addresses { SplitKeepsAddresses }
 {}
 
 /// How a finite map's region changes.
@@ -43,5 +45,8 @@ pub fn two_blocks_are_parts()
     ensures each_but_one { StarAt IsBlockAt IsNothingAt 1 (7 ∷ 8 ∷ 9 ∷ []) (region_of two_blocks) }
     ensures free { region_of one_block 9 ≡ None }
     ensures added { Changes (region_of one_block) (region_of two_blocks) 9 (Some (block_at 9)) }
+    ensures replaced { Changes (region_of two_blocks) (region_of (map.insert two_blocks 9 (block_at 7))) 9 (Some (block_at 7)) }
     ensures removed { Changes (region_of two_blocks) (only_at 7) 9 None }
+    ensures addresses { HasAddresses one_block }
+    ensures turned { region_of two_blocks ≡ region_of two_blocks_turned }
 {}
