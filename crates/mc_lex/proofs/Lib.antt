@@ -1,0 +1,5 @@
+pub mod Texts
+pub mod Numerals
+pub mod Spellings
+pub mod Prefixes
+pub mod Rooms

@@ -1,0 +1,58 @@
+// The tokens of a text.
+ghost use Rattle.std.specs.Prelude.{◌≡◌, ◌≢◌, ◌≤◌, List, ℕ, length, IfOk, MatchResult};
+ghost use Rattle.mc_lex.specs.Readings.{Reading, Lexes};
+
+use crate::piece::{Piece, first_piece};
+use crate::spot::{behind, start};
+use crate::token::{LexFault, Token, TokenKind};
+use mc_base::{Items, Place};
+use std::alloc::{AllocError, Global};
+
+/// The tokens of a text, of which the last is the end, or its first fault.
+pub fn lex(alloc: Global, bytes: &[u8]) -> Result<Vec<Token>, LexFault>
+    requires { length bytes.now ≤ 4294967294 }
+    ensures { MatchResult result (λ tokens. Lexes bytes.now (Ok tokens.items)) (λ fault. fault ≢ LexFault.NoMemory → Lexes bytes.now (Err fault)) }
+{
+    let mut tokens = Vec::new(alloc);
+    let mut spot = start();
+    let mut rest = bytes;
+    'pieces: loop {
+        match first_piece(spot, rest) {
+            Piece::End => {
+                tokens.push(Token {
+                    kind: TokenKind::End,
+                    text: Items::new(alloc),
+                    place: spot.place,
+                })?;
+                return Ok(tokens);
+            }
+            Piece::Gap(len) => {
+                let (gap, more) = rest.split_at(len);
+                spot = behind(spot, gap);
+                rest = more;
+            }
+            Piece::Lexeme(kind, len) => {
+                let (text, more) = rest.split_at(len);
+                tokens.push(token(alloc, kind, text, spot.place)?)?;
+                spot = behind(spot, text);
+                rest = more;
+            }
+            Piece::Fault(fault) => return Err(fault),
+        }
+    }
+}
+
+fn token(alloc: Global, kind: TokenKind, text: &[u8], place: Place) -> Result<Token, AllocError>
+    ensures { IfOk result (λ token. token ≡ record { kind = kind; text = text.now; place = place }) }
+{
+    Ok(Token {
+        kind,
+        text: Items::of(Vec::from_slice(alloc, text)?),
+        place,
+    })
+}
+
+/// A text reads as one list of tokens or one fault, and no other.
+pub fn readings_are_unique()
+    ensures { (text : List ℕ) (one other : Reading) → Lexes text one → Lexes text other → one ≡ other }
+{}
