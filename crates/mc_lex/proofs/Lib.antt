@@ -3,3 +3,6 @@ pub mod Numerals
 pub mod Spellings
 pub mod Prefixes
 pub mod Rooms
+pub mod Classes
+pub mod Unique
+pub mod Ends

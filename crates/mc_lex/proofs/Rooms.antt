@@ -1,5 +1,5 @@
 -- Room behind some bytes.
-use Rattle.std.proofs.Common.{◌≡◌, ◌+◌, ◌≤◌, ℕ, suc, Bool, true, false, cond, eqb, List, [], ◌∷◌, length, arith}
+use Rattle.std.proofs.Common.{◌≡◌, ◌+◌, ℕ, Bool, true, false, cond, eqb, List, [], ◌∷◌, length, arith}
 use Rattle.mc_lex.specs.declared.spot.Spot.{Spot}
 use Rattle.mc_lex.specs.Spots.{step, behind, HasRoom}
 

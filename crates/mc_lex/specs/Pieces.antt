@@ -1,11 +1,8 @@
 -- What a text is made of, seen from one spot of it on.
-use Rattle.std.specs.Prelude.{◌≡◌, ◌≢◌, ◌+◌, ◌<◌, ◌≤◌, ◌==◌, ℕ, Bool, true, false, not, IsTrue, List, [], length, take, drop, codes, slice_index, if◌then◌else◌}
+use Rattle.std.specs.Prelude.{◌≡◌, ◌+◌, ◌<◌, ◌≤◌, ◌==◌, ℕ, not, IsTrue, List, [], length, take, drop, codes, slice_index, if◌then◌else◌}
 use Rattle.std.specs.Bool.{IsFalse}
 use Rattle.std.specs.List.{prefix_len, take_while}
-use Rattle.mc_base.specs.declared.plain.Place.{Place}
-use Rattle.mc_lex.specs.declared.token.TokenKind.{TokenKind}
 use Rattle.mc_lex.specs.declared.token.TokenKind.TheVariants.{Name, Number, Mark}
-use Rattle.mc_lex.specs.declared.token.LexFault.{LexFault}
 use Rattle.mc_lex.specs.declared.token.LexFault.TheVariants.{BadByte, OpenComment, BadNumber}
 use Rattle.mc_lex.specs.declared.piece.Piece.{Piece}
 use Rattle.mc_lex.specs.declared.piece.Piece.TheVariants.{End, Gap, Lexeme, Fault}

@@ -1,5 +1,5 @@
 -- What a text reads as.
-use Rattle.std.specs.Prelude.{◌≡◌, ℕ, List, [], ◌∷◌, take, drop, Result, Ok, Err}
+use Rattle.std.specs.Prelude.{◌≡◌, ◌≢◌, ℕ, List, [], ◌∷◌, take, drop, Result, Ok, Err}
 use Rattle.mc_lex.specs.declared.token.Token.{Token}
 use Rattle.mc_lex.specs.declared.token.TokenKind.{TokenKind}
 use Rattle.mc_lex.specs.declared.token.TokenKind.TheVariants.{End as end_kind}
@@ -32,3 +32,9 @@ pub data Reads : Spot → List ℕ → Reading → Type 0 where
 -- a whole text reads so
 abbrev pub Lexes : List ℕ → Reading → Type 0
 Lexes text reading = Reads start text reading
+
+-- the last token, and no other, is the end
+abbrev pub EndsOnce : List Token → Type 0
+EndsOnce [] = ⊥
+EndsOnce (token ∷ []) = token.kind ≡ end_kind
+EndsOnce (token ∷ next ∷ tokens) = (token.kind ≢ end_kind) × EndsOnce (next ∷ tokens)

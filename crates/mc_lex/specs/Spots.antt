@@ -1,6 +1,5 @@
 -- Where one stands in a text.
-use Rattle.std.specs.Prelude.{ℕ, ◌+◌, ◌≤◌, ◌==◌, ◌&&◌, Bool, true, List, if◌then◌else◌, fold}
-use Rattle.mc_base.specs.declared.plain.Place.{Place}
+use Rattle.std.specs.Prelude.{ℕ, ◌+◌, ◌≤◌, ◌==◌, ◌&&◌, true, List, if◌then◌else◌, fold}
 use Rattle.mc_lex.specs.declared.spot.Spot.{Spot}
 use Rattle.mc_lex.specs.Bytes.{is_blank}
 

@@ -1,6 +1,6 @@
 // The tokens of a text.
 ghost use Rattle.std.specs.Prelude.{◌≡◌, ◌≢◌, ◌≤◌, List, ℕ, length, IfOk, MatchResult};
-ghost use Rattle.mc_lex.specs.Readings.{Reading, Lexes};
+ghost use Rattle.mc_lex.specs.Readings.{Reading, Lexes, EndsOnce};
 
 use crate::piece::{Piece, first_piece};
 use crate::spot::{behind, start};
@@ -11,7 +11,8 @@ use std::alloc::{AllocError, Global};
 /// The tokens of a text, of which the last is the end, or its first fault.
 pub fn lex(alloc: Global, bytes: &[u8]) -> Result<Vec<Token>, LexFault>
     requires { length bytes.now ≤ 4294967294 }
-    ensures { MatchResult result (λ tokens. Lexes bytes.now (Ok tokens.items)) (λ fault. fault ≢ LexFault.NoMemory → Lexes bytes.now (Err fault)) }
+    ensures reading { MatchResult result (λ tokens. Lexes bytes.now (Ok tokens.items)) (λ fault. fault ≢ LexFault.NoMemory → Lexes bytes.now (Err fault)) }
+    ensures end { IfOk result (λ tokens. EndsOnce tokens.items) }
 {
     let mut tokens = Vec::new(alloc);
     let mut spot = start();

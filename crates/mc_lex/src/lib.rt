@@ -11,3 +11,6 @@ mod token;
 pub use lexer::{lex, readings_are_unique};
 pub use number::number_value;
 pub use token::{LexFault, Token, TokenKind};
+
+#[cfg(test)]
+mod tests;

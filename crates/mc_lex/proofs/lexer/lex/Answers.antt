@@ -1,16 +1,18 @@
-use Rattle.std.proofs.Common.{◌≡◌, ◌+◌, length, ap, ◌∙◌, arith}
-use Rattle.mc_lex.specs.Readings.{at_end, at_fault, past_gap, past_token, onto}
+use Rattle.std.proofs.Common.{Ok, length, ap, arith}
+use Rattle.mc_lex.specs.Readings.{at_end, at_fault, past_gap, past_token, onto, Lexes}
 use Rattle.mc_lex.proofs.Prefixes.{all_onto-push, all_onto-tokens, all_onto-fault}
+use Rattle.mc_lex.proofs.Ends.{tokens_end}
 use Rattle.mc_lex.proofs.Rooms.{room_behind}
 use Rattle.mc_lex.proofs.lexer.lex.Goals as goal
 
-pub returns-in-Fault : goal.returns-in-Fault
-returns-in-Fault c = λ _. rw all_onto-fault at (c.pieces.invariant.so_far _ (at_fault c.in-Fault.ensures.piece))
+pub returns-in-Fault-clause-reading : goal.returns-in-Fault-clause-reading
+returns-in-Fault-clause-reading c = λ _. rw all_onto-fault at (c.pieces.invariant.so_far _ (at_fault c.in-Fault.ensures.piece))
 
 pub returns-in-End : goal.returns-in-End
 returns-in-End c =
-    let read = c.pieces.invariant.so_far _ (at_end c.in-End.ensures.piece) in
-    rw (c.in_ok-push-in-End.ensures.items, c.new.ensures) (rw all_onto-tokens at read)
+    let all = c.pieces.invariant.so_far _ (at_end c.in-End.ensures.piece) in
+    let read : Lexes c.args.bytes.now (Ok c.push.new.self.items) = rw (c.in_ok-push-in-End.ensures.items, c.new.ensures) (rw all_onto-tokens at all) in
+    record { reading = read; end = tokens_end read }
 
 pub pieces-preserved-in-Gap : goal.pieces-preserved-in-Gap
 pieces-preserved-in-Gap c =

@@ -1,4 +1,4 @@
-use Rattle.std.proofs.Common.{ap, length, arith}
+use Rattle.std.proofs.Common.{arith}
 use Rattle.mc_lex.proofs.Texts.{reads_at}
 use Rattle.mc_lex.proofs.piece.close_at.Goals as goal
 

@@ -1,4 +1,4 @@
-use Rattle.std.proofs.Common.{◌≡◌, ◌≤◌, ◌<◌, length, get_or, true, false, arith, sym, ◌∙◌, ap}
+use Rattle.std.proofs.Common.{◌≡◌, get_or, arith, sym, ◌∙◌}
 use Rattle.mc_lex.specs.Pieces.{end, separator, name, line_comment, include_line}
 use Rattle.mc_lex.proofs.Texts.{begins_two, empty_text}
 use Rattle.mc_lex.proofs.piece.first_piece.Goals as goal

@@ -1,5 +1,5 @@
-use Rattle.std.proofs.Common.{◌<◌, ◌≡◌, ℕ, arith, sym, ◌∙◌}
-use Rattle.mc_lex.specs.Pieces.{IsPiece, mark, bad_byte}
+use Rattle.std.proofs.Common.{◌<◌, arith, sym, ◌∙◌}
+use Rattle.mc_lex.specs.Pieces.{mark, bad_byte}
 use Rattle.mc_lex.proofs.piece.mark_piece.Goals as goal
 
 pub returns-in-0-clause-piece : goal.returns-in-0-clause-piece

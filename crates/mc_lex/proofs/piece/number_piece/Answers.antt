@@ -1,4 +1,4 @@
-use Rattle.mc_lex.specs.Pieces.{IsPiece, number, bad_number}
+use Rattle.mc_lex.specs.Pieces.{number, bad_number}
 use Rattle.mc_lex.proofs.piece.number_piece.Goals as goal
 
 pub returns-in-Some-clause-piece : goal.returns-in-Some-clause-piece
