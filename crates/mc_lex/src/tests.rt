@@ -7,7 +7,7 @@ use std::alloc::{AllocError, Global};
 use std::test::Fail;
 
 // The kind is the first letter: name, digits, mark, end.
-const TEXTS: [(&'static str, &'static str); 100] = [
+static TEXTS: [(&'static str, &'static str); 100] = [
     ("", "e@1:1"),
     (" ", "e@1:2"),
     ("\t \t", "e@1:4"),
@@ -182,10 +182,10 @@ fn show(alloc: Global, text: &str) -> Result<String, AllocError>
 
 #[test]
 fn texts(rt: HostRuntime) -> Result<(), Fail> {
-    for (text, want) in TEXTS {
+    for (text, want) in &TEXTS {
         assert!(rt; text.len() < 1000);
         let found = show(rt.alloc(), text)?;
-        assert!(rt; found.as_str() == want, "{text:?}: {found}");
+        assert!(rt; found.as_str() == *want, "{text:?}: {found}");
     }
     Ok(())
 }
