@@ -3,7 +3,7 @@ use Rattle.std.proofs.Common.{◌≡◌, ◌≤◌, ◌<◌, ℕ, List, [], ◌�
 use Rattle.std.specs.Prelude.{MatchOption}
 use Rattle.std.specs.Option.{SomeIff}
 use Rattle.std.specs.Str.Parse.{digits_value, IsNumeral}
-use Rattle.mc_lex.specs.Numbers.{Spells, zero as spells_zero, decimal, hexadecimal, IsNoNumber}
+use Rattle.mc_lex.specs.Numbers.{Spells, as_zero, as_decimal, as_hexadecimal, IsNoNumber}
 
 -- what `numeral_value` answers
 abbrev pub Valued : ℕ → List ℕ → Option ℕ → Type 0
@@ -18,9 +18,9 @@ above n m h = omega arith
 
 -- a word that begins with 0x spells what its digits do
 hex_spelled : (word : List ℕ) (value : ℕ) → 2 ≤ length word → get_or word 0 0 ≡ 48 → Spells word value → IsNumeral 16 (drop 2 word) × (value ≡ digits_value 16 (drop 2 word))
-hex_spelled word value long first (spells_zero e is) = absurd (let one : length word ≡ 1 = ap length e in omega arith)
-hex_spelled word value long first (decimal n apart is) = absurd (apart first)
-hex_spelled word value long first (hexadecimal digits e n is) =
+hex_spelled word value long first (as_zero e is) = absurd (let one : length word ≡ 1 = ap length e in omega arith)
+hex_spelled word value long first (as_decimal n apart is) = absurd (apart first)
+hex_spelled word value long first (as_hexadecimal digits e n is) =
     let f : digits ≡ drop 2 word = sym (ap (drop 2) e) in
     (subst (IsNumeral 16) f n, is ∙ ap (digits_value 16) f)
 
@@ -31,4 +31,4 @@ hex_answered word digits None long first second e v =
 hex_answered [] digits (Some value) long first second e v = absurd (omega arith)
 hex_answered (a ∷ []) digits (Some value) long first second e v = absurd (omega arith)
 hex_answered (a ∷ b ∷ rest) digits (Some value) long first second e v =
-    (hexadecimal digits ((λ i. first i ∷ second i ∷ sym e i)) v.0.0 v.1, let small = v.0.1 in rw v.1 small)
+    (as_hexadecimal digits ((λ i. first i ∷ second i ∷ sym e i)) v.0.0 v.1, let small = v.0.1 in rw v.1 small)

@@ -8,7 +8,7 @@ use Rattle.mc_lex.specs.declared.piece.Piece.{Piece}
 use Rattle.mc_lex.specs.declared.piece.Piece.TheVariants.{End, Gap, Lexeme, Fault}
 use Rattle.mc_lex.specs.declared.spot.Spot.{Spot}
 use Rattle.mc_lex.specs.Bytes.{is_blank, is_separator, is_letter, is_digit, is_word, is_double_mark, is_single_mark}
-use Rattle.mc_lex.specs.Numbers.{Spells, IsNoNumber}
+use Rattle.mc_lex.specs.Numbers.{max_number, Spells, IsNoNumber}
 
 -- the first byte
 abbrev pub first : List ℕ → ℕ
@@ -53,16 +53,20 @@ pub record IsFirstClose (text : List ℕ) (count : ℕ) : Type 0 where
   pub here : Closes text count
   pub none_before : (k : ℕ) → k < count → ¬ Closes text k
 
--- what the text begins with, at this spot
+-- what the text begins with, at this spot: one of these, and no other
 pub data IsPiece (spot : Spot) (text : List ℕ) : Piece → Type 0 where
+  -- nothing
   end : text ≡ [] → IsPiece spot text End
+  -- what parts tokens: a separator, a comment, or the rest of a line that begins with `#include`
   separator : IsTrue (is_separator (first text)) → IsPiece spot text (Gap 1)
   line_comment : {n : ℕ} → Begins (codes "//") text → n ≡ line_len text → IsPiece spot text (Gap n)
   block_comment : {n k : ℕ} → Begins (codes "/*") text → IsFirstClose (drop 2 text) k → n ≡ k + 4 → IsPiece spot text (Gap n)
   include_line : {n : ℕ} → IsTrue spot.at_line_start → IsInclude text → n ≡ line_len text → IsPiece spot text (Gap n)
+  -- a token, which is as long as it can be
   name : {n : ℕ} → IsTrue (is_letter (first text)) → n ≡ word_len text → IsPiece spot text (Lexeme Name n)
-  number : {n value : ℕ} → IsTrue (is_digit (first text)) → n ≡ word_len text → Spells (take n text) value → value ≤ 2147483647 → IsPiece spot text (Lexeme Number n)
+  number : {n value : ℕ} → IsTrue (is_digit (first text)) → n ≡ word_len text → Spells (take n text) value → value ≤ max_number → IsPiece spot text (Lexeme Number n)
   mark : {n : ℕ} → 0 < n → n ≡ mark_len text → ¬ Begins (codes "//") text → ¬ Begins (codes "/*") text → ¬ (IsTrue spot.at_line_start × IsInclude text) → IsPiece spot text (Lexeme Mark n)
+  -- what can't be read on
   bad_byte : 0 < length text → IsFalse (is_separator (first text)) → IsFalse (is_word (first text)) → mark_len text ≡ 0 → IsPiece spot text (Fault (BadByte spot.place))
   open_comment : Begins (codes "/*") text → ((k : ℕ) → ¬ Closes (drop 2 text) k) → IsPiece spot text (Fault (OpenComment spot.place))
   bad_number : IsTrue (is_digit (first text)) → IsNoNumber (take (word_len text) text) → IsPiece spot text (Fault (BadNumber spot.place))

@@ -4,13 +4,17 @@ ghost use Rattle.mc_lex.specs.Readings.{Reading, Lexes, EndsOnce};
 
 use crate::piece::{Piece, first_piece};
 use crate::spot::{behind, start};
+use crate::text::Text;
 use crate::token::{LexFault, Token, TokenKind};
-use mc_base::{Items, Place};
+use mc_base::Place;
 use std::alloc::{AllocError, Global};
+
+/// How many bytes a text may have, so that its lines and columns are numbers of 32 bits.
+pub const MAX_BYTES: usize = 4294967294;
 
 /// The tokens of a text, of which the last is the end, or its first fault.
 pub fn lex(alloc: Global, bytes: &[u8]) -> Result<Vec<Token>, LexFault>
-    requires { length bytes.now ≤ 4294967294 }
+    requires { length bytes.now ≤ MAX_BYTES }
     ensures reading { MatchResult result (λ tokens. Lexes bytes.now (Ok tokens.items)) (λ fault. fault ≢ LexFault.NoMemory → Lexes bytes.now (Err fault)) }
     ensures end { IfOk result (λ tokens. EndsOnce tokens.items) }
 {
@@ -22,7 +26,7 @@ pub fn lex(alloc: Global, bytes: &[u8]) -> Result<Vec<Token>, LexFault>
             Piece::End => {
                 tokens.push(Token {
                     kind: TokenKind::End,
-                    text: Items::new(alloc),
+                    text: Text::new(alloc),
                     place: spot.place,
                 })?;
                 return Ok(tokens);
@@ -48,7 +52,7 @@ fn token(alloc: Global, kind: TokenKind, text: &[u8], place: Place) -> Result<To
 {
     Ok(Token {
         kind,
-        text: Items::of(Vec::from_slice(alloc, text)?),
+        text: Text::of(alloc, text)?,
         place,
     })
 }

@@ -6,10 +6,12 @@ mod lexer;
 mod number;
 mod piece;
 mod spot;
+mod text;
 mod token;
 
-pub use lexer::{lex, readings_are_unique};
+pub use lexer::{MAX_BYTES, lex, readings_are_unique};
 pub use number::number_value;
+pub use text::Text;
 pub use token::{LexFault, Token, TokenKind};
 
 #[cfg(test)]

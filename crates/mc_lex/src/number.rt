@@ -2,14 +2,14 @@
 ghost use Rattle.std.specs.Prelude.{◌≡◌, ℕ, ◌<◌, ◌≤◌, MatchOption};
 ghost use Rattle.std.specs.Option.{SomeIff};
 ghost use Rattle.std.specs.Str.Parse.{digits_value, IsNumeral};
-ghost use Rattle.mc_lex.specs.Numbers.{Spells, IsNoNumber};
+ghost use Rattle.mc_lex.specs.Numbers.{max_number, Spells, IsNoNumber};
 
-/// The greatest number of a text.
-pub const MAX_NUMBER: u32 = 2147483647;
+// The greatest number of a text.
+const MAX_NUMBER: u32 = 2147483647;
 
-/// The number that a word spells, and None where it spells none up to 2147483647.
+/// The number that a word spells, and None where it spells none or one above 2147483647.
 pub fn number_value(word: &[u8]) -> Option<u32>
-    ensures { MatchOption result (IsNoNumber word.now) (λ value. Spells word.now value × (value ≤ 2147483647)) }
+    ensures { MatchOption result (IsNoNumber word.now) (λ value. Spells word.now value × (value ≤ max_number)) }
 {
     match word {
         [b'0'] => Some(0),
@@ -23,7 +23,7 @@ pub fn number_value(word: &[u8]) -> Option<u32>
 fn numeral_value(digits: &[u8], radix: u32) -> Option<u32>
     requires low { 2 ≤ radix }
     requires high { radix ≤ 16 }
-    ensures { SomeIff result (IsNumeral radix digits.now × (digits_value radix digits.now ≤ 2147483647)) (digits_value radix digits.now) }
+    ensures { SomeIff result (IsNumeral radix digits.now × (digits_value radix digits.now ≤ max_number)) (digits_value radix digits.now) }
 {
     if digits.is_empty() {
         return None;

@@ -1,5 +1,6 @@
 // Tokens, and what keeps a text from being read.
-use mc_base::{Items, Place};
+use crate::text::Text;
+use mc_base::Place;
 use std::alloc::{AllocError, AllocFailed};
 use thiserror::Error;
 
@@ -16,7 +17,7 @@ pub enum TokenKind {
 #[derive(Drop)]
 pub struct Token {
     pub kind: TokenKind,
-    pub text: Items<u8>,
+    pub text: Text,
     pub place: Place,
 }
 
