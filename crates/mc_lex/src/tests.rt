@@ -1,7 +1,7 @@
 // Texts with the tokens and places that were worked out for them by hand.
 ghost use Rattle.std.specs.Prelude.{◌<◌, length};
 
-use crate::{LexFault, Token, TokenKind, lex, number_value};
+use crate::{LexFault, Token, TokenKind, lex, number_value, readings_are_unique};
 use mc_base::Place;
 use std::alloc::{AllocError, Global};
 use std::test::Fail;
@@ -182,6 +182,7 @@ fn show(alloc: Global, text: &str) -> Result<String, AllocError>
 
 #[test]
 fn texts(rt: HostRuntime) -> Result<(), Fail> {
+    readings_are_unique();
     for (text, want) in &TEXTS {
         assert!(rt; text.len() < 1000);
         let found = show(rt.alloc(), text)?;
