@@ -4,26 +4,50 @@ use Rattle.serde_json.specs.Data.{Data, array, item, no_items}
 use Rattle.serde_json.specs.View.{view, items_view}
 use Rattle.serde_json.specs.declared.value.Value.{Value}
 use Rattle.mc_state.specs.declared.line.Line.{Line}
-use Rattle.mc_state.specs.declared.line.Line.TheVariants.{Header, S1, S2, S17, End}
+use Rattle.mc_state.specs.declared.line.Line.TheVariants.{Header, S1, S2, S3, S8, S9, S10, S11, S12, S13, S17, L12, End}
 use Rattle.mc_cert.specs.Document.{IsOtherVersion, data_of}
 
 no_line : (xs : List Value) → length xs ≢ 1 → length xs ≢ 3 → (line : Line) → array (items_view xs) ≡ data_of line → ⊥
 no_line [] one three (Header v f) e = cc
 no_line [] one three S1 e = cc
 no_line [] one three S2 e = cc
+no_line [] one three S3 e = cc
+no_line [] one three S8 e = cc
+no_line [] one three S9 e = cc
+no_line [] one three S10 e = cc
+no_line [] one three S11 e = cc
+no_line [] one three S12 e = cc
+no_line [] one three S13 e = cc
 no_line [] one three S17 e = cc
+no_line [] one three L12 e = cc
 no_line [] one three End e = cc
 no_line (x ∷ []) one three line e = one (let h : length (x ∷ []) ≡ 1 = omega arith in h)
 no_line (x ∷ y ∷ []) one three (Header v f) e = cc
 no_line (x ∷ y ∷ []) one three S1 e = cc
 no_line (x ∷ y ∷ []) one three S2 e = cc
+no_line (x ∷ y ∷ []) one three S3 e = cc
+no_line (x ∷ y ∷ []) one three S8 e = cc
+no_line (x ∷ y ∷ []) one three S9 e = cc
+no_line (x ∷ y ∷ []) one three S10 e = cc
+no_line (x ∷ y ∷ []) one three S11 e = cc
+no_line (x ∷ y ∷ []) one three S12 e = cc
+no_line (x ∷ y ∷ []) one three S13 e = cc
 no_line (x ∷ y ∷ []) one three S17 e = cc
+no_line (x ∷ y ∷ []) one three L12 e = cc
 no_line (x ∷ y ∷ []) one three End e = cc
 no_line (x ∷ y ∷ z ∷ []) one three line e = three (let h : length (x ∷ y ∷ z ∷ []) ≡ 3 = omega arith in h)
 no_line (x ∷ y ∷ z ∷ w ∷ more) one three (Header v f) e = cc
 no_line (x ∷ y ∷ z ∷ w ∷ more) one three S1 e = cc
 no_line (x ∷ y ∷ z ∷ w ∷ more) one three S2 e = cc
+no_line (x ∷ y ∷ z ∷ w ∷ more) one three S3 e = cc
+no_line (x ∷ y ∷ z ∷ w ∷ more) one three S8 e = cc
+no_line (x ∷ y ∷ z ∷ w ∷ more) one three S9 e = cc
+no_line (x ∷ y ∷ z ∷ w ∷ more) one three S10 e = cc
+no_line (x ∷ y ∷ z ∷ w ∷ more) one three S11 e = cc
+no_line (x ∷ y ∷ z ∷ w ∷ more) one three S12 e = cc
+no_line (x ∷ y ∷ z ∷ w ∷ more) one three S13 e = cc
 no_line (x ∷ y ∷ z ∷ w ∷ more) one three S17 e = cc
+no_line (x ∷ y ∷ z ∷ w ∷ more) one three L12 e = cc
 no_line (x ∷ y ∷ z ∷ w ∷ more) one three End e = cc
 
 no_header : (xs : List Value) → length xs ≢ 3 → IsOtherVersion (array (items_view xs)) → ⊥

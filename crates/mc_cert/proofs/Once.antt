@@ -8,7 +8,7 @@ use Rattle.mc_state.specs.declared.line.Version.TheVariants.{One}
 use Rattle.mc_state.specs.declared.line.Form.{Form}
 use Rattle.mc_state.specs.declared.line.Form.TheVariants.{Certificate, Chain}
 use Rattle.mc_state.specs.declared.line.Line.{Line}
-use Rattle.mc_state.specs.declared.line.Line.TheVariants.{Header, S1, S2, S17, End}
+use Rattle.mc_state.specs.declared.line.Line.TheVariants.{Header, S1, S2, S3, S8, S9, S10, S11, S12, S13, S17, L12, End}
 use Rattle.mc_cert.specs.Document.{Spells, data_of}
 
 -- the line of a name alone
@@ -16,8 +16,16 @@ abbrev named_line : List ℕ → Option Line
 named_line s =
     if bytes_eq s (codes "S1") then Some S1
     else (if bytes_eq s (codes "S2") then Some S2
+    else (if bytes_eq s (codes "S3") then Some S3
+    else (if bytes_eq s (codes "S8") then Some S8
+    else (if bytes_eq s (codes "S9") then Some S9
+    else (if bytes_eq s (codes "S10") then Some S10
+    else (if bytes_eq s (codes "S11") then Some S11
+    else (if bytes_eq s (codes "S12") then Some S12
+    else (if bytes_eq s (codes "S13") then Some S13
     else (if bytes_eq s (codes "S17") then Some S17
-    else (if bytes_eq s (codes "end") then Some End else None)))
+    else (if bytes_eq s (codes "L12") then Some L12
+    else (if bytes_eq s (codes "end") then Some End else None)))))))))))
 
 -- the header with this form
 abbrev header_line : List ℕ → Option Line
@@ -37,7 +45,15 @@ back (Header One Certificate) = refl
 back (Header One Chain) = refl
 back S1 = refl
 back S2 = refl
+back S3 = refl
+back S8 = refl
+back S9 = refl
+back S10 = refl
+back S11 = refl
+back S12 = refl
+back S13 = refl
 back S17 = refl
+back L12 = refl
 back End = refl
 
 pub spelled_once : (bytes : List ℕ) (x y : Line) → Spells bytes x → Spells bytes y → x ≡ y

@@ -8,7 +8,7 @@ use Rattle.mc_state.specs.declared.line.Version.TheVariants.{One}
 use Rattle.mc_state.specs.declared.line.Form.{Form}
 use Rattle.mc_state.specs.declared.line.Form.TheVariants.{Certificate, Chain}
 use Rattle.mc_state.specs.declared.line.Line.{Line}
-use Rattle.mc_state.specs.declared.line.Line.TheVariants.{Header, S1, S2, S17, End}
+use Rattle.mc_state.specs.declared.line.Line.TheVariants.{Header, S1, S2, S3, S8, S9, S10, S11, S12, S13, S17, L12, End}
 use Rattle.mc_cert.specs.declared.line.LineFault.{LineFault}
 use Rattle.mc_cert.specs.declared.line.LineFault.TheVariants as faults
 
@@ -32,7 +32,15 @@ abbrev pub data_of : Line → Data
 data_of (Header version form) = header_data (number (unsigned (version_number version))) form
 data_of S1 = named (codes "S1")
 data_of S2 = named (codes "S2")
+data_of S3 = named (codes "S3")
+data_of S8 = named (codes "S8")
+data_of S9 = named (codes "S9")
+data_of S10 = named (codes "S10")
+data_of S11 = named (codes "S11")
+data_of S12 = named (codes "S12")
+data_of S13 = named (codes "S13")
 data_of S17 = named (codes "S17")
+data_of L12 = named (codes "L12")
 data_of End = named (codes "end")
 
 -- the value is a number without fraction or exponent, from -2^63 to 2^64 - 1

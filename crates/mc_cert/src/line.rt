@@ -46,7 +46,15 @@ fn named(name: &str) -> Option<Line>
     match name {
         "S1" => Some(Line::S1),
         "S2" => Some(Line::S2),
+        "S3" => Some(Line::S3),
+        "S8" => Some(Line::S8),
+        "S9" => Some(Line::S9),
+        "S10" => Some(Line::S10),
+        "S11" => Some(Line::S11),
+        "S12" => Some(Line::S12),
+        "S13" => Some(Line::S13),
         "S17" => Some(Line::S17),
+        "L12" => Some(Line::L12),
         "end" => Some(Line::End),
         _ => None,
     }
