@@ -1,0 +1,57 @@
+// Tokens, and what keeps a text from being read.
+use crate::text::Text;
+use mc_base::Place;
+use std::alloc::{AllocError, AllocFailed};
+use thiserror::Error;
+
+/// What a token is. `End` stands once, behind the last byte.
+#[derive(Clone, Copy, Debug, PartialEq, Eq)]
+pub enum TokenKind {
+    Name,
+    Number,
+    Mark,
+    End,
+}
+
+/// A token: its bytes as the text has them, and the place of the first one.
+#[derive(Drop)]
+pub struct Token {
+    pub kind: TokenKind,
+    pub text: Text,
+    pub place: Place,
+}
+
+/// Why a text has no tokens, and where.
+#[derive(Clone, Copy, Debug, PartialEq, Eq, Error)]
+pub enum LexFault {
+    /// A byte that starts no token.
+    #[error("{}:{}: a byte that starts no token", .0.line, .0.column)]
+    BadByte(Place),
+    /// A comment that does not end, at its `/*`.
+    #[error("{}:{}: a comment that does not end", .0.line, .0.column)]
+    OpenComment(Place),
+    /// A word that begins with a digit and is no number up to 2147483647.
+    #[error("{}:{}: no number up to 2147483647", .0.line, .0.column)]
+    BadNumber(Place),
+    #[error("out of memory")]
+    NoMemory,
+}
+
+ghost use Rattle.mc_lex.specs.declared.token.LexFault.TheVariants.{NoMemory};
+ghost use Rattle.std.specs.Prelude.{◌≡◌};
+
+impl From<AllocError> for LexFault {
+    ghost from_gives = { λ _ fault. fault ≡ NoMemory };
+
+    fn from(_: AllocError) -> LexFault {
+        LexFault::NoMemory
+    }
+}
+
+impl From<AllocFailed<Token>> for LexFault {
+    ghost from_gives = { λ _ fault. fault ≡ NoMemory };
+
+    fn from(_: AllocFailed<Token>) -> LexFault {
+        LexFault::NoMemory
+    }
+}
