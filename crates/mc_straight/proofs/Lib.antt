@@ -1,4 +1,1 @@
-pub mod Lexemes
-pub mod Bodies
-pub mod Matching
-pub mod Validity
+
