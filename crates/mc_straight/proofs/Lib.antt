@@ -1,1 +1,5 @@
-
+pub mod Placing
+pub mod Stepping
+pub mod Simulating
+pub mod Statements
+pub mod Matching
