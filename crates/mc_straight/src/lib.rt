@@ -7,9 +7,11 @@ ghost use Rattle.mc_straight.specs.Typing.{IsTyped};
 ghost use Rattle.mc_straight.specs.Lowering.{flow_of, RunsMatch};
 
 mod bytes;
+mod lowering;
 mod tree;
 
 pub use bytes::is_blank;
+pub use lowering::lower;
 pub use tree::{IfPlaces, Program, Stmt};
 
 /// A well typed program and its flow graph run alike.
