@@ -3,3 +3,4 @@ pub mod Stepping
 pub mod Simulating
 pub mod Statements
 pub mod Matching
+pub mod Validity
