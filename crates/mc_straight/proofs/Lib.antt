@@ -1,4 +1,6 @@
-pub mod Lexemes
-pub mod Bodies
+pub mod Placing
+pub mod Stepping
+pub mod Simulating
+pub mod Statements
 pub mod Matching
 pub mod Validity

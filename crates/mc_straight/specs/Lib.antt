@@ -1,3 +1,6 @@
 pub mod Text
+pub mod Spelling
+pub mod Typing
+pub mod Meaning
 pub mod Program
 pub mod Lowering

@@ -2,26 +2,19 @@
 #![tactic(auto)]
 
 ghost use Rattle.std.specs.Prelude.{◌≡◌, ℕ, List};
-ghost use Rattle.mc_straight.specs.declared.tree.Stmt.{Stmt as Statement};
-ghost use Rattle.mc_straight.specs.Program.{ReadsAs};
+ghost use Rattle.mc_straight.specs.declared.tree.Program.{Program as Tree};
+ghost use Rattle.mc_straight.specs.Typing.{IsTyped};
 ghost use Rattle.mc_straight.specs.Lowering.{flow_of, RunsMatch};
 
-mod lexeme;
+mod bytes;
 mod lowering;
-mod program;
 mod tree;
 
-pub use lexeme::is_blank;
+pub use bytes::is_blank;
 pub use lowering::lower;
-pub use program::parse;
-pub use tree::Stmt;
+pub use tree::{IfPlaces, Program, Stmt};
 
-/// A program and its flow graph run alike.
+/// A well typed program and its flow graph run alike.
 pub fn runs_match()
-    ensures { (body : List Statement) → RunsMatch body (flow_of body) }
-{}
-
-/// A text is one program at most.
-pub fn text_is_read_once()
-    ensures { (text : List ℕ) (a b : List Statement) → ReadsAs text a → ReadsAs text b → a ≡ b }
+    ensures { (p : Tree) → IsTyped p → RunsMatch p (flow_of p) }
 {}

@@ -6,7 +6,7 @@ use Rattle.mc_straight.proofs.Validity.{valid}
 use Rattle.mc_straight.proofs.lowering.lower.Goals as goal
 
 pub returns-clause-valid : goal.returns-clause-valid
-returns-clause-valid c = λ defs.
-    let made : Flow = record { points = c.of-2.result; vars = c.of-3.result; heads = c.new.result; merges = c.new-2.result; thresholds = c.of-4.result; structs = record { list = c.new-3.result } } in
-    let same : made ≡ flow_of c.args.body.now = search rules in
-    subst (λ (f : Flow). IsValid f defs) (sym same) (valid c.args.body.now defs)
+returns-clause-valid c = λ typed defs.
+    let made : Flow = record { points = c.of.result; vars = c.of-2.result; heads = c.new.result; merges = c.of-3.result; thresholds = c.of-4.result; structs = record { list = c.in_ok-structs.field-0 } } in
+    let same : made ≡ flow_of c.args.program.now = search rules in
+    subst (λ (f : Flow). IsValid f defs) (sym same) (valid c.args.program.now typed defs)

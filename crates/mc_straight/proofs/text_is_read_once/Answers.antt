@@ -1,5 +1,0 @@
-use Rattle.mc_straight.proofs.Bodies.{program_once}
-use Rattle.mc_straight.proofs.text_is_read_once.Goals as goal
-
-pub returns : goal.returns
-returns c = program_once
