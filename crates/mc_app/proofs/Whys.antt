@@ -3,43 +3,43 @@ use Rattle.std.proofs.Common.{◌≡◌, ◌≤◌, ◌^◌, ℕ, List, [], ◌�
 use Rattle.std.specs.Prelude.{None, MatchOption, Some, Option, String, string_bytes, codes}
 use Rattle.std.specs.declared.alloc.Global.{Global}
 use Rattle.mc_base.specs.Outside.{Told}
-use Rattle.mc_straight.specs.declared.tree.Stmt.{Stmt}
+use Rattle.mc_straight.specs.declared.tree.Program.{Program as Tree}
 use Rattle.mc_straight.specs.Program.{ReadsAs}
 use Rattle.mc_straight.specs.Lowering.{flow_of}
 use Rattle.mc_check.specs.Document.{IsValidDocument}
 use Rattle.mc_app.specs.declared.answer.Answer.{Answer}
 use Rattle.mc_app.specs.declared.answer.Answer.TheVariants.{Good, Words, Program, Definitions, Document}
-use Rattle.mc_app.specs.Answers.{Holds, Asks, IsProgram, IsWhy, IsWhyBody}
+use Rattle.mc_app.specs.Answers.{Holds, Asks, IsProgram, IsWhy, IsWhyTree}
 
 -- a text is one program at most
 abbrev pub ReadOnce : Type 0
-ReadOnce = (text : List ℕ) (a b : List Stmt) → ReadsAs text a → ReadsAs text b → a ≡ b
+ReadOnce = (text : List ℕ) (a b : Tree) → ReadsAs text a → ReadsAs text b → a ≡ b
 
--- the text was read as the program with this body
-abbrev pub IsBodyOf : List Stmt → List ℕ → Type 0
-IsBodyOf body text = (length text ≤ 2 ^ 20) × ReadsAs text body
+-- the text was read as this program
+abbrev pub IsTreeOf : Tree → List ℕ → Type 0
+IsTreeOf tree text = (length text ≤ 2 ^ 20) × ReadsAs text tree
 
-program_of_body : (body : List Stmt) (text : List ℕ) → IsBodyOf body text → IsProgram text
-program_of_body body text r = (r.0, (body, r.1))
+program_of_tree : (tree : Tree) (text : List ℕ) → IsTreeOf tree text → IsProgram text
+program_of_tree tree text r = (r.0, (tree, r.1))
 
-pub why_of_body : ReadOnce → (holds : Holds) (p d c : List ℕ) (body : List Stmt) (a : Answer) → Told (holds p) (IsBodyOf body) → IsWhyBody holds d c body a → IsWhy holds p d c a
-why_of_body once holds p d c body Words read why = why
-why_of_body once holds p d c body Program read why = absurd why
-why_of_body once holds p d c body Definitions read why = (λ text h. program_of_body body text (read text h), why)
-why_of_body once holds p d c body Document read why = (
-  λ text h. program_of_body body text (read text h),
+pub why_of_tree : ReadOnce → (holds : Holds) (p d c : List ℕ) (tree : Tree) (a : Answer) → Told (holds p) (IsTreeOf tree) → IsWhyTree holds d c tree a → IsWhy holds p d c a
+why_of_tree once holds p d c tree Words read why = why
+why_of_tree once holds p d c tree Program read why = absurd why
+why_of_tree once holds p d c tree Definitions read why = (λ text h. program_of_tree tree text (read text h), why)
+why_of_tree once holds p d c tree Document read why = (
+  λ text h. program_of_tree tree text (read text h),
   why.0,
-  λ text h document k valid. why.1 document k (subst (λ (b : List Stmt). IsValidDocument (flow_of b) document) (once text valid.0 body valid.1 (read text h).1) valid.2),
+  λ text h document k valid. why.1 document k (subst (λ (t : Tree). IsValidDocument (flow_of t) document) (once text valid.0 tree valid.1 (read text h).1) valid.2),
 )
-why_of_body once holds p d c body Good read why = (λ text h. program_of_body body text (read text h), why.0, λ text h document k. (body, (read text h).1, why.1 document k))
+why_of_tree once holds p d c tree Good read why = (λ text h. program_of_tree tree text (read text h), why.0, λ text h document k. (tree, (read text h).1, why.1 document k))
 
 -- what files hold has stayed
-pub stay_why : (old new : Holds) (d c : List ℕ) (body : List Stmt) (a : Answer) → ((name : List ℕ) → new name ≡ old name) → IsWhyBody new d c body a → IsWhyBody old d c body a
-stay_why old new d c body Words stays why = why
-stay_why old new d c body Program stays why = why
-stay_why old new d c body Definitions stays why = λ text h. why text (stays d ∙ h)
-stay_why old new d c body Document stays why = (λ text h. why.0 text (stays d ∙ h), λ text h. why.1 text (stays c ∙ h))
-stay_why old new d c body Good stays why = (λ text h. why.0 text (stays d ∙ h), λ text h. why.1 text (stays c ∙ h))
+pub stay_why : (old new : Holds) (d c : List ℕ) (tree : Tree) (a : Answer) → ((name : List ℕ) → new name ≡ old name) → IsWhyTree new d c tree a → IsWhyTree old d c tree a
+stay_why old new d c tree Words stays why = why
+stay_why old new d c tree Program stays why = why
+stay_why old new d c tree Definitions stays why = λ text h. why text (stays d ∙ h)
+stay_why old new d c tree Document stays why = (λ text h. why.0 text (stays d ∙ h), λ text h. why.1 text (stays c ∙ h))
+stay_why old new d c tree Good stays why = (λ text h. why.0 text (stays d ∙ h), λ text h. why.1 text (stays c ∙ h))
 
 -- the words name one program
 pub same_program : (words : List (List ℕ)) (p d c q e f : List ℕ) → Asks words p d c → Asks words q e f → p ≡ q

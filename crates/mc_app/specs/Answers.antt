@@ -1,7 +1,7 @@
 -- What words ask for, and why a check of a certificate ends as it does.
 use Rattle.std.specs.Prelude.{◌≡◌, ◌≤◌, ◌^◌, ◌++◌, ◌⊎◌, ℕ, List, [], ◌∷◌, Option, Some, None, IsTrue, codes, length, take}
 use Rattle.std.specs.List.{list_all}
-use Rattle.mc_straight.specs.declared.tree.Stmt.{Stmt}
+use Rattle.mc_straight.specs.declared.tree.Program.{Program as Tree}
 use Rattle.mc_straight.specs.Text.{is_blank}
 use Rattle.mc_straight.specs.Program.{ReadsAs}
 use Rattle.mc_straight.specs.Lowering.{flow_of}
@@ -24,7 +24,7 @@ pub record Asks (words : List (List ℕ)) (program definitions document : List �
   pub plain_document : BeginsWithDash document → ⊥
 
 abbrev pub IsProgram : List ℕ → Type 0
-IsProgram text = (length text ≤ 2 ^ 20) × ((body : List Stmt) × ReadsAs text body)
+IsProgram text = (length text ≤ 2 ^ 20) × ((tree : Tree) × ReadsAs text tree)
 
 -- nothing is defined
 abbrev pub HasNoDefinitions : List ℕ → Type 0
@@ -32,7 +32,7 @@ HasNoDefinitions text = (length text ≤ 2 ^ 18) × IsTrue (list_all is_blank te
 
 -- the document is a valid certificate of the program's flow graph
 abbrev pub IsValidFor : List ℕ → List ℕ → Type 0
-IsValidFor text document = (body : List Stmt) × ReadsAs text body × IsValidDocument (flow_of body) document
+IsValidFor text document = (tree : Tree) × ReadsAs text tree × IsValidDocument (flow_of tree) document
 
 -- what files hold, by name, where it is told
 abbrev pub Holds : Type 0
@@ -46,13 +46,13 @@ IsWhy holds p d c Definitions = Told (holds p) IsProgram × Told (holds d) (λ t
 IsWhy holds p d c Document = Told (holds p) IsProgram × Told (holds d) HasNoDefinitions × Told (holds p) (λ text. Told (holds c) (λ document. IsValidFor text document → ⊥))
 IsWhy holds p d c Good = Told (holds p) IsProgram × Told (holds d) HasNoDefinitions × Told (holds p) (λ text. Told (holds c) (IsValidFor text))
 
--- the same, for a program with this body
-abbrev pub IsWhyBody : Holds → List ℕ → List ℕ → List Stmt → Answer → Type 0
-IsWhyBody holds d c body Words = ⊥
-IsWhyBody holds d c body Program = ⊥
-IsWhyBody holds d c body Definitions = Told (holds d) (λ text. HasNoDefinitions text → ⊥)
-IsWhyBody holds d c body Document = Told (holds d) HasNoDefinitions × Told (holds c) (λ document. IsValidDocument (flow_of body) document → ⊥)
-IsWhyBody holds d c body Good = Told (holds d) HasNoDefinitions × Told (holds c) (λ document. IsValidDocument (flow_of body) document)
+-- the same, for this program
+abbrev pub IsWhyTree : Holds → List ℕ → List ℕ → Tree → Answer → Type 0
+IsWhyTree holds d c tree Words = ⊥
+IsWhyTree holds d c tree Program = ⊥
+IsWhyTree holds d c tree Definitions = Told (holds d) (λ text. HasNoDefinitions text → ⊥)
+IsWhyTree holds d c tree Document = Told (holds d) HasNoDefinitions × Told (holds c) (λ document. IsValidDocument (flow_of tree) document → ⊥)
+IsWhyTree holds d c tree Good = Told (holds d) HasNoDefinitions × Told (holds c) (λ document. IsValidDocument (flow_of tree) document)
 
 abbrev pub IsWhyWords : Holds → List (List ℕ) → Answer → Type 0
 IsWhyWords holds words Words = (p d c : List ℕ) → Asks words p d c → ⊥

@@ -1,13 +1,13 @@
 // Checks a certificate.
-ghost use Rattle.std.specs.Prelude.{◌≡◌, ◌↔◌, ◌≤◌, ◌^◌, IfOk, IsTrue, MatchOption, List, length};
+ghost use Rattle.std.specs.Prelude.{◌≡◌, ◌↔◌, ◌≤◌, ◌^◌, IfOk, IfSome, IsTrue, MatchOption, List, length};
 ghost use Rattle.std.specs.List.{list_all};
 ghost use Rattle.mc_base.specs.Outside.{HasCause, Stays, Told};
-ghost use Rattle.mc_straight.specs.declared.tree.Stmt.{Stmt};
 ghost use Rattle.mc_straight.specs.Text.{is_blank};
 ghost use Rattle.mc_straight.specs.Program.{ReadsAs, IsSafe, IsSafeProgram};
+ghost use Rattle.mc_straight.specs.Typing.{IsTyped};
 ghost use Rattle.mc_straight.specs.Lowering.{flow_of};
 ghost use Rattle.mc_check.specs.Document.{IsValidDocument};
-ghost use Rattle.mc_app.specs.Answers.{HasNoDefinitions, IsProgram, IsWhy, IsWhyBody};
+ghost use Rattle.mc_app.specs.Answers.{HasNoDefinitions, IsProgram, IsWhy, IsWhyTree};
 
 use crate::Answer;
 use crate::contents::{text, whole};
@@ -15,15 +15,16 @@ use crate::words::Command;
 use mc_base::{FileFault, Files};
 use mc_flow::Defs;
 use mc_kernel::certified_is_safe;
-use mc_straight::{Stmt, lower, runs_match, text_is_read_once};
+use mc_straight::{Program, lower, runs_match, text_is_read_once};
 use std::alloc::{AllocError, Global};
 
 fn program<F: Files>(
     alloc: Global,
     files: &mut F,
     name: &str,
-) -> Result<Option<Vec<Stmt>>, FileFault>
-    ensures told { Told (F.holds files.old name.now) (λ text. IfOk result (λ o. MatchOption o (IsProgram text → ⊥) (λ v. (length text ≤ 2 ^ 20) × ReadsAs text v.items))) }
+) -> Result<Option<Program>, FileFault>
+    ensures told { Told (F.holds files.old name.now) (λ text. IfOk result (λ o. MatchOption o (IsProgram text → ⊥) (λ t. (length text ≤ 2 ^ 20) × ReadsAs text t))) }
+    ensures typed { IfOk result (λ o. IfSome o IsTyped) }
     ensures same { Stays (F.holds files.old) (F.holds files.new) }
     ensures cause { HasCause (F.faults files.old) (F.faults files.new) result }
 {
@@ -50,14 +51,15 @@ fn has_no_definitions<F: Files>(alloc: Global, files: &mut F, name: &str) -> Res
     }
 }
 
-// Whether a document is valid for the program with this body, which is safe then.
-fn certifies(alloc: Global, body: &[Stmt], document: &[u8]) -> Result<bool, AllocError>
-    ensures valid { IfOk result (λ b. IsTrue b ↔ IsValidDocument (flow_of body.now) document.now) }
-    ensures safe { IfOk result (λ b. IsTrue b → IsSafeProgram body.now) }
+// Whether a document is valid for the program, which is safe then.
+fn certifies(alloc: Global, tree: &Program, document: &[u8]) -> Result<bool, AllocError>
+    requires { IsTyped tree.now }
+    ensures valid { IfOk result (λ b. IsTrue b ↔ IsValidDocument (flow_of tree.now) document.now) }
+    ensures safe { IfOk result (λ b. IsTrue b → IsSafeProgram tree.now) }
 {
     certified_is_safe();
     runs_match();
-    let flow = lower(alloc, body)?;
+    let flow = lower(alloc, tree)?;
     let yes = mc_check::check(alloc, &flow, &Defs {}, document)?;
     Ok(yes)
 }
@@ -66,15 +68,16 @@ fn is_valid<F: Files>(
     alloc: Global,
     files: &mut F,
     name: &str,
-    body: &[Stmt],
+    tree: &Program,
 ) -> Result<bool, FileFault>
-    ensures told { Told (F.holds files.old name.now) (λ document. IfOk result (λ b. IsTrue b ↔ IsValidDocument (flow_of body.now) document)) }
-    ensures safe { IfOk result (λ b. IsTrue b → IsSafeProgram body.now) }
+    requires { IsTyped tree.now }
+    ensures told { Told (F.holds files.old name.now) (λ document. IfOk result (λ b. IsTrue b ↔ IsValidDocument (flow_of tree.now) document)) }
+    ensures safe { IfOk result (λ b. IsTrue b → IsSafeProgram tree.now) }
     ensures same { Stays (F.holds files.old) (F.holds files.new) }
     ensures cause { HasCause (F.faults files.old) (F.faults files.new) result }
 {
     let document = whole(alloc, files, name)?;
-    let yes = certifies(alloc, body, &document)?;
+    let yes = certifies(alloc, tree, &document)?;
     Ok(yes)
 }
 
@@ -84,17 +87,18 @@ fn judged<F: Files>(
     files: &mut F,
     definitions: &str,
     document: &str,
-    body: &[Stmt],
+    tree: &Program,
 ) -> Result<Answer, FileFault>
-    ensures why { IfOk result (λ a. IsWhyBody (F.holds files.old) definitions.now document.now body.now a) }
-    ensures safe { IfOk result (λ a. a ≡ Answer.Good → IsSafeProgram body.now) }
+    requires { IsTyped tree.now }
+    ensures why { IfOk result (λ a. IsWhyTree (F.holds files.old) definitions.now document.now tree.now a) }
+    ensures safe { IfOk result (λ a. a ≡ Answer.Good → IsSafeProgram tree.now) }
     ensures same { Stays (F.holds files.old) (F.holds files.new) }
     ensures cause { HasCause (F.faults files.old) (F.faults files.new) result }
 {
     if !has_no_definitions(alloc, files, definitions)? {
         return Ok(Answer::Definitions);
     }
-    if is_valid(alloc, files, document, body)? {
+    if is_valid(alloc, files, document, tree)? {
         Ok(Answer::Good)
     } else {
         Ok(Answer::Document)
@@ -115,8 +119,8 @@ pub fn answer<F: Files>(
     text_is_read_once();
     match program(alloc, files, command.program)? {
         None => Ok(Answer::Program),
-        Some(body) => {
-            let answer = judged(alloc, files, command.definitions, command.document, &body)?;
+        Some(tree) => {
+            let answer = judged(alloc, files, command.definitions, command.document, &tree)?;
             Ok(answer)
         }
     }
