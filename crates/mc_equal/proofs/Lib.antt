@@ -1,0 +1,11 @@
+pub mod Lists
+pub mod Casts
+pub mod Lookup
+pub mod Normal
+pub mod Joining
+pub mod Spans
+pub mod Assuming
+pub mod Differing
+pub mod Answers
+pub mod Truth
+pub mod Joined

@@ -1,0 +1,5 @@
+pub mod Facts
+pub mod Classes
+pub mod Known
+pub mod Steps
+pub mod Changes

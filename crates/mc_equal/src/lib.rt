@@ -1,0 +1,9 @@
+//! Equalities with offsets and disequalities between numbered nodes.
+#![tactic(auto)]
+
+mod assume;
+mod classes;
+mod equal;
+
+pub use classes::{Class, Gap, Link};
+pub use equal::{Equal, NoMemory, derived_is_true};
