@@ -7,5 +7,9 @@ pub mod Spans
 pub mod Assuming
 pub mod Differing
 pub mod Answers
+pub mod Parting
+pub mod Standing
+pub mod Forgetting
+pub mod Forgotten
 pub mod Truth
 pub mod Joined

@@ -2,4 +2,5 @@ pub mod Facts
 pub mod Classes
 pub mod Known
 pub mod Steps
+pub mod Moving
 pub mod Changes

@@ -1,15 +1,16 @@
 // What is known of nodes.
-ghost use Rattle.std.specs.Prelude.{◌≡◌, ℕ, ℤ, ◌+ℤ◌, ◌↔◌, false, IfOk};
+ghost use Rattle.std.specs.Prelude.{◌≡◌, ℕ, ℤ, ◌+ℤ◌, ◌↔◌, false, IfOk, OnOk, OnErr};
 ghost use Rattle.mc_equal.specs.Facts.{Fact, Eq, Ne};
 ghost use Rattle.mc_equal.specs.Classes.{own_class, class_at, IsSameClass};
 ghost use Rattle.mc_equal.specs.Known.{Known, IsKept, Follows, KnowsExactly};
-ghost use Rattle.mc_equal.specs.Changes.{Assumes, SameClasses, ClassesAfter, OffsetIs, DerivedIsTrue};
+ghost use Rattle.mc_equal.specs.Changes.{Assumes, SameClasses, ClassesAfter, OffsetIs, DerivedIsTrue, Without};
 
 use std::alloc::{AllocError, Global};
 use std::marker::Model;
 
 use crate::assume::{assume_different, assume_equal};
 use crate::classes::{Class, Gap, Link, class_in, offset_between};
+use crate::forget::{Rest, without};
 
 /// The one error of calls that fail only for want of memory.
 pub type NoMemory = AllocError;
@@ -89,6 +90,19 @@ impl Equal {
         ensures classes { SameClasses self.old self.new }
     {
         assume_different(self.links.as_slice(), &mut self.gaps, a, b, c)
+    }
+
+    /// Keeps what follows without the node. Without memory nothing changes.
+    pub fn forget(&mut self, node: u64) -> Result<(), NoMemory>
+        ensures exactly { OnOk result (KnowsExactly (Without self.old node) self.new) }
+        ensures err { OnErr result (self.new ≡ self.old) }
+    {
+        let alloc = *self.links.allocator();
+        let rest = without(alloc, self.links.as_slice(), self.gaps.as_slice(), node)?;
+        let Rest { links, gaps } = rest;
+        self.links = links;
+        self.gaps = gaps;
+        Ok(())
     }
 }
 

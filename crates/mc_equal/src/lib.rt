@@ -4,6 +4,7 @@
 mod assume;
 mod classes;
 mod equal;
+mod forget;
 
 pub use classes::{Class, Gap, Link};
 pub use equal::{Equal, NoMemory, derived_is_true};
