@@ -11,5 +11,8 @@ pub mod Parting
 pub mod Standing
 pub mod Forgetting
 pub mod Forgotten
+pub mod Keys
+pub mod Grouping
+pub mod Sharing
 pub mod Truth
 pub mod Joined

@@ -4,3 +4,4 @@ pub mod Known
 pub mod Steps
 pub mod Moving
 pub mod Changes
+pub mod Groups

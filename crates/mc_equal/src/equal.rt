@@ -3,7 +3,7 @@ ghost use Rattle.std.specs.Prelude.{◌≡◌, ℕ, ℤ, ◌+ℤ◌, ◌↔◌, 
 ghost use Rattle.mc_equal.specs.Facts.{Fact, Eq, Ne};
 ghost use Rattle.mc_equal.specs.Classes.{own_class, class_at, IsSameClass};
 ghost use Rattle.mc_equal.specs.Known.{Known, IsKept, Follows, KnowsExactly};
-ghost use Rattle.mc_equal.specs.Changes.{Assumes, SameClasses, ClassesAfter, OffsetIs, DerivedIsTrue, Without};
+ghost use Rattle.mc_equal.specs.Changes.{Assumes, SameClasses, ClassesAfter, OffsetIs, DerivedIsTrue, Without, IsCommon};
 
 use std::alloc::{AllocError, Global};
 use std::marker::Model;
@@ -11,6 +11,7 @@ use std::marker::Model;
 use crate::assume::{assume_different, assume_equal};
 use crate::classes::{Class, Gap, Link, class_in, offset_between};
 use crate::forget::{Rest, without};
+use crate::groups::{entries_of, link_entries};
 
 /// The one error of calls that fail only for want of memory.
 pub type NoMemory = AllocError;
@@ -103,6 +104,17 @@ impl Equal {
         self.links = links;
         self.gaps = gaps;
         Ok(())
+    }
+
+    /// The equalities that follow of both members of pairs, each pair as the node of its position.
+    pub fn common(alloc: Global, left: &Equal, right: &Equal, pairs: &[(u64, u64)]) -> Result<Equal, NoMemory>
+        ensures { IfOk result (λ equal. KnowsExactly (IsCommon left.now right.now pairs.now) equal) }
+    {
+        let entries = entries_of(alloc, left.links.as_slice(), right.links.as_slice(), pairs)?;
+        Ok(Equal {
+            links: link_entries(alloc, entries.as_slice())?,
+            gaps: Vec::new(alloc),
+        })
     }
 }
 

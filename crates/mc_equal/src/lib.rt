@@ -5,6 +5,7 @@ mod assume;
 mod classes;
 mod equal;
 mod forget;
+mod groups;
 
 pub use classes::{Class, Gap, Link};
 pub use equal::{Equal, NoMemory, derived_is_true};
