@@ -54,3 +54,23 @@ sum_passed r x y z f g h e =
     let zl = low_of_64 z h in
     let zh = high_of_64 z h in
     cast_is r ((x -ℤ y) +ℤ z) (fits_wide ((x -ℤ y) +ℤ z) (omega (arith, ints)) (omega (arith, ints))) (e ∙ sum_cast x y z f g h)
+
+-- four numbers of 64 bits, added to one within 2 to the 100
+pub turned_plain : (o r nr l nl p q : ℤ) → negsuc 1267650600228229401496703205375 ≤ℤ o → o ≤ℤ pos 1267650600228229401496703205376 → FitsSigned w64 r → FitsSigned w64 nr → FitsSigned w64 l → FitsSigned w64 nl → p ≡ (o +ℤ Cast64 r) -ℤ Cast64 nr → q ≡ (Cast p +ℤ Cast64 nl) -ℤ Cast64 l → Cast q ≡ (o +ℤ (r -ℤ nr)) -ℤ (l -ℤ nl)
+turned_plain o r nr l nl p q low high fr fnr fl fnl e f =
+    let a = low_of_64 r fr in
+    let b = high_of_64 r fr in
+    let c = low_of_64 nr fnr in
+    let d = high_of_64 nr fnr in
+    let g = low_of_64 l fl in
+    let h = high_of_64 l fl in
+    let i = low_of_64 nl fnl in
+    let j = high_of_64 nl fnl in
+    let first : p ≡ (o +ℤ r) -ℤ nr = rw (to_z-of_z w64 r fr, to_z-of_z w64 nr fnr) at e in
+    let passed : Cast p ≡ (o +ℤ r) -ℤ nr = cast_is p ((o +ℤ r) -ℤ nr) (fits_wide ((o +ℤ r) -ℤ nr) (omega (arith, ints)) (omega (arith, ints))) first in
+    let second : q ≡ (((o +ℤ r) -ℤ nr) +ℤ nl) -ℤ l = rw (passed, to_z-of_z w64 nl fnl, to_z-of_z w64 l fl) at f in
+    let is : q ≡ (o +ℤ (r -ℤ nr)) -ℤ (l -ℤ nl) = second ∙ regrouped o r nr l nl in
+    cast_is q ((o +ℤ (r -ℤ nr)) -ℤ (l -ℤ nl)) (fits_wide ((o +ℤ (r -ℤ nr)) -ℤ (l -ℤ nl)) (omega (arith, ints)) (omega (arith, ints))) is
+  where
+    regrouped : (o r nr l nl : ℤ) → (((o +ℤ r) -ℤ nr) +ℤ nl) -ℤ l ≡ (o +ℤ (r -ℤ nr)) -ℤ (l -ℤ nl)
+    regrouped o r nr l nl = omega (arith, ints)

@@ -14,5 +14,7 @@ pub mod Forgotten
 pub mod Keys
 pub mod Grouping
 pub mod Sharing
+pub mod Renaming
+pub mod Renamed
 pub mod Truth
 pub mod Joined

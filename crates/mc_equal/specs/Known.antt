@@ -32,6 +32,10 @@ KnowsExactly Assumed known = (fact : Fact) → Follows known fact ↔ Derived As
 abbrev pub IsTame : ℤ → Type 0
 IsTame offset = (negsuc 1267650600228229401496703205375 ≤ℤ offset) × (offset ≤ℤ pos 1267650600228229401496703205376)
 
+-- within 2^101
+abbrev pub IsLoose : ℤ → Type 0
+IsLoose offset = (negsuc 2535301200456458802993406410751 ≤ℤ offset) × (offset ≤ℤ pos 2535301200456458802993406410752)
+
 -- what is kept of links and gaps
 pub record IsKept (known : Known) : Type 0 where
   pub linked : (place : ℕ) (link : Link) → slice_get known.links place ≡ Some link → class_at known.links link.node ≡ link.class

@@ -5,3 +5,4 @@ pub mod Steps
 pub mod Moving
 pub mod Changes
 pub mod Groups
+pub mod Renaming

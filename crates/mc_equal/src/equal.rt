@@ -3,7 +3,7 @@ ghost use Rattle.std.specs.Prelude.{◌≡◌, ℕ, ℤ, ◌+ℤ◌, ◌↔◌, 
 ghost use Rattle.mc_equal.specs.Facts.{Fact, Eq, Ne};
 ghost use Rattle.mc_equal.specs.Classes.{own_class, class_at, IsSameClass};
 ghost use Rattle.mc_equal.specs.Known.{Known, IsKept, Follows, KnowsExactly};
-ghost use Rattle.mc_equal.specs.Changes.{Assumes, SameClasses, ClassesAfter, OffsetIs, DerivedIsTrue, Without, IsCommon};
+ghost use Rattle.mc_equal.specs.Changes.{Assumes, SameClasses, ClassesAfter, OffsetIs, DerivedIsTrue, Without, IsInjective, IsRenamed, IsCommon};
 
 use std::alloc::{AllocError, Global};
 use std::marker::Model;
@@ -12,6 +12,7 @@ use crate::assume::{assume_different, assume_equal};
 use crate::classes::{Class, Gap, Link, class_in, offset_between};
 use crate::forget::{Rest, without};
 use crate::groups::{entries_of, link_entries};
+use crate::rename::{entries_to, gaps_to};
 
 /// The one error of calls that fail only for want of memory.
 pub type NoMemory = AllocError;
@@ -104,6 +105,19 @@ impl Equal {
         self.links = links;
         self.gaps = gaps;
         Ok(())
+    }
+
+    /// The facts that follow of the firsts of pairs alone, with the seconds in their place.
+    pub fn rename(&self, pairs: &[(u64, u64)]) -> Result<Equal, NoMemory>
+        requires { IsInjective pairs.now }
+        ensures { IfOk result (λ equal. KnowsExactly (IsRenamed self.now pairs.now) equal) }
+    {
+        let alloc = *self.links.allocator();
+        let old = self.links.as_slice();
+        let entries = entries_to(alloc, old, pairs)?;
+        let links = link_entries(alloc, entries.as_slice())?;
+        let gaps = gaps_to(alloc, old, entries.as_slice(), self.gaps.as_slice())?;
+        Ok(Equal { links, gaps })
     }
 
     /// The equalities that follow of both members of pairs, each pair as the node of its position.

@@ -2,7 +2,7 @@
 ghost use Rattle.std.specs.Prelude.{◌≡◌, ◌≢◌, ℕ, ℤ, pos, ◌+ℤ◌, ◌-ℤ◌, ◌↔◌, IsTrue, IfOk, All, ◌++◌, ◌∷◌, []};
 ghost use Rattle.mc_equal.specs.Facts.{IsShort};
 ghost use Rattle.mc_equal.specs.Classes.{class_at};
-ghost use Rattle.mc_equal.specs.Known.{IsKept, IsTame, KnowsExactly};
+ghost use Rattle.mc_equal.specs.Known.{IsKept, IsTame, IsLoose, KnowsExactly};
 ghost use Rattle.mc_equal.specs.Changes.{Without};
 ghost use Rattle.mc_equal.specs.Moving.{OtherMemberIs, StandsIn, links_without, put_node, put_offset, moved_gap, gaps_without};
 
@@ -84,7 +84,7 @@ fn put_by(node: u64, join: &Join) -> i64
 
 /// `offset + add - less`.
 pub fn shifted(offset: &i128, add: i64, less: i64) -> i128
-    requires { IsTame offset.now }
+    requires { IsLoose offset.now }
     ensures { result ≡ (offset.now +ℤ add) -ℤ less }
 {
     *offset + i128::from(add) - i128::from(less)

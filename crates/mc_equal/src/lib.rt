@@ -6,6 +6,7 @@ mod classes;
 mod equal;
 mod forget;
 mod groups;
+mod rename;
 
 pub use classes::{Class, Gap, Link};
 pub use equal::{Equal, NoMemory, derived_is_true};
