@@ -1,9 +1,8 @@
 -- What the calls of `Equal` answer.
-use Rattle.std.proofs.Common.{◌≡◌, ◌≢◌, ℕ, ℤ, pos, negsuc, ◌+ℤ◌, ◌≤ℤ◌, ◌↔◌, List, [], ◌∷◌, Some, None, Option, slice_get, MatchOption, FitsSigned, w64, refl, sym, ◌∙◌, ap, subst, arith}
+use Rattle.std.proofs.Common.{◌≡◌, ℕ, ℤ, ◌↔◌, [], Some, None, Option, MatchOption, FitsSigned, w64, arith}
 use Rattle.std.proofs.lemmas.Int.{ints}
-use Rattle.mc_equal.specs.declared.classes.Class.{Class}
-use Rattle.mc_equal.specs.Facts.{Fact, Eq, Ne, Derived, assumed}
-use Rattle.mc_equal.specs.Classes.{class_at, IsSameClass, IsApart}
+use Rattle.mc_equal.specs.Facts.{Fact, Eq, Ne, Derived}
+use Rattle.mc_equal.specs.Classes.{IsSameClass, IsApart}
 use Rattle.mc_equal.specs.Known.{Known, IsWritten, Follows, IsKept, IsTame, KnowsExactly}
 use Rattle.mc_equal.specs.Changes.{OffsetIs}
 use Rattle.mc_equal.proofs.Normal.{bind, holds, follows_same}

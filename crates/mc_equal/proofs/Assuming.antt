@@ -1,20 +1,18 @@
 -- What the steps of an assumed fact come to.
-use Rattle.std.proofs.Common.{◌≡◌, ◌≢◌, ℕ, zero, suc, ◌<◌, ℤ, pos, negsuc, ◌+ℤ◌, ◌-ℤ◌, neg_ℤ, ◌≤ℤ◌, ◌⊎◌, ◌↔◌, List, [], ◌∷◌, ◌++◌, Some, slice_get, get_or, length, All, Result, Ok, Err, Bool, true, false, refl, sym, ◌∙◌, ap, subst, inl, inr, arith}
+use Rattle.std.proofs.Common.{◌≡◌, ◌≢◌, ℕ, ℤ, pos, ◌+ℤ◌, ◌-ℤ◌, get_or, All, refl, sym, ◌∙◌, ap, inl, inr, arith}
 use Rattle.std.proofs.lemmas.Int.{ints}
 use Rattle.mc_equal.specs.declared.classes.Class.{Class}
-use Rattle.mc_equal.specs.declared.classes.Link.{Link}
-use Rattle.mc_equal.specs.declared.classes.Gap.{Gap}
 use Rattle.mc_equal.specs.declared.classes.Join.{Join}
 use Rattle.mc_equal.specs.declared.assume.Step.{Step}
 use Rattle.mc_equal.specs.declared.assume.Step.TheVariants.{Stay, Refuse, To}
 use Rattle.mc_equal.specs.Facts.{Fact, Eq, Ne, Derived, assumed, IsShort, IsImpossible, differs, moves, far}
-use Rattle.mc_equal.specs.Classes.{own_class, class_at, joined_class, joined_link}
+use Rattle.mc_equal.specs.Classes.{own_class, class_at}
 use Rattle.mc_equal.specs.Known.{Known, IsWritten, Follows, IsKept, OrFact, KnowsExactly}
 use Rattle.mc_equal.specs.Classes.{IsSameClass}
-use Rattle.mc_equal.specs.Steps.{IsLinked, IsAsked, IsNear, IsTooFar, IsClash, IsSameAfter, IsClear, CanJoin, JoinStepIs, StepIs, links_after}
-use Rattle.mc_equal.specs.Changes.{Assumes, SameClasses, JoinsClasses, ClassesAfter}
+use Rattle.mc_equal.specs.Steps.{IsAsked, CanJoin, JoinStepIs, StepIs}
+use Rattle.mc_equal.specs.Changes.{ClassesAfter}
 use Rattle.mc_equal.proofs.Lists.{there}
-use Rattle.mc_equal.proofs.Normal.{bind, follows_same, rooted, possible}
+use Rattle.mc_equal.proofs.Normal.{bind, rooted, possible}
 use Rattle.mc_equal.proofs.Joining.{class_after}
 use Rattle.mc_equal.proofs.Joined.{known_after, moved_base, clash, too_far, other_offset, kept_after, exactly_after, asked_follows}
 use Rattle.mc_equal.proofs.Spans.{near_short}
@@ -39,9 +37,9 @@ module _ (known : Known) (kept : IsKept known) (a b : ℕ) (c : ℤ) (left right
   same_refuses base by =
       other_offset known a b c (ap (λ (x : Class). x.base) (sym left_is) ∙ base ∙ ap (λ (x : Class). x.base) right_is)
       (λ e.
-        let f = ap (λ (x : Class). x.offset) left_is in
-        let g = ap (λ (x : Class). x.offset) right_is in
-        by (omega (arith, ints)))
+      let f = ap (λ (x : Class). x.offset) left_is in
+      let g = ap (λ (x : Class). x.offset) right_is in
+      by (omega (arith, ints)))
 
   asked : (by : ℤ) → by ≡ (right.offset -ℤ left.offset) +ℤ c → left.base ≢ right.base → IsAsked known.links a b c (record { gone = left.base; keep = right.base; by = by })
   asked by is other = record {
@@ -67,18 +65,20 @@ module _ (known : Known) (kept : IsKept known) (a b : ℕ) (c : ℤ) (left right
 
 -- a fact that follows already
 pub stays_exactly : (known : Known) → IsKept known → (more : Fact) → Follows known more → KnowsExactly (OrFact known more) known × (IsImpossible (OrFact known more) → ⊥)
-stays_exactly known kept more x =
-    ((λ fact. ((λ y. assumed (inl y)), (λ y. bind (OrFact known more) (IsWritten known) back fact y))),
-    (λ no. possible known kept (impossible_bind (OrFact known more) (IsWritten known) back no)))
+stays_exactly known kept more x = (
+  (λ fact. ((λ y. assumed (inl y)), (λ y. bind (OrFact known more) (IsWritten known) back fact y))),
+  (λ no. possible known kept (impossible_bind (OrFact known more) (IsWritten known) back no)),
+)
   where
     back : (fact : Fact) → OrFact known more fact → Follows known fact
     back fact (inl y) = y
     back fact (inr is) = rw is x
 
 pub joins_exactly : (known : Known) → IsKept known → (a b : ℕ) (c : ℤ) (join : Join) → CanJoin known a b c join → KnowsExactly (OrFact known (Eq a b c)) (known_after join known) × (IsImpossible (OrFact known (Eq a b c)) → ⊥)
-joins_exactly known kept a b c join can =
-    (exactly_after known kept a b c join can,
-    (λ no. possible (known_after join known) (kept_after known kept a b c join can) (impossible_bind (OrFact known (Eq a b c)) (IsWritten (known_after join known)) (asked_follows known kept a b c join can) no)))
+joins_exactly known kept a b c join can = (
+  exactly_after known kept a b c join can,
+  (λ no. possible (known_after join known) (kept_after known kept a b c join can) (impossible_bind (OrFact known (Eq a b c)) (IsWritten (known_after join known)) (asked_follows known kept a b c join can) no)),
+)
 
 pub joins_classes : (known : Known) (a b : ℕ) (c : ℤ) (join : Join) → CanJoin known a b c join → ClassesAfter known (known_after join known) a b
 joins_classes known a b c join can =

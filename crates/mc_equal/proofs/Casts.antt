@@ -1,5 +1,5 @@
 -- Numbers that pass through the machine's widths as they are.
-use Rattle.std.proofs.Common.{◌≡◌, ℤ, pos, negsuc, ◌-ℤ◌, ◌+ℤ◌, ◌≤ℤ◌, ◌<ℤ◌, to_z, of_z, w64, FitsSigned, refl, ◌∙◌, ap, arith}
+use Rattle.std.proofs.Common.{◌≡◌, ℤ, pos, negsuc, ◌-ℤ◌, ◌+ℤ◌, ◌≤ℤ◌, to_z, of_z, w64, FitsSigned, refl, ◌∙◌, arith}
 use Rattle.std.specs.Int.{w128}
 use Rattle.std.proofs.lemmas.Int.{ints, to_z-of_z}
 
@@ -34,8 +34,12 @@ sum_plain x y z r s t fx fy fz er es et =
     let yh = high_of_64 y fy in
     let zl = low_of_64 z fz in
     let zh = high_of_64 z fz in
-    rw (cast_is r x (wide_of_64 x fx) er, cast_is s y (wide_of_64 y fy) es, cast_is t z (wide_of_64 z fz) et,
-      same_cast (x -ℤ y) (fits_wide (x -ℤ y) (omega (arith, ints)) (omega (arith, ints))))
+    rw (
+      cast_is r x (wide_of_64 x fx) er,
+      cast_is s y (wide_of_64 y fy) es,
+      cast_is t z (wide_of_64 z fz) et,
+      same_cast (x -ℤ y) (fits_wide (x -ℤ y) (omega (arith, ints)) (omega (arith, ints))),
+    )
     (same_cast ((x -ℤ y) +ℤ z) (fits_wide ((x -ℤ y) +ℤ z) (omega (arith, ints)) (omega (arith, ints))))
 
 abbrev pub Cast64 : ℤ → ℤ

@@ -1,12 +1,12 @@
 -- A disequality more.
-use Rattle.std.proofs.Common.{◌≡◌, ◌≢◌, ℕ, zero, suc, ◌<◌, ℤ, pos, negsuc, ◌+ℤ◌, ◌-ℤ◌, neg_ℤ, ◌≤ℤ◌, ◌⊎◌, ◌↔◌, List, [], ◌∷◌, ◌++◌, Some, slice_get, length, refl, sym, ◌∙◌, ap, subst, inl, inr, arith}
+use Rattle.std.proofs.Common.{◌≡◌, ℕ, ℤ, ◌+ℤ◌, neg_ℤ, ◌⊎◌, [], ◌∷◌, ◌++◌, Some, slice_get, length, refl, sym, ap, subst, inl, inr, arith}
 use Rattle.std.proofs.lemmas.Int.{ints}
 use Rattle.mc_equal.specs.declared.classes.Gap.{Gap}
-use Rattle.mc_equal.specs.Facts.{Fact, Eq, Ne, Derived, assumed, a1, a2, a3, a8, a8_moved, IsShort, IsImpossible, differs, moves, far}
-use Rattle.mc_equal.specs.Classes.{class_at, IsSameClass}
+use Rattle.mc_equal.specs.Facts.{Fact, Eq, Ne, Derived, assumed, a2, a8_moved, IsImpossible, differs}
+use Rattle.mc_equal.specs.Classes.{IsSameClass}
 use Rattle.mc_equal.specs.Known.{Known, IsWritten, Follows, IsKept, IsTame, OrFact, KnowsExactly}
 use Rattle.mc_equal.proofs.Lists.{at_push, push_at, push_last}
-use Rattle.mc_equal.proofs.Normal.{eq_to, ne_to, bind, holds, follows_same, possible}
+use Rattle.mc_equal.proofs.Normal.{ne_to, bind, possible}
 use Rattle.mc_equal.proofs.Assuming.{impossible_bind}
 
 -- an equality refuses its disequality
@@ -58,6 +58,7 @@ module _ (known : Known) (kept : IsKept known) (a b : ℕ) (c : ℤ) (other : Is
   back fact (inr is) = rw is (assumed {fact = Ne a b c} (length known.gaps, push_last known.gaps NewGap))
 
   pub differs_exactly : KnowsExactly (OrFact known (Ne a b c)) With × (IsImpossible (OrFact known (Ne a b c)) → ⊥)
-  differs_exactly =
-      ((λ fact. ((λ x. bind (IsWritten With) (OrFact known (Ne a b c)) newer fact x), (λ x. bind (OrFact known (Ne a b c)) (IsWritten With) back fact x))),
-      (λ no. possible With kept_with (impossible_bind (OrFact known (Ne a b c)) (IsWritten With) back no)))
+  differs_exactly = (
+    (λ fact. ((λ x. bind (IsWritten With) (OrFact known (Ne a b c)) newer fact x), (λ x. bind (OrFact known (Ne a b c)) (IsWritten With) back fact x))),
+    (λ no. possible With kept_with (impossible_bind (OrFact known (Ne a b c)) (IsWritten With) back no)),
+  )

@@ -1,20 +1,18 @@
 -- What is known after a node goes.
-use Rattle.std.proofs.Common.{◌≡◌, ◌≢◌, ℕ, zero, suc, ℤ, pos, negsuc, ◌+ℤ◌, ◌-ℤ◌, neg_ℤ, ◌≤ℤ◌, ◌⊎◌, ◌↔◌, List, Some, slice_get, cond, nat_eq, refl, sym, ◌∙◌, ap, subst, inl, inr, arith}
+use Rattle.std.proofs.Common.{◌≡◌, ◌≢◌, ℕ, ℤ, pos, ◌+ℤ◌, ◌-ℤ◌, neg_ℤ, ◌⊎◌, List, Some, slice_get, nat_eq, refl, sym, ◌∙◌, ap, subst, inl, inr, arith}
 use Rattle.std.proofs.lemmas.Int.{ints}
 use Rattle.mc_equal.specs.declared.classes.Class.{Class}
 use Rattle.mc_equal.specs.declared.classes.Link.{Link}
-use Rattle.mc_equal.specs.declared.classes.Gap.{Gap}
 use Rattle.mc_equal.specs.declared.classes.Join.{Join}
-use Rattle.mc_equal.specs.Facts.{Fact, Eq, Ne, Derived, assumed, a1, a2, a3, a8, a8_moved, IsShort, Names}
+use Rattle.mc_equal.specs.Facts.{Fact, Eq, Ne, Derived, a8, a8_moved}
 use Rattle.mc_equal.specs.Classes.{own_class, class_at, joined_class, joined_link, IsSameClass}
-use Rattle.mc_equal.specs.Known.{Known, IsWritten, Follows, IsKept, IsTame, KnowsExactly}
-use Rattle.mc_equal.specs.Moving.{StandsIn, IsAlone, links_without, gaps_without, put_node, put_offset, moved_gap}
-use Rattle.mc_equal.specs.Changes.{Without}
+use Rattle.mc_equal.specs.Known.{Known, IsKept}
+use Rattle.mc_equal.specs.Moving.{StandsIn, IsAlone, links_without, gaps_without, put_node, put_offset}
 use Rattle.mc_equal.proofs.Lists.{pick_true, pick_false, same_true, same_false, decide}
 use Rattle.mc_equal.proofs.Lookup.{Linked, Unlinked, class_cases}
-use Rattle.mc_equal.proofs.Normal.{eq_to, ne_to, bind, follows_same, rooted, holds, Listed, Moved}
-use Rattle.mc_equal.proofs.Joining.{Goes, Stays, joined_cases, joined_goes, joined_stays}
-use Rattle.mc_equal.proofs.Parting.{LinkFrom, link_from, link_to, Keeps, GapFrom, gap_from, gap_to}
+use Rattle.mc_equal.proofs.Normal.{ne_to, rooted}
+use Rattle.mc_equal.proofs.Joining.{Goes, Stays, joined_cases, joined_stays}
+use Rattle.mc_equal.proofs.Parting.{LinkFrom, link_from, link_to}
 
 -- a disequality between nodes that are equal to others
 pub ne_between : (A : Fact → Type 0) (x y a b : ℕ) (d e g : ℤ) → Derived A (Ne x y d) → Derived A (Eq x a e) → Derived A (Eq y b g) → Derived A (Ne a b ((d +ℤ g) -ℤ e))
@@ -54,6 +52,7 @@ module _ (known : Known) (kept : IsKept known) (node : ℕ) (join : Join) (st : 
       linked link is class f =
           let node_is : f.old.node ≡ m = ap (λ (x : Link). x.node) (sym f.is) ∙ is in
           class ∙ ap (λ (x : Link). x.class) f.is ∙ ap (joined_class join) (sym (kept.linked f.place f.old f.at)) ∙ ap (λ (x : ℕ). joined_class join (class_at known.links x)) node_is
+
       unlinked : ((place : ℕ) (link : Link) → slice_get Rest.links place ≡ Some link → link.node ≢ m) → class_at Rest.links m ≡ own_class m → Linked known.links m ⊎ Unlinked known.links m → class_at Rest.links m ≡ joined_class join (class_at known.links m)
       unlinked none class (inl k) =
           let t = link_to join known.links k.link k.place k.at (λ e. other (sym k.is ∙ e ∙ st.gone)) in

@@ -1,20 +1,20 @@
 -- What is known after a node goes: links, gaps and what follows.
-use Rattle.std.proofs.Common.{◌≡◌, ◌≢◌, ℕ, zero, suc, ℤ, pos, negsuc, ◌+ℤ◌, ◌-ℤ◌, neg_ℤ, ◌≤ℤ◌, ◌⊎◌, ◌↔◌, List, Some, slice_get, get_or, length, All, refl, sym, ◌∙◌, ap, subst, inl, inr, arith}
+use Rattle.std.proofs.Common.{◌≡◌, ◌≢◌, ℕ, ℤ, ◌+ℤ◌, ◌-ℤ◌, neg_ℤ, ◌⊎◌, List, Some, slice_get, get_or, All, sym, ◌∙◌, ap, subst, inl, inr, arith}
 use Rattle.std.proofs.lemmas.Int.{ints}
 use Rattle.mc_equal.specs.declared.classes.Class.{Class}
 use Rattle.mc_equal.specs.declared.classes.Link.{Link}
 use Rattle.mc_equal.specs.declared.classes.Gap.{Gap}
 use Rattle.mc_equal.specs.declared.classes.Join.{Join}
-use Rattle.mc_equal.specs.Facts.{Fact, Eq, Ne, Derived, assumed, a8, IsShort, Names}
-use Rattle.mc_equal.specs.Classes.{own_class, class_at, joined_class, joined_link, IsSameClass}
+use Rattle.mc_equal.specs.Facts.{Fact, Eq, Ne, Derived, assumed, a8, IsShort}
+use Rattle.mc_equal.specs.Classes.{own_class, class_at, joined_class, IsSameClass}
 use Rattle.mc_equal.specs.Known.{Known, IsWritten, Follows, IsKept, IsTame, KnowsExactly}
-use Rattle.mc_equal.specs.Moving.{StandsIn, links_without, gaps_without, put_node, put_offset, moved_gap}
+use Rattle.mc_equal.specs.Moving.{StandsIn, links_without, gaps_without, put_node, put_offset}
 use Rattle.mc_equal.specs.Changes.{Without}
 use Rattle.mc_equal.proofs.Lists.{decide, there, within, some_is}
-use Rattle.mc_equal.proofs.Normal.{eq_to, ne_to, bind, follows_same, rooted, holds, Holds, follows, Listed, Moved}
+use Rattle.mc_equal.proofs.Normal.{ne_to, bind, follows_same, holds, Moved}
 use Rattle.mc_equal.proofs.Joining.{Goes, Stays, joined_cases, joined_goes, joined_stays}
-use Rattle.mc_equal.proofs.Parting.{LinkFrom, link_from, link_to, Drops, Keeps, gap_case, GapFrom, gap_from, gap_to}
-use Rattle.mc_equal.proofs.Forgetting.{ne_between, same_back, same_on, same_to, Rest, class_rest, class_gone, keep_class, root_at, base_rest, same_stays, same_was, put_same, put_apart}
+use Rattle.mc_equal.proofs.Parting.{LinkFrom, link_from, Drops, Keeps, gap_case, gap_from, gap_to}
+use Rattle.mc_equal.proofs.Forgetting.{ne_between, Rest, class_rest, class_gone, keep_class, base_rest, same_stays, same_was, put_same, put_apart}
 
 module _ (known : Known) (kept : IsKept known) (node : ℕ) (join : Join) (st : StandsIn known.links node join) where
   abbrev After : Known
@@ -93,17 +93,19 @@ module _ (known : Known) (kept : IsKept known) (node : ℕ) (join : Join) (st : 
     link_newer link f same =
         let node_is : link.node ≢ node = λ e. f.other (ap (λ (x : Link). x.node) (sym f.is) ∙ e ∙ sym st.gone) in
         let class_is : link.class ≡ joined_class join (old f.old.node) = ap (λ (x : Link). x.class) f.is ∙ ap (joined_class join) (sym (kept.linked f.place f.old f.at)) in
-        let base_is : link.class.base ≢ node = λ e. base_rest known kept node join st f.old.node (λ z. f.other (z ∙ sym st.gone)) (ap (λ (x : Class). x.base) (sym class_is) ∙ e) in
-        (follows_same known link.node link.class.base link.class.offset (same_was known kept node join st link.node link.class.base link.class.offset node_is base_is same),
-        (λ names. elim names [ inl e ↦ node_is e | inr e ↦ base_is e ]))
+        let base_is : link.class.base ≢ node = λ e. base_rest known kept node join st f.old.node (λ z. f.other (z ∙ sym st.gone)) (ap (λ (x : Class). x.base) (sym class_is) ∙ e) in (
+          follows_same known link.node link.class.base link.class.offset (same_was known kept node join st link.node link.class.base link.class.offset node_is base_is same),
+          (λ names. elim names [ inl e ↦ node_is e | inr e ↦ base_is e ]),
+        )
 
     gap_newer : (gap : Gap) (place : ℕ) → slice_get known.gaps place ≡ Some gap → Keeps join gap → Without known node (Ne (put_node join gap.left) (put_node join gap.right) ((gap.offset +ℤ put_offset join gap.right) -ℤ put_offset join gap.left))
     gap_newer gap place at k =
         let ne : Follows known (Ne gap.left gap.right gap.offset) = assumed {fact = Ne gap.left gap.right gap.offset} (place, at) in
         let l = follows_same known gap.left (put_node join gap.left) (put_offset join gap.left) (put_same known kept node join st gap.left) in
-        let r = follows_same known gap.right (put_node join gap.right) (put_offset join gap.right) (put_same known kept node join st gap.right) in
-        (ne_between (IsWritten known) gap.left gap.right (put_node join gap.left) (put_node join gap.right) gap.offset (put_offset join gap.left) (put_offset join gap.right) ne l r,
-        (λ names. elim names [ inl e ↦ left_other gap k e | inr e ↦ right_other gap k e ]))
+        let r = follows_same known gap.right (put_node join gap.right) (put_offset join gap.right) (put_same known kept node join st gap.right) in (
+          ne_between (IsWritten known) gap.left gap.right (put_node join gap.left) (put_node join gap.right) gap.offset (put_offset join gap.left) (put_offset join gap.right) ne l r,
+          (λ names. elim names [ inl e ↦ left_other gap k e | inr e ↦ right_other gap k e ]),
+        )
 
     newer : (fact : Fact) → IsWritten After fact → Derived (Without known node) fact
     newer (Eq a b c) w =

@@ -1,5 +1,5 @@
 -- Links of grouped entries.
-use Rattle.std.proofs.Common.{◌≡◌, ◌≢◌, ℕ, zero, suc, ◌<◌, ◌+◌, ℤ, pos, negsuc, ◌+ℤ◌, ◌-ℤ◌, neg_ℤ, ◌≤ℤ◌, ◌⊎◌, List, [], ◌∷◌, Some, slice_get, map, refl, sym, ◌∙◌, ap, subst, inl, inr, arith}
+use Rattle.std.proofs.Common.{◌≡◌, ℕ, ℤ, pos, ◌+ℤ◌, ◌-ℤ◌, ◌⊎◌, List, Some, slice_get, map, refl, sym, ◌∙◌, ap, subst, inl, inr, arith}
 use Rattle.std.proofs.lemmas.Int.{ints}
 use Rattle.mc_equal.specs.declared.classes.Class.{Class}
 use Rattle.mc_equal.specs.declared.classes.Link.{Link}
@@ -8,8 +8,8 @@ use Rattle.mc_equal.specs.Facts.{IsShort}
 use Rattle.mc_equal.specs.Classes.{own_class, class_at, IsSameClass, IsShortClass}
 use Rattle.mc_equal.specs.Groups.{SameKey, leader, entry_link, AreShort, AreApart}
 use Rattle.mc_equal.proofs.Lists.{at_map, map_at, some_is}
-use Rattle.mc_equal.proofs.Lookup.{Linked, Unlinked, class_cases}
-use Rattle.mc_equal.proofs.Keys.{key_back, key_on, IsFirst, leads, leader_same, leader_own}
+use Rattle.mc_equal.proofs.Lookup.{class_cases}
+use Rattle.mc_equal.proofs.Keys.{key_back, key_on, leads, leader_same, leader_own}
 
 module _ (entries : List Entry) (short : AreShort entries) (apart : AreApart entries) where
   abbrev pub Links : List Link
@@ -51,6 +51,7 @@ module _ (entries : List Entry) (short : AreShort entries) (apart : AreApart ent
     where
       zero_offset : (x y : ℤ) → x ≡ y → x -ℤ y ≡ pos 0
       zero_offset x y e = omega (arith, ints)
+
       own_at : leader entries (leader entries entry) ≡ leader entries entry → (entry_link entries (leader entries entry)).class ≡ own_class (leader entries entry).name
       own_at own =
           let offset = zero_offset (leader entries entry).offset (leader entries (leader entries entry)).offset (ap (λ (x : Entry). x.offset) (sym own)) in
@@ -73,9 +74,10 @@ module _ (entries : List Entry) (short : AreShort entries) (apart : AreApart ent
       let same = leader_same entries i j a b x y key in
       let f = ap (λ (z : Entry). z.offset) same in
       let p = ap (λ (z : Class). z.offset) (class_entry i a x) in
-      let q = ap (λ (z : Class). z.offset) (class_entry j b y) in
-      (ap (λ (z : Class). z.base) (class_entry i a x) ∙ ap (λ (z : Entry). z.name) same ∙ sym (ap (λ (z : Class). z.base) (class_entry j b y)),
-      omega (arith, ints, offset, f, p, q))
+      let q = ap (λ (z : Class). z.offset) (class_entry j b y) in (
+        ap (λ (z : Class). z.base) (class_entry i a x) ∙ ap (λ (z : Entry). z.name) same ∙ sym (ap (λ (z : Class). z.base) (class_entry j b y)),
+        omega (arith, ints, offset, f, p, q),
+      )
 
   pub record FromOne (a b : Entry) (c : ℤ) : Type 0 where
     pub key : SameKey a b
@@ -128,5 +130,5 @@ module _ (entries : List Entry) (short : AreShort entries) (apart : AreApart ent
         let bases = ap (λ (z : ℕ). (class_at Links z).base) p.is ∙ e ∙ sym (ap (λ (z : ℕ). (class_at Links z).base) q.is) in
         subst (λ (z : ℕ). IsShort ((class_at Links z).offset -ℤ (class_at Links b).offset)) p.is
         (subst (λ (w : ℕ). IsShort ((class_at Links p.entry.name).offset -ℤ (class_at Links w).offset)) q.is
-          (short_named p.place q.place p.entry q.entry p.at q.at bases))
+        (short_named p.place q.place p.entry q.entry p.at q.at bases))
   ]

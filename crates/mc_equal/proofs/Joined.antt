@@ -1,17 +1,16 @@
 -- What is known after a join.
-use Rattle.std.proofs.Common.{◌≡◌, ◌≢◌, ℕ, zero, suc, ℤ, pos, negsuc, ◌+ℤ◌, ◌-ℤ◌, neg_ℤ, ◌≤ℤ◌, ◌⊎◌, ◌↔◌, List, [], ◌∷◌, ◌++◌, Some, slice_get, map, refl, sym, ◌∙◌, ap, subst, inl, inr, arith}
+use Rattle.std.proofs.Common.{◌≡◌, ◌≢◌, ℕ, ℤ, pos, ◌+ℤ◌, ◌-ℤ◌, neg_ℤ, ◌⊎◌, [], ◌∷◌, ◌++◌, Some, slice_get, refl, sym, ◌∙◌, ap, subst, inl, inr, arith}
 use Rattle.std.proofs.lemmas.Int.{ints}
 use Rattle.mc_equal.specs.declared.classes.Class.{Class}
 use Rattle.mc_equal.specs.declared.classes.Link.{Link}
 use Rattle.mc_equal.specs.declared.classes.Gap.{Gap}
 use Rattle.mc_equal.specs.declared.classes.Join.{Join}
-use Rattle.mc_equal.specs.Facts.{Fact, Eq, Ne, Derived, assumed, a1, a2, a3, a8, a8_moved, IsShort, IsImpossible, differs, moves, far}
+use Rattle.mc_equal.specs.Facts.{Fact, Eq, Ne, Derived, assumed, a2, a3, a8_moved, IsShort, IsImpossible, differs, moves, far}
 use Rattle.mc_equal.specs.Classes.{own_class, class_at, joined_class, joined_link}
 use Rattle.mc_equal.specs.Known.{Known, IsWritten, Follows, IsKept, OrFact, KnowsExactly}
-use Rattle.mc_equal.specs.Classes.{IsSameClass}
-use Rattle.mc_equal.specs.Steps.{IsAsked, IsNear, IsSameAfter, IsClear, CanJoin, links_after}
-use Rattle.mc_equal.proofs.Lists.{at_map, at_push, push_at, push_last, map_at}
-use Rattle.mc_equal.proofs.Normal.{eq_to, ne_to, bind, follows_class, follows_same, rooted, possible}
+use Rattle.mc_equal.specs.Steps.{IsAsked, IsSameAfter, CanJoin, links_after}
+use Rattle.mc_equal.proofs.Lists.{at_map, at_push}
+use Rattle.mc_equal.proofs.Normal.{eq_to, ne_to, bind, follows_class, follows_same, rooted}
 use Rattle.mc_equal.proofs.Joining.{Goes, Stays, joined_cases, joined_goes, joined_stays, class_after}
 
 abbrev pub known_after : Join → Known → Known
@@ -123,7 +122,7 @@ module _ (known : Known) (kept : IsKept known) (a b : ℕ) (c : ℤ) (join : Joi
   new_link : (link : Link) → link ≡ record { node = join.gone; class = record { base = join.keep; offset = join.by } } → IsKeptLink (joined_link join link)
   new_link link is =
       let same : joined_link join link ≡ record { node = join.gone; class = record { base = join.keep; offset = join.by } } =
-        (ap (joined_link join) is ∙ ap (λ (x : Class). (let l : Link = record { node = join.gone; class = x } in l)) (joined_stays join (record { base = join.keep; offset = join.by }) (λ e. apart (sym e)))) in
+      (ap (joined_link join) is ∙ ap (λ (x : Class). (let l : Link = record { node = join.gone; class = x } in l)) (joined_stays join (record { base = join.keep; offset = join.by }) (λ e. apart (sym e)))) in
       subst IsKeptLink (sym same) (gone_after, keep_after)
 
   pub each_link : (place : ℕ) (link : Link) → slice_get After.links place ≡ Some link → IsKeptLink link
@@ -202,6 +201,7 @@ module _ (known : Known) (kept : IsKept known) (a b : ℕ) (c : ℤ) (join : Joi
   asked_follows fact (inr is) = rw is (same_class a b c asked_same)
 
   pub exactly_after : KnowsExactly (OrFact known (Eq a b c)) After
-  exactly_after fact =
-      ((λ x. bind (IsWritten After) (OrFact known (Eq a b c)) newer fact x),
-      (λ x. bind (OrFact known (Eq a b c)) (IsWritten After) asked_follows fact x))
+  exactly_after fact = (
+    (λ x. bind (IsWritten After) (OrFact known (Eq a b c)) newer fact x),
+    (λ x. bind (OrFact known (Eq a b c)) (IsWritten After) asked_follows fact x),
+  )

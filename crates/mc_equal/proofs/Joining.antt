@@ -1,17 +1,12 @@
 -- Two classes become one.
-use Rattle.std.proofs.Common.{◌≡◌, ◌≢◌, ℕ, zero, suc, ℤ, pos, negsuc, ◌+ℤ◌, ◌-ℤ◌, neg_ℤ, ◌≤ℤ◌, ◌⊎◌, List, [], ◌∷◌, ◌++◌, Some, slice_get, map, cond, nat_eq, refl, sym, ◌∙◌, ap, subst, inl, inr, arith}
+use Rattle.std.proofs.Common.{◌≡◌, ◌≢◌, ℕ, ℤ, pos, ◌+ℤ◌, ◌⊎◌, List, [], ◌∷◌, nat_eq, refl, sym, ◌∙◌, ap, inl, inr, arith}
 use Rattle.std.proofs.lemmas.Int.{ints}
 use Rattle.mc_equal.specs.declared.classes.Class.{Class}
 use Rattle.mc_equal.specs.declared.classes.Link.{Link}
-use Rattle.mc_equal.specs.declared.classes.Gap.{Gap}
 use Rattle.mc_equal.specs.declared.classes.Join.{Join}
-use Rattle.mc_equal.specs.Facts.{Fact, Eq, Ne, Derived, assumed, a1, a2, a3, a8, a8_moved, IsShort, IsImpossible, differs, moves, far}
-use Rattle.mc_equal.specs.Classes.{own_class, class_at, joined_class, joined_link}
-use Rattle.mc_equal.specs.Known.{Known, IsWritten, Follows, IsKept, OrFact, KnowsExactly}
-use Rattle.mc_equal.specs.Classes.{IsSameClass}
-use Rattle.mc_equal.specs.Steps.{IsAsked, IsNear, IsSameAfter, IsClear, CanJoin, links_after}
-use Rattle.mc_equal.proofs.Lists.{at_map, at_push, push_at, push_last, map_at, pick_true, pick_false, same_true, same_false, decide}
-use Rattle.mc_equal.proofs.Normal.{eq_to, ne_to, bind, follows_class, follows_same, rooted, possible}
+use Rattle.mc_equal.specs.Classes.{own_class, class_at, joined_class}
+use Rattle.mc_equal.specs.Steps.{links_after}
+use Rattle.mc_equal.proofs.Lists.{pick_true, pick_false, same_true, same_false, decide}
 
 pub record Goes (join : Join) (class : Class) : Type 0 where
   pub was : class.base ≡ join.gone

@@ -1,5 +1,5 @@
 -- The first entry of a class.
-use Rattle.std.proofs.Common.{◌≡◌, ◌≢◌, ℕ, zero, suc, ◌<◌, ◌+◌, ℤ, pos, ◌+ℤ◌, ◌-ℤ◌, ◌⊎◌, List, [], ◌∷◌, ◌++◌, Option, Some, None, slice_get, get_or, length, take, map, cond, ◌==◌, ◌&&◌, unwrap_or, Bool, true, false, refl, sym, ◌∙◌, ap, subst, inl, inr, arith, add-one}
+use Rattle.std.proofs.Common.{◌≡◌, ℕ, zero, suc, ◌<◌, ◌+◌, ◌-ℤ◌, ◌⊎◌, List, [], ◌∷◌, ◌++◌, Option, Some, None, slice_get, get_or, length, take, map, ◌==◌, ◌&&◌, unwrap_or, Bool, true, false, refl, sym, ◌∙◌, ap, subst, inl, inr, add-one}
 use Rattle.std.proofs.lemmas.Bool.Decides.{Decides-int_eq, Decides-eqb, Decides-and, Decides-like, same_from_decides}
 use Rattle.std.proofs.Math.Seq.{take-suc}
 use Rattle.std.proofs.lemmas.List.{map-append}
@@ -8,8 +8,8 @@ use Rattle.std.specs.Ordering.{int_eq}
 use Rattle.mc_equal.specs.declared.groups.Entry.{Entry}
 use Rattle.mc_equal.specs.declared.classes.Link.{Link}
 use Rattle.mc_equal.specs.Facts.{IsShort}
-use Rattle.mc_equal.specs.Groups.{SameKey, same_key, first_with, leader, entry_link, AreShort}
-use Rattle.mc_equal.proofs.Lists.{pick_true, pick_false, there, some_is}
+use Rattle.mc_equal.specs.Groups.{SameKey, same_key, first_with, leader, AreShort}
+use Rattle.mc_equal.proofs.Lists.{pick_true, pick_false, some_is}
 
 pub key_back : (a b : Entry) → SameKey a b → SameKey b a
 key_back a b k = (sym k.0, sym k.1, sym k.2)
@@ -21,7 +21,7 @@ key_decides : (a b : Entry) → Decides (same_key a b) (SameKey a b)
 key_decides a b =
     Decides-like (same_key a b) (λ k. (k.0, k.1.0, k.1.1)) (λ k. (k.0, (k.1, k.2)))
     (Decides-and (a.left == b.left) ((a.right == b.right) && int_eq a.turn b.turn) (Decides-eqb a.left b.left)
-      (Decides-and (a.right == b.right) (int_eq a.turn b.turn) (Decides-eqb a.right b.right) (Decides-int_eq a.turn b.turn)))
+    (Decides-and (a.right == b.right) (int_eq a.turn b.turn) (Decides-eqb a.right b.right) (Decides-int_eq a.turn b.turn)))
 
 key_same : (x a b : Entry) → SameKey a b → same_key x a ≡ same_key x b
 key_same x a b k =

@@ -1,5 +1,5 @@
 -- Places in lists.
-use Rattle.std.proofs.Common.{◌≡◌, ◌≢◌, ℕ, zero, suc, ◌<◌, ◌+◌, ◌⊎◌, List, [], ◌∷◌, ◌++◌, Some, None, slice_get, slice_set, get_or, length, take, drop, map, cond, nat_eq, Bool, true, false, refl, sym, ◌∙◌, ap, inl, inr, arith, add-one}
+use Rattle.std.proofs.Common.{◌≡◌, ◌≢◌, ℕ, zero, suc, ◌<◌, ◌+◌, ◌⊎◌, List, [], ◌∷◌, ◌++◌, Some, slice_get, slice_set, get_or, length, take, drop, map, cond, nat_eq, Bool, true, false, refl, sym, ◌∙◌, ap, inl, inr, arith, add-one}
 use Rattle.std.proofs.lemmas.Bool.Decides.{nat_tests}
 
 pub at_map : {A B : Type 0} (f : A → B) (xs : List A) (y : B) (i : ℕ) → slice_get (map f xs) i ≡ Some y → (x : A) × (slice_get xs i ≡ Some x) × (y ≡ f x)

@@ -1,7 +1,5 @@
 -- The class of a node.
-use Rattle.std.proofs.Common.{◌≡◌, ◌≢◌, ℕ, zero, suc, ℤ, pos, ◌+ℤ◌, ◌⊎◌, List, [], ◌∷◌, ◌++◌, Some, slice_get, map, cond, nat_eq, refl, sym, ◌∙◌, ap, inl, inr, arith}
-use Rattle.std.proofs.lemmas.Int.{ints}
-use Rattle.mc_equal.specs.declared.classes.Class.{Class}
+use Rattle.std.proofs.Common.{◌≡◌, ◌≢◌, ℕ, zero, suc, ◌⊎◌, List, [], ◌∷◌, Some, slice_get, nat_eq, refl, ◌∙◌, ap, inl, inr}
 use Rattle.mc_equal.specs.declared.classes.Link.{Link}
 use Rattle.mc_equal.specs.Classes.{own_class, class_at}
 use Rattle.mc_equal.proofs.Lists.{pick_true, pick_false, same_true, same_false, decide}

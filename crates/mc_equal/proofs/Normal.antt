@@ -1,14 +1,14 @@
 -- What follows from links and gaps: two nodes are equal where they are of one class, and differ where a gap says so.
-use Rattle.std.proofs.Common.{◌≡◌, ◌≢◌, ℕ, zero, suc, ℤ, pos, negsuc, ◌+ℤ◌, ◌-ℤ◌, neg_ℤ, ◌≤ℤ◌, ◌⊎◌, List, Some, slice_get, refl, sym, ◌∙◌, ap, subst, inl, inr, arith}
+use Rattle.std.proofs.Common.{◌≡◌, ℕ, ℤ, pos, ◌+ℤ◌, ◌-ℤ◌, neg_ℤ, ◌⊎◌, List, Some, slice_get, refl, sym, ◌∙◌, ap, subst, inl, inr, arith}
 use Rattle.std.proofs.lemmas.Int.{ints}
 use Rattle.mc_equal.specs.declared.classes.Class.{Class}
 use Rattle.mc_equal.specs.declared.classes.Link.{Link}
 use Rattle.mc_equal.specs.declared.classes.Gap.{Gap}
-use Rattle.mc_equal.specs.Facts.{Fact, Eq, Ne, Derived, assumed, a1, a2, a3, a8, a8_moved, IsShort, IsImpossible, differs, moves, far}
+use Rattle.mc_equal.specs.Facts.{Fact, Eq, Ne, Derived, assumed, a1, a2, a3, a8, a8_moved, IsImpossible, differs, moves, far}
 use Rattle.mc_equal.specs.Classes.{own_class, class_at}
 use Rattle.mc_equal.specs.Known.{Known, IsWritten, Follows, IsKept}
 use Rattle.mc_equal.specs.Classes.{IsSameClass}
-use Rattle.mc_equal.proofs.Lookup.{Linked, Unlinked, class_cases}
+use Rattle.mc_equal.proofs.Lookup.{class_cases}
 
 -- facts with offsets that are equal
 module _ (A : Fact → Type 0) where
@@ -36,6 +36,7 @@ follows_class known node = elim (class_cases known.links node) [
   where
     class_is : (known : Known) (node : ℕ) (link : Link) (place : ℕ) → slice_get known.links place ≡ Some link → link.node ≡ node → class_at known.links node ≡ link.class → Follows known (Eq node (class_at known.links node).base (class_at known.links node).offset)
     class_is known node link place at is class = rw class (rw (← is) (assumed {fact = Eq link.node link.class.base link.class.offset} (place, at)))
+
     own_is : (known : Known) (node : ℕ) → class_at known.links node ≡ own_class node → Follows known (Eq node (class_at known.links node).base (class_at known.links node).offset)
     own_is known node class = rw class (a1 node)
 
@@ -73,6 +74,7 @@ rooted known kept node = elim (class_cases known.links node) [
   where
     linked : (link : Link) (place : ℕ) → slice_get known.links place ≡ Some link → class_at known.links node ≡ link.class → class_at known.links (class_at known.links node).base ≡ own_class (class_at known.links node).base
     linked link place at class = rw class (kept.based place link at)
+
     own : class_at known.links node ≡ own_class node → class_at known.links (class_at known.links node).base ≡ own_class (class_at known.links node).base
     own class = rw (ap (λ (x : Class). x.base) class) class
 
@@ -111,6 +113,7 @@ holds known kept fact (a8_moved {a} {b} {d} {c} {e} x y) =
   where
     right_moved : (gap : Gap) (a b d : ℕ) (c e : ℤ) → IsSameClass known.links b d e → Moved known.links gap a b c → Moved known.links gap a d (c +ℤ e)
     right_moved gap a b d c e same m = record { left = m.left; right = m.right ∙ same.0; by = omega (arith, ints, m.by, same.1) }
+
     left_moved : (gap : Gap) (a b d : ℕ) (c e : ℤ) → IsSameClass known.links b d e → Moved known.links gap b a (neg_ℤ c) → Moved known.links gap d a (neg_ℤ (c +ℤ e))
     left_moved gap a b d c e same m = record { left = m.left ∙ same.0; right = m.right; by = omega (arith, ints, m.by, same.1) }
 

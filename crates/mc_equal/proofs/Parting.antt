@@ -1,12 +1,11 @@
 -- The links and gaps of the other nodes, one by one.
-use Rattle.std.proofs.Common.{◌≡◌, ◌≢◌, ℕ, zero, suc, ◌<◌, ◌+◌, ℤ, pos, ◌+ℤ◌, ◌-ℤ◌, ◌⊎◌, List, [], ◌∷◌, ◌++◌, Some, None, slice_get, get_or, length, take, cond, nat_eq, refl, sym, ◌∙◌, ap, subst, inl, inr, arith, add-one}
+use Rattle.std.proofs.Common.{◌≡◌, ◌≢◌, ℕ, zero, suc, ◌<◌, ◌+◌, ◌⊎◌, List, [], ◌∷◌, ◌++◌, Some, slice_get, get_or, length, take, cond, nat_eq, refl, sym, ◌∙◌, ap, subst, inl, inr, add-one}
 use Rattle.std.proofs.Math.Seq.{take-suc}
-use Rattle.mc_equal.specs.declared.classes.Class.{Class}
 use Rattle.mc_equal.specs.declared.classes.Link.{Link}
 use Rattle.mc_equal.specs.declared.classes.Gap.{Gap}
 use Rattle.mc_equal.specs.declared.classes.Join.{Join}
-use Rattle.mc_equal.specs.Classes.{class_at, joined_class, joined_link}
-use Rattle.mc_equal.specs.Moving.{links_without, put_node, put_offset, moved_gap, gaps_without}
+use Rattle.mc_equal.specs.Classes.{joined_link}
+use Rattle.mc_equal.specs.Moving.{links_without, put_node, moved_gap, gaps_without}
 use Rattle.mc_equal.proofs.Lists.{pick_true, pick_false, same_true, same_false, decide, some_is}
 
 module _ (join : Join) where

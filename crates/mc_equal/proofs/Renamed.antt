@@ -1,23 +1,23 @@
 -- What is known under new names.
-use Rattle.std.proofs.Common.{◌≡◌, ◌≢◌, ℕ, zero, suc, ℤ, pos, negsuc, ◌+ℤ◌, ◌-ℤ◌, neg_ℤ, ◌≤ℤ◌, ◌⊎◌, ◌↔◌, List, Option, Some, None, slice_get, map, All, refl, sym, ◌∙◌, ap, subst, inl, inr, arith}
+use Rattle.std.proofs.Common.{◌≡◌, ℕ, ℤ, ◌+ℤ◌, ◌-ℤ◌, neg_ℤ, List, Option, Some, None, slice_get, map, All, refl, sym, ◌∙◌, ap, subst, inl, inr, arith}
 use Rattle.std.proofs.lemmas.Int.{ints}
 use Rattle.mc_equal.specs.declared.classes.Class.{Class}
 use Rattle.mc_equal.specs.declared.classes.Link.{Link}
 use Rattle.mc_equal.specs.declared.classes.Gap.{Gap}
 use Rattle.mc_equal.specs.declared.groups.Entry.{Entry}
-use Rattle.mc_equal.specs.Facts.{Fact, Eq, Ne, Derived, assumed, a8, IsShort}
-use Rattle.mc_equal.specs.Classes.{own_class, class_at, IsSameClass}
+use Rattle.mc_equal.specs.Facts.{Fact, Eq, Ne, Derived, assumed, a8}
+use Rattle.mc_equal.specs.Classes.{class_at, IsSameClass}
 use Rattle.mc_equal.specs.Known.{Known, IsWritten, Follows, IsKept, IsTame, KnowsExactly}
 use Rattle.mc_equal.specs.Changes.{GoesTo, IsInjective, IsRenamed}
 use Rattle.mc_equal.specs.Groups.{SameKey, first_with, leader, entry_link, AreShort, AreApart}
 use Rattle.mc_equal.specs.Renaming.{renamed_entry, renamed_entries, turned_offset, gap_between, renamed_gap, renamed_gaps}
 use Rattle.mc_equal.proofs.Lists.{at_map, map_at, some_is}
-use Rattle.mc_equal.proofs.Normal.{ne_to, bind, follows_same, holds, Listed, Moved}
+use Rattle.mc_equal.proofs.Normal.{ne_to, bind, follows_same, holds, Moved}
 use Rattle.mc_equal.proofs.Forgetting.{ne_between}
 use Rattle.mc_equal.proofs.Forgotten.{tame_at}
-use Rattle.mc_equal.proofs.Keys.{key_back, key_on, IsFirst, IsNone, first_cases, leads}
+use Rattle.mc_equal.proofs.Keys.{key_back, IsFirst, first_cases, leads}
 use Rattle.mc_equal.proofs.Grouping.{Links, linked_entries, based_entries, one_class, FromOne, from_one, short_entries}
-use Rattle.mc_equal.proofs.Renaming.{Given, given, gives}
+use Rattle.mc_equal.proofs.Renaming.{given, gives}
 
 -- the first entry of a class, where the look-up has one
 first_is : (entries : List Entry) (entry first : Entry) → first_with entries entry ≡ Some first → IsFirst entries entry first

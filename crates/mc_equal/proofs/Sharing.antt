@@ -1,20 +1,19 @@
 -- The equalities of two sides.
-use Rattle.std.proofs.Common.{◌≡◌, ◌≢◌, ℕ, zero, suc, ◌<◌, ◌+◌, ℤ, pos, negsuc, ◌+ℤ◌, ◌-ℤ◌, neg_ℤ, ◌≤ℤ◌, ◌⊎◌, ◌↔◌, List, [], ◌∷◌, Some, slice_get, map, refl, sym, ◌∙◌, ap, subst, inl, inr, arith}
+use Rattle.std.proofs.Common.{◌≡◌, ℕ, zero, suc, ◌+◌, ℤ, ◌-ℤ◌, List, [], ◌∷◌, Some, slice_get, map, refl, sym, ◌∙◌, ap, subst, arith}
 use Rattle.std.proofs.lemmas.Int.{ints}
 use Rattle.std.specs.List.{enumerate_from}
-use Rattle.mc_equal.specs.declared.classes.Class.{Class}
 use Rattle.mc_equal.specs.declared.classes.Link.{Link}
 use Rattle.mc_equal.specs.declared.classes.Gap.{Gap}
 use Rattle.mc_equal.specs.declared.groups.Entry.{Entry}
-use Rattle.mc_equal.specs.Facts.{Fact, Eq, Ne, Derived, assumed, IsShort}
-use Rattle.mc_equal.specs.Classes.{own_class, class_at, IsSameClass, IsShortClass}
+use Rattle.mc_equal.specs.Facts.{Fact, Eq, Ne, Derived, assumed}
+use Rattle.mc_equal.specs.Classes.{IsSameClass}
 use Rattle.mc_equal.specs.Known.{Known, IsWritten, Follows, IsKept, KnowsExactly}
 use Rattle.mc_equal.specs.Changes.{IsCommon}
 use Rattle.mc_equal.specs.Groups.{SameKey, leader, entry_link, AreShort, AreApart, common_entry, common_entries}
-use Rattle.mc_equal.proofs.Lists.{at_map, map_at, some_is}
+use Rattle.mc_equal.proofs.Lists.{at_map, map_at}
 use Rattle.mc_equal.proofs.Normal.{bind, follows_same, holds}
 use Rattle.mc_equal.proofs.Keys.{leads}
-use Rattle.mc_equal.proofs.Grouping.{Links, class_entry, linked_entries, based_entries, one_class, FromOne, from_one, short_entries, Entered, both_entered}
+use Rattle.mc_equal.proofs.Grouping.{Links, linked_entries, based_entries, one_class, FromOne, short_entries}
 
 -- pairs by their positions
 at_enumerate : (n : ℕ) (pairs : List (ℕ × ℕ)) (i : ℕ) (pair : ℕ × ℕ) → slice_get pairs i ≡ Some pair → slice_get (enumerate_from n pairs) i ≡ Some (n + i, pair)

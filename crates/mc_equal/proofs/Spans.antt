@@ -1,7 +1,7 @@
 -- The ends of a class's offsets.
-use Rattle.std.proofs.Common.{◌≡◌, ◌≢◌, ℕ, zero, suc, ◌<◌, ◌+◌, ℤ, pos, negsuc, ◌+ℤ◌, ◌-ℤ◌, neg_ℤ, ◌≤ℤ◌, ◌⊎◌, List, [], ◌∷◌, ◌++◌, Some, slice_get, get_or, length, take, All, Contains, cond, int_lt, Bool, true, false, IsTrue, refl, sym, ◌∙◌, ap, subst, inl, inr, arith, add-one}
+use Rattle.std.proofs.Common.{◌≡◌, ◌≢◌, ℕ, ◌<◌, ◌+◌, ℤ, pos, ◌+ℤ◌, ◌-ℤ◌, ◌≤ℤ◌, List, [], ◌∷◌, ◌++◌, Some, slice_get, get_or, length, take, Contains, cond, int_lt, Bool, true, false, IsTrue, refl, sym, ◌∙◌, ap, subst, inl, inr, arith, add-one}
 use Rattle.std.proofs.lemmas.Int.{ints, clamps}
-use Rattle.std.proofs.lemmas.List.Elements.{All-more, All-weaker, All-contains, Contains-append_left, Contains-push}
+use Rattle.std.proofs.lemmas.List.Elements.{All-more, All-weaker, Contains-append_left, Contains-push}
 use Rattle.std.proofs.Math.Seq.{take-suc}
 use Rattle.std.specs.Int.{int_max, int_min}
 use Rattle.mc_equal.specs.declared.classes.Class.{Class}
@@ -12,7 +12,7 @@ use Rattle.mc_equal.specs.Facts.{IsShort}
 use Rattle.mc_equal.specs.Classes.{own_class, class_at, IsSpan, IsReached}
 use Rattle.mc_equal.specs.Steps.{IsLinked, IsNear, IsTooFar}
 use Rattle.mc_equal.proofs.Lists.{there, within}
-use Rattle.mc_equal.proofs.Lookup.{Linked, Unlinked, class_cases}
+use Rattle.mc_equal.proofs.Lookup.{class_cases}
 
 take-more : (ls : List Link) (i : ℕ) (d : Link) → i < length ls → take (i + 1) ls ≡ take i ls ++ (get_or ls i d ∷ [])
 take-more ls i d lt = rw add-one (take-suc ls i d lt)
@@ -46,8 +46,8 @@ module _ (ls : List Link) (i base : ℕ) (d : Link) (span : Span) (lt : i < leng
         base_low = omega (arith, ints, clamps);
         base_high = omega (arith, ints, clamps);
         within = All-more (IsIn now) ls i d lt
-          (All-weaker (IsIn span) (IsIn now) (λ x h e. let k = h e in (omega (arith, ints, clamps, k.0), omega (arith, ints, clamps, k.1))) (take i ls) is.within)
-          (subst (IsIn now) at (λ e. (omega (arith, ints, clamps), omega (arith, ints, clamps))));
+            (All-weaker (IsIn span) (IsIn now) (λ x h e. let k = h e in (omega (arith, ints, clamps, k.0), omega (arith, ints, clamps, k.1))) (take i ls) is.within)
+            (subst (IsIn now) at (λ e. (omega (arith, ints, clamps), omega (arith, ints, clamps))));
         low = rw low (min_either (IsReached (take (i + 1) ls) base) span.lo link.class.offset (still_reached ls i base d span.lo lt is.low) reached);
         high = rw high (max_either (IsReached (take (i + 1) ls) base) span.hi link.class.offset (still_reached ls i base d span.hi lt is.high) reached);
       }
@@ -82,6 +82,7 @@ module _ (links : List Link) (linked : IsLinked links) (base : ℕ) (root : clas
           let in_span = is.within place link (within links place link at) in
           let here = subst (λ (x : Link). x.class.base ≡ base → (span.lo ≤ℤ x.class.offset) × (x.class.offset ≤ℤ span.hi)) got in_span in
           rw class (here e)
+
       by_own : class_at links node ≡ own_class node → (span.lo ≤ℤ (class_at links node).offset) × ((class_at links node).offset ≤ℤ span.hi)
       by_own class = rw class (is.base_low, is.base_high)
 

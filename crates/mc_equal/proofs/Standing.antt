@@ -1,14 +1,13 @@
 -- What stands for a node.
-use Rattle.std.proofs.Common.{◌≡◌, ◌≢◌, ℕ, zero, suc, ◌<◌, ℤ, pos, negsuc, ◌+ℤ◌, ◌-ℤ◌, neg_ℤ, ◌≤ℤ◌, ◌⊎◌, List, Some, None, Option, slice_get, FitsSigned, w64, refl, sym, ◌∙◌, ap, subst, inl, inr, arith}
+use Rattle.std.proofs.Common.{◌≡◌, ◌≢◌, ℕ, ℤ, pos, ◌-ℤ◌, neg_ℤ, Some, None, slice_get, FitsSigned, w64, refl, sym, ◌∙◌, ap, subst, inl, inr, arith}
 use Rattle.std.proofs.lemmas.Int.{ints}
 use Rattle.mc_equal.specs.declared.classes.Class.{Class}
 use Rattle.mc_equal.specs.declared.classes.Link.{Link}
-use Rattle.mc_equal.specs.declared.classes.Join.{Join}
 use Rattle.mc_equal.specs.Facts.{IsShort}
-use Rattle.mc_equal.specs.Classes.{own_class, class_at, IsSameClass}
+use Rattle.mc_equal.specs.Classes.{own_class, class_at}
 use Rattle.mc_equal.specs.Known.{Known, IsKept}
-use Rattle.mc_equal.specs.Moving.{IsOtherMember, OtherMemberIs, IsAlone, StandsIn}
-use Rattle.mc_equal.proofs.Lookup.{Linked, Unlinked, class_cases}
+use Rattle.mc_equal.specs.Moving.{IsOtherMember, OtherMemberIs, StandsIn}
+use Rattle.mc_equal.proofs.Lookup.{class_cases}
 use Rattle.mc_equal.proofs.Normal.{rooted}
 
 module _ (known : Known) (kept : IsKept known) (node : ℕ) (class : Class) (is : class ≡ class_at known.links node) where
@@ -51,8 +50,10 @@ module _ (known : Known) (kept : IsKept known) (node : ℕ) (class : Class) (is 
       let root_is = own same in
       record {
         gone = refl;
-        same = (ap (λ (x : Class). x.base) root_is ∙ sym member.2 ∙ sym (ap (λ (x : Class). x.base) e),
-          (let f = ap (λ (x : Class). x.offset) root_is in let g = ap (λ (x : Class). x.offset) e in omega (arith, ints, f, g)));
+        same = (
+          ap (λ (x : Class). x.base) root_is ∙ sym member.2 ∙ sym (ap (λ (x : Class). x.base) e),
+          (let f = ap (λ (x : Class). x.offset) root_is in let g = ap (λ (x : Class). x.offset) e in omega (arith, ints, f, g)),
+        );
         alone = λ x. absurd (member.3 x);
       }
 

@@ -1,7 +1,7 @@
 -- What follows is true.
-use Rattle.std.proofs.Common.{◌≡◌, ◌≢◌, ℕ, ℤ, pos, ◌+ℤ◌, neg_ℤ, arith}
+use Rattle.std.proofs.Common.{ℕ, ℤ, arith}
 use Rattle.std.proofs.lemmas.Int.{ints}
-use Rattle.mc_equal.specs.Facts.{Fact, Eq, Ne, Derived, assumed, a1, a2, a3, a8, a8_moved, IsTrueOf}
+use Rattle.mc_equal.specs.Facts.{Fact, Eq, Ne, assumed, a1, a2, a3, a8, a8_moved, IsTrueOf}
 use Rattle.mc_equal.specs.Known.{Known, IsWritten, Follows}
 use Rattle.mc_equal.specs.Changes.{DerivedIsTrue}
 

@@ -1,12 +1,11 @@
 -- What the calls do to what is known.
-use Rattle.std.specs.Prelude.{◌≡◌, ◌≢◌, ℕ, ℤ, pos, negsuc, ◌+ℤ◌, ◌-ℤ◌, ◌≤ℤ◌, ◌⊎◌, ◌↔◌, List, Option, Some, None, slice_get, Result, Ok, Err, Bool, true, false}
+use Rattle.std.specs.Prelude.{◌≡◌, ℕ, ℤ, ◌⊎◌, ◌↔◌, List, Option, Some, None, slice_get, Result, Ok, Err, Bool, true, false}
 use Rattle.std.specs.declared.alloc.AllocError.{AllocError}
 use Rattle.mc_equal.specs.declared.classes.Class.{Class}
 use Rattle.mc_equal.specs.declared.classes.Join.{Join}
-use Rattle.mc_equal.specs.Facts.{Fact, Eq, Ne, Names, IsImpossible, Derived, IsTrueOf, IsShort}
+use Rattle.mc_equal.specs.Facts.{Fact, Eq, Ne, Names, IsImpossible, IsTrueOf}
 use Rattle.mc_equal.specs.Classes.{class_at, joined_class}
 use Rattle.mc_equal.specs.Known.{Known, Follows, OrFact, KnowsExactly, IsWritten}
-use Rattle.mc_equal.specs.Classes.{IsSameClass}
 
 -- a fact is assumed where it is possible, and is refused exactly where it is not
 abbrev pub Assumes : (old new : Known) → Fact → Result Bool AllocError → Type 0

@@ -1,9 +1,8 @@
 -- What is known: links and gaps, and what follows from them.
-use Rattle.std.specs.Prelude.{◌≡◌, ◌≢◌, ℕ, ℤ, pos, negsuc, ◌+ℤ◌, ◌-ℤ◌, ◌≤ℤ◌, ◌⊎◌, ◌↔◌, List, Some, slice_get}
-use Rattle.mc_equal.specs.declared.classes.Class.{Class}
+use Rattle.std.specs.Prelude.{◌≡◌, ℕ, ℤ, pos, negsuc, ◌≤ℤ◌, ◌⊎◌, ◌↔◌, List, Some, slice_get}
 use Rattle.mc_equal.specs.declared.classes.Link.{Link}
 use Rattle.mc_equal.specs.declared.classes.Gap.{Gap}
-use Rattle.mc_equal.specs.Facts.{Fact, Eq, Ne, Derived, IsShort}
+use Rattle.mc_equal.specs.Facts.{Fact, Eq, Ne, Derived}
 use Rattle.mc_equal.specs.Classes.{own_class, class_at, IsSameClass, IsShortClass}
 
 -- the links, which are equalities, and the gaps, which are disequalities

@@ -1,6 +1,5 @@
 -- A node goes, and another one of its class stands for it.
-use Rattle.std.specs.Prelude.{◌≡◌, ◌≢◌, ℕ, ℤ, pos, ◌+ℤ◌, ◌-ℤ◌, ◌⊎◌, cond, nat_eq, List, [], ◌∷◌, Option, Some, None, slice_get}
-use Rattle.mc_equal.specs.declared.classes.Class.{Class}
+use Rattle.std.specs.Prelude.{◌≡◌, ◌≢◌, ℕ, ℤ, pos, ◌+ℤ◌, ◌-ℤ◌, cond, nat_eq, List, [], ◌∷◌, Option, Some, None, slice_get}
 use Rattle.mc_equal.specs.declared.classes.Link.{Link}
 use Rattle.mc_equal.specs.declared.classes.Gap.{Gap}
 use Rattle.mc_equal.specs.declared.classes.Join.{Join}

@@ -1,5 +1,5 @@
 -- Nodes under new names.
-use Rattle.std.specs.Prelude.{◌≡◌, ℕ, ℤ, pos, ◌+ℤ◌, ◌-ℤ◌, List, Option, Some, None, map}
+use Rattle.std.specs.Prelude.{ℕ, ℤ, pos, ◌+ℤ◌, ◌-ℤ◌, List, Option, Some, None, map}
 use Rattle.std.specs.List.{filter_map}
 use Rattle.mc_equal.specs.declared.classes.Link.{Link}
 use Rattle.mc_equal.specs.declared.classes.Gap.{Gap}

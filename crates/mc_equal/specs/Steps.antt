@@ -1,13 +1,12 @@
 -- The steps by which an equality is assumed.
 use Rattle.std.specs.Prelude.{◌≡◌, ◌≢◌, ℕ, ℤ, ◌+ℤ◌, ◌-ℤ◌, ◌⊎◌, List, [], ◌∷◌, ◌++◌, Some, slice_get, map}
-use Rattle.mc_equal.specs.declared.classes.Class.{Class}
 use Rattle.mc_equal.specs.declared.classes.Link.{Link}
 use Rattle.mc_equal.specs.declared.classes.Gap.{Gap}
 use Rattle.mc_equal.specs.declared.classes.Join.{Join}
 use Rattle.mc_equal.specs.declared.assume.Step.{Step}
 use Rattle.mc_equal.specs.declared.assume.Step.TheVariants.{Stay, Refuse, To}
 use Rattle.mc_equal.specs.Facts.{Eq, IsShort, IsImpossible}
-use Rattle.mc_equal.specs.Classes.{own_class, class_at, joined_class, joined_link}
+use Rattle.mc_equal.specs.Classes.{class_at, joined_class, joined_link}
 use Rattle.mc_equal.specs.Known.{Known, OrFact}
 use Rattle.mc_equal.specs.Classes.{IsSameClass}
 

@@ -6,9 +6,11 @@ ghost use Rattle.mc_equal.specs.Known.{IsKept, Follows};
 ghost use Rattle.mc_equal.specs.Steps.{IsLinked, IsNear, IsTooFar, IsClear, IsClash, IsSameAfter, JoinStepIs, StepIs, CanJoin, links_after};
 ghost use Rattle.mc_equal.specs.Changes.{Assumes, ClassesAfter};
 
+use crate::classes::{
+    Class, Gap, Join, Link, class_in, is_short, joined, move_all, offset_between, short_of,
+    span_of, sum_of,
+};
 use std::alloc::AllocError;
-
-use crate::classes::{Class, Gap, Join, Link, class_in, is_short, joined, move_all, offset_between, short_of, span_of, sum_of};
 
 /// What an assumed equality comes to.
 #[derive(Clone, Copy, Debug, PartialEq, Eq)]
@@ -150,7 +152,13 @@ fn join_classes(links: &mut Vec<Link>, join: &Join) -> Result<(), AllocError>
 }
 
 /// Assumes the equality `a = b + c`, or answers false where it is impossible.
-pub fn assume_equal(links: &mut Vec<Link>, gaps: &[Gap], a: u64, b: u64, c: i64) -> Result<bool, AllocError>
+pub fn assume_equal(
+    links: &mut Vec<Link>,
+    gaps: &[Gap],
+    a: u64,
+    b: u64,
+    c: i64,
+) -> Result<bool, AllocError>
     requires { IsKept (record { links = links.old.items; gaps = gaps.now }) }
     ensures kept { IsKept (record { links = links.new.items; gaps = gaps.now }) }
     ensures assumes { Assumes (record { links = links.old.items; gaps = gaps.now }) (record { links = links.new.items; gaps = gaps.now }) (Eq a b c) result }
@@ -178,7 +186,13 @@ fn is_equal_at(links: &[Link], a: u64, b: u64, offset: i64) -> bool
 }
 
 /// Assumes the disequality `a != b + c`, or answers false where `a = b + c` follows.
-pub fn assume_different(links: &[Link], gaps: &mut Vec<Gap>, a: u64, b: u64, c: i64) -> Result<bool, AllocError>
+pub fn assume_different(
+    links: &[Link],
+    gaps: &mut Vec<Gap>,
+    a: u64,
+    b: u64,
+    c: i64,
+) -> Result<bool, AllocError>
     requires { IsKept (record { links = links.now; gaps = gaps.old.items }) }
     ensures kept { IsKept (record { links = links.now; gaps = gaps.new.items }) }
     ensures assumes { Assumes (record { links = links.now; gaps = gaps.old.items }) (record { links = links.now; gaps = gaps.new.items }) (Ne a b c) result }

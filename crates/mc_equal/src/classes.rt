@@ -157,10 +157,7 @@ pub fn stretched(span: &Span, class: Class) -> Span
 pub fn span_of(links: &[Link], base: u64) -> Span
     ensures { IsSpan links.now base result }
 {
-    let mut span = Span {
-        lo: 0,
-        hi: 0,
-    };
+    let mut span = Span { lo: 0, hi: 0 };
     for link in links {
         if link.class.base == base {
             span = stretched(&span, link.class);

@@ -5,14 +5,13 @@ ghost use Rattle.mc_equal.specs.Classes.{own_class, class_at, IsSameClass};
 ghost use Rattle.mc_equal.specs.Known.{Known, IsKept, Follows, KnowsExactly};
 ghost use Rattle.mc_equal.specs.Changes.{Assumes, SameClasses, ClassesAfter, OffsetIs, DerivedIsTrue, Without, IsInjective, IsRenamed, IsCommon};
 
-use std::alloc::{AllocError, Global};
-use std::marker::Model;
-
 use crate::assume::{assume_different, assume_equal};
 use crate::classes::{Class, Gap, Link, class_in, offset_between};
 use crate::forget::{Rest, without};
 use crate::groups::{entries_of, link_entries};
 use crate::rename::{entries_to, gaps_to};
+use std::alloc::{AllocError, Global};
+use std::marker::Model;
 
 /// The one error of calls that fail only for want of memory.
 pub type NoMemory = AllocError;
@@ -121,7 +120,12 @@ impl Equal {
     }
 
     /// The equalities that follow of both members of pairs, each pair as the node of its position.
-    pub fn common(alloc: Global, left: &Equal, right: &Equal, pairs: &[(u64, u64)]) -> Result<Equal, NoMemory>
+    pub fn common(
+        alloc: Global,
+        left: &Equal,
+        right: &Equal,
+        pairs: &[(u64, u64)],
+    ) -> Result<Equal, NoMemory>
         ensures { IfOk result (λ equal. KnowsExactly (IsCommon left.now right.now pairs.now) equal) }
     {
         let entries = entries_of(alloc, left.links.as_slice(), right.links.as_slice(), pairs)?;
@@ -135,5 +139,4 @@ impl Equal {
 /// Every fact that follows is true of each valuation of the nodes that makes the assumed facts true.
 pub fn derived_is_true()
     ensures { DerivedIsTrue }
-{
-}
+{}

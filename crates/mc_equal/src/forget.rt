@@ -6,9 +6,8 @@ ghost use Rattle.mc_equal.specs.Known.{IsKept, IsTame, IsLoose, KnowsExactly};
 ghost use Rattle.mc_equal.specs.Changes.{Without};
 ghost use Rattle.mc_equal.specs.Moving.{OtherMemberIs, StandsIn, links_without, put_node, put_offset, moved_gap, gaps_without};
 
-use std::alloc::{AllocError, Global};
-
 use crate::classes::{Gap, Join, Link, class_in, moved};
+use std::alloc::{AllocError, Global};
 
 /// The greatest offset of a gap: 2^100.
 pub const WIDEST: i128 = 1267650600228229401496703205376;
@@ -98,11 +97,7 @@ fn moved_to(gap: &Gap, join: &Join) -> Gap
     Gap {
         left: put(gap.left, join),
         right: put(gap.right, join),
-        offset: shifted(
-            &gap.offset,
-            put_by(gap.right, join),
-            put_by(gap.left, join),
-        ),
+        offset: shifted(&gap.offset, put_by(gap.right, join), put_by(gap.left, join)),
     }
 }
 

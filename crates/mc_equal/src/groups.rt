@@ -3,9 +3,8 @@ ghost use Rattle.std.specs.Prelude.{◌≡◌, ℕ, ℤ, ◌+ℤ◌, ◌-ℤ◌,
 ghost use Rattle.mc_equal.specs.Facts.{IsShort};
 ghost use Rattle.mc_equal.specs.Groups.{SameKey, first_with, leader, entry_link, AreShort, common_entry, common_entries};
 
-use std::alloc::{AllocError, Global};
-
 use crate::classes::{Class, Link, class_in, sum_of};
+use std::alloc::{AllocError, Global};
 
 /// A node of a new `Equal`: its name, the class that it comes from on the left and on the right with what the two
 /// offsets differ by, and its offset on the left.
@@ -96,7 +95,12 @@ fn entry_at(left: &[Link], right: &[Link], place: usize, pair: (u64, u64)) -> En
 }
 
 /// The entries of pairs by their positions.
-pub fn entries_of(alloc: Global, left: &[Link], right: &[Link], pairs: &[(u64, u64)]) -> Result<Vec<Entry>, AllocError>
+pub fn entries_of(
+    alloc: Global,
+    left: &[Link],
+    right: &[Link],
+    pairs: &[(u64, u64)],
+) -> Result<Vec<Entry>, AllocError>
     ensures { IfOk result (λ entries. entries.items ≡ common_entries left.now right.now pairs.now) }
 {
     pairs

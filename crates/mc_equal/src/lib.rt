@@ -7,6 +7,8 @@ mod equal;
 mod forget;
 mod groups;
 mod rename;
+#[cfg(test)]
+mod tests;
 
 pub use classes::{Class, Gap, Link};
 pub use equal::{Equal, NoMemory, derived_is_true};

@@ -3,11 +3,10 @@ ghost use Rattle.std.specs.Prelude.{◌≡◌, ℕ, ℤ, ◌+ℤ◌, ◌-ℤ◌,
 ghost use Rattle.mc_equal.specs.Known.{IsTame};
 ghost use Rattle.mc_equal.specs.Renaming.{renamed_entry, renamed_entries, turned_offset, renamed_gap, renamed_gaps};
 
-use std::alloc::{AllocError, Global};
-
 use crate::classes::{Gap, Link, class_in};
 use crate::forget::{push_gap, shifted};
 use crate::groups::{Entry, find_key};
+use std::alloc::{AllocError, Global};
 
 /// The entry of a node under a new name, the second of the pair.
 fn entry_to(links: &[Link], pair: (u64, u64)) -> Entry
@@ -24,10 +23,17 @@ fn entry_to(links: &[Link], pair: (u64, u64)) -> Entry
 }
 
 /// The entries of nodes under new names.
-pub fn entries_to(alloc: Global, links: &[Link], pairs: &[(u64, u64)]) -> Result<Vec<Entry>, AllocError>
+pub fn entries_to(
+    alloc: Global,
+    links: &[Link],
+    pairs: &[(u64, u64)],
+) -> Result<Vec<Entry>, AllocError>
     ensures { IfOk result (λ entries. entries.items ≡ renamed_entries links.now pairs.now) }
 {
-    pairs.iter().map(|pair| entry_to(links, *pair)).collect(alloc)
+    pairs
+        .iter()
+        .map(|pair| entry_to(links, *pair))
+        .collect(alloc)
 }
 
 /// The offset of a gap between two other nodes of its classes.
@@ -60,7 +66,12 @@ fn gap_to(links: &[Link], entries: &[Entry], gap: &Gap) -> Option<Gap>
 }
 
 /// The gaps between entries.
-pub fn gaps_to(alloc: Global, links: &[Link], entries: &[Entry], gaps: &[Gap]) -> Result<Vec<Gap>, AllocError>
+pub fn gaps_to(
+    alloc: Global,
+    links: &[Link],
+    entries: &[Entry],
+    gaps: &[Gap],
+) -> Result<Vec<Gap>, AllocError>
     requires { All (λ gap. IsTame gap.offset) gaps.now }
     ensures is { IfOk result (λ renamed. renamed.items ≡ renamed_gaps links.now entries.now gaps.now) }
     ensures tame { IfOk result (λ renamed. All (λ gap. IsTame gap.offset) renamed.items) }

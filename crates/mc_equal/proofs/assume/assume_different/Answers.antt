@@ -1,6 +1,6 @@
-use Rattle.std.proofs.Common.{◌≡◌, ◌∙◌, ap, refl, sym, false, true, w64, to_z, of_z, FitsSigned, ℤ}
+use Rattle.std.proofs.Common.{◌∙◌, refl, w64}
 use Rattle.std.proofs.lemmas.Int.{to_z-of_z}
-use Rattle.mc_equal.specs.Facts.{Eq, Ne}
+use Rattle.mc_equal.specs.Facts.{Eq}
 use Rattle.mc_equal.specs.Classes.{IsSameClass}
 use Rattle.mc_equal.proofs.Casts.{cast_is, wide_of_64}
 use Rattle.mc_equal.proofs.Normal.{follows_same, holds}

@@ -1,8 +1,6 @@
-use Rattle.std.proofs.Common.{◌≡◌, ℤ, w64, to_z, of_z, refl, sym, ◌∙◌, ap}
+use Rattle.std.proofs.Common.{w64, refl}
 use Rattle.std.proofs.lemmas.Int.{to_z-of_z}
 use Rattle.mc_equal.specs.Facts.{Eq}
-use Rattle.mc_equal.specs.Known.{Known, IsKept}
-use Rattle.mc_equal.specs.Changes.{Assumes, ClassesAfter}
 use Rattle.mc_equal.proofs.Normal.{follows_same}
 use Rattle.mc_equal.proofs.Joined.{kept_after}
 use Rattle.mc_equal.proofs.Assuming.{stays_exactly, joins_exactly, joins_classes, short_links}

@@ -1,4 +1,3 @@
-use Rattle.std.proofs.Common.{◌≡◌}
 use Rattle.mc_equal.proofs.Casts.{sum_passed}
 use Rattle.mc_equal.proofs.assume.is_near.Goals as goal
 

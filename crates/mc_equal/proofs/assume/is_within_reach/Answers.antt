@@ -1,6 +1,5 @@
-use Rattle.std.proofs.Common.{◌≡◌, ◌≤ℤ◌, ℤ, pos, negsuc, ◌+ℤ◌, ◌-ℤ◌, FitsSigned, w64, to_z, of_z, IsTrue, rules}
-use Rattle.mc_equal.specs.Facts.{IsShort}
-use Rattle.mc_equal.proofs.Casts.{sum_cast, Cast64}
+use Rattle.std.proofs.Common.{rules}
+use Rattle.mc_equal.proofs.Casts.{sum_cast}
 use Rattle.mc_equal.proofs.Spans.{not_true, near, far_high, far_low}
 use Rattle.mc_equal.proofs.assume.is_within_reach.Goals as goal
 

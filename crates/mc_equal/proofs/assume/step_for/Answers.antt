@@ -1,6 +1,6 @@
-use Rattle.std.proofs.Common.{◌≡◌, ℤ, ◌+ℤ◌, ◌-ℤ◌, FitsSigned, w64, rules, ◌∙◌}
+use Rattle.std.proofs.Common.{w64, rules, ◌∙◌}
 use Rattle.std.proofs.lemmas.Int.{to_z-of_z}
-use Rattle.mc_equal.proofs.Casts.{sum_passed, Cast}
+use Rattle.mc_equal.proofs.Casts.{sum_passed}
 use Rattle.mc_equal.proofs.Spans.{not_true}
 use Rattle.mc_equal.proofs.Assuming.{root_left, root_right, same_refuses, far_refuses, step_done}
 use Rattle.mc_equal.proofs.assume.step_for.Goals as goal

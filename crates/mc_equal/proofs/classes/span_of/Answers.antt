@@ -1,6 +1,4 @@
-use Rattle.std.proofs.Common.{◌≡◌, ◌∙◌, sym, ap, refl, ℤ, pos, FitsSigned, w64, to_z, of_z, get_or, rules}
-use Rattle.std.specs.Int.{int_min, int_max}
-use Rattle.std.proofs.lemmas.Int.{to_z-of_z}
+use Rattle.std.proofs.Common.{refl, pos, get_or}
 use Rattle.mc_equal.specs.declared.classes.Link.{Link}
 use Rattle.mc_equal.proofs.Spans.{span_more, span_skip}
 use Rattle.mc_equal.proofs.classes.span_of.Goals as goal
@@ -12,7 +10,7 @@ loop-link-preserved c =
     elim c.if-link-base.branch [
       | then-link-base w ↦
           rw w.span-is (span_more c.args.links.now c.loop-link.link-index c.args.base _ c.loop-link.span c.loop-link-test.true c.loop-link.invariant read w.stretched-span.result refl w.if-link-base.true
-            w.stretched-span.ensures.low w.stretched-span.ensures.high)
+          w.stretched-span.ensures.low w.stretched-span.ensures.high)
       | else-link-base w ↦
           rw w.span-is (span_skip c.args.links.now c.loop-link.link-index c.args.base _ c.loop-link.span c.loop-link-test.true c.loop-link.invariant read refl w.if-link-base.false)
     ]

@@ -1,4 +1,4 @@
-use Rattle.std.proofs.Common.{◌≡◌, take}
+use Rattle.std.proofs.Common.{take}
 use Rattle.mc_equal.specs.Classes.{IsSpan}
 use Rattle.mc_equal.proofs.classes.span_of.Given as goal
 

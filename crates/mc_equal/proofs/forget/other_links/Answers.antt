@@ -1,5 +1,3 @@
-use Rattle.std.proofs.Common.{◌≡◌, ◌∙◌, sym, ap, ◌++◌, ◌∷◌, [], List, ◌+◌, take, Vec, Global}
-use Rattle.mc_equal.specs.declared.classes.Link.{Link}
 use Rattle.mc_equal.proofs.Parting.{links_more_skip, links_more_keep}
 use Rattle.mc_equal.proofs.forget.other_links.Goals as goal
 use Rattle.mc_equal.proofs.forget.other_links.Goals.{then-link-join+in_ok-push, else-link-join}

@@ -1,6 +1,5 @@
-use Rattle.std.proofs.Common.{◌≡◌, ◌∙◌, ℕ, ℤ, pos, ◌-ℤ◌, neg_ℤ, to_z, of_z, w64, FitsSigned, rules, arith}
+use Rattle.std.proofs.Common.{◌≡◌, ℤ, pos, ◌-ℤ◌, neg_ℤ, w64, rules, arith}
 use Rattle.std.proofs.lemmas.Int.{ints, to_z-of_z}
-use Rattle.mc_equal.specs.Moving.{StandsIn}
 use Rattle.mc_equal.proofs.Standing.{stands_base, stands_self, stands_member, link_short, minus_fits}
 use Rattle.mc_equal.proofs.forget.stand_in.Goals as goal
 

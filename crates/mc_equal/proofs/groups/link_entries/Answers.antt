@@ -1,4 +1,3 @@
-use Rattle.std.proofs.Common.{pos}
 use Rattle.mc_equal.proofs.Lists.{there}
 use Rattle.mc_equal.proofs.Keys.{short_leader}
 use Rattle.mc_equal.proofs.groups.link_entries.Goals as goal

@@ -1,4 +1,4 @@
-use Rattle.std.proofs.Common.{◌≡◌, ◌≤ℤ◌, ℤ, FitsSigned, w64, rules}
+use Rattle.std.proofs.Common.{rules}
 use Rattle.mc_equal.proofs.Casts.{turned_plain}
 use Rattle.mc_equal.proofs.rename.turned.Goals as goal
 

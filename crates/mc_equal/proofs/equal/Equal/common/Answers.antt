@@ -1,7 +1,6 @@
-use Rattle.std.proofs.Common.{◌≡◌, ◌∙◌, subst, map, List}
-use Rattle.mc_equal.specs.Known.{Known, IsKept, KnowsExactly}
+use Rattle.std.proofs.Common.{◌∙◌, subst}
+use Rattle.mc_equal.specs.Known.{Known, KnowsExactly}
 use Rattle.mc_equal.specs.Changes.{IsCommon}
-use Rattle.mc_equal.specs.Groups.{AreShort, entry_link, common_entries}
 use Rattle.mc_equal.proofs.Sharing.{short_pairs, shared_kept, shared_exactly}
 use Rattle.mc_equal.proofs.equal.Equal.common.Goals as goal
 
@@ -24,4 +23,4 @@ returns c =
     let new : Known = record { links = c.in_ok-link_entries.field-0.items; gaps = c.new.result.items } in
     subst (λ (known : Known). KnowsExactly (IsCommon known c.args.right.now c.args.pairs.now) new) c.left.view_is
     (subst (λ (known : Known). KnowsExactly (IsCommon (record { links = c.left.inside.links.items; gaps = c.left.inside.gaps.items }) known c.args.pairs.now) new) c.right.view_is
-      (shared_exactly _ _ c.left.invariant c.right.invariant c.args.pairs.now c.in_ok-link_entries.field-0.items c.new.result.items (rw items at c.in_ok-link_entries.ensures) c.new.ensures.items))
+    (shared_exactly _ _ c.left.invariant c.right.invariant c.args.pairs.now c.in_ok-link_entries.field-0.items c.new.result.items (rw items at c.in_ok-link_entries.ensures) c.new.ensures.items))

@@ -1,4 +1,4 @@
-use Rattle.std.proofs.Common.{◌≡◌, ◌∙◌, subst}
+use Rattle.std.proofs.Common.{◌∙◌, subst}
 use Rattle.mc_equal.specs.Known.{Known, KnowsExactly}
 use Rattle.mc_equal.specs.Changes.{IsRenamed}
 use Rattle.mc_equal.proofs.Forgotten.{gaps_tame}
@@ -30,4 +30,4 @@ returns c =
     let new : Known = record { links = c.in_ok-links.links.items; gaps = c.in_ok-gaps.gaps.items } in
     subst (λ (known : Known). KnowsExactly (IsRenamed known c.args.pairs.now) new) c.self.view_is
     (renamed_exactly _ c.self.invariant c.args.pairs.now c.requires c.in_ok-links.links.items c.in_ok-gaps.gaps.items
-      (rw items at c.in_ok-links.ensures) (rw (c.as_slice-old.ensures.value, items-2, c.as_slice-3.ensures.value) at c.in_ok-gaps.ensures.is) c.in_ok-gaps.ensures.tame)
+    (rw items at c.in_ok-links.ensures) (rw (c.as_slice-old.ensures.value, items-2, c.as_slice-3.ensures.value) at c.in_ok-gaps.ensures.is) c.in_ok-gaps.ensures.tame)
