@@ -82,7 +82,7 @@ joins_exactly known kept a b c join can = (
 
 pub joins_classes : (known : Known) (a b : ℕ) (c : ℤ) (join : Join) → CanJoin known a b c join → ClassesAfter known (known_after join known) a b
 joins_classes known a b c join can =
-    inr (join, inl (can.asked.gone, can.asked.keep), λ node. class_after join can.asked.apart known.links node)
+    inr (join, inl (can.asked.gone, can.asked.keep), can.asked.apart, λ node. class_after join can.asked.apart known.links node)
 
 -- the join adds short offsets
 pub short_links : (known : Known) → IsKept known → (a b : ℕ) (c : ℤ) (join : Join) → CanJoin known a b c join → All (λ link. link.class.base ≡ join.gone → IsShort (link.class.offset +ℤ join.by)) known.links

@@ -1,5 +1,5 @@
 -- What is known after a node goes: links, gaps and what follows.
-use Rattle.std.proofs.Common.{◌≡◌, ◌≢◌, ℕ, ℤ, ◌+ℤ◌, ◌-ℤ◌, neg_ℤ, ◌⊎◌, List, Some, slice_get, get_or, All, sym, ◌∙◌, ap, subst, inl, inr, arith}
+use Rattle.std.proofs.Common.{◌≡◌, ◌≢◌, ℕ, ℤ, ◌+ℤ◌, ◌-ℤ◌, neg_ℤ, ◌⊎◌, List, [], Some, slice_get, get_or, All, sym, ◌∙◌, ap, subst, inl, inr, arith}
 use Rattle.std.proofs.lemmas.Int.{ints}
 use Rattle.mc_equal.specs.declared.classes.Class.{Class}
 use Rattle.mc_equal.specs.declared.classes.Link.{Link}
@@ -178,3 +178,13 @@ rest_kept known kept node join st links gaps e f tame =
 pub rest_exactly : (known : Known) (kept : IsKept known) (node : ℕ) (join : Join) (st : StandsIn known.links node join) (links : List Link) (gaps : List Gap) → links ≡ links_without join known.links → gaps ≡ gaps_without join known.gaps → All (λ gap. IsTame gap.offset) gaps → KnowsExactly (Without known node) (record { links = links; gaps = gaps })
 rest_exactly known kept node join st links gaps e f tame =
     rw (e, f) (exactly_rest known kept node join st (tame_at (gaps_without join known.gaps) (subst (λ (x : List Gap). All (λ gap. IsTame gap.offset) x) f tame)))
+
+-- links are kept without their gaps
+pub links_kept : (known : Known) → IsKept known → IsKept (record { links = known.links; gaps = [] })
+links_kept known kept = record {
+  linked = kept.linked;
+  based = kept.based;
+  short = kept.short;
+  apart = λ place gap at. cc;
+  tame = λ place gap at. cc;
+}

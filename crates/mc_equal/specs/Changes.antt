@@ -1,5 +1,5 @@
 -- What the calls do to what is known.
-use Rattle.std.specs.Prelude.{◌≡◌, ℕ, ℤ, ◌⊎◌, ◌↔◌, List, Option, Some, None, slice_get, Result, Ok, Err, Bool, true, false}
+use Rattle.std.specs.Prelude.{◌≡◌, ◌≢◌, ℕ, ℤ, ◌⊎◌, ◌↔◌, List, Option, Some, None, slice_get, Result, Ok, Err, Bool, true, false}
 use Rattle.std.specs.declared.alloc.AllocError.{AllocError}
 use Rattle.mc_equal.specs.declared.classes.Class.{Class}
 use Rattle.mc_equal.specs.declared.classes.Join.{Join}
@@ -24,9 +24,10 @@ IsOf join left right = ((join.gone ≡ left.base) × (join.keep ≡ right.base))
 -- two classes become one: each node of one goes over, by one offset, and every other node keeps its class
 abbrev pub JoinsClasses : (old new : Known) (a b : ℕ) → Type 0
 JoinsClasses old new a b =
-    (join : Join) × IsOf join (class_at old.links a) (class_at old.links b) × ((node : ℕ) → class_at new.links node ≡ joined_class join (class_at old.links node))
+    (join : Join) × IsOf join (class_at old.links a) (class_at old.links b) × (join.gone ≢ join.keep)
+    × ((node : ℕ) → class_at new.links node ≡ joined_class join (class_at old.links node))
 
--- what an assumed equality does to the classes
+-- what an assumed equality does to the classes: two become one, or each node keeps its own
 abbrev pub ClassesAfter : (old new : Known) (a b : ℕ) → Type 0
 ClassesAfter old new a b = SameClasses old new ⊎ JoinsClasses old new a b
 

@@ -93,20 +93,25 @@ impl Equal {
         assume_different(self.links.as_slice(), &mut self.gaps, a, b, c)
     }
 
-    /// Keeps what follows without the node. Without memory nothing changes.
+    /// Keeps what follows without the node. Without memory nothing changes. A disequality whose offset would pass 2^100
+    /// counts as want of memory, here and in `rename`.
     pub fn forget(&mut self, node: u64) -> Result<(), NoMemory>
         ensures exactly { OnOk result (KnowsExactly (Without self.old node) self.new) }
         ensures err { OnErr result (self.new ≡ self.old) }
     {
         let alloc = *self.links.allocator();
-        let rest = without(alloc, self.links.as_slice(), self.gaps.as_slice(), node)?;
-        let Rest { links, gaps } = rest;
+        let Rest { links, gaps } = without(
+            alloc,
+            self.links.as_slice(),
+            self.gaps.as_slice(),
+            node,
+        )?;
         self.links = links;
         self.gaps = gaps;
         Ok(())
     }
 
-    /// The facts that follow of the firsts of pairs alone, with the seconds in their place.
+    /// The facts that follow of the firsts of pairs alone, with the seconds in their place. No second may stand twice.
     pub fn rename(&self, pairs: &[(u64, u64)]) -> Result<Equal, NoMemory>
         requires { IsInjective pairs.now }
         ensures { IfOk result (λ equal. KnowsExactly (IsRenamed self.now pairs.now) equal) }

@@ -27,8 +27,8 @@ fn other_member(links: &[Link], node: u64) -> Option<Link>
 }
 
 /// What stands for a node: another one of its class, or itself where it is alone.
-pub fn stand_in(links: &[Link], gaps: &[Gap], node: u64) -> Join
-    requires { IsKept (record { links = links.now; gaps = gaps.now }) }
+fn stand_in(links: &[Link], node: u64) -> Join
+    requires { IsKept (record { links = links.now; gaps = [] }) }
     ensures { StandsIn links.now node result }
 {
     let class = class_in(links, node);
@@ -54,7 +54,7 @@ pub fn stand_in(links: &[Link], gaps: &[Gap], node: u64) -> Join
 }
 
 /// The links of the other nodes.
-pub fn other_links(alloc: Global, links: &[Link], join: &Join) -> Result<Vec<Link>, AllocError>
+fn other_links(alloc: Global, links: &[Link], join: &Join) -> Result<Vec<Link>, AllocError>
     requires { All (λ link. link.class.base ≡ join.now.gone → IsShort (link.class.offset +ℤ join.now.by)) links.now }
     ensures { IfOk result (λ others. others.items ≡ links_without join.now links.now) }
 {
@@ -113,7 +113,7 @@ pub fn push_gap(gaps: &mut Vec<Gap>, gap: &Gap) -> Result<(), AllocError>
 }
 
 /// The gaps of the other nodes.
-pub fn other_gaps(alloc: Global, gaps: &[Gap], join: &Join) -> Result<Vec<Gap>, AllocError>
+fn other_gaps(alloc: Global, gaps: &[Gap], join: &Join) -> Result<Vec<Gap>, AllocError>
     requires { All (λ gap. IsTame gap.offset) gaps.now }
     ensures is { IfOk result (λ others. others.items ≡ gaps_without join.now gaps.now) }
     ensures tame { IfOk result (λ others. All (λ gap. IsTame gap.offset) others.items) }
@@ -143,7 +143,7 @@ pub fn without(alloc: Global, links: &[Link], gaps: &[Gap], node: u64) -> Result
     ensures kept { IfOk result (λ rest. IsKept (record { links = rest.links.items; gaps = rest.gaps.items })) }
     ensures exactly { IfOk result (λ rest. KnowsExactly (Without (record { links = links.now; gaps = gaps.now }) node) (record { links = rest.links.items; gaps = rest.gaps.items })) }
 {
-    let join = stand_in(links, gaps, node);
+    let join = stand_in(links, node);
     let links = other_links(alloc, links, &join)?;
     let gaps = other_gaps(alloc, gaps, &join)?;
     Ok(Rest { links, gaps })

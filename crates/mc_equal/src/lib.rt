@@ -10,5 +10,5 @@ mod rename;
 #[cfg(test)]
 mod tests;
 
-pub use classes::{Class, Gap, Link};
+pub use classes::{Class, Gap, Join, Link};
 pub use equal::{Equal, NoMemory, derived_is_true};

@@ -1,5 +1,8 @@
-use Rattle.mc_equal.proofs.Forgotten.{short_moved, gaps_tame, rest_kept, rest_exactly}
+use Rattle.mc_equal.proofs.Forgotten.{links_kept, short_moved, gaps_tame, rest_kept, rest_exactly}
 use Rattle.mc_equal.proofs.forget.without.Goals as goal
+
+pub stand_in-join-requires : goal.stand_in-join-requires
+stand_in-join-requires c = links_kept _ c.requires
 
 pub other_links-requires : goal.other_links-requires
 other_links-requires c = short_moved _ c.requires c.args.node c.stand_in-join.result c.stand_in-join.ensures
