@@ -1,5 +1,5 @@
 -- What is known after a node goes.
-use Rattle.std.proofs.Common.{◌≡◌, ◌≢◌, ℕ, ℤ, pos, ◌+ℤ◌, ◌-ℤ◌, neg_ℤ, ◌⊎◌, List, Some, slice_get, nat_eq, refl, sym, ◌∙◌, ap, subst, inl, inr, arith}
+use Rattle.std.proofs.Common.{◌≡◌, ◌≢◌, ℕ, ℤ, pos, ◌+ℤ◌, ◌-ℤ◌, neg_ℤ, ◌⊎◌, Some, slice_get, nat_eq, refl, sym, ◌∙◌, ap, subst, inl, inr, arith}
 use Rattle.std.proofs.lemmas.Int.{ints}
 use Rattle.mc_equal.specs.declared.classes.Class.{Class}
 use Rattle.mc_equal.specs.declared.classes.Link.{Link}
@@ -19,15 +19,6 @@ pub ne_between : (A : Fact → Type 0) (x y a b : ℕ) (d e g : ℤ) → Derived
 ne_between A x y a b d e g ne left right =
     ne_to A (neg_ℤ (neg_ℤ (d +ℤ g) +ℤ e)) (a8 (a8_moved (a8 (a8_moved ne right)) left)) (omega (arith, ints))
 
-pub same_back : (links : List Link) (a b : ℕ) (c : ℤ) → IsSameClass links a b c → IsSameClass links b a (neg_ℤ c)
-same_back links a b c s = (sym s.0, omega (arith, ints, s.1))
-
-pub same_on : (links : List Link) (a b d : ℕ) (c e : ℤ) → IsSameClass links a b c → IsSameClass links b d e → IsSameClass links a d (c +ℤ e)
-same_on links a b d c e s t = (s.0 ∙ t.0, omega (arith, ints, s.1, t.1))
-
-pub same_to : (links : List Link) (a b : ℕ) (c : ℤ) {d : ℤ} → IsSameClass links a b c → c ≡ d → IsSameClass links a b d
-same_to links a b c s e = (s.0, omega (arith, ints, s.1, e))
-
 module _ (known : Known) (kept : IsKept known) (node : ℕ) (join : Join) (st : StandsIn known.links node join) where
   abbrev pub Rest : Known
   Rest = record { links = links_without join known.links; gaps = gaps_without join known.gaps }
@@ -37,9 +28,6 @@ module _ (known : Known) (kept : IsKept known) (node : ℕ) (join : Join) (st : 
 
   gone_is : join.gone ≡ node
   gone_is = st.gone
-
-  not_gone : (m : ℕ) → m ≢ node → m ≢ join.gone
-  not_gone m other e = other (e ∙ gone_is)
 
   -- the class of each other node
   pub class_rest : (m : ℕ) → m ≢ node → class_at Rest.links m ≡ joined_class join (old m)

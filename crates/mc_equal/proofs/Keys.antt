@@ -1,12 +1,9 @@
 -- The first entry of a class.
-use Rattle.std.proofs.Common.{◌≡◌, ℕ, zero, suc, ◌<◌, ◌+◌, ◌-ℤ◌, ◌⊎◌, List, [], ◌∷◌, ◌++◌, Option, Some, None, slice_get, get_or, length, take, map, ◌==◌, ◌&&◌, unwrap_or, Bool, true, false, refl, sym, ◌∙◌, ap, subst, inl, inr, add-one}
+use Rattle.std.proofs.Common.{◌≡◌, ℕ, zero, suc, ◌-ℤ◌, ◌⊎◌, List, [], ◌∷◌, Option, Some, None, slice_get, ◌==◌, ◌&&◌, unwrap_or, Bool, true, false, refl, sym, ◌∙◌, ap, subst, inl, inr}
 use Rattle.std.proofs.lemmas.Bool.Decides.{Decides-int_eq, Decides-eqb, Decides-and, Decides-like, same_from_decides}
-use Rattle.std.proofs.Math.Seq.{take-suc}
-use Rattle.std.proofs.lemmas.List.{map-append}
 use Rattle.std.specs.Bool.{Decides}
 use Rattle.std.specs.Ordering.{int_eq}
 use Rattle.mc_equal.specs.declared.groups.Entry.{Entry}
-use Rattle.mc_equal.specs.declared.classes.Link.{Link}
 use Rattle.mc_equal.specs.Facts.{IsShort}
 use Rattle.mc_equal.specs.Groups.{SameKey, same_key, first_with, leader, AreShort}
 use Rattle.mc_equal.proofs.Lists.{pick_true, pick_false, some_is}
@@ -87,6 +84,3 @@ pub short_leader : (entries : List Entry) → AreShort entries → (i : ℕ) (en
 short_leader entries short i entry at =
     let l = leads entries i entry at in
     short i l.place entry (leader entries entry) at l.at (key_back (leader entries entry) entry l.key)
-
-pub map_more : (f : Entry → Link) (entries : List Entry) (i : ℕ) (d : Entry) → i < length entries → map f (take (i + 1) entries) ≡ map f (take i entries) ++ f (get_or entries i d) ∷ []
-map_more f entries i d lt = rw (add-one, take-suc entries i d lt) (map-append f (take i entries) (get_or entries i d ∷ []))

@@ -71,10 +71,6 @@ map_rest f [] (suc i) x e = e
 map_rest f (y ∷ xs) zero x e = e
 map_rest f (y ∷ xs) (suc i) x e = map_rest f xs i x e
 
--- a place below the next one is below, or is, this one
-pub below_next : (k i : ℕ) → k < i + 1 → (k < i) ⊎ (k ≡ i)
-below_next k i h = grind arith
-
 pub map_write : {A : Type 0} (f : A → A) (xs before : List A) (i : ℕ) (d y : A) → i < length xs → xs ≡ map f (take i before) ++ drop i before → y ≡ f (get_or xs i d) → slice_set xs i y ≡ map f (take (i + 1) before) ++ drop (i + 1) before
 map_write {A} f xs before i d y lt inv e =
     let x : slice_get xs i ≡ Some (get_or xs i d) = there xs i d lt in

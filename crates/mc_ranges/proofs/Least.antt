@@ -61,17 +61,6 @@ least-hull left right range p q low high = record {
     within number (inl h) = (omega (arith, ints, clamps), omega (arith, ints, clamps))
     within number (inr h) = (omega (arith, ints, clamps), omega (arith, ints, clamps))
 
--- the hull with an empty range
-pub least-right : (left right : Range) → IsEmpty left → IsLeastRange (InEither left right) right
-least-right left right empty = record {
-  all = within;
-  least = λ a b bounds number there. bounds number (inr there);
-}
-  where
-    within : (number : ℤ) → InEither left right number → Holds right number
-    within number (inl h) = absurd (omega (arith, ints))
-    within number (inr h) = h
-
 pub least-left : (left right : Range) → IsEmpty right → IsLeastRange (InEither left right) left
 least-left left right empty = record {
   all = within;
