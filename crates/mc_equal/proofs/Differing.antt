@@ -2,7 +2,7 @@
 use Rattle.std.proofs.Common.{◌≡◌, ℕ, ℤ, ◌+ℤ◌, neg_ℤ, ◌⊎◌, [], ◌∷◌, ◌++◌, Some, slice_get, length, refl, sym, ap, subst, inl, inr, arith}
 use Rattle.std.proofs.lemmas.Int.{ints}
 use Rattle.mc_equal.specs.declared.classes.Gap.{Gap}
-use Rattle.mc_equal.specs.Facts.{Fact, Eq, Ne, Derived, assumed, a2, a8_moved, IsImpossible, differs}
+use Rattle.mc_equal.specs.Facts.{Fact, Eq, Ne, Derived, assumed, eq_turned, ne_moved, IsImpossible, differs}
 use Rattle.mc_equal.specs.Classes.{IsSameClass}
 use Rattle.mc_equal.specs.Known.{Known, IsWritten, Follows, IsKept, IsTame, OrFact, KnowsExactly}
 use Rattle.mc_equal.proofs.Lists.{at_push, push_at, push_last}
@@ -15,7 +15,7 @@ equal_refuses known a b c x =
     let A = OrFact known (Ne a b c) in
     let n : Derived (OrFact known (Ne a b c)) (Ne a b c) = assumed (inr refl) in
     let e : Derived (OrFact known (Ne a b c)) (Eq a b c) = assumed (inl x) in
-    differs a (ne_to (OrFact known (Ne a b c)) (c +ℤ neg_ℤ c) (a8_moved n (a2 e)) (omega (arith, ints)))
+    differs a (ne_to (OrFact known (Ne a b c)) (c +ℤ neg_ℤ c) (ne_moved n (eq_turned e)) (omega (arith, ints)))
 
 module _ (known : Known) (kept : IsKept known) (a b : ℕ) (c : ℤ) (other : IsSameClass known.links a b c → ⊥) (tame : IsTame c) where
   abbrev NewGap : Gap

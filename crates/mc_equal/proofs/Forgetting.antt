@@ -4,7 +4,7 @@ use Rattle.std.proofs.lemmas.Int.{ints}
 use Rattle.mc_equal.specs.declared.classes.Class.{Class}
 use Rattle.mc_equal.specs.declared.classes.Link.{Link}
 use Rattle.mc_equal.specs.declared.classes.Join.{Join}
-use Rattle.mc_equal.specs.Facts.{Fact, Eq, Ne, Derived, a8, a8_moved}
+use Rattle.mc_equal.specs.Facts.{Fact, Eq, Ne, Derived, ne_turned, ne_moved}
 use Rattle.mc_equal.specs.Classes.{own_class, class_at, joined_class, joined_link, IsSameClass}
 use Rattle.mc_equal.specs.Known.{Known, IsKept}
 use Rattle.mc_equal.specs.Moving.{StandsIn, IsAlone, links_without, gaps_without, put_node, put_offset}
@@ -17,7 +17,7 @@ use Rattle.mc_equal.proofs.Parting.{LinkFrom, link_from, link_to}
 -- a disequality between nodes that are equal to others
 pub ne_between : (A : Fact → Type 0) (x y a b : ℕ) (d e g : ℤ) → Derived A (Ne x y d) → Derived A (Eq x a e) → Derived A (Eq y b g) → Derived A (Ne a b ((d +ℤ g) -ℤ e))
 ne_between A x y a b d e g ne left right =
-    ne_to A (neg_ℤ (neg_ℤ (d +ℤ g) +ℤ e)) (a8 (a8_moved (a8 (a8_moved ne right)) left)) (omega (arith, ints))
+    ne_to A (neg_ℤ (neg_ℤ (d +ℤ g) +ℤ e)) (ne_turned (ne_moved (ne_turned (ne_moved ne right)) left)) (omega (arith, ints))
 
 module _ (known : Known) (kept : IsKept known) (node : ℕ) (join : Join) (st : StandsIn known.links node join) where
   abbrev pub Rest : Known

@@ -5,7 +5,7 @@ use Rattle.mc_equal.specs.declared.classes.Class.{Class}
 use Rattle.mc_equal.specs.declared.classes.Link.{Link}
 use Rattle.mc_equal.specs.declared.classes.Gap.{Gap}
 use Rattle.mc_equal.specs.declared.classes.Join.{Join}
-use Rattle.mc_equal.specs.Facts.{Fact, Eq, Ne, Derived, assumed, a8, IsShort}
+use Rattle.mc_equal.specs.Facts.{Fact, Eq, Ne, Derived, assumed, ne_turned, IsShort}
 use Rattle.mc_equal.specs.Classes.{own_class, class_at, joined_class, IsSameClass}
 use Rattle.mc_equal.specs.Known.{Known, IsWritten, Follows, IsKept, IsTame, KnowsExactly}
 use Rattle.mc_equal.specs.Moving.{StandsIn, links_without, gaps_without, put_node, put_offset}
@@ -143,7 +143,7 @@ module _ (known : Known) (kept : IsKept known) (node : ℕ) (join : Join) (st : 
         follows_same After a b c (same_stays known kept node join st a b c (λ e. w.1 (inl e)) (λ e. w.1 (inr e)) (holds known kept (Eq a b c) w.0))
     older (Ne a b c) w = elim (holds known kept (Ne a b c) w.0) [
       | inl l ↦ ne_older l.place l.gap a b c l.at l.moved (λ e. w.1 (inl e)) (λ e. w.1 (inr e))
-      | inr l ↦ ne_to (IsWritten After) (neg_ℤ (neg_ℤ c)) (a8 (ne_older l.place l.gap b a (neg_ℤ c) l.at l.moved (λ e. w.1 (inr e)) (λ e. w.1 (inl e)))) (omega (arith, ints))
+      | inr l ↦ ne_to (IsWritten After) (neg_ℤ (neg_ℤ c)) (ne_turned (ne_older l.place l.gap b a (neg_ℤ c) l.at l.moved (λ e. w.1 (inr e)) (λ e. w.1 (inl e)))) (omega (arith, ints))
     ]
 
     pub exactly_rest : KnowsExactly (Without known node) After

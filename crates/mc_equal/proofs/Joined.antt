@@ -5,7 +5,7 @@ use Rattle.mc_equal.specs.declared.classes.Class.{Class}
 use Rattle.mc_equal.specs.declared.classes.Link.{Link}
 use Rattle.mc_equal.specs.declared.classes.Gap.{Gap}
 use Rattle.mc_equal.specs.declared.classes.Join.{Join}
-use Rattle.mc_equal.specs.Facts.{Fact, Eq, Ne, Derived, assumed, a2, a3, a8_moved, IsShort, IsImpossible, differs, moves, far}
+use Rattle.mc_equal.specs.Facts.{Fact, Eq, Ne, Derived, assumed, eq_turned, eq_through, ne_moved, IsShort, IsImpossible, differs, moves, far}
 use Rattle.mc_equal.specs.Classes.{own_class, class_at, joined_class, joined_link}
 use Rattle.mc_equal.specs.Known.{Known, IsWritten, Follows, IsKept, OrFact, KnowsExactly}
 use Rattle.mc_equal.specs.Steps.{IsAsked, IsSameAfter, CanJoin, links_after}
@@ -19,8 +19,8 @@ known_after join known = record { links = links_after join known.links; gaps = k
 -- two nodes whose classes follow
 pub from_classes : (A : Fact → Type 0) (a b : ℕ) (c : ℤ) (left right : Class) → Derived A (Eq a left.base left.offset) → Derived A (Eq b right.base right.offset) → left.base ≡ right.base → left.offset ≡ right.offset +ℤ c → Derived A (Eq a b c)
 from_classes A a b c left right x y base offset =
-    let back : Derived A (Eq left.base b (neg_ℤ right.offset)) = subst (λ (r : ℕ). Derived A (Eq r b (neg_ℤ right.offset))) (sym base) (a2 y) in
-    eq_to A (left.offset +ℤ neg_ℤ right.offset) (a3 x back) (omega (arith, ints, offset))
+    let back : Derived A (Eq left.base b (neg_ℤ right.offset)) = subst (λ (r : ℕ). Derived A (Eq r b (neg_ℤ right.offset))) (sym base) (eq_turned y) in
+    eq_to A (left.offset +ℤ neg_ℤ right.offset) (eq_through x back) (omega (arith, ints, offset))
 
 -- what follows follows with one fact more
 pub older : (known : Known) (more : Fact) (fact : Fact) → Follows known fact → Derived (OrFact known more) fact
@@ -35,16 +35,16 @@ module _ (known : Known) (kept : IsKept known) (a b : ℕ) (c : ℤ) (join : Joi
   moved_base =
       let left = class_at known.links a in
       let right = class_at known.links b in
-      let x : Derived With (Eq left.base a (neg_ℤ left.offset)) = a2 (older known (Eq a b c) (Eq a left.base left.offset) (follows_class known a)) in
+      let x : Derived With (Eq left.base a (neg_ℤ left.offset)) = eq_turned (older known (Eq a b c) (Eq a left.base left.offset) (follows_class known a)) in
       let y : Derived With (Eq a b c) = assumed (inr refl) in
       let z : Derived With (Eq b right.base right.offset) = older known (Eq a b c) (Eq b right.base right.offset) (follows_class known b) in
-      let all : Derived With (Eq left.base right.base join.by) = eq_to With (neg_ℤ left.offset +ℤ (c +ℤ right.offset)) (a3 x (a3 y z)) (omega (arith, ints, asked.by)) in
+      let all : Derived With (Eq left.base right.base join.by) = eq_to With (neg_ℤ left.offset +ℤ (c +ℤ right.offset)) (eq_through x (eq_through y z)) (omega (arith, ints, asked.by)) in
       rw (asked.gone, asked.keep) all
 
   moves_class : (node : ℕ) (class : Class) → Derived With (Eq node class.base class.offset) → Goes join class ⊎ Stays join class → Derived With (Eq node (joined_class join class).base (joined_class join class).offset)
   moves_class node class x (inl g) =
       let y : Derived With (Eq node join.gone class.offset) = subst (λ (r : ℕ). Derived With (Eq node r class.offset)) g.was x in
-      let z : Derived With (Eq node join.keep (class.offset +ℤ join.by)) = a3 y moved_base in
+      let z : Derived With (Eq node join.keep (class.offset +ℤ join.by)) = eq_through y moved_base in
       rw (g.base, g.offset) z
   moves_class node class x (inr s) = rw s.is x
 
@@ -62,7 +62,7 @@ module _ (known : Known) (kept : IsKept known) (a b : ℕ) (c : ℤ) (join : Joi
   clash place gap at same =
       let e = derived_after gap.left gap.right gap.offset same in
       let n : Derived With (Ne gap.left gap.right gap.offset) = older known (Eq a b c) (Ne gap.left gap.right gap.offset) (assumed {fact = Ne gap.left gap.right gap.offset} (place, at)) in
-      differs gap.left (ne_to With (gap.offset +ℤ neg_ℤ gap.offset) (a8_moved n (a2 e)) (omega (arith, ints)))
+      differs gap.left (ne_to With (gap.offset +ℤ neg_ℤ gap.offset) (ne_moved n (eq_turned e)) (omega (arith, ints)))
 
   -- two nodes that the join takes too far apart
   pub too_far : (x y : ℕ) → (class_at known.links x).base ≡ join.gone → (class_at known.links y).base ≡ join.keep → (IsShort (((class_at known.links x).offset +ℤ join.by) -ℤ (class_at known.links y).offset) → ⊥) → IsImpossible With
@@ -70,8 +70,8 @@ module _ (known : Known) (kept : IsKept known) (a b : ℕ) (c : ℤ) (join : Joi
       let l = class_at known.links x in
       let r = class_at known.links y in
       let u : Derived With (Eq x join.gone l.offset) = subst (λ (z : ℕ). Derived With (Eq x z l.offset)) left (older known (Eq a b c) (Eq x l.base l.offset) (follows_class known x)) in
-      let v : Derived With (Eq join.keep y (neg_ℤ r.offset)) = subst (λ (z : ℕ). Derived With (Eq z y (neg_ℤ r.offset))) right (a2 (older known (Eq a b c) (Eq y r.base r.offset) (follows_class known y))) in
-      far x y ((l.offset +ℤ join.by) -ℤ r.offset) long (eq_to With (l.offset +ℤ (join.by +ℤ neg_ℤ r.offset)) (a3 u (a3 moved_base v)) (omega (arith, ints)))
+      let v : Derived With (Eq join.keep y (neg_ℤ r.offset)) = subst (λ (z : ℕ). Derived With (Eq z y (neg_ℤ r.offset))) right (eq_turned (older known (Eq a b c) (Eq y r.base r.offset) (follows_class known y))) in
+      far x y ((l.offset +ℤ join.by) -ℤ r.offset) long (eq_to With (l.offset +ℤ (join.by +ℤ neg_ℤ r.offset)) (eq_through u (eq_through moved_base v)) (omega (arith, ints)))
 
 -- an equality of two nodes of one class, at another offset
 pub other_offset : (known : Known) (a b : ℕ) (c : ℤ) → (class_at known.links a).base ≡ (class_at known.links b).base → (class_at known.links a).offset ≢ (class_at known.links b).offset +ℤ c → IsImpossible (OrFact known (Eq a b c))
@@ -81,7 +81,7 @@ other_offset known a b c base offset =
     let d = left.offset -ℤ right.offset in
     let x : Derived (OrFact known (Eq a b c)) (Eq a b c) = assumed (inr refl) in
     let y : Derived (OrFact known (Eq a b c)) (Eq a b d) = older known (Eq a b c) (Eq a b d) (follows_same known a b d (base, omega (arith, ints))) in
-    moves a (c +ℤ neg_ℤ d) (λ e. offset (omega (arith, ints))) (a3 x (a2 y))
+    moves a (c +ℤ neg_ℤ d) (λ e. offset (omega (arith, ints))) (eq_through x (eq_turned y))
 
 module _ (known : Known) (kept : IsKept known) (a b : ℕ) (c : ℤ) (join : Join) (can : CanJoin known a b c join) where
   abbrev After : Known

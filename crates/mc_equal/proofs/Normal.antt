@@ -4,7 +4,7 @@ use Rattle.std.proofs.lemmas.Int.{ints}
 use Rattle.mc_equal.specs.declared.classes.Class.{Class}
 use Rattle.mc_equal.specs.declared.classes.Link.{Link}
 use Rattle.mc_equal.specs.declared.classes.Gap.{Gap}
-use Rattle.mc_equal.specs.Facts.{Fact, Eq, Ne, Derived, assumed, a1, a2, a3, a8, a8_moved, IsImpossible, differs, moves, far}
+use Rattle.mc_equal.specs.Facts.{Fact, Eq, Ne, Derived, assumed, eq_itself, eq_turned, eq_through, ne_turned, ne_moved, IsImpossible, differs, moves, far}
 use Rattle.mc_equal.specs.Classes.{own_class, class_at}
 use Rattle.mc_equal.specs.Known.{Known, IsWritten, Follows, IsKept}
 use Rattle.mc_equal.specs.Classes.{IsSameClass}
@@ -21,11 +21,11 @@ module _ (A : Fact → Type 0) where
 -- what follows from facts that follow follows
 pub bind : (A B : Fact → Type 0) → ((fact : Fact) → A fact → Derived B fact) → (fact : Fact) → Derived A fact → Derived B fact
 bind A B h fact (assumed x) = h fact x
-bind A B h fact (a1 a) = a1 a
-bind A B h fact (a2 {a} {b} {c} x) = a2 (bind A B h (Eq a b c) x)
-bind A B h fact (a3 {a} {b} {d} {c} {e} x y) = a3 (bind A B h (Eq a b c) x) (bind A B h (Eq b d e) y)
-bind A B h fact (a8 {a} {b} {c} x) = a8 (bind A B h (Ne a b c) x)
-bind A B h fact (a8_moved {a} {b} {d} {c} {e} x y) = a8_moved (bind A B h (Ne a b c) x) (bind A B h (Eq b d e) y)
+bind A B h fact (eq_itself a) = eq_itself a
+bind A B h fact (eq_turned {a} {b} {c} x) = eq_turned (bind A B h (Eq a b c) x)
+bind A B h fact (eq_through {a} {b} {d} {c} {e} x y) = eq_through (bind A B h (Eq a b c) x) (bind A B h (Eq b d e) y)
+bind A B h fact (ne_turned {a} {b} {c} x) = ne_turned (bind A B h (Ne a b c) x)
+bind A B h fact (ne_moved {a} {b} {d} {c} {e} x y) = ne_moved (bind A B h (Ne a b c) x) (bind A B h (Eq b d e) y)
 
 -- a node's class follows
 pub follows_class : (known : Known) (node : ℕ) → Follows known (Eq node (class_at known.links node).base (class_at known.links node).offset)
@@ -38,15 +38,15 @@ follows_class known node = elim (class_cases known.links node) [
     class_is known node link place at is class = rw class (rw (← is) (assumed {fact = Eq link.node link.class.base link.class.offset} (place, at)))
 
     own_is : (known : Known) (node : ℕ) → class_at known.links node ≡ own_class node → Follows known (Eq node (class_at known.links node).base (class_at known.links node).offset)
-    own_is known node class = rw class (a1 node)
+    own_is known node class = rw class (eq_itself node)
 
 -- two nodes of one class are equal, at the difference of their offsets
 pub follows_same : (known : Known) (a b : ℕ) (c : ℤ) → IsSameClass known.links a b c → Follows known (Eq a b c)
 follows_same known a b c same =
     let left = class_at known.links a in
     let right = class_at known.links b in
-    let e : Follows known (Eq left.base b (neg_ℤ right.offset)) = subst (λ (r : ℕ). Follows known (Eq r b (neg_ℤ right.offset))) (sym same.0) (a2 (follows_class known b)) in
-    eq_to (IsWritten known) (left.offset +ℤ neg_ℤ right.offset) (a3 (follows_class known a) e) (omega (arith, ints, same.1))
+    let e : Follows known (Eq left.base b (neg_ℤ right.offset)) = subst (λ (r : ℕ). Follows known (Eq r b (neg_ℤ right.offset))) (sym same.0) (eq_turned (follows_class known b)) in
+    eq_to (IsWritten known) (left.offset +ℤ neg_ℤ right.offset) (eq_through (follows_class known a) e) (omega (arith, ints, same.1))
 
 -- a gap, moved along classes
 pub record Moved (links : List Link) (gap : Gap) (a b : ℕ) (c : ℤ) : Type 0 where
@@ -94,17 +94,17 @@ written known kept (Ne a b c) w =
 
 pub holds : (known : Known) → IsKept known → (fact : Fact) → Follows known fact → Holds known fact
 holds known kept fact (assumed w) = written known kept fact w
-holds known kept fact (a1 a) = (refl, omega (arith, ints))
-holds known kept fact (a2 {a} {b} {c} x) = let h = holds known kept (Eq a b c) x in (sym h.0, omega (arith, ints, h.1))
-holds known kept fact (a3 {a} {b} {d} {c} {e} x y) =
+holds known kept fact (eq_itself a) = (refl, omega (arith, ints))
+holds known kept fact (eq_turned {a} {b} {c} x) = let h = holds known kept (Eq a b c) x in (sym h.0, omega (arith, ints, h.1))
+holds known kept fact (eq_through {a} {b} {d} {c} {e} x y) =
     let h = holds known kept (Eq a b c) x in
     let k = holds known kept (Eq b d e) y in
     (h.0 ∙ k.0, omega (arith, ints, h.1, k.1))
-holds known kept fact (a8 {a} {b} {c} x) = elim (holds known kept (Ne a b c) x) [
+holds known kept fact (ne_turned {a} {b} {c} x) = elim (holds known kept (Ne a b c) x) [
   | inl l ↦ inr (listed_to known a b l (sym (neg-neg c)))
   | inr l ↦ inl l
 ]
-holds known kept fact (a8_moved {a} {b} {d} {c} {e} x y) =
+holds known kept fact (ne_moved {a} {b} {d} {c} {e} x y) =
     let same = holds known kept (Eq b d e) y in
     elim (holds known kept (Ne a b c) x) [
       | inl l ↦ inl (record { place = l.place; gap = l.gap; at = l.at; moved = right_moved l.gap a b d c e same l.moved })
@@ -127,12 +127,12 @@ follows_moved known place gap a b c at m =
     let ne : Follows known (Ne gap.left gap.right gap.offset) = assumed {fact = Ne gap.left gap.right gap.offset} (place, at) in
     let left = follows_same known gap.left a (x.offset -ℤ u.offset) (m.left, omega (arith, ints)) in
     let right = follows_same known gap.right b (y.offset -ℤ v.offset) (m.right, omega (arith, ints)) in
-    ne_to (IsWritten known) (neg_ℤ (neg_ℤ (gap.offset +ℤ (y.offset -ℤ v.offset)) +ℤ (x.offset -ℤ u.offset))) (a8 (a8_moved (a8 (a8_moved ne right)) left)) (omega (arith, ints, m.by))
+    ne_to (IsWritten known) (neg_ℤ (neg_ℤ (gap.offset +ℤ (y.offset -ℤ v.offset)) +ℤ (x.offset -ℤ u.offset))) (ne_turned (ne_moved (ne_turned (ne_moved ne right)) left)) (omega (arith, ints, m.by))
 
 pub follows : (known : Known) (fact : Fact) → Holds known fact → Follows known fact
 follows known (Eq a b c) same = follows_same known a b c same
 follows known (Ne a b c) (inl l) = follows_moved known l.place l.gap a b c l.at l.moved
-follows known (Ne a b c) (inr l) = ne_to (IsWritten known) (neg_ℤ (neg_ℤ c)) (a8 (follows_moved known l.place l.gap b a (neg_ℤ c) l.at l.moved)) (neg-neg c)
+follows known (Ne a b c) (inr l) = ne_to (IsWritten known) (neg_ℤ (neg_ℤ c)) (ne_turned (follows_moved known l.place l.gap b a (neg_ℤ c) l.at l.moved)) (neg-neg c)
 
 -- kept links and gaps are possible
 pub possible : (known : Known) → IsKept known → IsImpossible (IsWritten known) → ⊥

@@ -5,7 +5,7 @@ use Rattle.mc_equal.specs.declared.classes.Class.{Class}
 use Rattle.mc_equal.specs.declared.classes.Link.{Link}
 use Rattle.mc_equal.specs.declared.classes.Gap.{Gap}
 use Rattle.mc_equal.specs.declared.groups.Entry.{Entry}
-use Rattle.mc_equal.specs.Facts.{Fact, Eq, Ne, Derived, assumed, a8}
+use Rattle.mc_equal.specs.Facts.{Fact, Eq, Ne, Derived, assumed, ne_turned}
 use Rattle.mc_equal.specs.Classes.{class_at, IsSameClass}
 use Rattle.mc_equal.specs.Known.{Known, IsWritten, Follows, IsKept, IsTame, KnowsExactly}
 use Rattle.mc_equal.specs.Changes.{GoesTo, IsInjective, IsRenamed}
@@ -196,7 +196,7 @@ module _ (known : Known) (kept : IsKept known) (pairs : List (ℕ × ℕ)) (inje
         follows_same Renamed a b c (one_class Entries short_pairs apart_pairs h.2.0 h.3.0 (entry_of (h.0, a)) (entry_of (h.1, b)) c (entry_at h.2.0 (h.0, a) h.2.1) (entry_at h.3.0 (h.1, b) h.3.1) key same.1)
     older (Ne a b c) h = elim (holds known kept (Ne h.0 h.1 c) h.4) [
       | inl l ↦ ne_older l.place l.gap h.0 h.1 a b c l.at l.moved h.2 h.3
-      | inr l ↦ ne_to (IsWritten Renamed) (neg_ℤ (neg_ℤ c)) (a8 (ne_older l.place l.gap h.1 h.0 b a (neg_ℤ c) l.at l.moved h.3 h.2)) (omega (arith, ints))
+      | inr l ↦ ne_to (IsWritten Renamed) (neg_ℤ (neg_ℤ c)) (ne_turned (ne_older l.place l.gap h.1 h.0 b a (neg_ℤ c) l.at l.moved h.3 h.2)) (omega (arith, ints))
     ]
 
     pub exactly_renamed : KnowsExactly (IsRenamed known pairs) Renamed

@@ -6,14 +6,14 @@ pub data Fact : Type 0 where
   Eq : ℕ → ℕ → ℤ → Fact
   Ne : ℕ → ℕ → ℤ → Fact
 
--- the least set that has the assumed facts and is closed under A1, A2, A3 and A8
+-- the least set that has the assumed facts, by which each node equals itself, equalities turn and chain, and disequalities turn and go along equalities
 pub data Derived (Assumed : Fact → Type 0) : Fact → Type 0 where
   assumed : {fact : Fact} → Assumed fact → Derived Assumed fact
-  a1 : (a : ℕ) → Derived Assumed (Eq a a (pos 0))
-  a2 : {a b : ℕ} {c : ℤ} → Derived Assumed (Eq a b c) → Derived Assumed (Eq b a (neg_ℤ c))
-  a3 : {a b d : ℕ} {c e : ℤ} → Derived Assumed (Eq a b c) → Derived Assumed (Eq b d e) → Derived Assumed (Eq a d (c +ℤ e))
-  a8 : {a b : ℕ} {c : ℤ} → Derived Assumed (Ne a b c) → Derived Assumed (Ne b a (neg_ℤ c))
-  a8_moved : {a b d : ℕ} {c e : ℤ} → Derived Assumed (Ne a b c) → Derived Assumed (Eq b d e) → Derived Assumed (Ne a d (c +ℤ e))
+  eq_itself : (a : ℕ) → Derived Assumed (Eq a a (pos 0))
+  eq_turned : {a b : ℕ} {c : ℤ} → Derived Assumed (Eq a b c) → Derived Assumed (Eq b a (neg_ℤ c))
+  eq_through : {a b d : ℕ} {c e : ℤ} → Derived Assumed (Eq a b c) → Derived Assumed (Eq b d e) → Derived Assumed (Eq a d (c +ℤ e))
+  ne_turned : {a b : ℕ} {c : ℤ} → Derived Assumed (Ne a b c) → Derived Assumed (Ne b a (neg_ℤ c))
+  ne_moved : {a b d : ℕ} {c e : ℤ} → Derived Assumed (Ne a b c) → Derived Assumed (Eq b d e) → Derived Assumed (Ne a d (c +ℤ e))
 
 -- from -(2^62 + 2^32) to 2^62 + 2^32: no two nodes within their kinds' ranges differ by more
 abbrev pub IsShort : ℤ → Type 0
