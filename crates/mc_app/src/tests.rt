@@ -7,130 +7,96 @@ const PROGRAM: &str = "int main(){return 0;}";
 
 const DOCUMENT: &str = "[\"memcad\",1,\"certificate\"]\n[\"S1\"]\n[\"S2\"]\n[\"S17\"]\n[\"end\"]\n";
 
-// Texts of a program, definitions and a document, and the number that their check ends with.
-static TEXTS: [(&str, &str, &str, u8); 35] = [
-    (PROGRAM, "", DOCUMENT, 0),
-    ("int main(){}", "", DOCUMENT, 0),
+// Programs and definitions, and the number that a check ends with beside the program's document.
+static TEXTS: [(&str, &str, u8); 12] = [
+    (PROGRAM, "", 0),
+    ("int main(){}", "", 0),
     (
         "\tint main ( )\r\n{ return 0 ; return 0;\n} \n",
         " \t\r\n",
-        DOCUMENT,
         0,
     ),
-    ("", "", DOCUMENT, 3),
-    ("intmain(){return 0;}", "", DOCUMENT, 3),
-    ("int main(){return 1;}", "", DOCUMENT, 3),
-    ("int main(){return 0}", "", DOCUMENT, 3),
-    ("int main(){return 0;", "", DOCUMENT, 3),
-    ("int main(){return 0;}}", "", DOCUMENT, 3),
-    ("int main(){}", "list", DOCUMENT, 4),
-    (PROGRAM, "\u{c}", DOCUMENT, 4),
-    ("int", "list", DOCUMENT, 3),
-    ("int", "", "[]", 3),
-    (PROGRAM, "list", "[]", 4),
-    // Blanks, and a last line without its end.
+    ("", "", 3),
+    ("intmain(){return 0;}", "", 3),
+    ("int main(){return 1;}", "", 3),
+    ("int main(){return 0}", "", 3),
+    ("int main(){return 0;", "", 3),
+    ("int main(){return 0;}}", "", 3),
+    ("int", "list", 3),
+    (PROGRAM, "list", 4),
+    (PROGRAM, "\u{c}", 4),
+];
+
+// Documents, and the number that a check of the program ends with.
+static DOCUMENTS: [(&str, u8); 20] = [
+    // Blanks, and a last line without its line feed.
     (
-        PROGRAM,
-        "",
         "[ \"memcad\", 1 ,\"certificate\" ]\n[ \"S1\" ]\r\n\t[\"S2\"]\n[\"S17\"]\n[\"end\"]",
         0,
     ),
-    (PROGRAM, "", "", 6),
-    (PROGRAM, "", "\n", 6),
-    (PROGRAM, "", "[\"memcad\",1,\"certificate\"]", 6),
-    // Without the end line, and with more behind it.
+    // Without the end line.
+    ("", 6),
+    ("\n", 6),
+    ("[\"memcad\",1,\"certificate\"]\n", 6),
     (
-        PROGRAM,
-        "",
         "[\"memcad\",1,\"certificate\"]\n[\"S1\"]\n[\"S2\"]\n[\"S17\"]\n",
         6,
     ),
+    // With more behind it, or an open branch.
     (
-        PROGRAM,
-        "",
         "[\"memcad\",1,\"certificate\"]\n[\"S1\"]\n[\"S2\"]\n[\"S17\"]\n[\"end\"]\n[\"end\"]\n",
         6,
     ),
     (
-        PROGRAM,
-        "",
-        "[\"memcad\",1,\"certificate\"]\n[\"S1\"]\n[\"S2\"]\n[\"S17\"]\n[\"end\"]\n\n",
-        6,
-    ),
-    (
-        PROGRAM,
-        "",
         "[\"memcad\",1,\"certificate\"]\n[\"S1\"]\n[\"S2\"]\n[\"S17\"]\n[\"end\"]\n[\"S1\"]",
         6,
     ),
     (
-        PROGRAM,
-        "",
+        "[\"memcad\",1,\"certificate\"]\n[\"S1\"]\n[\"S2\"]\n[\"S17\"]\n[\"end\"]\n\n",
+        6,
+    ),
+    (
         "[\"memcad\",1,\"certificate\"]\n[\"S1\"]\n[\"S2\"]\n[\"end\"]\n",
         6,
     ),
-    // Other lines, and lines at other places.
+    // Lines that are none, or stand at the wrong place.
     (
-        PROGRAM,
-        "",
         "[\"memcad\",1,\"certificate\"]\n[\"S1\"\n[\"S2\"]\n[\"S17\"]\n[\"end\"]\n",
         6,
     ),
     (
-        PROGRAM,
-        "",
         "[\"memcad\",1,\"certificate\"]\n[\"S1\",7]\n[\"S2\"]\n[\"S17\"]\n[\"end\"]\n",
         6,
     ),
     (
-        PROGRAM,
-        "",
+        "[\"memcad\",1,\"certificate\"]\n[\"S1\"][\"S2\"]\n[\"S17\"]\n[\"end\"]\n",
+        6,
+    ),
+    (
         "[\"memcad\",1,\"certificate\"]\n[\"S2\"]\n[\"S1\"]\n[\"S17\"]\n[\"end\"]\n",
         6,
     ),
     (
-        PROGRAM,
-        "",
         "[\"memcad\",1,\"certificate\"]\n\n[\"S1\"]\n[\"S2\"]\n[\"S17\"]\n[\"end\"]\n",
-        6,
-    ),
-    (
-        PROGRAM,
-        "",
-        "[\"memcad\",1,\"certificate\"]\n[\"S1\"][\"S2\"]\n[\"S17\"]\n[\"end\"]\n",
         6,
     ),
     // Headers.
     (
-        PROGRAM,
-        "",
         "[\"memcad\",9,\"certificate\"]\n[\"S1\"]\n[\"S2\"]\n[\"S17\"]\n[\"end\"]\n",
         6,
     ),
     (
-        PROGRAM,
-        "",
         "[\"memcad\",1,\"chain\"]\n[\"S1\"]\n[\"S2\"]\n[\"S17\"]\n[\"end\"]\n",
         6,
     ),
-    (PROGRAM, "", "[\"memcad\",1,\"chain\"]\n[\"end\"]\n", 6),
-    (PROGRAM, "", "[\"S1\"]\n[\"S2\"]\n[\"S17\"]\n[\"end\"]\n", 6),
+    ("[\"memcad\",1,\"chain\"]\n[\"end\"]\n", 6),
+    ("[\"S1\"]\n[\"S2\"]\n[\"S17\"]\n[\"end\"]\n", 6),
     (
-        PROGRAM,
-        "",
         "[\"memcad\",1,\"certificate\"]\n[\"memcad\",1,\"certificate\"]\n[\"S1\"]\n[\"S2\"]\n[\"S17\"]\n[\"end\"]\n",
         6,
     ),
     (
-        PROGRAM,
-        "",
         "\n[\"memcad\",1,\"certificate\"]\n[\"S1\"]\n[\"S2\"]\n[\"S17\"]\n[\"end\"]\n",
-        6,
-    ),
-    (
-        PROGRAM,
-        "",
-        "[\"memcad\",1,\"certificate\"]\r[\"S1\"]\r[\"S2\"]\r[\"S17\"]\r[\"end\"]\r",
         6,
     ),
 ];
@@ -240,10 +206,28 @@ fn ends(
 #[test]
 fn texts_are_judged(rt: HostRuntime) -> Result<(), Fail> {
     let alloc = rt.alloc();
-    for (program, definitions, document, code) in &TEXTS {
-        let program = Vec::from_slice(alloc, program.as_bytes())?;
-        let definitions = Vec::from_slice(alloc, definitions.as_bytes())?;
-        let files = files(alloc, program, definitions, document, 0)?;
+    for (program, definitions, code) in &TEXTS {
+        let definitions = padded(alloc, definitions, 0)?;
+        let files = files(alloc, padded(alloc, program, 0)?, definitions, DOCUMENT, 0)?;
+        assert!(rt;
+            ends(alloc, "check p d c", files, 0, *code)?,
+            "{code}: {program}"
+        );
+    }
+    Ok(())
+}
+
+#[test]
+fn documents_are_judged(rt: HostRuntime) -> Result<(), Fail> {
+    let alloc = rt.alloc();
+    for (document, code) in &DOCUMENTS {
+        let files = files(
+            alloc,
+            padded(alloc, PROGRAM, 0)?,
+            Vec::new(alloc),
+            document,
+            0,
+        )?;
         assert!(rt;
             ends(alloc, "check p d c", files, 0, *code)?,
             "{code}: {document}"

@@ -39,7 +39,7 @@ static FAULTS: [(&str, LineFault); 28] = [
     (r#"["S1",7]"#, LineFault::Form),
     (r#"["S1",1,"certificate"]"#, LineFault::Form),
     (r#"["s1"]"#, LineFault::Form),
-    (r#"["S3"]"#, LineFault::Form),
+    (r#"["S0"]"#, LineFault::Form),
     (r#"["memcad"]"#, LineFault::Form),
     (r#"["memcad",1]"#, LineFault::Form),
     (r#"["memcad",1,"proof"]"#, LineFault::Form),
