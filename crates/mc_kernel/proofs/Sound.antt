@@ -303,8 +303,8 @@ s9_block laws flow b bs i c choices r place id (edge.Block at own fields) stands
     let there_is : is_some (block_field block i.shape.0 i.f) ≡ true = ap is_some (block_field_is i.shape.0 own.0 out.values i.f (shape_same i.shape own at fields both.0)) ∙ some_field out.values i.f inside in
     let after = map.insert c.heap out.address (with_field block i.f (w i.m.0)) in
     let gets : r ≡ with_heap i.q c choices after =
-      step ∙ ap (λ o. stored i.shape i.f i.q place c choices o (value_in c.vars i.y)) met.value ∙ ap (stored i.shape i.f i.q place c choices (Some (w i.m.0))) value
-      ∙ stored_is i.shape i.f i.q place c choices (w i.m.0) (v i.n.0) out.address block leads is here there_is in
+    step ∙ ap (λ o. stored i.shape i.f i.q place c choices o (value_in c.vars i.y)) met.value ∙ ap (stored i.shape i.f i.q place c choices (Some (w i.m.0))) value
+    ∙ stored_is i.shape i.f i.q place c choices (w i.m.0) (v i.n.0) out.address block leads is here there_is in
     let parts = written_parts laws w c.heap s.edges s.whole i.place at own fields out i.f i.m id listed in
     let put = put_is_set s.edges i.place i.f i.m id at own fields listed in
     leads_one _ choices r (moved_to i.q (st.with_field s i.place i.f i.m)) bs gets i.gives
@@ -416,13 +416,13 @@ s12_block laws flow b bs i c choices r place id (edge.Block at own fields) stand
     let is = is_address laws v c.heap s.edges s.whole i.place at own fields out has in
     let same : v i.n.0 ≡ v at.0 = same_value v s.atoms met.stands.null met.stands.atoms i.n at passes in
     let gets : r ≡ with_heap i.q c choices (map.remove c.heap out.address) =
-      step ∙ ap (freed i.q place c choices) value ∙ freed_is i.q place c choices (v i.n.0) out.address block (same ∙ out.leads) is here in
+    step ∙ ap (freed i.q place c choices) value ∙ freed_is i.q place c choices (v i.n.0) out.address block (same ∙ out.leads) is here in
     let after = region_of (map.remove c.heap out.address) in
     let parts = freed_parts laws v c.heap s.edges s.whole i.place at own fields out in
     let free : after out.address ≡ None = (laws.remove c.heap out.address).here in
     let lie = all_lie laws v after parts.held parts.rest (remove s.edges i.place) parts.split parts.each in
     let range : IsTrueAtom v (In at (pos 1) (pos 4611686018427387903)) =
-      (let l : v at.0 ≡ pos out.address = out.leads in let low : 1 ≤ out.address = is.0 in let high : out.address < 2 ^ 62 = is.1 in (omega (arith, ints), omega (arith, ints))) in
+    (let l : v at.0 ≡ pos out.address = out.leads in let low : 1 ≤ out.address = is.0 in let high : out.address < 2 ^ 62 = is.1 in (omega (arith, ints), omega (arith, ints))) in
     let edge_below = all_at (λ (y : EdgeId × Edge). EdgeIsBelow s.next y.1) s.edges i.place (id, edge.Block at own fields) e met.bounded.edges in
     let others_below = all_without (λ (y : EdgeId × Edge). EdgeIsBelow s.next y.1) s.edges i.place met.bounded.edges in
     leads_one _ choices r (moved_to i.q (without_block s i.place at)) bs gets gives
