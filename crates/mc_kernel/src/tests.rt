@@ -91,6 +91,20 @@ static WRONG: [(&[Line], usize); 4] = [
     ),
 ];
 
+// Lines, and whether they fit where they are tried, of the program that reads a field. At the end
+// x is not known, so that it can't be freed.
+static READING: [(Line, bool); 9] = [
+    (Line::S2, true),
+    (Line::S12, false),
+    (Line::S11, true),
+    (Line::S10, true),
+    (Line::S9, true),
+    (Line::S8, true),
+    (Line::S3, true),
+    (Line::S11, false),
+    (Line::S12, false),
+];
+
 fn at(code: Instr) -> Point
     ensures { result ≡ record { code = code; place = record { line = 1; column = 1 } } }
 {
@@ -203,10 +217,8 @@ fn documents_with_an_open_branch_are_refused(rt: HostRuntime) -> Result<(), Fail
     Ok(())
 }
 
-// `x = NULL; free(x); x = malloc(..); x->f = 7; y = x->f;`, and then x is known no more.
-#[test]
-fn a_field_is_read_back_and_null_is_freed(rt: HostRuntime) -> Result<(), Fail> {
-    let alloc = rt.alloc();
+// `x = NULL; free(x); x = malloc(..); x->f = 7; y = x->f;`, then x is undefined and freed.
+fn reading(alloc: Global) -> Result<Flow, AllocError> {
     let (x, y, cell) = (VarId(0), VarId(1), StructId(0));
     let mut flow = program(alloc)?;
     flow.points = Items::of(vec![in alloc;
@@ -218,33 +230,43 @@ fn a_field_is_read_back_and_null_is_freed(rt: HostRuntime) -> Result<(), Fail> {
         at(Instr::Undef(Items::of(vec![in alloc; x]?), PointId(6))),
         at(Instr::Free(Operand::Var(x), PointId(7))),
     ]?);
-    let mut null = Branch::entry(alloc, &flow)?;
-    for line in [Line::S2, Line::S11] {
-        assert!(rt; matches!(advance(alloc, &flow, line, &mut null)?, Some(Next::Moved)));
+    Ok(flow)
+}
+
+// Whether the line is an instance there. Of two branches it goes on with the second.
+fn follows(
+    alloc: Global,
+    flow: &Flow,
+    line: Line,
+    branch: &mut Branch,
+) -> Result<bool, AllocError> {
+    match advance(alloc, flow, line, branch)? {
+        None => Ok(false),
+        Some(Next::Moved) => Ok(true),
+        Some(Next::Closed) => Ok(true),
+        Some(Next::Forked(other)) => {
+            *branch = other;
+            Ok(true)
+        }
     }
-    let Some(Next::Forked(mut block)) = advance(alloc, &flow, Line::S10, &mut null)? else {
-        return Err(Fail::new("malloc gives two branches"));
-    };
-    assert!(rt;
-        advance(alloc, &flow, Line::S9, &mut null)?.is_none(),
-        "null has no field"
-    );
-    for line in [Line::S9, Line::S8, Line::S3] {
-        assert!(rt; matches!(advance(alloc, &flow, line, &mut block)?, Some(Next::Moved)));
+}
+
+#[test]
+fn null_is_freed_and_a_field_is_read(rt: HostRuntime) -> Result<(), Fail> {
+    let alloc = rt.alloc();
+    let flow = reading(alloc)?;
+    let mut branch = Branch::entry(alloc, &flow)?;
+    for (line, fits) in &READING {
+        let follows = follows(alloc, &flow, *line, &mut branch)?;
+        assert_eq!(rt; follows, *fits, "{line:?}");
     }
-    assert_eq!(rt; block.point, 6);
-    assert_eq!(rt; block.state.var(x), None);
+    assert_eq!(rt; branch.point, 6);
+    let node = branch.state.var(VarId(1));
     assert_eq!(rt;
-        block.state.var(y),
+        node,
         Some(NodeId(2)),
         "the block is node 1, and 7 is node 2"
     );
-    for line in [Line::S11, Line::S12] {
-        assert!(rt;
-            advance(alloc, &flow, line, &mut block)?.is_none(),
-            "x is not known"
-        );
-    }
     Ok(())
 }
 
