@@ -1,8 +1,8 @@
 -- A certificate means that no run has a fault.
-use Rattle.std.proofs.Common.{◌≡◌, ◌+◌, ◌<◌, ◌≤◌, ◌^◌, ◌⊎◌, inl, inr, ℕ, zero, suc, List, [], ◌∷◌, ◌++◌, length, Option, Some, None, get_or, slice_set, replicate, eq-eqb, refl, sym, ap, ◌∙◌, subst, arith, Bool, true, false, ℤ, pos}
-use Rattle.std.specs.Prelude.{◌==◌, ◌&&◌, ◌+ℤ◌, IsSome, is_some, remove, position, slice_get, option_map, unwrap_or, if◌then◌else◌}
+use Rattle.std.proofs.Common.{◌≡◌, ◌+◌, ◌<◌, ◌≤◌, ◌^◌, ◌⊎◌, inl, inr, ℕ, zero, suc, List, [], ◌∷◌, ◌++◌, length, Option, Some, None, eq-eqb, refl, sym, ap, ◌∙◌, subst, arith, Bool, true, false, ℤ, pos}
+use Rattle.std.specs.Prelude.{◌==◌, ◌+ℤ◌, IsSome, is_some, remove, slice_get, option_map, if◌then◌else◌}
 use Rattle.std.specs.List.{AllByRecursion, list_any}
-use Rattle.std.specs.Ordering.{int_eq, nat_cmp}
+use Rattle.std.specs.Ordering.{int_eq}
 use Rattle.std.specs.FinMap as map
 use Rattle.std.proofs.lemmas.Bool.Decides.{Decides-int_eq, Decides-eqb}
 use Rattle.std.proofs.lemmas.Int.{ints}
@@ -15,13 +15,11 @@ use Rattle.mc_base.specs.declared.ids.PointId.{PointId}
 use Rattle.mc_base.specs.declared.plain.Kind.{Kind}
 use Rattle.mc_base.specs.declared.plain.Kind.TheVariants.{Int, Ptr}
 use Rattle.mc_base.specs.declared.plain.VarInfo.{VarInfo}
-use Rattle.mc_base.specs.declared.plain.FaultKind.{FaultKind}
 use Rattle.mc_base.specs.declared.plain.FaultKind.TheVariants as faults
 use Rattle.mc_base.specs.declared.plain.Place.{Place}
-use Rattle.mc_base.specs.Runs.{Outcome, next, last, Final, ended, stopped, fault, Reaches, IsSafeFrom}
-use Rattle.mc_heap.specs.Heap.{Block, Heap, Region, region_of, IsAddress, HasAddresses}
+use Rattle.mc_base.specs.Runs.{next, last, ended, stopped, fault, IsSafeFrom}
+use Rattle.mc_heap.specs.Heap.{Block, Region, region_of, IsAddress, HasAddresses}
 use Rattle.mc_heap.specs.Access.{field_at, block_field, with_field, fresh_block}
-use Rattle.mc_heap.specs.Parts.{IsEmpty, Star}
 use Rattle.mc_heap.specs.Choices.{Choice}
 use Rattle.mc_heap.specs.Choices as choice
 use Rattle.mc_flow.specs.declared.instr.Operand.{Operand}
@@ -34,19 +32,19 @@ use Rattle.mc_flow.specs.declared.graph.Structs.{Structs}
 use Rattle.mc_flow.specs.declared.graph.Flow.{Flow}
 use Rattle.mc_flow.specs.declared.graph.Defs.{Defs}
 use Rattle.mc_flow.specs.Valid.{IsValid, IsInt, IsOperand, FitsKinds}
-use Rattle.mc_flow.specs.Steps.{Config, Result, StepOf, StepAt, Step, Allocates, copied, value_in, value_of, with_value, without, at_point, set_to, with_heap, address, found, loaded, written, put, stored, freed_at, freed, tested, field_count, start, IsSafeFlow}
+use Rattle.mc_flow.specs.Steps.{Config, Result, StepOf, StepAt, Step, Allocates, copied, value_in, value_of, with_value, at_point, set_to, with_heap, address, found, loaded, written, put, stored, freed_at, freed, tested, field_count, start, IsSafeFlow}
 use Rattle.mc_state.specs.declared.line.Line.{Line}
 use Rattle.mc_state.specs.declared.line.Line.TheVariants.{Header, S1, S2, S3, S8, S9, S10, S11, S12, S13, S17, L12, End}
 use Rattle.mc_state.specs.declared.edge.Edge.{Edge}
 use Rattle.mc_state.specs.declared.edge.Edge.TheVariants as edge
 use Rattle.mc_state.specs.State as st
 use Rattle.mc_state.specs.State.{State, null, unknown, var_node, with_var, without_vars, with_number, with_atom, with_block, next_node, is_null, is_false, is_wrong, is_at_null, are_same, is_block_at, has_shape, is_shaped_block_at, block_place, shaped_block_place, edge_at, fields_of, start_of, put_field, without_block, apart}
-use Rattle.mc_state.specs.Stands.{Valuation, InKind, IsTrueAtom, VarsMeet, EdgeMeets, Parts, StandsBy, Stands, EdgeIsBelow, AtomIsBelow, IsBelow, IsBounded}
+use Rattle.mc_state.specs.Stands.{Valuation, InKind, IsTrueAtom, Parts, StandsBy, EdgeIsBelow, AtomIsBelow, IsBelow, IsBounded}
 use Rattle.mc_kernel.specs.declared.branch.Branch.{Branch}
 use Rattle.mc_kernel.specs.Rules.{entry, instr_at, operand_node, with_operand, moved_to, S1Is, S2Is, S3Is, S8Is, S9Is, S10Is, S11Is, S12Is, S13Is, S17Is, L12Is, Instance, Proves, IsCertificate}
 use Rattle.mc_kernel.proofs.Parts.{HeapLaws, all_append, all_at, all_without, all_set}
 use Rattle.mc_kernel.proofs.Facts.{any_gives, and_true, or_true, null_value, same_value, wrong_false, at_position}
-use Rattle.mc_kernel.proofs.Blocks.{Meets, BlockOut, block_out, there, is_address, freed_parts, written_parts, made_parts, Lies, all_lie, apart_true, put_is_set, apart_below}
+use Rattle.mc_kernel.proofs.Blocks.{block_out, there, is_address, freed_parts, written_parts, made_parts, Lies, all_lie, apart_true, put_is_set, apart_below}
 use Rattle.mc_kernel.proofs.Standing.{AgreeBelow, extended, extended_at, extended_below, vars_get, vars_slice, vars_length, known_below, set_stands, set_bounded, forget_stands, forget_bounded, atom_stands, atom_bounded, stands_agree, number_stands, number_bounded, block_bounded, unknown_stands, unknown_bounded}
 
 -- the configuration is at the branch's point and stands for its state
