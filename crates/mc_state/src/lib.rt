@@ -2,6 +2,7 @@
 #![tactic(auto)]
 
 mod edge;
+mod facts;
 mod line;
 mod state;
 
