@@ -16,5 +16,5 @@ pub told_alike : (atoms more : List Atom) (n : NodeId) → TellsNoNull more → 
 told_alike atoms more n none =
     list_any-append (says_null n) atoms more ∙ ap (λ b. list_any (says_null n) atoms || b) (none n) ∙ or_false (list_any (says_null n) atoms)
 
-pub same_nulls : (nulls : List NodeId) (atoms more : List Atom) → AreTheNulls nulls atoms → TellsNoNull more → AreTheNulls nulls (atoms ++ more)
+pub same_nulls : (nulls : List Bool) (atoms more : List Atom) → AreTheNulls nulls atoms → TellsNoNull more → AreTheNulls nulls (atoms ++ more)
 same_nulls nulls atoms more h none n = h n ∙ sym (told_alike atoms more n none)

@@ -1,9 +1,9 @@
 // The facts about nodes, and which of them tell that a node is null.
-ghost use Rattle.std.specs.Prelude.{◌≡◌, ◌++◌, ◌∷◌, [], IfOk, OnErr, OnOk, pos};
+ghost use Rattle.std.specs.Prelude.{◌≡◌, ◌<◌, ℕ, ◌++◌, ◌∷◌, [], false, IfOk, OnErr, OnOk, pos, slice_index_or, vec_len};
 ghost use Rattle.std.specs.List.{list_any};
 ghost use Rattle.mc_base.specs.declared.plain.Atom.TheVariants.{Eq};
 ghost use Rattle.mc_state.specs.State.{null, is_null, are_same, is_wrong};
-ghost use Rattle.mc_state.specs.Nulls.{is_node, TellsNoNull};
+ghost use Rattle.mc_state.specs.Nulls.{TellsNoNull};
 
 use mc_base::{Atom, NodeId};
 use std::alloc::{AllocError, Global};
@@ -11,12 +11,12 @@ use std::marker::Model;
 
 const NULL: NodeId = NodeId(0);
 
-/// Facts about nodes. Beside them stand the nodes that they say to be null, so that this is known
-/// without a look at every fact.
+/// Facts about nodes. Which nodes they say to be null is known without a look at every fact.
 #[derive(Drop)]
 pub struct Facts {
     atoms: Vec<Atom>,
-    nulls: Vec<NodeId>,
+    /// For the number of each node whether a fact says that the node is null; past the end none does.
+    nulls: Vec<bool>,
 }
 
 impl Model for Facts {
@@ -31,15 +31,19 @@ impl Model for Facts {
     ghost invariant = { λ f. AreTheNulls f.nulls.items f.atoms.items };
 }
 
-fn has_node(nodes: &[NodeId], n: NodeId) -> bool
-    ensures { result ≡ list_any (is_node n) nodes.now }
+// Makes room for the node's number.
+fn make_room(nulls: &mut Vec<bool>, n: NodeId) -> Result<(), AllocError>
+    ensures same { (k : ℕ) → slice_index_or nulls.new.items k false ≡ slice_index_or nulls.old.items k false }
+    ensures room { OnOk result (n.0 < vec_len nulls.new) }
 {
-    for node in nodes {
-        if node.0 == n.0 {
-            return true;
-        }
+    if n.0 == u64::MAX {
+        return Err(AllocError);
     }
-    false
+    let needed = n.0 as usize + 1;
+    if nulls.len() < needed {
+        nulls.resize(needed, false)?;
+    }
+    Ok(())
 }
 
 impl Facts {
@@ -68,9 +72,9 @@ impl Facts {
         ensures state { OnOk result (self.new ≡ self.old ++ Eq n null (pos 0) ∷ []) }
         ensures err { OnErr result (self.new ≡ self.old) }
     {
-        self.nulls.reserve(1)?;
+        make_room(&mut self.nulls, n)?;
         self.atoms.push(Atom::Eq(n, NULL, 0))?;
-        self.nulls.push(n).unwrap();
+        self.nulls[n.0 as usize] = true;
         Ok(())
     }
 
@@ -88,7 +92,7 @@ impl Facts {
     pub fn is_null(&self, n: NodeId) -> bool
         ensures { result ≡ is_null self.now n }
     {
-        n.0 == 0 || has_node(self.nulls.as_slice(), n)
+        n.0 == 0 || self.nulls.get(n.0 as usize).copied().unwrap_or(false)
     }
 
     /// Whether the nodes are one, or both are null.

@@ -5,6 +5,8 @@ mod edge;
 mod facts;
 mod line;
 mod state;
+#[cfg(test)]
+mod tests;
 
 pub use edge::Edge;
 pub use line::{Form, Line, Version};

@@ -266,7 +266,7 @@ impl State {
             .unwrap();
         self.next += 1;
         self.next_edge += 1;
-        self.wrong = self.wrong || self.facts.is_null(node);
+        self.wrong |= self.facts.is_null(node);
         Ok(node)
     }
 
@@ -276,8 +276,8 @@ impl State {
         ensures state { OnOk result (self.new ≡ without_block self.old place at) }
         ensures err { OnErr result (self.new ≡ self.old) }
     {
-        let facts = freed_facts(alloc, self.edges.as_slice(), place, at)?;
-        self.facts.extend(facts.as_slice())?;
+        let freed = freed_facts(alloc, self.edges.as_slice(), place, at)?;
+        self.facts.extend(freed.as_slice())?;
         if place < self.edges.len() {
             let _ = self.edges.remove(place);
         }
