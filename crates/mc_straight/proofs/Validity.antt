@@ -21,14 +21,16 @@ behind l [] (suc zero) q e = inr (let s : q ≡ point End = cc in s)
 behind l [] (suc (suc p)) q e = cc
 behind l (ReturnZero ∷ xs) zero q e = inl ((let s : q ≡ returned l = cc in s), omega arith)
 behind l (ReturnZero ∷ xs) (suc p) q e = elim (behind l xs p q e) [
-    inl h ↦ inl (h.0, (let lt : p < length xs + 1 = h.1 in omega arith))
-  | inr h ↦ inr h ]
+  | inl h ↦ inl (h.0, (let lt : p < length xs + 1 = h.1 in omega arith))
+  | inr h ↦ inr h
+]
 
 each : (body : List Stmt) (p : ℕ) (q : Point) → slice_get (points_of body) p ≡ Some q → ((p ≡ 0) × (q ≡ point (Skip (record { 0 = 1 })))) ⊎ (((q ≡ returned (length body + 2)) × (p < length body + 2)) ⊎ (q ≡ point End))
 each body zero q e = inl (refl, (let s : q ≡ point (Skip (record { 0 = 1 })) = cc in s))
 each body (suc p) q e = elim (behind (length body + 2) body p q e) [
-    inl h ↦ inr (inl (h.0, (let lt : p < length body + 1 = h.1 in omega arith)))
-  | inr h ↦ inr (inr h) ]
+  | inl h ↦ inr (inl (h.0, (let lt : p < length body + 1 = h.1 in omega arith)))
+  | inr h ↦ inr (inr h)
+]
 
 all_none : {X : Type 0} (P : X → Type 0) → All P []
 all_none P = λ k d lt. absurd (omega arith)
@@ -47,8 +49,9 @@ length_points body = omega (arith, length-append (map (lowered (length body + 2)
 by_point : (P : ℕ → Point → Type 0) (body : List Stmt) → P 0 (point (Skip (record { 0 = 1 }))) → ((p : ℕ) → p < length body + 2 → P p (returned (length body + 2))) → ((p : ℕ) → P p (point End))
     → (p : ℕ) (q : Point) → slice_get (points_of body) p ≡ Some q → P p q
 by_point P body skip copy end p q e = elim (each body p q e) [
-    inl h ↦ subst (λ k. P k q) (sym h.0) (subst (λ r. P 0 r) (sym h.1) skip)
-  | inr h ↦ elim h [ inl c ↦ subst (λ r. P p r) (sym c.0) (copy p c.1) | inr f ↦ subst (λ r. P p r) (sym f) (end p) ] ]
+  | inl h ↦ subst (λ k. P k q) (sym h.0) (subst (λ r. P 0 r) (sym h.1) skip)
+  | inr h ↦ elim h [ inl c ↦ subst (λ r. P p r) (sym c.0) (copy p c.1) | inr f ↦ subst (λ r. P p r) (sym f) (end p) ]
+]
 
 target_at : (t u : PointId) (i : ℕ) → i < length (t ∷ []) → get_or (t ∷ []) i u ≡ u → t ≡ u
 target_at t u zero lt e = e
@@ -67,15 +70,15 @@ valid body defs =
     record {
       begins = omega arith;
       in_range = by_point (λ p q. All (λ t. t.0 < length (points_of body)) (targets q.code)) body
-        (all_one (λ (t : PointId). t.0 < length (points_of body)) (record { 0 = 1 }) (omega arith))
-        (λ p lt. all_one (λ (t : PointId). t.0 < length (points_of body)) (record { 0 = length body + 2 }) (omega arith))
-        (λ p. all_none (λ (t : PointId). t.0 < length (points_of body)));
+          (all_one (λ (t : PointId). t.0 < length (points_of body)) (record { 0 = 1 }) (omega arith))
+          (λ p lt. all_one (λ (t : PointId). t.0 < length (points_of body)) (record { 0 = length body + 2 }) (omega arith))
+          (λ p. all_none (λ (t : PointId). t.0 < length (points_of body)));
       kinds = by_point (λ p q. FitsKinds (flow_of body).vars (flow_of body).structs defs q.code) body tt (λ p lt. (Int, refl, (omega (arith, ints), omega (arith, ints)))) (λ p. tt);
       thresholds = all_one IsInt (pos 0) (omega (arith, ints), omega (arith, ints));
       heads = all_none _;
       merges = all_none _;
       back = λ p q t e c. by_point (λ k r. (u : PointId) → Contains (targets r.code) u → (k < u.0) ⊎ Contains [] u) body
-        (λ u h. inl (one_target (record { 0 = 1 }) u 0 h (let lt : 0 < 1 = omega arith in lt)))
-        (λ k lt u h. inl (one_target (record { 0 = length body + 2 }) u k h lt))
-        (λ k u h. absurd (no_target u h)) p q e t c;
+          (λ u h. inl (one_target (record { 0 = 1 }) u 0 h (let lt : 0 < 1 = omega arith in lt)))
+          (λ k lt u h. inl (one_target (record { 0 = length body + 2 }) u k h lt))
+          (λ k u h. absurd (no_target u h)) p q e t c;
     }
