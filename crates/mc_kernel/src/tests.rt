@@ -1,4 +1,4 @@
-ghost use Rattle.std.specs.Prelude.{◌≡◌, IfOk, pos};
+ghost use Rattle.std.specs.Prelude.{◌≡◌, IfOk};
 ghost use Rattle.mc_flow.specs.declared.graph.Defs.{Defs as Definitions};
 ghost use Rattle.mc_flow.specs.Valid.{IsValid};
 
