@@ -70,6 +70,18 @@ answer_of statuses.Document = Some Document
 answer_of statuses.Device = None
 answer_of statuses.Memory = None
 
+-- the number of a status
+abbrev pub code_of : Status → ℕ
+code_of statuses.Good = 0
+code_of statuses.Alarm = 1
+code_of statuses.Words = 2
+code_of statuses.Program = 3
+code_of statuses.Definitions = 4
+code_of statuses.Limit = 5
+code_of statuses.Document = 6
+code_of statuses.Device = 7
+code_of statuses.Memory = 8
+
 -- a status that a check of a certificate can have
 abbrev pub IsGiven : Status → Type 0
 IsGiven statuses.Alarm = ⊥

@@ -7,6 +7,8 @@ ghost use Rattle.mc_cert.specs.Document.{Spells};
 
 mod line;
 mod pieces;
+#[cfg(test)]
+mod tests;
 
 pub use line::{LineFault, line_of};
 pub use pieces::first_line;
@@ -14,5 +16,4 @@ pub use pieces::first_line;
 /// Bytes spell one line at most.
 pub fn line_is_spelled_once()
     ensures { (bytes : List ℕ) (x y : Line) → Spells bytes x → Spells bytes y → x ≡ y }
-{
-}
+{}

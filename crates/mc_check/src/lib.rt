@@ -2,5 +2,7 @@
 #![tactic(auto)]
 
 mod judge;
+#[cfg(test)]
+mod tests;
 
 pub use judge::check;

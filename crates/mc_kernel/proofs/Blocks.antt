@@ -1,5 +1,5 @@
 -- Blocks that are read, written, made and freed.
-use Rattle.std.proofs.Common.{◌≡◌, ◌≢◌, ◌+◌, ◌<◌, ◌≤◌, ℕ, zero, suc, List, [], ◌∷◌, ◌++◌, length, map, Bool, true, false, Option, Some, None, slice_get, slice_set, replicate, refl, sym, ap, ◌∙◌, subst, arith, eq-eqb, ℤ, pos, ◌+ℤ◌}
+use Rattle.std.proofs.Common.{◌≡◌, ◌<◌, ℕ, zero, suc, List, [], ◌∷◌, ◌++◌, Bool, Option, Some, None, slice_get, slice_set, replicate, refl, sym, ap, ◌∙◌, subst, arith, ℤ, pos, ◌+ℤ◌}
 use Rattle.std.specs.Prelude.{IsTrue, IsSome, remove}
 use Rattle.std.specs.List.{AllByRecursion}
 use Rattle.std.specs.FinMap as map
@@ -7,20 +7,16 @@ use Rattle.std.proofs.lemmas.Int.{ints}
 use Rattle.mc_base.specs.declared.ids.EdgeId.{EdgeId}
 use Rattle.mc_base.specs.declared.ids.NodeId.{NodeId}
 use Rattle.mc_base.specs.declared.ids.StructId.{StructId}
-use Rattle.mc_base.specs.declared.plain.Kind.{Kind}
-use Rattle.mc_base.specs.declared.plain.Kind.TheVariants.{Ptr}
-use Rattle.mc_base.specs.declared.plain.Atom.{Atom}
-use Rattle.mc_base.specs.declared.plain.Atom.TheVariants.{Ne, In}
 use Rattle.mc_heap.specs.Heap.{Block, Heap, Region, region_of, IsAddress, HasAddresses}
 use Rattle.mc_heap.specs.Access.{field_at, block_field, fresh_block}
 use Rattle.mc_heap.specs.Access as access
 use Rattle.mc_heap.specs.Parts.{Split, IsEmpty, IsCell, Changes, Star}
 use Rattle.mc_state.specs.declared.edge.Edge.{Edge}
 use Rattle.mc_state.specs.declared.edge.Edge.TheVariants as edge
-use Rattle.mc_state.specs.State.{State, with_block, put_field, with_field, with_field_node, without_block, start_of, apart, next_node}
-use Rattle.mc_state.specs.Stands.{Valuation, InKind, IsTrueAtom, VarsMeet, EdgeMeets, Parts, StandsBy, AtomIsBelow, EdgeIsBelow, IsBelow, IsBounded}
-use Rattle.mc_kernel.proofs.Parts.{HeapLaws, all_append, all_at, all_without, all_set, star_take, star_set, star_push}
-use Rattle.mc_kernel.proofs.Standing.{extended, extended_at, extended_below, stands_agree, vars_set, vars_slice, vars_length, unknown_vars}
+use Rattle.mc_state.specs.State.{put_field, with_field_node, start_of, apart}
+use Rattle.mc_state.specs.Stands.{Valuation, IsTrueAtom, VarsMeet, EdgeMeets, Parts, AtomIsBelow, EdgeIsBelow}
+use Rattle.mc_kernel.proofs.Parts.{HeapLaws, star_take, star_set, star_push}
+use Rattle.mc_kernel.proofs.Standing.{vars_set, unknown_vars}
 
 abbrev pub Meets : Valuation → EdgeId × Edge → Region → Type 0
 Meets v e part = EdgeMeets v e.1 part

@@ -1,8 +1,8 @@
 -- Parts of regions, one for each edge, as edges come, go and change.
-use Rattle.std.proofs.Common.{◌≡◌, ◌≢◌, ◌+◌, ◌<◌, ℕ, zero, suc, List, [], ◌∷◌, ◌++◌, length, Option, Some, None, slice_get, slice_set, remove, refl, sym, ap, ◌∙◌, subst, arith}
+use Rattle.std.proofs.Common.{◌≡◌, ℕ, zero, suc, List, [], ◌∷◌, ◌++◌, Some, slice_get, slice_set, remove, subst}
 use Rattle.std.specs.List.{AllByRecursion}
-use Rattle.mc_heap.specs.Heap.{Block, Heap, Region, region_of}
-use Rattle.mc_heap.specs.Parts.{Split, IsEmpty, IsCell, Changes, Star}
+use Rattle.mc_heap.specs.Heap.{Region}
+use Rattle.mc_heap.specs.Parts.{Split, Star}
 use Rattle.mc_heap.specs.PartLaws.{SplitCommutes, SplitRegroupsLeft, SplitRegroupsRight, SplitAddsEmpty, EmptyHeapIsEmpty, InsertChanges, RemoveChanges, InsertKeepsAddresses, RemoveKeepsAddresses, CellIsRead, CellIsAdded, CellIsReplaced, CellIsRemoved}
 
 -- what holds of parts and of heaps

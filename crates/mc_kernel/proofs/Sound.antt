@@ -1,8 +1,8 @@
 -- A certificate means that no run has a fault.
-use Rattle.std.proofs.Common.{◌≡◌, ◌+◌, ◌<◌, ◌≤◌, ◌^◌, ◌⊎◌, inl, inr, ℕ, zero, suc, List, [], ◌∷◌, ◌++◌, length, Option, Some, None, get_or, slice_set, replicate, eq-eqb, refl, sym, ap, ◌∙◌, subst, arith, Bool, true, false, ℤ, pos}
-use Rattle.std.specs.Prelude.{◌==◌, ◌&&◌, ◌+ℤ◌, IsSome, is_some, remove, position, slice_get, option_map, unwrap_or, if◌then◌else◌}
+use Rattle.std.proofs.Common.{◌≡◌, ◌+◌, ◌<◌, ◌≤◌, ◌^◌, ◌⊎◌, inl, inr, ℕ, zero, suc, List, [], ◌∷◌, ◌++◌, length, Option, Some, None, eq-eqb, refl, sym, ap, ◌∙◌, subst, arith, Bool, true, false, ℤ, pos}
+use Rattle.std.specs.Prelude.{◌==◌, ◌+ℤ◌, IsSome, is_some, remove, slice_get, option_map, if◌then◌else◌}
 use Rattle.std.specs.List.{AllByRecursion, list_any}
-use Rattle.std.specs.Ordering.{int_eq, nat_cmp}
+use Rattle.std.specs.Ordering.{int_eq}
 use Rattle.std.specs.FinMap as map
 use Rattle.std.proofs.lemmas.Bool.Decides.{Decides-int_eq, Decides-eqb}
 use Rattle.std.proofs.lemmas.Int.{ints}
@@ -15,13 +15,11 @@ use Rattle.mc_base.specs.declared.ids.PointId.{PointId}
 use Rattle.mc_base.specs.declared.plain.Kind.{Kind}
 use Rattle.mc_base.specs.declared.plain.Kind.TheVariants.{Int, Ptr}
 use Rattle.mc_base.specs.declared.plain.VarInfo.{VarInfo}
-use Rattle.mc_base.specs.declared.plain.FaultKind.{FaultKind}
 use Rattle.mc_base.specs.declared.plain.FaultKind.TheVariants as faults
 use Rattle.mc_base.specs.declared.plain.Place.{Place}
-use Rattle.mc_base.specs.Runs.{Outcome, next, last, Final, ended, stopped, fault, Reaches, IsSafeFrom}
-use Rattle.mc_heap.specs.Heap.{Block, Heap, Region, region_of, IsAddress, HasAddresses}
+use Rattle.mc_base.specs.Runs.{next, last, ended, stopped, fault, IsSafeFrom}
+use Rattle.mc_heap.specs.Heap.{Block, Region, region_of, IsAddress, HasAddresses}
 use Rattle.mc_heap.specs.Access.{field_at, block_field, with_field, fresh_block}
-use Rattle.mc_heap.specs.Parts.{IsEmpty, Star}
 use Rattle.mc_heap.specs.Choices.{Choice}
 use Rattle.mc_heap.specs.Choices as choice
 use Rattle.mc_flow.specs.declared.instr.Operand.{Operand}
@@ -34,19 +32,19 @@ use Rattle.mc_flow.specs.declared.graph.Structs.{Structs}
 use Rattle.mc_flow.specs.declared.graph.Flow.{Flow}
 use Rattle.mc_flow.specs.declared.graph.Defs.{Defs}
 use Rattle.mc_flow.specs.Valid.{IsValid, IsInt, IsOperand, FitsKinds}
-use Rattle.mc_flow.specs.Steps.{Config, Result, StepOf, StepAt, Step, Allocates, copied, value_in, value_of, with_value, without, at_point, set_to, with_heap, address, found, loaded, written, put, stored, freed_at, freed, tested, field_count, start, IsSafeFlow}
+use Rattle.mc_flow.specs.Steps.{Config, Result, StepOf, StepAt, Step, Allocates, copied, value_in, value_of, with_value, at_point, set_to, with_heap, address, found, loaded, written, put, stored, freed_at, freed, tested, field_count, start, IsSafeFlow}
 use Rattle.mc_state.specs.declared.line.Line.{Line}
 use Rattle.mc_state.specs.declared.line.Line.TheVariants.{Header, S1, S2, S3, S8, S9, S10, S11, S12, S13, S17, L12, End}
 use Rattle.mc_state.specs.declared.edge.Edge.{Edge}
 use Rattle.mc_state.specs.declared.edge.Edge.TheVariants as edge
 use Rattle.mc_state.specs.State as st
 use Rattle.mc_state.specs.State.{State, null, unknown, var_node, with_var, without_vars, with_number, with_atom, with_block, next_node, is_null, is_false, is_wrong, is_at_null, are_same, is_block_at, has_shape, is_shaped_block_at, block_place, shaped_block_place, edge_at, fields_of, start_of, put_field, without_block, apart}
-use Rattle.mc_state.specs.Stands.{Valuation, InKind, IsTrueAtom, VarsMeet, EdgeMeets, Parts, StandsBy, Stands, EdgeIsBelow, AtomIsBelow, IsBelow, IsBounded}
+use Rattle.mc_state.specs.Stands.{Valuation, InKind, IsTrueAtom, Parts, StandsBy, EdgeIsBelow, AtomIsBelow, IsBelow, IsBounded}
 use Rattle.mc_kernel.specs.declared.branch.Branch.{Branch}
 use Rattle.mc_kernel.specs.Rules.{entry, instr_at, operand_node, with_operand, moved_to, S1Is, S2Is, S3Is, S8Is, S9Is, S10Is, S11Is, S12Is, S13Is, S17Is, L12Is, Instance, Proves, IsCertificate}
 use Rattle.mc_kernel.proofs.Parts.{HeapLaws, all_append, all_at, all_without, all_set}
 use Rattle.mc_kernel.proofs.Facts.{any_gives, and_true, or_true, null_value, same_value, wrong_false, at_position}
-use Rattle.mc_kernel.proofs.Blocks.{Meets, BlockOut, block_out, there, is_address, freed_parts, written_parts, made_parts, Lies, all_lie, apart_true, put_is_set, apart_below}
+use Rattle.mc_kernel.proofs.Blocks.{block_out, there, is_address, freed_parts, written_parts, made_parts, Lies, all_lie, apart_true, put_is_set, apart_below}
 use Rattle.mc_kernel.proofs.Standing.{AgreeBelow, extended, extended_at, extended_below, vars_get, vars_slice, vars_length, known_below, set_stands, set_bounded, forget_stands, forget_bounded, atom_stands, atom_bounded, stands_agree, number_stands, number_bounded, block_bounded, unknown_stands, unknown_bounded}
 
 -- the configuration is at the branch's point and stands for its state
@@ -303,8 +301,8 @@ s9_block laws flow b bs i c choices r place id (edge.Block at own fields) stands
     let there_is : is_some (block_field block i.shape.0 i.f) ≡ true = ap is_some (block_field_is i.shape.0 own.0 out.values i.f (shape_same i.shape own at fields both.0)) ∙ some_field out.values i.f inside in
     let after = map.insert c.heap out.address (with_field block i.f (w i.m.0)) in
     let gets : r ≡ with_heap i.q c choices after =
-      step ∙ ap (λ o. stored i.shape i.f i.q place c choices o (value_in c.vars i.y)) met.value ∙ ap (stored i.shape i.f i.q place c choices (Some (w i.m.0))) value
-      ∙ stored_is i.shape i.f i.q place c choices (w i.m.0) (v i.n.0) out.address block leads is here there_is in
+    step ∙ ap (λ o. stored i.shape i.f i.q place c choices o (value_in c.vars i.y)) met.value ∙ ap (stored i.shape i.f i.q place c choices (Some (w i.m.0))) value
+    ∙ stored_is i.shape i.f i.q place c choices (w i.m.0) (v i.n.0) out.address block leads is here there_is in
     let parts = written_parts laws w c.heap s.edges s.whole i.place at own fields out i.f i.m id listed in
     let put = put_is_set s.edges i.place i.f i.m id at own fields listed in
     leads_one _ choices r (moved_to i.q (st.with_field s i.place i.f i.m)) bs gets i.gives
@@ -416,13 +414,13 @@ s12_block laws flow b bs i c choices r place id (edge.Block at own fields) stand
     let is = is_address laws v c.heap s.edges s.whole i.place at own fields out has in
     let same : v i.n.0 ≡ v at.0 = same_value v s.atoms met.stands.null met.stands.atoms i.n at passes in
     let gets : r ≡ with_heap i.q c choices (map.remove c.heap out.address) =
-      step ∙ ap (freed i.q place c choices) value ∙ freed_is i.q place c choices (v i.n.0) out.address block (same ∙ out.leads) is here in
+    step ∙ ap (freed i.q place c choices) value ∙ freed_is i.q place c choices (v i.n.0) out.address block (same ∙ out.leads) is here in
     let after = region_of (map.remove c.heap out.address) in
     let parts = freed_parts laws v c.heap s.edges s.whole i.place at own fields out in
     let free : after out.address ≡ None = (laws.remove c.heap out.address).here in
     let lie = all_lie laws v after parts.held parts.rest (remove s.edges i.place) parts.split parts.each in
     let range : IsTrueAtom v (In at (pos 1) (pos 4611686018427387903)) =
-      (let l : v at.0 ≡ pos out.address = out.leads in let low : 1 ≤ out.address = is.0 in let high : out.address < 2 ^ 62 = is.1 in (omega (arith, ints), omega (arith, ints))) in
+    (let l : v at.0 ≡ pos out.address = out.leads in let low : 1 ≤ out.address = is.0 in let high : out.address < 2 ^ 62 = is.1 in (omega (arith, ints), omega (arith, ints))) in
     let edge_below = all_at (λ (y : EdgeId × Edge). EdgeIsBelow s.next y.1) s.edges i.place (id, edge.Block at own fields) e met.bounded.edges in
     let others_below = all_without (λ (y : EdgeId × Edge). EdgeIsBelow s.next y.1) s.edges i.place met.bounded.edges in
     leads_one _ choices r (moved_to i.q (without_block s i.place at)) bs gets gives

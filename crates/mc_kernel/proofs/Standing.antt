@@ -1,5 +1,5 @@
 -- Configurations that stand for states, as rules change them.
-use Rattle.std.proofs.Common.{◌≡◌, ◌+◌, ◌<◌, ◌≤◌, ℕ, zero, suc, List, [], ◌∷◌, ◌++◌, length, Option, Some, None, get_or, slice_get, slice_set, replicate, refl, sym, ap, ◌∙◌, subst, arith, ℤ, pos}
+use Rattle.std.proofs.Common.{◌≡◌, ◌+◌, ◌<◌, ℕ, zero, suc, List, [], ◌∷◌, ◌++◌, length, Option, Some, None, get_or, slice_get, slice_set, replicate, refl, sym, ap, ◌∙◌, subst, arith, ℤ, pos}
 use Rattle.std.specs.Prelude.{nat_eq, if◌then◌else◌}
 use Rattle.std.specs.List.{AllByRecursion}
 use Rattle.std.proofs.lemmas.Bool.Decides.{nat_tests}
@@ -10,16 +10,16 @@ use Rattle.mc_base.specs.declared.plain.Kind.{Kind}
 use Rattle.mc_base.specs.declared.plain.Kind.TheVariants.{Int, Ptr}
 use Rattle.mc_base.specs.declared.plain.Atom.{Atom}
 use Rattle.mc_base.specs.declared.plain.Atom.TheVariants.{Eq, Ne, In}
-use Rattle.mc_heap.specs.Heap.{Block, Region}
-use Rattle.mc_heap.specs.Parts.{Split, IsEmpty, IsCell, Star}
-use Rattle.mc_kernel.proofs.Parts.{HeapLaws, all_append, all_map, all_at, all_set, all_without, star_map}
+use Rattle.mc_heap.specs.Heap.{Region}
+use Rattle.mc_heap.specs.Parts.{IsEmpty}
+use Rattle.mc_kernel.proofs.Parts.{HeapLaws, all_append, all_map, all_set, star_map}
 use Rattle.mc_base.specs.declared.ids.EdgeId.{EdgeId}
 use Rattle.mc_base.specs.declared.ids.StructId.{StructId}
 use Rattle.mc_state.specs.declared.edge.Edge.{Edge}
 use Rattle.mc_state.specs.declared.edge.Edge.TheVariants as edge
-use Rattle.mc_state.specs.State.{State, null, unknown, var_node, with_var, without_vars, with_number, next_node, with_atom, with_block, put_field, with_field, with_field_node, without_block, start_of, fields_of, apart}
+use Rattle.mc_state.specs.State.{State, unknown, var_node, with_var, without_vars, with_number, next_node, with_atom, with_block}
 use Rattle.mc_flow.specs.Steps.{without}
-use Rattle.mc_state.specs.Stands.{Valuation, InKind, IsTrueAtom, VarMeets, VarsMeet, EdgeMeets, Parts, StandsBy, IsBelow, AtomIsBelow, EdgeIsBelow, IsBounded}
+use Rattle.mc_state.specs.Stands.{Valuation, InKind, IsTrueAtom, VarsMeet, EdgeMeets, StandsBy, IsBelow, AtomIsBelow, EdgeIsBelow, IsBounded}
 
 -- the valuation with one number at one node
 pub extended : Valuation → ℕ → ℤ → Valuation

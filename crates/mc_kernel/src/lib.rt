@@ -13,6 +13,8 @@ ghost use Rattle.mc_kernel.specs.Rules.{Instance, IsCertificate};
 mod branch;
 mod proof;
 mod rules;
+#[cfg(test)]
+mod tests;
 
 pub use branch::Branch;
 use mc_heap::{changes_are_local, heaps_change_one_address, parts_regroup};

@@ -1,1 +1,3 @@
+pub mod Nulls
 pub mod Places
+pub mod Wrong

@@ -1,2 +1,4 @@
+pub mod Kept
+pub mod Nulls
 pub mod State
 pub mod Stands

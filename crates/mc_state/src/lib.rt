@@ -2,8 +2,11 @@
 #![tactic(auto)]
 
 mod edge;
+mod facts;
 mod line;
 mod state;
+#[cfg(test)]
+mod tests;
 
 pub use edge::Edge;
 pub use line::{Form, Line, Version};

@@ -1,10 +1,11 @@
 // Symbolic states.
-ghost use Rattle.std.specs.Prelude.{◌≡◌, ◌<◌, ◌+◌, ◌++◌, ◌∷◌, [], IfOk, OnErr, OnOk, pos, option_map, remove, take, drop};
+ghost use Rattle.std.specs.Prelude.{◌≡◌, ◌<◌, ◌+◌, ◌++◌, ◌∷◌, ◌||◌, IfOk, OnErr, OnOk, pos, option_map, remove, take, drop};
 ghost use Rattle.std.specs.List.{list_any, position_from};
 ghost use Rattle.mc_base.specs.declared.plain.Atom.TheVariants.{Eq, Ne, In};
-ghost use Rattle.mc_state.specs.State.{unknown, null, var_node, with_var, without_vars, with_number, with_atom, with_block, with_field, without_block, says_null, is_null, are_same, is_wrong, is_at_null, is_false, is_block_at, is_shaped_block_at, block_place, shaped_block_place, edge_at, apart, put_field, next_node};
+ghost use Rattle.mc_state.specs.State.{unknown, null, var_node, with_var, without_vars, with_number, with_atom, with_block, with_field, without_block, is_null, is_wrong, is_at_null, is_false, is_block_at, is_shaped_block_at, block_place, shaped_block_place, edge_at, apart, put_field, next_node};
 
 use crate::Edge;
+use crate::facts::Facts;
 use mc_base::{Atom, EdgeId, Items, Kind, NodeId, StructId, VarId};
 use std::alloc::{AllocError, Global};
 use std::marker::Model;
@@ -16,10 +17,12 @@ pub struct State {
     env: Vec<Option<NodeId>>,
     kinds: Vec<(NodeId, Kind)>,
     edges: Vec<(EdgeId, Edge)>,
-    atoms: Vec<Atom>,
+    facts: Facts,
     next: u64,
     next_edge: u64,
     whole: bool,
+    /// What `is_false` answers.
+    wrong: bool,
 }
 
 impl Model for State {
@@ -27,95 +30,58 @@ impl Model for State {
 
     ghost Value = { Symbolic };
 
-    ghost view = { λ s. record { env = s.env.items; kinds = s.kinds.items; edges = s.edges.items; atoms = s.atoms.items; next = s.next; next_edge = s.next_edge; whole = s.whole } };
+    ghost use Rattle.mc_state.specs.Kept.{seen, KnowsFalse};
+
+    ghost view = { seen };
+
+    ghost invariant = { KnowsFalse };
 }
 
 const NULL: NodeId = NodeId(0);
 
-fn says_null(n: NodeId, atom: &Atom) -> bool
-    ensures { result ≡ says_null n atom.now }
+// The node is this number.
+fn exactly(node: NodeId, c: i64) -> Atom
+    ensures { result ≡ In node c c }
 {
-    match atom {
-        Atom::Eq(a, b, c) => a.0 == n.0 && b.0 == 0 && *c == 0,
-        Atom::Ne(_, _, _) => false,
-        Atom::In(_, _, _) => false,
-    }
+    Atom::In(node, c, c)
 }
 
-fn some_says_null(atoms: &[Atom], n: NodeId) -> bool
-    ensures { result ≡ list_any (says_null n) atoms.now }
+fn is_block_at(facts: &Facts, n: NodeId, e: &(EdgeId, Edge)) -> bool
+    ensures { result ≡ is_block_at facts.now n e.now }
 {
-    for atom in atoms {
-        if says_null(n, atom) {
-            return true;
-        }
-    }
-    false
+    facts.are_same(n, e.1.start())
 }
 
-fn is_null(atoms: &[Atom], n: NodeId) -> bool
-    ensures { result ≡ is_null atoms.now n }
+fn is_shaped_block_at(facts: &Facts, n: NodeId, shape: StructId, e: &(EdgeId, Edge)) -> bool
+    ensures { result ≡ is_shaped_block_at facts.now n shape e.now }
 {
-    n.0 == 0 || some_says_null(atoms, n)
+    e.1.has_shape(shape) && is_block_at(facts, n, e)
 }
 
-fn are_same(atoms: &[Atom], a: NodeId, b: NodeId) -> bool
-    ensures { result ≡ are_same atoms.now a b }
-{
-    a.0 == b.0 || is_null(atoms, a) && is_null(atoms, b)
-}
-
-fn is_wrong(atoms: &[Atom], atom: &Atom) -> bool
-    ensures { result ≡ is_wrong atoms.now atom.now }
-{
-    match atom {
-        Atom::Eq(_, _, _) => false,
-        Atom::Ne(a, b, c) => *c == 0 && is_null(atoms, *a) && is_null(atoms, *b),
-        Atom::In(a, lo, hi) => is_null(atoms, *a) && !(*lo <= 0 && 0 <= *hi),
-    }
-}
-
-fn is_block_at(atoms: &[Atom], n: NodeId, e: &(EdgeId, Edge)) -> bool
-    ensures { result ≡ is_block_at atoms.now n e.now }
-{
-    are_same(atoms, n, e.1.start())
-}
-
-fn is_shaped_block_at(atoms: &[Atom], n: NodeId, shape: StructId, e: &(EdgeId, Edge)) -> bool
-    ensures { result ≡ is_shaped_block_at atoms.now n shape e.now }
-{
-    e.1.has_shape(shape) && is_block_at(atoms, n, e)
-}
-
-// Whether one of these atoms is wrong beside all the atoms.
-fn some_is_wrong(atoms: &[Atom], some: &[Atom]) -> bool
-    ensures { result ≡ list_any (is_wrong atoms.now) some.now }
-{
-    for atom in some {
-        if is_wrong(atoms, atom) {
-            return true;
-        }
-    }
-    false
-}
-
-fn some_is_at_null(atoms: &[Atom], edges: &[(EdgeId, Edge)]) -> bool
-    ensures { result ≡ list_any (is_at_null atoms.now) edges.now }
+fn some_is_at_null(facts: &Facts, edges: &[(EdgeId, Edge)]) -> bool
+    ensures { result ≡ list_any (is_at_null facts.now) edges.now }
 {
     for e in edges {
-        if is_null(atoms, e.1.start()) {
+        if facts.is_null(e.1.start()) {
             return true;
         }
     }
     false
+}
+
+// Whether no configuration stands for these facts and edges.
+fn is_false(facts: &Facts, edges: &[(EdgeId, Edge)]) -> bool
+    ensures { result ≡ list_any (is_wrong facts.now) facts.now || list_any (is_at_null facts.now) edges.now }
+{
+    facts.clash() || some_is_at_null(facts, edges)
 }
 
 // The place of the first block at a node.
-fn place_of(atoms: &[Atom], edges: &[(EdgeId, Edge)], n: NodeId) -> Option<usize>
-    ensures { result ≡ position_from (is_block_at atoms.now n) 0 edges.now }
+fn place_of(facts: &Facts, edges: &[(EdgeId, Edge)], n: NodeId) -> Option<usize>
+    ensures { result ≡ position_from (is_block_at facts.now n) 0 edges.now }
 {
     for (place, e) in edges.iter().enumerate() {
-        if is_block_at(atoms, n, e) {
+        if is_block_at(facts, n, e) {
             return Some(place);
         }
     }
@@ -124,15 +90,15 @@ fn place_of(atoms: &[Atom], edges: &[(EdgeId, Edge)], n: NodeId) -> Option<usize
 
 // The place of the first block of this struct at a node.
 fn shaped_place_of(
-    atoms: &[Atom],
+    facts: &Facts,
     edges: &[(EdgeId, Edge)],
     n: NodeId,
     shape: StructId,
 ) -> Option<usize>
-    ensures { result ≡ position_from (is_shaped_block_at atoms.now n shape) 0 edges.now }
+    ensures { result ≡ position_from (is_shaped_block_at facts.now n shape) 0 edges.now }
 {
     for (place, e) in edges.iter().enumerate() {
-        if is_shaped_block_at(atoms, n, shape, e) {
+        if is_shaped_block_at(facts, n, shape, e) {
             return Some(place);
         }
     }
@@ -148,10 +114,11 @@ impl State {
             env: vec![in alloc; None; vars]?,
             kinds: Vec::new(alloc),
             edges: Vec::new(alloc),
-            atoms: Vec::new(alloc),
+            facts: Facts::new(alloc),
             next: 1,
             next_edge: 0,
             whole: true,
+            wrong: false,
         })
     }
 
@@ -163,10 +130,11 @@ impl State {
             env: Vec::from_slice(alloc, self.env.as_slice())?,
             kinds: Vec::from_slice(alloc, self.kinds.as_slice())?,
             edges: copied(alloc, self.edges.as_slice())?,
-            atoms: Vec::from_slice(alloc, self.atoms.as_slice())?,
+            facts: self.facts.copy(alloc)?,
             next: self.next,
             next_edge: self.next_edge,
             whole: self.whole,
+            wrong: self.wrong,
         })
     }
 
@@ -206,15 +174,14 @@ impl State {
     pub fn is_null(&self, n: NodeId) -> bool
         ensures { result ≡ is_null self.now.atoms n }
     {
-        is_null(self.atoms.as_slice(), n)
+        self.facts.is_null(n)
     }
 
     /// Whether no configuration stands for the state.
     pub fn is_false(&self) -> bool
         ensures { result ≡ is_false self.now }
     {
-        let atoms = self.atoms.as_slice();
-        some_is_wrong(atoms, atoms) || some_is_at_null(atoms, self.edges.as_slice())
+        self.wrong
     }
 
     /// Adds a new node of kind `Int` that is this number. Without memory the state stays.
@@ -227,11 +194,13 @@ impl State {
             return Err(AllocError);
         }
         self.kinds.reserve(1)?;
-        self.atoms.reserve(1)?;
         let node = NodeId(self.next);
+        let fact = exactly(node, c);
+        let wrong = self.facts.is_wrong(&fact);
+        self.facts.extend(&[fact])?;
         self.kinds.push((node, Kind::Int)).unwrap();
-        self.atoms.push(Atom::In(node, c, c)).unwrap();
         self.next += 1;
+        self.wrong |= wrong;
         Ok(node)
     }
 
@@ -240,7 +209,8 @@ impl State {
         ensures state { OnOk result (self.new ≡ with_atom self.old (Eq n null (pos 0))) }
         ensures err { OnErr result (self.new ≡ self.old) }
     {
-        self.atoms.push(Atom::Eq(n, NULL, 0))?;
+        self.facts.push_null(n)?;
+        self.wrong = is_false(&self.facts, self.edges.as_slice());
         Ok(())
     }
 
@@ -249,7 +219,10 @@ impl State {
         ensures state { OnOk result (self.new ≡ with_atom self.old (Ne n null (pos 0))) }
         ensures err { OnErr result (self.new ≡ self.old) }
     {
-        self.atoms.push(Atom::Ne(n, NULL, 0))?;
+        let fact = Atom::Ne(n, NULL, 0);
+        let wrong = self.facts.is_wrong(&fact);
+        self.facts.extend(&[fact])?;
+        self.wrong |= wrong;
         Ok(())
     }
 
@@ -257,14 +230,14 @@ impl State {
     pub fn block(&self, n: NodeId) -> Option<usize>
         ensures { result ≡ block_place self.now n }
     {
-        place_of(self.atoms.as_slice(), self.edges.as_slice(), n)
+        place_of(&self.facts, self.edges.as_slice(), n)
     }
 
     /// The place of the first block of this struct at the node.
     pub fn shaped_block(&self, n: NodeId, shape: StructId) -> Option<usize>
         ensures { result ≡ shaped_block_place self.now n shape }
     {
-        shaped_place_of(self.atoms.as_slice(), self.edges.as_slice(), n, shape)
+        shaped_place_of(&self.facts, self.edges.as_slice(), n, shape)
     }
 
     /// Adds a new block of this struct at a new node, of whose fields nothing is known, and answers the node.
@@ -293,6 +266,7 @@ impl State {
             .unwrap();
         self.next += 1;
         self.next_edge += 1;
+        self.wrong |= self.facts.is_null(node);
         Ok(node)
     }
 
@@ -302,11 +276,12 @@ impl State {
         ensures state { OnOk result (self.new ≡ without_block self.old place at) }
         ensures err { OnErr result (self.new ≡ self.old) }
     {
-        let facts = freed_facts(alloc, self.edges.as_slice(), place, at)?;
-        self.atoms.extend_from_slice(facts.as_slice())?;
+        let freed = freed_facts(alloc, self.edges.as_slice(), place, at)?;
+        self.facts.extend(freed.as_slice())?;
         if place < self.edges.len() {
             let _ = self.edges.remove(place);
         }
+        self.wrong = is_false(&self.facts, self.edges.as_slice());
         Ok(())
     }
 

@@ -3,4 +3,4 @@ use Rattle.mc_state.specs.State.{are_same}
 use Rattle.mc_state.proofs.state.is_block_at.Goals as goal
 
 pub returns : goal.returns
-returns c = c.are_same.ensures ∙ ap (are_same c.args.atoms.now c.args.n) c.start.ensures
+returns c = c.are_same.ensures ∙ ap (are_same c.args.facts.now c.args.n) c.start.ensures

@@ -4,4 +4,4 @@ use Rattle.mc_state.specs.State.{is_at_null}
 use Rattle.mc_state.proofs.state.some_is_at_null.Given as goal
 
 abbrev pub invariant-loop-e : goal.invariant-loop-e
-invariant-loop-e l = list_any (is_at_null l.atoms) l.edges ≡ list_any (is_at_null l.atoms) (drop l.e-index l.edges)
+invariant-loop-e l = list_any (is_at_null l.facts) l.edges ≡ list_any (is_at_null l.facts) (drop l.e-index l.edges)

@@ -1,0 +1,14 @@
+//! Equalities with offsets and disequalities between numbered nodes.
+#![tactic(auto)]
+
+mod assume;
+mod classes;
+mod equal;
+mod forget;
+mod groups;
+mod rename;
+#[cfg(test)]
+mod tests;
+
+pub use classes::{Class, Gap, Join, Link};
+pub use equal::{Equal, NoMemory, derived_is_true};

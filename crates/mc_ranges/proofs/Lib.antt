@@ -1,0 +1,4 @@
+pub mod Least
+pub mod Plain
+pub mod Products
+pub mod Nearest
