@@ -1,3 +1,5 @@
+mod bodies;
+
 use crate::{Status, memcad};
 use mc_base::{MemFiles, MemSink};
 use std::alloc::{AllocError, Global};

@@ -1,0 +1,195 @@
+use super::{ends, files};
+use std::alloc::{AllocError, Global};
+use std::test::Fail;
+
+const STRUCT: &str = "struct node { int data; struct node *next; };\nint main() {\n";
+
+// Bodies of `main` behind the struct, the names of a document's lines between its header and its end,
+// and the number that a check of them ends with.
+static BODIES: [(&str, &str, u8); 44] = [
+    // Allocated, tested, written and freed; and without the null branch, and without the last line.
+    (
+        "struct node *p = malloc(sizeof(struct node)); if (p == NULL) return 0; p->data = 1; free(p); return 0;",
+        "S1 S10 S13 S2 S17 L12 S13 L12 S1 S9 S12 S2 S17",
+        0,
+    ),
+    (
+        "struct node *p = malloc(sizeof(struct node)); if (p == NULL) return 0; p->data = 1; free(p); return 0;",
+        "S1 S10 S13 L12 S1 S9 S12 S2 S17",
+        6,
+    ),
+    (
+        "struct node *p = malloc(sizeof(struct node)); if (p == NULL) return 0; p->data = 1; free(p); return 0;",
+        "S1 S10 S13 S2 S17 L12 S13 L12 S1 S9 S12 S2",
+        6,
+    ),
+    // Without the test.
+    (
+        "struct node *p = malloc(sizeof(struct node)); p->data = 1; free(p); return 0;",
+        "S1 S10 S13 S2 S17 L12 S13 L12 S1 S9 S12 S2 S17",
+        6,
+    ),
+    (
+        "struct node *p = malloc(sizeof(struct node)); p->data = 1; free(p); return 0;",
+        "S1 S10 S9 S12 S2 S17",
+        6,
+    ),
+    (
+        "struct node *p = malloc(sizeof(struct node)); p->data = 1; free(p); return 0;",
+        "S1 S10 L12 S9 S12 S2 S17",
+        6,
+    ),
+    // Null may be freed, and a pointer that is tested may be null.
+    (
+        "struct node *p = malloc(sizeof(struct node)); free(p); return 0;",
+        "S1 S10 S11 S2 S17 S12 S2 S17",
+        0,
+    ),
+    (
+        "struct node *p = malloc(sizeof(struct node)); free(p); return 0;",
+        "S1 S10 S12 S2 S17 S12 S2 S17",
+        6,
+    ),
+    (
+        "struct node *p = malloc(sizeof(struct node)); free(p); return 0;",
+        "S1 S10 S11 S2 S17 S11 S2 S17",
+        6,
+    ),
+    ("free(NULL); return 0;", "S1 S11 S2 S17", 0),
+    ("free(NULL); return 0;", "S1 S12 S2 S17", 6),
+    // Freed twice, written and read after it was freed.
+    (
+        "struct node *p = malloc(sizeof(struct node)); if (p == NULL) return 0; free(p); free(p); return 0;",
+        "S1 S10 S13 S2 S17 L12 S13 L12 S1 S12 S12 S2 S17",
+        6,
+    ),
+    (
+        "struct node *p = malloc(sizeof(struct node)); if (p == NULL) return 0; free(p); free(p); return 0;",
+        "S1 S10 S13 S2 S17 L12 S13 L12 S1 S12 S11 S2 S17",
+        6,
+    ),
+    (
+        "struct node *p = malloc(sizeof(struct node)); if (p == NULL) return 0; free(p); p->data = 1; return 0;",
+        "S1 S10 S13 S2 S17 L12 S13 L12 S1 S12 S9 S2 S17",
+        6,
+    ),
+    (
+        "struct node *p = malloc(sizeof(struct node)); if (p == NULL) return 0; p->data = 1; free(p); int x = p->data; return 0;",
+        "S1 S10 S13 S2 S17 L12 S13 L12 S1 S9 S12 S8 S2 S17",
+        6,
+    ),
+    // Read before it was written, and behind that.
+    (
+        "struct node *p = malloc(sizeof(struct node)); if (p == NULL) return 0; int x = p->data; free(p); return 0;",
+        "S1 S10 S13 S2 S17 L12 S13 L12 S1 S8 S12 S2 S17",
+        6,
+    ),
+    (
+        "struct node *p = malloc(sizeof(struct node)); if (p == NULL) return 0; p->data = 7; int x = p->data; free(p); return 0;",
+        "S1 S10 S13 S2 S17 L12 S13 L12 S1 S9 S8 S12 S2 S17",
+        0,
+    ),
+    (
+        "struct node *p = malloc(sizeof(struct node)); if (p == NULL) return 0; p->data = 7; struct node *q = p->next; free(p); return 0;",
+        "S1 S10 S13 S2 S17 L12 S13 L12 S1 S9 S8 S12 S2 S17",
+        6,
+    ),
+    ("struct node *p; return 0;", "S1 S3 S2 S17", 0),
+    ("struct node *p; return 0;", "S1 S2 S17", 6),
+    ("struct node *p; free(p); return 0;", "S1 S3 S11 S2 S17", 6),
+    ("struct node *p; if (p == NULL) return 0; return 0;", "S1 S3 S13 S2 S17 S1 S2 S17", 6),
+    // Pointers in fields: null, the block itself, and the block freed by its own field.
+    (
+        "struct node *p = malloc(sizeof(struct node)); if (p == NULL) return 0; p->next = NULL; struct node *q = p->next; if (q == NULL) return 0; free(p); return 0;",
+        "S1 S10 S13 S2 S17 L12 S13 L12 S1 S9 S8 S13 S2 S17 L12",
+        0,
+    ),
+    (
+        "struct node *p = malloc(sizeof(struct node)); if (p == NULL) return 0; p->next = p; struct node *q = p->next; free(q); return 0;",
+        "S1 S10 S13 S2 S17 L12 S13 L12 S1 S9 S8 S12 S2 S17",
+        0,
+    ),
+    (
+        "struct node *p = malloc(sizeof(struct node)); if (p == NULL) return 0; p->next = p; struct node *q = p->next; free(q); free(p); return 0;",
+        "S1 S10 S13 S2 S17 L12 S13 L12 S1 S9 S8 S12 S12 S2 S17",
+        6,
+    ),
+    // Freed and allocated again: the new block is freed, or the old pointer is used.
+    (
+        "struct node *p = malloc(sizeof(struct node)); if (p == NULL) return 0; free(p); struct node *q = malloc(sizeof(struct node)); if (q == NULL) return 0; q->data = 1; free(q); return 0;",
+        "S1 S10 S13 S2 S17 L12 S13 L12 S1 S12 S10 S13 S2 S17 L12 S13 L12 S1 S9 S12 S2 S17",
+        0,
+    ),
+    (
+        "struct node *p = malloc(sizeof(struct node)); if (p == NULL) return 0; free(p); struct node *q = malloc(sizeof(struct node)); if (q == NULL) return 0; q->data = 1; free(p); return 0;",
+        "S1 S10 S13 S2 S17 L12 S13 L12 S1 S12 S10 S13 S2 S17 L12 S13 L12 S1 S9 S12 S2 S17",
+        6,
+    ),
+    (
+        "struct node *p = malloc(sizeof(struct node)); if (p == NULL) return 0; free(p); struct node *q = malloc(sizeof(struct node)); if (q == NULL) return 0; p->data = 1; free(q); return 0;",
+        "S1 S10 S13 S2 S17 L12 S13 L12 S1 S12 S10 S13 S2 S17 L12 S13 L12 S1 S9 S12 S2 S17",
+        6,
+    ),
+    (
+        "struct node *p = malloc(sizeof(struct node)); if (p == NULL) return 0; free(p); p = malloc(sizeof(struct node)); free(p); return 0;",
+        "S1 S10 S13 S2 S17 L12 S13 L12 S1 S12 S10 S11 S2 S17 S12 S2 S17",
+        0,
+    ),
+    // Two blocks at a time; the waiting branches are closed last in, first out.
+    (
+        "struct node *p = malloc(sizeof(struct node)); struct node *q = malloc(sizeof(struct node)); free(q); free(p); return 0;",
+        "S1 S10 S10 S11 S11 S2 S17 S12 S11 S2 S17 S10 S11 S12 S2 S17 S12 S12 S2 S17",
+        0,
+    ),
+    (
+        "struct node *p = malloc(sizeof(struct node)); struct node *q = malloc(sizeof(struct node)); free(q); free(q); return 0;",
+        "S1 S10 S10 S11 S11 S2 S17 S12 S12 S2 S17 S10 S11 S11 S2 S17 S12 S12 S2 S17",
+        6,
+    ),
+    // A document is no certificate where its state is not false, or a branch is left out.
+    ("return 0;", "S1 L12", 6),
+    ("return 0;", "S1 S2 S17 S17", 6),
+    // No straight programs.
+    ("struct node *p; struct node *p; return 0;", "S1 S3 S3 S2 S17", 3),
+    ("p->data = 1; struct node *p; return 0;", "S1 S9 S3 S2 S17", 3),
+    ("struct node *p; p->size = 1; return 0;", "S1 S3 S9 S2 S17", 3),
+    ("struct node *p; p->data = NULL; return 0;", "S1 S3 S9 S2 S17", 3),
+    ("struct node *p; p->data = 2147483648; return 0;", "S1 S3 S9 S2 S17", 3),
+    ("struct node *p; int x = p->next; return 0;", "S1 S3 S8 S2 S17", 3),
+    ("struct node *free; return 0;", "S1 S3 S2 S17", 3),
+    ("struct list *p; return 0;", "S1 S3 S2 S17", 3),
+    ("struct node *p; if (p == 0) return 0; return 0;", "S1 S3 S13 S2 S17 S1 S2 S17", 3),
+    ("free(NULL); /* nothing */ return 0;", "S1 S11 S2 S17", 3),
+    ("int x; return 0;", "S1 S3 S2 S17", 3),
+];
+
+// The program with this body behind the struct.
+fn program(alloc: Global, body: &str) -> Result<Vec<u8>, AllocError> {
+    let mut text = Vec::from_slice(alloc, STRUCT.as_bytes())?;
+    text.extend_from_slice(body.as_bytes())?;
+    text.extend_from_slice(b"\n}\n")?;
+    Ok(text)
+}
+
+// The document with lines of these names between its header and its end.
+fn document(alloc: Global, names: &str) -> Result<String, AllocError> {
+    let mut text = String::from_str(alloc, "[\"memcad\",1,\"certificate\"]\n")?;
+    for name in names.split_whitespace() {
+        text.push_str("[\"")?;
+        text.push_str(name)?;
+        text.push_str("\"]\n")?;
+    }
+    text.push_str("[\"end\"]\n")?;
+    Ok(text)
+}
+
+#[test]
+fn bodies_are_judged(rt: HostRuntime) -> Result<(), Fail> {
+    let alloc = rt.alloc();
+    for (body, names, code) in &BODIES {
+        let document = document(alloc, names)?;
+        let files = files(alloc, program(alloc, body)?, Vec::new(alloc), &document, 0)?;
+        assert!(rt; ends(alloc, "check p d c", files, 0, *code)?, "{code}: {body}");
+    }
+    Ok(())
+}
