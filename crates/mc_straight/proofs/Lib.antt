@@ -4,3 +4,6 @@ pub mod Simulating
 pub mod Statements
 pub mod Matching
 pub mod Validity
+pub mod Tokens
+pub mod Numbers
+pub mod Grammar
