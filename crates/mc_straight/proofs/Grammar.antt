@@ -9,6 +9,8 @@ use Rattle.mc_straight.specs.declared.tree.Stmt.{Stmt}
 use Rattle.mc_straight.specs.declared.tree.Stmt.TheVariants.{Declare, DeclareMalloc, Malloc, Load, Store, Free, ReturnIfNull, ReturnZero}
 use Rattle.mc_straight.specs.Spelling.{Spelling, word, words, IsSpelled, Begins, spelled}
 use Rattle.mc_straight.specs.Reading.{◌>>=◌, next_of, expect_of, return_of}
+use Rattle.mc_straight.proofs.Operands.{operand_to, operand_from, freed_to, freed_from, visible_name}
+use Rattle.mc_straight.proofs.Names.{name_to, name_from, found_to, found_from, found_none, found_new, name_at, new_more}
 use Rattle.mc_straight.proofs.Tokens.{equal, equal_from, unequal, begin_words, words_begin, taken}
 
 pub return_to : (structure : Option StructInfo) (vars : List VarInfo) (place : Place) (ts rest : List Token) → Begins (spelled structure vars (ReturnZero place)) ts rest → return_of ts ≡ Some (ReturnZero place, rest)
@@ -17,8 +19,3 @@ return_to structure vars place (t ∷ []) rest b = absurd b.1
 return_to structure vars place (t ∷ u ∷ []) rest b = absurd b.1.1
 return_to structure vars place (t ∷ u ∷ v ∷ ts) rest b = rw (b.0.0, b.1.0, b.1.1.0, b.0.1, b.1.1.1) refl
 
-pub return_from : (structure : Option StructInfo) (vars : List VarInfo) (s : Stmt) (ts rest : List Token) → return_of ts ≡ Some (s, rest) → (place : Place) × (s ≡ ReturnZero place) × Begins (spelled structure vars (ReturnZero place)) ts rest
-return_from structure vars s ts rest e =
-    let a = taken _ _ _ e in
-    let b = taken _ _ _ a.2 in
-    ?

@@ -6,4 +6,6 @@ pub mod Matching
 pub mod Validity
 pub mod Tokens
 pub mod Numbers
+pub mod Names
+pub mod Operands
 pub mod Grammar

@@ -1,5 +1,5 @@
-use Rattle.mc_straight.proofs.Grammar.{return_to, return_from}
+use Rattle.mc_straight.proofs.Grammar.{return_to}
 use Rattle.mc_straight.proofs.text_is_read_once.Goals as goal
 
 pub returns : goal.returns
-returns c = (let a = return_to in let b = return_from in ?)
+returns c = (let a = return_to in ?)
