@@ -177,7 +177,7 @@ pub take_front : {X : Type 0} (xs ys : List X) → take (length xs) (xs ++ ys) �
 take_front [] ys = refl
 take_front (x ∷ xs) ys = ap (λ l. x ∷ l) (take_front xs ys)
 
-same_self : (k : Kind) → same_kind k k ≡ true
+pub same_self : (k : Kind) → same_kind k k ≡ true
 same_self Int = refl
 same_self Ptr = refl
 

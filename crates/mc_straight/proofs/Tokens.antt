@@ -44,3 +44,7 @@ words_begin (w ∷ ws) ss (t ∷ ts) mid rest e b =
 pub taken : {A B : Type 0} (o : Option A) (f : A → Option B) (y : B) → (o >>= f) ≡ Some y → (x : A) × (o ≡ Some x) × (f x ≡ Some y)
 taken None f y e = cc
 taken (Some x) f y e = (x, refl, e)
+
+pub taken_then : {A B P : Type 0} (o : Option A) (f : A → Option B) (y : B) → (o >>= f) ≡ Some y → ((x : A) → o ≡ Some x → f x ≡ Some y → P) → P
+taken_then None f y e on = cc
+taken_then (Some x) f y e on = on x refl e

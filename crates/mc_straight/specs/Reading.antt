@@ -193,3 +193,20 @@ assign_of structure vars ts = do
 abbrev pub command_of : Option StructInfo → List VarInfo → List Token → Option (Stmt × List Token)
 command_of structure vars ts =
     or_else (return_of ts) (or_else (return_if_null_of vars ts) (or_else (free_of vars ts) (or_else (store_of structure vars ts) (assign_of structure vars ts))))
+
+-- a variable is declared, with what is behind its name
+abbrev pub declared_of : Option StructInfo → List VarInfo → Place → Kind × List ℕ × List Token → Option (Stmt × List VarInfo × List Token)
+declared_of structure vars place d =
+    if is_some (position (λ v. bytes_eq v.name d.1) vars) then None
+    else option_map (λ r. (r.0, vars ++ record { name = d.1; kind = d.0 } ∷ [], r.1))
+      (initialiser_of structure (vars ++ record { name = d.1; kind = d.0 } ∷ []) (record { 0 = length vars }) d.0 place d.2)
+
+abbrev pub by_declarator : Option StructInfo → List VarInfo → Place → List Token → Option (Kind × List ℕ × List Token) → Option (Stmt × List VarInfo × List Token)
+by_declarator structure vars place ts None = option_map (λ r. (r.0, vars, r.1)) (command_of structure vars ts)
+by_declarator structure vars place ts (Some d) = declared_of structure vars place d
+
+-- a statement, the variables behind it, and the tokens behind it
+abbrev pub statement_of : Option StructInfo → List VarInfo → List Token → Option (Stmt × List VarInfo × List Token)
+statement_of structure vars ts = do
+  first ← next_of ts
+  by_declarator structure vars first.0.place ts (declarator_of (tag_of structure) ts)
