@@ -9,3 +9,4 @@ pub mod Numbers
 pub mod Names
 pub mod Operands
 pub mod Grammar
+pub mod Deciding
