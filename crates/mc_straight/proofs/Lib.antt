@@ -10,3 +10,4 @@ pub mod Names
 pub mod Operands
 pub mod Grammar
 pub mod Deciding
+pub mod Stating
