@@ -15,9 +15,9 @@ use Rattle.mc_flow.specs.declared.graph.StructInfo.{StructInfo}
 use Rattle.mc_straight.specs.declared.tree.IfPlaces.{IfPlaces}
 use Rattle.mc_straight.specs.declared.tree.Stmt.{Stmt}
 use Rattle.mc_straight.specs.declared.tree.Stmt.TheVariants.{Declare, DeclareMalloc, Malloc, Load, Store, Free, ReturnIfNull, ReturnZero}
-use Rattle.mc_straight.specs.Spelling.{Spelling, word, word_at, words, IsSpelled, Begins, spelled, tag_of, name_of, kind_of, field_name, type_at, malloc_of}
+use Rattle.mc_straight.specs.Spelling.{Spelling, word, word_at, words, IsSpelled, Begins, spelled, tag_of, name_of, kind_of, field_name, field_kind, type_at, malloc_of}
 use Rattle.mc_straight.specs.Typing.{IsName, IsNew, AreNew, IsTypedStructure, IsVisible, IsDeclared, HasField, IsTypedStmt, declared_behind, keywords, reserved}
-use Rattle.mc_straight.specs.Reading.{◌>>=◌, or_else, next_of, expect_of, is_name, type_of_tokens, declarator_of, declare_of, declare_malloc_of, load_of, initialiser_of, return_of, return_if_null_of, free_of, store_of, assign_of, command_of, declared_of, by_declarator, statement_of}
+use Rattle.mc_straight.specs.Reading.{◌>>=◌, or_else, next_of, expect_of, var_of, field_of, operand_of, is_name, type_of_tokens, declarator_of, declare_of, declare_malloc_of, load_of, initialiser_of, return_of, return_if_null_of, free_of, store_of, assign_of, command_of, declared_of, by_declarator, statement_of}
 use Rattle.mc_straight.proofs.Operands.{visible_name}
 use Rattle.mc_straight.proofs.Names.{name_to, name_from, found_none, found_new, new_more, mapped, unmapped, get_seam, take_front}
 use Rattle.mc_straight.proofs.Tokens.{equal, equal_from, unequal, begin_words, words_begin, taken_then, chosen}
@@ -108,3 +108,131 @@ load_init : (structure : Option StructInfo) (vars later : List VarInfo) (x y : V
     → Begins (LoadTokens structure (vars ++ later) y f) ts rest → load_of structure vars x k place ts ≡ Some (Load x y f place, rest) → initialiser_of structure vars x k place ts ≡ Some (Load x y f place, rest)
 load_init structure vars later x y f Int place ts rest b e = e
 load_init structure vars later x y f Ptr place ts rest b e = load_pointer structure vars later x y f place ts rest b e
+
+-- ---- both ways
+
+stated_by : (structure : Option StructInfo) (vars later more : List VarInfo) (v : VarInfo) (k : Kind) (x : VarId) (place : Place) (s : Stmt) (ts mid rest : List Token) (f : Token × List Token)
+    → later ≡ v ∷ more → v.kind ≡ k → x.0 ≡ length vars → next_of ts ≡ Some f → f.0.place ≡ place → declarator_of (tag_of structure) ts ≡ Some (k, v.name, mid) → AreNew [] (names vars) → IsNew (names vars) v.name
+    → initialiser_of structure (vars ++ v ∷ []) x k place mid ≡ Some (s, rest) → declared_behind (length vars) s ≡ suc (length vars)
+    → StatedTo structure vars later s ts rest
+stated_by structure vars later more v k x place s ts mid rest f le ke xe nx fp de new n init count =
+    let init1 : initialiser_of structure (vars ++ v ∷ []) x v.kind place mid ≡ Some (s, rest) = subst (λ k. initialiser_of structure (vars ++ v ∷ []) x k place mid ≡ Some (s, rest)) (sym ke) init in
+    let init2 : initialiser_of structure (vars ++ v ∷ []) (record { 0 = length vars }) v.kind place mid ≡ Some (s, rest) = subst (λ y. initialiser_of structure (vars ++ v ∷ []) y v.kind place mid ≡ Some (s, rest)) (numbered vars x xe) init1 in
+    let init3 : initialiser_of structure (vars ++ v ∷ []) (record { 0 = length vars }) v.kind f.0.place mid ≡ Some (s, rest) = subst (λ pl. initialiser_of structure (vars ++ v ∷ []) (record { 0 = length vars }) v.kind pl mid ≡ Some (s, rest)) (sym fp) init2 in
+    let de1 : declarator_of (tag_of structure) ts ≡ Some (v.kind, v.name, mid) = subst (λ k. declarator_of (tag_of structure) ts ≡ Some (k, v.name, mid)) (sym ke) de in
+    subst (λ l. StatedTo structure vars l s ts rest) (sym le) (stated_declared structure vars more v s ts mid rest f nx de1 new n init3 count)
+
+command_stated : (structure : Option StructInfo) (vars later : List VarInfo) (s : Stmt) (t : Token) (ts rest : List Token)
+    → declarator_of (tag_of structure) (t ∷ ts) ≡ None → command_of structure vars (t ∷ ts) ≡ Some (s, rest) → declared_behind (length vars) s ≡ length vars → AreNew [] (names vars) → StatedTo structure vars later s (t ∷ ts) rest
+command_stated structure vars later s t ts rest de cm count new = (vars, later, rw (de, cm) refl, refl, sym count, new)
+
+third : {A : Type 0} (a b c d : Option A) (y : A) → a ≡ None → b ≡ None → c ≡ Some y → or_else a (or_else b (or_else c d)) ≡ Some y
+third a b c d y p q r = rw (p, q, r) refl
+
+fourth : {A : Type 0} (a b c d e : Option A) (y : A) → a ≡ None → b ≡ None → c ≡ None → d ≡ Some y → or_else a (or_else b (or_else c (or_else d e))) ≡ Some y
+fourth a b c d e y p q r s = rw (p, q, r, s) refl
+
+fifth : {A : Type 0} (a b c d e : Option A) (y : A) → a ≡ None → b ≡ None → c ≡ None → d ≡ None → e ≡ Some y → or_else a (or_else b (or_else c (or_else d e))) ≡ Some y
+fifth a b c d e y p q r s u = rw (p, q, r, s) u
+
+nothing : {A B : Type 0} (o : Option A) (f : A → Option B) → ((x : A) → f x ≡ None) → (o >>= f) ≡ None
+nothing None f h = refl
+nothing (Some x) f h = h x
+
+-- a name begins no other statement
+record Begun (w : List ℕ) : Type 0 where
+  no_int : w ≢ codes "int"
+  no_struct : w ≢ codes "struct"
+  no_return : w ≢ codes "return"
+  no_if : w ≢ codes "if"
+  no_free : w ≢ codes "free"
+
+begun : (w : List ℕ) → IsName w → Begun w
+begun w h =
+    let k : length keywords ≡ 44 = refl in
+    let r : length reserved ≡ 9 = refl in
+    record {
+      no_int = λ e. h.no_keyword 17 w (omega arith) (sym e);
+      no_struct = λ e. h.no_keyword 26 w (omega arith) (sym e);
+      no_return = λ e. h.no_keyword 21 w (omega arith) (sym e);
+      no_if = λ e. h.no_keyword 15 w (omega arith) (sym e);
+      no_free = λ e. h.not_reserved 2 w (omega arith) (sym e);
+    }
+
+no_declarator : (tag : List ℕ) (t : Token) (ts : List Token) → Begun t.text → declarator_of tag (t ∷ ts) ≡ None
+no_declarator tag t ts h = rw (unequal t.text (codes "int") h.no_int, unequal t.text (codes "struct") h.no_struct) refl
+
+no_return : (t : Token) (ts : List Token) → t.text ≢ codes "return" → return_of (t ∷ ts) ≡ None
+no_return t ts h = rw (unequal t.text (codes "return") h) refl
+
+no_if : (vars : List VarInfo) (t : Token) (ts : List Token) → t.text ≢ codes "if" → return_if_null_of vars (t ∷ ts) ≡ None
+no_if vars t ts h = rw (unequal t.text (codes "if") h) refl
+
+no_free : (vars : List VarInfo) (t : Token) (ts : List Token) → t.text ≢ codes "free" → free_of vars (t ∷ ts) ≡ None
+no_free vars t ts h = rw (unequal t.text (codes "free") h) refl
+
+no_store : (structure : Option StructInfo) (vars : List VarInfo) (t u : Token) (ts : List Token) → u.text ≡ codes "=" → store_of structure vars (t ∷ u ∷ ts) ≡ None
+no_store structure vars t u ts e = nothing (var_of vars Ptr t.text) (λ y. ((expect_of (u ∷ ts) (codes "->" ∷ [])) >>= λ a. ((next_of a) >>= λ name. ((field_of structure name.0.text) >>= λ f. ((expect_of name.1 (codes "=" ∷ [])) >>= λ b. ((next_of b) >>= λ value. ((operand_of vars (field_kind structure f) value.0.text) >>= λ o. ((expect_of value.1 (codes ";" ∷ [])) >>= λ out. Some (Store y f o t.place, out))))))))) (λ y. rw e refl)
+
+first_is : {A : Type 0} (a b : Option A) (y : A) → a ≡ Some y → or_else a b ≡ Some y
+first_is a b y e = rw e refl
+
+malloc_undeclared : (structure : Option StructInfo) (x : VarId) (place : Place) (ts rest : List Token) → Begins (words (malloc_of (tag_of structure))) ts rest → declare_of structure x place ts ≡ None
+malloc_undeclared structure x place [] rest b = absurd b
+malloc_undeclared structure x place (t ∷ ts) rest b = declare_none structure x place t ts b.0
+
+load_begins : (structure : Option StructInfo) (all : List VarInfo) (x y : VarId) (f : ℕ) (place : Place) (ts rest : List Token) → Begins (spelled structure all (Load x y f place)) ts rest → Begins (type_at (tag_of structure) (kind_of all x) place ++ word (name_of all x) ∷ LoadTokens structure all y f) ts rest
+load_begins structure all x y f place ts rest b = b
+
+pub statement_to : (structure : Option StructInfo) (vars later : List VarInfo) (s : Stmt) (ts rest : List Token) → IsTypedStructure structure → AreNew [] (names vars) → Reads structure (vars ++ later) (length vars) s ts rest → StatedTo structure vars later s ts rest
+statement_to structure vars later (Declare x place) ts rest typed new r =
+    let d = declared_as vars later Ptr x r.1.1 in
+    let b : Begins (type_at (tag_of structure) Ptr place ++ word d.0.name ∷ words (codes ";" ∷ [])) ts rest = subst (λ w. Begins (type_at (tag_of structure) Ptr place ++ word w ∷ words (codes ";" ∷ [])) ts rest) d.4 r.0 in
+    let m = declarator_to (tag_of structure) Ptr place d.0.name (words (codes ";" ∷ [])) ts rest d.6.name b in
+    stated_by structure vars later d.1 d.0 Ptr x place (Declare x place) ts m.0 rest m.3.0 d.2 d.3 r.1.1.0 m.3.1 m.3.2 m.1 new d.6
+      (first_is (declare_of structure x place m.0) (or_else (declare_malloc_of structure x place m.0) (load_of structure (vars ++ d.0 ∷ []) x Ptr place m.0)) (Declare x place, rest) (declare_to structure x place m.0 rest r.1.0 m.2)) refl
+statement_to structure vars later (DeclareMalloc x place) ts rest typed new r =
+    let d = declared_as vars later Ptr x r.1.1 in
+    let tail : List Spelling = words (malloc_of (tag_of structure)) in
+    let b : Begins (type_at (tag_of structure) Ptr place ++ word d.0.name ∷ tail) ts rest = subst (λ w. Begins (type_at (tag_of structure) Ptr place ++ word w ∷ tail) ts rest) d.4 r.0 in
+    let m = declarator_to (tag_of structure) Ptr place d.0.name tail ts rest d.6.name b in
+    stated_by structure vars later d.1 d.0 Ptr x place (DeclareMalloc x place) ts m.0 rest m.3.0 d.2 d.3 r.1.1.0 m.3.1 m.3.2 m.1 new d.6
+      (second (declare_of structure x place m.0) (declare_malloc_of structure x place m.0) (load_of structure (vars ++ d.0 ∷ []) x Ptr place m.0) (DeclareMalloc x place, rest) (malloc_undeclared structure x place m.0 rest m.2) (declare_malloc_to structure x place m.0 rest r.1.0 m.2)) refl
+statement_to structure vars later (Load x y f place) ts rest typed new r =
+    let k : Kind = r.1.0 in
+    let d = declared_as vars later k x r.1.1 in
+    let all : List VarInfo = vars ++ later in
+    let tail : List Spelling = LoadTokens structure all y f in
+    let b0 : Begins (type_at (tag_of structure) k place ++ word (name_of all x) ∷ tail) ts rest = subst (λ k. Begins (type_at (tag_of structure) k place ++ word (name_of all x) ∷ tail) ts rest) d.5 (load_begins structure all x y f place ts rest r.0) in
+    let b : Begins (type_at (tag_of structure) k place ++ word d.0.name ∷ tail) ts rest = subst (λ w. Begins (type_at (tag_of structure) k place ++ word w ∷ tail) ts rest) d.4 b0 in
+    let m = declarator_to (tag_of structure) k place d.0.name tail ts rest d.6.name b in
+    let same : all ≡ (vars ++ d.0 ∷ []) ++ d.1 = ap (λ l. vars ++ l) d.2 ∙ sym (append_assoc vars (d.0 ∷ []) d.1) in
+    let seen : IsVisible ((vars ++ d.0 ∷ []) ++ d.1) (length (vars ++ d.0 ∷ [])) Ptr y = subst (λ n. IsVisible ((vars ++ d.0 ∷ []) ++ d.1) n Ptr y) (sym (count_more vars d.0)) (subst (λ a. IsVisible a (suc (length vars)) Ptr y) same r.1.2) in
+    let b1 : Begins (LoadTokens structure ((vars ++ d.0 ∷ []) ++ d.1) y f) m.0 rest = subst (λ a. Begins (LoadTokens structure a y f) m.0 rest) same m.2 in
+    stated_by structure vars later d.1 d.0 k x place (Load x y f place) ts m.0 rest m.3.0 d.2 d.3 r.1.1.0 m.3.1 m.3.2 m.1 new d.6
+      (load_init structure (vars ++ d.0 ∷ []) d.1 x y f k place m.0 rest b1 (load_to structure (vars ++ d.0 ∷ []) d.1 x y f place k m.0 rest typed (names_more vars d.0 new d.6) seen r.1.3 b1)) refl
+statement_to structure vars later (ReturnZero place) [] rest typed new r = absurd r.0
+statement_to structure vars later (ReturnZero place) (t ∷ ts) rest typed new r =
+    command_stated structure vars later (ReturnZero place) t ts rest (rw r.0.0.0 refl)
+      (first_is (return_of (t ∷ ts)) (or_else (return_if_null_of vars (t ∷ ts)) (or_else (free_of vars (t ∷ ts)) (or_else (store_of structure vars (t ∷ ts)) (assign_of structure vars (t ∷ ts))))) (ReturnZero place, rest) (return_to place (t ∷ ts) rest r.0)) refl new
+statement_to structure vars later (ReturnIfNull y places) [] rest typed new r = absurd r.0
+statement_to structure vars later (ReturnIfNull y places) (t ∷ ts) rest typed new r =
+    command_stated structure vars later (ReturnIfNull y places) t ts rest (rw r.0.0.0 refl)
+      (second (return_of (t ∷ ts)) (return_if_null_of vars (t ∷ ts)) (or_else (free_of vars (t ∷ ts)) (or_else (store_of structure vars (t ∷ ts)) (assign_of structure vars (t ∷ ts)))) (ReturnIfNull y places, rest) (rw r.0.0.0 refl) (if_to vars later y places (t ∷ ts) rest new r.1 r.0)) refl new
+statement_to structure vars later (Free o place) [] rest typed new r = absurd r.0
+statement_to structure vars later (Free o place) (t ∷ ts) rest typed new r =
+    command_stated structure vars later (Free o place) t ts rest (rw r.0.0.0 refl)
+      (third (return_of (t ∷ ts)) (return_if_null_of vars (t ∷ ts)) (free_of vars (t ∷ ts)) (or_else (store_of structure vars (t ∷ ts)) (assign_of structure vars (t ∷ ts))) (Free o place, rest) (rw r.0.0.0 refl) (rw r.0.0.0 refl) (free_to vars later o place (t ∷ ts) rest new r.1 r.0)) refl new
+statement_to structure vars later (Store y f o place) [] rest typed new r = absurd r.0
+statement_to structure vars later (Store y f o place) (t ∷ ts) rest typed new r =
+    let n : Begun t.text = subst Begun (sym r.0.0.0) (begun (name_of (vars ++ later) y) (visible_name vars later Ptr y new r.1.1)) in
+    command_stated structure vars later (Store y f o place) t ts rest (no_declarator (tag_of structure) t ts n)
+      (fourth (return_of (t ∷ ts)) (return_if_null_of vars (t ∷ ts)) (free_of vars (t ∷ ts)) (store_of structure vars (t ∷ ts)) (assign_of structure vars (t ∷ ts)) (Store y f o place, rest) (no_return t ts n.no_return) (no_if vars t ts n.no_if) (no_free vars t ts n.no_free)
+        (store_to structure vars later y f o place r.1.0 (t ∷ ts) rest typed new r.1.1 r.1.2 r.1.3 r.0)) refl new
+statement_to structure vars later (Malloc x place) [] rest typed new r = absurd r.0
+statement_to structure vars later (Malloc x place) (t ∷ []) rest typed new r = absurd r.0.1
+statement_to structure vars later (Malloc x place) (t ∷ u ∷ ts) rest typed new r =
+    let n : Begun t.text = subst Begun (sym r.0.0.0) (begun (name_of (vars ++ later) x) (visible_name vars later Ptr x new r.1.1)) in
+    command_stated structure vars later (Malloc x place) t (u ∷ ts) rest (no_declarator (tag_of structure) t (u ∷ ts) n)
+      (fifth (return_of (t ∷ u ∷ ts)) (return_if_null_of vars (t ∷ u ∷ ts)) (free_of vars (t ∷ u ∷ ts)) (store_of structure vars (t ∷ u ∷ ts)) (assign_of structure vars (t ∷ u ∷ ts)) (Malloc x place, rest) (no_return t (u ∷ ts) n.no_return) (no_if vars t (u ∷ ts) n.no_if) (no_free vars t (u ∷ ts) n.no_free) (no_store structure vars t u ts r.0.1.0)
+        (assign_to structure vars later x place (t ∷ u ∷ ts) rest new r.1.0 r.1.1 r.0)) refl new
