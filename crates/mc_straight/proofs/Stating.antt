@@ -17,7 +17,7 @@ use Rattle.mc_straight.specs.declared.tree.Stmt.{Stmt}
 use Rattle.mc_straight.specs.declared.tree.Stmt.TheVariants.{Declare, DeclareMalloc, Malloc, Load, Store, Free, ReturnIfNull, ReturnZero}
 use Rattle.mc_straight.specs.Spelling.{Spelling, word, word_at, words, IsSpelled, Begins, spelled, tag_of, name_of, kind_of, field_name, field_kind, type_at, malloc_of}
 use Rattle.mc_straight.specs.Typing.{IsName, IsNew, AreNew, IsTypedStructure, IsVisible, IsDeclared, HasField, IsTypedStmt, declared_behind, keywords, reserved}
-use Rattle.mc_straight.specs.Reading.{◌>>=◌, or_else, next_of, expect_of, var_of, field_of, operand_of, is_name, type_of_tokens, declarator_of, declare_of, declare_malloc_of, load_of, initialiser_of, return_of, return_if_null_of, free_of, store_of, assign_of, command_of, declared_of, by_declarator, statement_of}
+use Rattle.mc_straight.specs.Reading.{◌>>=◌, or_else, next_of, expect_of, var_of, field_of, operand_of, is_name, type_of_tokens, declarator_of, malloc_rest, declare_of, declare_malloc_of, load_of, initialiser_of, return_of, return_if_null_of, free_of, store_of, assign_of, command_of, declared_of, by_declarator, statement_of}
 use Rattle.mc_straight.proofs.Operands.{visible_name}
 use Rattle.mc_straight.proofs.Names.{name_to, name_from, found_none, found_new, new_more, mapped, unmapped, get_seam, take_front}
 use Rattle.mc_straight.proofs.Tokens.{equal, equal_from, unequal, begin_words, words_begin, taken_then, chosen}
@@ -236,3 +236,153 @@ statement_to structure vars later (Malloc x place) (t ∷ u ∷ ts) rest typed n
     command_stated structure vars later (Malloc x place) t (u ∷ ts) rest (no_declarator (tag_of structure) t (u ∷ ts) n)
       (fifth (return_of (t ∷ u ∷ ts)) (return_if_null_of vars (t ∷ u ∷ ts)) (free_of vars (t ∷ u ∷ ts)) (store_of structure vars (t ∷ u ∷ ts)) (assign_of structure vars (t ∷ u ∷ ts)) (Malloc x place, rest) (no_return t (u ∷ ts) n.no_return) (no_if vars t (u ∷ ts) n.no_if) (no_free vars t (u ∷ ts) n.no_free) (no_store structure vars t u ts r.0.1.0)
         (assign_to structure vars later x place (t ∷ u ∷ ts) rest new r.1.0 r.1.1 r.0)) refl new
+
+-- ---- and back
+
+append_nil : {X : Type 0} (xs : List X) → xs ++ [] ≡ xs
+append_nil [] = refl
+append_nil (x ∷ xs) = ap (λ l. x ∷ l) (append_nil xs)
+
+pub command_from : (structure : Option StructInfo) (vars later : List VarInfo) (s : Stmt) (ts rest : List Token) → command_of structure vars ts ≡ Some (s, rest) → Keeps structure vars later s ts rest
+command_from structure vars later s ts rest e = elim (either (return_of ts) (or_else (return_if_null_of vars ts) (or_else (free_of vars ts) (or_else (store_of structure vars ts) (assign_of structure vars ts)))) (s, rest) e) [
+  | inl a ↦ return_from structure vars later s ts rest a
+  | inr e1 ↦ elim (either (return_if_null_of vars ts) (or_else (free_of vars ts) (or_else (store_of structure vars ts) (assign_of structure vars ts))) (s, rest) e1) [
+    | inl a ↦ if_from structure vars later s ts rest a
+    | inr e2 ↦ elim (either (free_of vars ts) (or_else (store_of structure vars ts) (assign_of structure vars ts)) (s, rest) e2) [
+      | inl a ↦ free_from structure vars later s ts rest a
+      | inr e3 ↦ elim (either (store_of structure vars ts) (assign_of structure vars ts) (s, rest) e3) [
+        | inl a ↦ store_from structure vars later s ts rest a
+        | inr a ↦ assign_from structure vars later s ts rest a ] ] ] ]
+
+-- what a declared variable is in the whole list
+declared_there : (vars later : List VarInfo) (v : VarInfo) → IsNew (names vars) v.name
+    → IsDeclared ((vars ++ v ∷ []) ++ later) (length vars) v.kind (record { 0 = length vars }) × (name_of ((vars ++ v ∷ []) ++ later) (record { 0 = length vars }) ≡ v.name) × (kind_of ((vars ++ v ∷ []) ++ later) (record { 0 = length vars }) ≡ v.kind)
+declared_there vars later v new =
+    let whole : (vars ++ v ∷ []) ++ later ≡ vars ++ v ∷ later = append_assoc vars (v ∷ []) later in
+    let at : slice_get ((vars ++ v ∷ []) ++ later) (length vars) ≡ Some v = ap (λ l. slice_get l (length vars)) whole ∙ get_seam vars (v ∷ later) in
+    let named : name_of ((vars ++ v ∷ []) ++ later) (record { 0 = length vars }) ≡ v.name = ap (λ o. option_map_or (λ (v : VarInfo). v.name) o []) at in
+    let before : take (length vars) ((vars ++ v ∷ []) ++ later) ≡ vars = ap (take (length vars)) whole ∙ take_front vars (v ∷ later) in
+    ((refl, ap (option_map (λ (v : VarInfo). v.kind)) at, subst (λ w. IsNew (names (take (length vars) ((vars ++ v ∷ []) ++ later))) w) (sym named) (subst (λ vs. IsNew (names vs) v.name) (sym before) new)),
+      named, ap (λ o. option_map_or (λ (v : VarInfo). v.kind) o Int) at)
+
+abbrev Declares : Option StructInfo → List VarInfo → VarInfo → List VarInfo → Stmt → List Token → List Token → Type 0
+Declares structure vars v later s ts rest = Reads structure ((vars ++ v ∷ []) ++ later) (length vars) s ts rest × (declared_behind (length vars) s ≡ suc (length vars))
+
+declare_from : (structure : Option StructInfo) (x : VarId) (place : Place) (s : Stmt) (ts rest : List Token) → declare_of structure x place ts ≡ Some (s, rest) → IsSome structure × (s ≡ Declare x place) × Begins (words (codes ";" ∷ [])) ts rest
+declare_from None x place s ts rest e = cc
+declare_from (Some i) x place s ts rest e =
+    let made : List Token → Stmt × List Token = λ rest. (Declare x place, rest) in
+    let m = mapped made (expect_of ts (codes ";" ∷ [])) (s, rest) e in
+    let is : Declare x place ≡ s = ap (λ (r : Stmt × List Token). r.0) m.2 in
+    let tail : m.0 ≡ rest = ap (λ (r : Stmt × List Token). r.1) m.2 in
+    (refl, sym is, words_begin (codes ";" ∷ []) [] ts m.0 rest m.1 tail)
+
+declare_malloc_from : (structure : Option StructInfo) (x : VarId) (place : Place) (s : Stmt) (ts rest : List Token) → declare_malloc_of structure x place ts ≡ Some (s, rest) → IsSome structure × (s ≡ DeclareMalloc x place) × Begins (words (malloc_of (tag_of structure))) ts rest
+declare_malloc_from structure x place s ts rest e =
+    let made : List Token → Stmt × List Token = λ rest. (DeclareMalloc x place, rest) in
+    let m = mapped made (malloc_rest structure ts) (s, rest) e in
+    let is : DeclareMalloc x place ≡ s = ap (λ (r : Stmt × List Token). r.0) m.2 in
+    let tail : m.0 ≡ rest = ap (λ (r : Stmt × List Token). r.1) m.2 in
+    let b = malloc_from structure ts m.0 m.1 in
+    (b.0, sym is, subst (λ r. Begins (words (malloc_of (tag_of structure))) ts r) tail b.1)
+
+abbrev Builds : Option StructInfo → VarInfo → Place → List Token → List Token → Type 0
+Builds structure v place ts mid = (ss : List Spelling) (rest : List Token) → Begins ss mid rest → Begins (type_at (tag_of structure) v.kind place ++ word v.name ∷ ss) ts rest
+
+declares_plain : (structure : Option StructInfo) (vars later : List VarInfo) (w : List ℕ) (place : Place) (s : Stmt) (ts mid rest : List Token)
+    → IsNew (names vars) w → Builds structure (record { name = w; kind = Ptr }) place ts mid → declare_of structure (record { 0 = length vars }) place mid ≡ Some (s, rest) → Declares structure vars (record { name = w; kind = Ptr }) later s ts rest
+declares_plain structure vars later w place s ts mid rest new build e =
+    let v : VarInfo = record { name = w; kind = Ptr } in
+    let h = declare_from structure (record { 0 = length vars }) place s mid rest e in
+    let t = declared_there vars later v new in
+    subst (λ s. Declares structure vars v later s ts rest) (sym h.1)
+      ((subst (λ n. Begins (type_at (tag_of structure) Ptr place ++ words (n ∷ codes ";" ∷ [])) ts rest) (sym t.1) (build (words (codes ";" ∷ [])) rest h.2), (h.0, t.0)), refl)
+
+declares_malloc : (structure : Option StructInfo) (vars later : List VarInfo) (w : List ℕ) (place : Place) (s : Stmt) (ts mid rest : List Token)
+    → IsNew (names vars) w → Builds structure (record { name = w; kind = Ptr }) place ts mid → declare_malloc_of structure (record { 0 = length vars }) place mid ≡ Some (s, rest) → Declares structure vars (record { name = w; kind = Ptr }) later s ts rest
+declares_malloc structure vars later w place s ts mid rest new build e =
+    let v : VarInfo = record { name = w; kind = Ptr } in
+    let h = declare_malloc_from structure (record { 0 = length vars }) place s mid rest e in
+    let t = declared_there vars later v new in
+    subst (λ s. Declares structure vars v later s ts rest) (sym h.1)
+      ((subst (λ n. Begins (type_at (tag_of structure) Ptr place ++ words (n ∷ malloc_of (tag_of structure))) ts rest) (sym t.1) (build (words (malloc_of (tag_of structure))) rest h.2), (h.0, t.0)), refl)
+
+declares_load : (structure : Option StructInfo) (vars later : List VarInfo) (v : VarInfo) (place : Place) (s : Stmt) (ts mid rest : List Token)
+    → IsNew (names vars) v.name → Builds structure v place ts mid → load_of structure (vars ++ v ∷ []) (record { 0 = length vars }) v.kind place mid ≡ Some (s, rest) → Declares structure vars v later s ts rest
+declares_load structure vars later v place s ts mid rest new build e =
+    let x : VarId = record { 0 = length vars } in
+    let all : List VarInfo = (vars ++ v ∷ []) ++ later in
+    let h = load_from structure (vars ++ v ∷ []) later x v.kind place s mid rest e in
+    let t = declared_there vars later v new in
+    let b0 : Begins (type_at (tag_of structure) v.kind place ++ word v.name ∷ LoadTokens structure all h.0 h.1) ts rest = build (LoadTokens structure all h.0 h.1) rest h.5 in
+    let b1 : Begins (type_at (tag_of structure) v.kind place ++ word (name_of all x) ∷ LoadTokens structure all h.0 h.1) ts rest = subst (λ n. Begins (type_at (tag_of structure) v.kind place ++ word n ∷ LoadTokens structure all h.0 h.1) ts rest) (sym t.1) b0 in
+    let b2 : Begins (type_at (tag_of structure) (kind_of all x) place ++ word (name_of all x) ∷ LoadTokens structure all h.0 h.1) ts rest = subst (λ k. Begins (type_at (tag_of structure) k place ++ word (name_of all x) ∷ LoadTokens structure all h.0 h.1) ts rest) (sym t.2) b1 in
+    subst (λ s. Declares structure vars v later s ts rest) (sym h.2)
+      ((b2, (v.kind, t.0, subst (λ n. IsVisible all n Ptr h.0) (count_more vars v) h.3, h.4)), refl)
+
+declares : (structure : Option StructInfo) (vars later : List VarInfo) (k : Kind) (w : List ℕ) (place : Place) (s : Stmt) (ts mid rest : List Token)
+    → IsNew (names vars) w → Builds structure (record { name = w; kind = k }) place ts mid → initialiser_of structure (vars ++ record { name = w; kind = k } ∷ []) (record { 0 = length vars }) k place mid ≡ Some (s, rest) → Declares structure vars (record { name = w; kind = k }) later s ts rest
+declares structure vars later Int w place s ts mid rest new build e = declares_load structure vars later (record { name = w; kind = Int }) place s ts mid rest new build e
+declares structure vars later Ptr w place s ts mid rest new build e =
+    let x : VarId = record { 0 = length vars } in
+    let inner : List VarInfo = vars ++ record { name = w; kind = Ptr } ∷ [] in
+    elim (either (declare_of structure x place mid) (or_else (declare_malloc_of structure x place mid) (load_of structure inner x Ptr place mid)) (s, rest) e) [
+      | inl a ↦ declares_plain structure vars later w place s ts mid rest new build a
+      | inr e1 ↦ elim (either (declare_malloc_of structure x place mid) (load_of structure inner x Ptr place mid) (s, rest) e1) [
+        | inl a ↦ declares_malloc structure vars later w place s ts mid rest new build a
+        | inr a ↦ declares_load structure vars later (record { name = w; kind = Ptr }) place s ts mid rest new build a ] ]
+
+-- what was stated, read back
+abbrev pub StatedFrom : Option StructInfo → List VarInfo → Stmt → List VarInfo → List Token → List Token → Type 0
+StatedFrom structure vars s after ts rest =
+    (added : List VarInfo) × (after ≡ vars ++ added) × (length after ≡ declared_behind (length vars) s) × AreNew [] (names after) × ((later : List VarInfo) → Reads structure (after ++ later) (length vars) s ts rest)
+
+unless : {A : Type 0} (b : Bool) (o : Option A) (y : A) → cond b None o ≡ Some y → (b ≡ false) × (o ≡ Some y)
+unless true o y e = cc
+unless false o y e = (refl, e)
+
+is_none : {A : Type 0} (o : Option A) → is_some o ≡ false → o ≡ None
+is_none None e = refl
+is_none (Some x) e = cc
+
+from_command : (structure : Option StructInfo) (vars : List VarInfo) (s : Stmt) (after : List VarInfo) (ts rest : List Token) → AreNew [] (names vars) → option_map (λ r. let t : Stmt × List VarInfo × List Token = (r.0, vars, r.1) in t) (command_of structure vars ts) ≡ Some (s, after, rest) → StatedFrom structure vars s after ts rest
+from_command structure vars s after ts rest new e =
+    let made : Stmt × List Token → Stmt × List VarInfo × List Token = λ r. (r.0, vars, r.1) in
+    let m = mapped made (command_of structure vars ts) (s, after, rest) e in
+    let is : m.0.0 ≡ s = ap (λ (r : Stmt × List VarInfo × List Token). r.0) m.2 in
+    let vs : vars ≡ after = ap (λ (r : Stmt × List VarInfo × List Token). r.1) m.2 in
+    let tail : m.0.1 ≡ rest = ap (λ (r : Stmt × List VarInfo × List Token). r.2) m.2 in
+    let base : StatedFrom structure vars m.0.0 vars ts m.0.1 = ([], sym (append_nil vars), sym (command_from structure vars [] m.0.0 ts m.0.1 m.1).1, new, λ later. (command_from structure vars later m.0.0 ts m.0.1 m.1).0) in
+    subst (λ s. StatedFrom structure vars s after ts rest) is (subst (λ a. StatedFrom structure vars m.0.0 a ts rest) vs (subst (λ r. StatedFrom structure vars m.0.0 vars ts r) tail base))
+
+from_declared : (structure : Option StructInfo) (vars : List VarInfo) (s : Stmt) (after : List VarInfo) (ts rest : List Token) (f : Token × List Token) (d : Kind × List ℕ × List Token)
+    → next_of ts ≡ Some f → declarator_of (tag_of structure) ts ≡ Some d → AreNew [] (names vars) → declared_of structure vars f.0.place d ≡ Some (s, after, rest) → StatedFrom structure vars s after ts rest
+from_declared structure vars s after ts rest f d nx de new e =
+    let v : VarInfo = record { name = d.1; kind = d.0 } in
+    let made : Stmt × List Token → Stmt × List VarInfo × List Token = λ r. (r.0, vars ++ v ∷ [], r.1) in
+    let init : Option (Stmt × List Token) = initialiser_of structure (vars ++ v ∷ []) (record { 0 = length vars }) d.0 f.0.place d.2 in
+    let two = unless (is_some (position (λ u. bytes_eq u.name d.1) vars)) (option_map made init) (s, after, rest) e in
+    let m = mapped made init (s, after, rest) two.1 in
+    let is : m.0.0 ≡ s = ap (λ (r : Stmt × List VarInfo × List Token). r.0) m.2 in
+    let vs : vars ++ v ∷ [] ≡ after = ap (λ (r : Stmt × List VarInfo × List Token). r.1) m.2 in
+    let tail : m.0.1 ≡ rest = ap (λ (r : Stmt × List VarInfo × List Token). r.2) m.2 in
+    let dis = declarator_from (tag_of structure) ts d de in
+    let firsts : Some dis.1.0 ≡ Some f = sym dis.1.1 ∙ nx in
+    let same : dis.1.0 ≡ f = cc in
+    let build : Builds structure v f.0.place ts d.2 = subst (λ (g : Token × List Token). Builds structure v g.0.place ts d.2) same dis.1.2 in
+    let unseen : IsNew (names vars) d.1 = record { name = dis.0; unseen = found_none (λ (u : VarInfo). u.name) d.1 vars (is_none (position (λ u. bytes_eq u.name d.1) vars) two.0) } in
+    let base : StatedFrom structure vars m.0.0 (vars ++ v ∷ []) ts m.0.1 =
+      (v ∷ [], refl, count_more vars v ∙ sym (declares structure vars [] d.0 d.1 f.0.place m.0.0 ts d.2 m.0.1 unseen build m.1).1, names_more vars v new unseen,
+        λ later. (declares structure vars later d.0 d.1 f.0.place m.0.0 ts d.2 m.0.1 unseen build m.1).0) in
+    subst (λ s. StatedFrom structure vars s after ts rest) is (subst (λ a. StatedFrom structure vars m.0.0 a ts rest) vs (subst (λ r. StatedFrom structure vars m.0.0 (vars ++ v ∷ []) ts r) tail base))
+
+from_either : (structure : Option StructInfo) (vars : List VarInfo) (s : Stmt) (after : List VarInfo) (ts rest : List Token) (f : Token × List Token) (o : Option (Kind × List ℕ × List Token))
+    → next_of ts ≡ Some f → declarator_of (tag_of structure) ts ≡ o → AreNew [] (names vars) → by_declarator structure vars f.0.place ts o ≡ Some (s, after, rest) → StatedFrom structure vars s after ts rest
+from_either structure vars s after ts rest f None nx de new e = from_command structure vars s after ts rest new e
+from_either structure vars s after ts rest f (Some d) nx de new e = from_declared structure vars s after ts rest f d nx de new e
+
+pub statement_from : (structure : Option StructInfo) (vars : List VarInfo) (s : Stmt) (after : List VarInfo) (ts rest : List Token) → AreNew [] (names vars) → statement_of structure vars ts ≡ Some (s, after, rest) → StatedFrom structure vars s after ts rest
+statement_from structure vars s after ts rest new e =
+    taken_then (next_of ts) (λ first. by_declarator structure vars first.0.place ts (declarator_of (tag_of structure) ts)) (s, after, rest) e (λ f is_0 on_0.
+    from_either structure vars s after ts rest f (declarator_of (tag_of structure) ts) is_0 refl new on_0)
+
