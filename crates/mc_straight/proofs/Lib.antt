@@ -11,3 +11,4 @@ pub mod Operands
 pub mod Grammar
 pub mod Deciding
 pub mod Stating
+pub mod Bodies

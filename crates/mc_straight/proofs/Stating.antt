@@ -239,7 +239,7 @@ statement_to structure vars later (Malloc x place) (t ∷ u ∷ ts) rest typed n
 
 -- ---- and back
 
-append_nil : {X : Type 0} (xs : List X) → xs ++ [] ≡ xs
+pub append_nil : {X : Type 0} (xs : List X) → xs ++ [] ≡ xs
 append_nil [] = refl
 append_nil (x ∷ xs) = ap (λ l. x ∷ l) (append_nil xs)
 

@@ -15,6 +15,7 @@ use Rattle.mc_lex.specs.Numbers.{max_number}
 use Rattle.mc_lex.specs.declared.token.Token.{Token}
 use Rattle.mc_flow.specs.declared.instr.Operand.{Operand}
 use Rattle.mc_flow.specs.declared.instr.Operand.TheVariants.{Var, Const}
+use Rattle.mc_flow.specs.declared.graph.FieldInfo.{FieldInfo}
 use Rattle.mc_flow.specs.declared.graph.StructInfo.{StructInfo}
 use Rattle.mc_straight.specs.declared.tree.Stmt.{Stmt}
 use Rattle.mc_straight.specs.declared.tree.Stmt.TheVariants.{Declare, DeclareMalloc, Malloc, Load, Store, Free, ReturnIfNull, ReturnZero}
@@ -210,3 +211,10 @@ abbrev pub statement_of : Option StructInfo → List VarInfo → List Token → 
 statement_of structure vars ts = do
   first ← next_of ts
   by_declarator structure vars first.0.place ts (declarator_of (tag_of structure) ts)
+
+-- a field: its kind and its name, and the tokens behind it
+abbrev pub field_of_tokens : List ℕ → List FieldInfo → List Token → Option (Kind × List ℕ × List Token)
+field_of_tokens tag fields ts = do
+  d ← declarator_of tag ts
+  rest ← expect_of d.2 (codes ";" ∷ [])
+  if is_some (position (λ f. bytes_eq f.name d.1) fields) then None else Some (d.0, d.1, rest)

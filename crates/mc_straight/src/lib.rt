@@ -9,6 +9,7 @@ ghost use Rattle.mc_straight.specs.Lowering.{flow_of, RunsMatch};
 
 mod bytes;
 mod lowering;
+mod program;
 mod reader;
 mod tree;
 

@@ -121,7 +121,7 @@ static RESERVED: [&[u8]; 9] = [
 ];
 
 // The word may be given to something.
-fn is_name(word: &[u8]) -> bool
+pub fn is_name(word: &[u8]) -> bool
     ensures { result ≡ is_name word.now }
 {
     begins_name(word) && !is_keyword(word) && !is_reserved(word)
@@ -159,14 +159,14 @@ fn is_one_of(word: &[u8], words: &[&[u8]]) -> bool
     false
 }
 
-fn place_of_var(vars: &[VarInfo], word: &[u8]) -> Option<usize>
+pub fn place_of_var(vars: &[VarInfo], word: &[u8]) -> Option<usize>
     ensures value { result ≡ position (λ v. bytes_eq v.name word.now) vars.now }
     ensures within { IfSome result (λ n. n < length vars.now) }
 {
     vars.iter().position(|v| v.name.as_slice() == word)
 }
 
-fn place_of_field(fields: &[FieldInfo], word: &[u8]) -> Option<usize>
+pub fn place_of_field(fields: &[FieldInfo], word: &[u8]) -> Option<usize>
     ensures { result ≡ position (λ f. bytes_eq f.name word.now) fields.now }
 {
     fields.iter().position(|f| f.name.as_slice() == word)
@@ -193,7 +193,7 @@ fn fields_of(structure: &Option<StructInfo>) -> &[FieldInfo]
     }
 }
 
-fn tag_of(structure: &Option<StructInfo>) -> &[u8]
+pub fn tag_of(structure: &Option<StructInfo>) -> &[u8]
     ensures { result.now ≡ tag_of structure.now }
 {
     match structure {
@@ -401,7 +401,7 @@ fn field_kind(structure: &Option<StructInfo>, field: u64) -> Kind
     }
 }
 
-fn initialiser<'a>(structure: &Option<StructInfo>, vars: &[VarInfo], x: VarId, kind: Kind, place: Place, tokens: &'a [Token]) -> Option<Done<'a>>
+pub fn initialiser<'a>(structure: &Option<StructInfo>, vars: &[VarInfo], x: VarId, kind: Kind, place: Place, tokens: &'a [Token]) -> Option<Done<'a>>
     ensures value { MatchOption result (initialiser_of structure.now vars.now x kind place tokens.now ≡ None) (λ r. initialiser_of structure.now vars.now x kind place tokens.now ≡ Some (r.stmt, r.rest.now)) }
     ensures shorter { MatchOption result (Unit {0}) (λ r. length r.rest.now ≤ length tokens.now) }
 {
