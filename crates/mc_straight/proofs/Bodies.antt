@@ -72,7 +72,7 @@ open_by : (structure : Option StructInfo) (vars later : List VarInfo) (s : Stmt)
 open_by structure vars later s [] mid new b r = absurd b
 open_by structure vars later s (t ∷ ts) mid new b r = first_open structure vars later s t ts mid new r b.0
 
-triple : {A B C : Type 0} (a x : A) (b y : B) (c z : C) → ◌≡◌ {A = Option (A × B × C)} (Some (a, b, c)) (Some (x, y, z)) → (a ≡ x) × (b ≡ y) × (c ≡ z)
+pub triple : {A B C : Type 0} (a x : A) (b y : B) (c z : C) → ◌≡◌ {A = Option (A × B × C)} (Some (a, b, c)) (Some (x, y, z)) → (a ≡ x) × (b ≡ y) × (c ≡ z)
 triple {A} {B} {C} a x b y c z e = (let whole : ◌≡◌ {A = A × B × C} (a, b, c) (x, y, z) = same_Some _ _ e in (ap (λ (r : A × B × C). r.0) whole, ap (λ (r : A × B × C). r.1) whole, ap (λ (r : A × B × C). r.2) whole))
 
 -- how a whole goes on behind what was read
@@ -140,7 +140,7 @@ none_on structure vars rest all typed new open_yet e later [] a r = open_yet r.0
 none_on structure vars rest all typed new open_yet e later (u ∷ left) a r =
     let f = first_stated structure vars later all u left rest typed new a r in
     let d = f.1 in
-    let wrong : None ≡ Some (u, d.0, f.0) = sym e ∙ d.2 in
+    let wrong : ◌≡◌ {A = Option (Stmt × List VarInfo × List Token)} None (Some (u, d.0, f.0)) = sym e ∙ d.2 in
     cc
 
 pub body_none : (structure : Option StructInfo) (tokens : List Token) (vars : List VarInfo) (stmts : List Stmt) (rest : List Token)
@@ -160,3 +160,33 @@ end_is ts rest b e h = (
 
 pub no_end : (ts : List Token) → expect_of ts (codes "}" ∷ [] ∷ []) ≡ None → Begins (words (codes "}" ∷ [] ∷ [])) ts [] → ⊥
 no_end ts e r = (let m = begin_words (codes "}" ∷ [] ∷ []) [] ts [] r in let wrong : None ≡ Some m.0 = sym e ∙ m.1 in cc)
+
+-- ---- as the reader has it
+
+pub start_body : (structure : Option StructInfo) (tokens : List Token) (vars : List VarInfo) (stmts : List Stmt) → vars ≡ [] → stmts ≡ [] → AreNew [] (map (λ v. v.name) vars) × BodySame structure tokens vars stmts tokens
+start_body structure tokens vars stmts a b =
+    subst (λ vs. AreNew [] (map (λ v. v.name) vs) × BodySame structure tokens vs stmts tokens) (sym a) (tt, subst (λ ss. BodySame structure tokens [] ss tokens) (sym b) (body_same structure tokens))
+
+is_open : (b : Bool) (P : Type 0) → (IsTrue b ↔ P) → b ≡ false → P → ⊥
+is_open true P h e p = cc
+is_open false P h e p = (let t : IsTrue false = h.1 p in cc)
+
+is_shut : (b : Bool) (P : Type 0) → (IsTrue b ↔ P) → b ≡ true → P
+is_shut b P h e = h.0 e
+
+pub body_kept : (structure : Option StructInfo) (tokens : List Token) (vars : List VarInfo) (stmts : List Stmt) (rest : List Token) (s : Stmt) (after : List VarInfo) (more : List Token) (on : List Stmt) (b : Bool)
+    → IsTypedStructure structure → AreNew [] (map (λ v. v.name) vars) → (IsTrue b ↔ Begins (words (codes "}" ∷ [] ∷ [])) rest []) → b ≡ false → statement_of structure vars rest ≡ Some (s, after, more)
+    → on ≡ stmts ++ s ∷ [] → BodySame structure tokens vars stmts rest → AreNew [] (map (λ v. v.name) after) × BodySame structure tokens after on more
+body_kept structure tokens vars stmts rest s after more on b typed new h e st push same =
+    let step = body_step structure tokens vars stmts rest s after more typed new (is_open b (Begins (words (codes "}" ∷ [] ∷ [])) rest []) h e) st same in
+    (step.0, subst (λ x. BodySame structure tokens after x more) (sym push) step.1)
+
+pub body_refused : (structure : Option StructInfo) (tokens : List Token) (vars : List VarInfo) (stmts : List Stmt) (rest : List Token) (b : Bool)
+    → IsTypedStructure structure → AreNew [] (map (λ v. v.name) vars) → (IsTrue b ↔ Begins (words (codes "}" ∷ [] ∷ [])) rest []) → b ≡ false → statement_of structure vars rest ≡ None → BodySame structure tokens vars stmts rest
+    → (all : List VarInfo) (body : List Stmt) → BodyReads structure 0 all body tokens → ⊥
+body_refused structure tokens vars stmts rest b typed new h e st same = body_none structure tokens vars stmts rest typed new (is_open b (Begins (words (codes "}" ∷ [] ∷ [])) rest []) h e) st same
+
+pub body_read : (structure : Option StructInfo) (tokens : List Token) (vars : List VarInfo) (stmts : List Stmt) (rest : List Token) (b : Bool)
+    → AreNew [] (map (λ v. v.name) vars) → (IsTrue b ↔ Begins (words (codes "}" ∷ [] ∷ [])) rest []) → b ≡ true → BodySame structure tokens vars stmts rest
+    → (all : List VarInfo) (body : List Stmt) → BodyReads structure 0 all body tokens ↔ ((all ≡ vars) × (body ≡ stmts))
+body_read structure tokens vars stmts rest b new h e same = body_done structure tokens vars stmts rest new (is_shut b (Begins (words (codes "}" ∷ [] ∷ [])) rest []) h e) same

@@ -12,3 +12,4 @@ pub mod Grammar
 pub mod Deciding
 pub mod Stating
 pub mod Bodies
+pub mod Fields

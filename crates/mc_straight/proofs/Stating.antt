@@ -337,11 +337,11 @@ abbrev pub StatedFrom : Option StructInfo → List VarInfo → Stmt → List Var
 StatedFrom structure vars s after ts rest =
     (added : List VarInfo) × (after ≡ vars ++ added) × (length after ≡ declared_behind (length vars) s) × AreNew [] (names after) × ((later : List VarInfo) → Reads structure (after ++ later) (length vars) s ts rest)
 
-unless : {A : Type 0} (b : Bool) (o : Option A) (y : A) → cond b None o ≡ Some y → (b ≡ false) × (o ≡ Some y)
+pub unless : {A : Type 0} (b : Bool) (o : Option A) (y : A) → cond b None o ≡ Some y → (b ≡ false) × (o ≡ Some y)
 unless true o y e = cc
 unless false o y e = (refl, e)
 
-is_none : {A : Type 0} (o : Option A) → is_some o ≡ false → o ≡ None
+pub is_none : {A : Type 0} (o : Option A) → is_some o ≡ false → o ≡ None
 is_none None e = refl
 is_none (Some x) e = cc
 

@@ -17,6 +17,10 @@ abbrev pub FieldsRead : List ℕ → List (List ℕ) → List FieldInfo → List
 FieldsRead tag seen fields tokens rest =
     Begins (words (flat_map (spelled_field tag) fields ++ codes "}" ∷ codes ";" ∷ [])) tokens rest × AreNew seen (map (λ f. f.name) fields)
 
--- the tokens begin with this struct, or without one, and go on with `int`
-abbrev pub StructureReads : Option StructInfo → List Token → List Token → Type 0
-StructureReads structure tokens rest = Begins (words (spelled_structure structure)) tokens rest × IsTypedStructure structure
+-- `int main() {`
+abbrev pub main_words : List (List ℕ)
+main_words = codes "int" ∷ codes "main" ∷ codes "(" ∷ codes ")" ∷ codes "{" ∷ []
+
+-- the tokens begin with this struct, or without one, and with `int main() {`
+abbrev pub HeadReads : Option StructInfo → List Token → List Token → Type 0
+HeadReads structure tokens rest = Begins (words (spelled_structure structure ++ main_words)) tokens rest × IsTypedStructure structure

@@ -218,3 +218,11 @@ field_of_tokens tag fields ts = do
   d ← declarator_of tag ts
   rest ← expect_of d.2 (codes ";" ∷ [])
   if is_some (position (λ f. bytes_eq f.name d.1) fields) then None else Some (d.0, d.1, rest)
+
+-- the name of a struct that begins here, and what is behind its `{`
+abbrev pub struct_name_of : List Token → Option (List ℕ × List Token)
+struct_name_of ts = do
+  a ← expect_of ts (codes "struct" ∷ [])
+  name ← next_of a
+  rest ← expect_of name.1 (codes "{" ∷ [])
+  if is_name name.0.text then Some (name.0.text, rest) else None

@@ -11,6 +11,7 @@ mod bytes;
 mod lowering;
 mod program;
 mod reader;
+mod structure;
 mod tree;
 
 pub use bytes::is_blank;
