@@ -39,7 +39,7 @@ unsplit [] ys ts mid rest a b = subst (λ x. Begins ys x rest) (sym a) b
 unsplit (x ∷ xs) ys [] mid rest a b = absurd a
 unsplit (x ∷ xs) ys (t ∷ ts) mid rest a b = (a.0, unsplit xs ys ts mid rest a.1 b)
 
-body_cons : (structure : Option StructInfo) (all : List VarInfo) (s : Stmt) (left : List Stmt) → spelled_body structure all (s ∷ left) ≡ spelled structure all s ++ spelled_body structure all left
+pub body_cons : (structure : Option StructInfo) (all : List VarInfo) (s : Stmt) (left : List Stmt) → spelled_body structure all (s ∷ left) ≡ spelled structure all s ++ spelled_body structure all left
 body_cons structure all s left = append_assoc (spelled structure all s) (flat_map (spelled structure all) left) (words (codes "}" ∷ [] ∷ []))
 
 -- the first statement is read
@@ -68,7 +68,7 @@ first_open structure vars later (Free o place) t ts rest new r e = (let f : code
 first_open structure vars later (ReturnIfNull y places) t ts rest new r e = (let f : codes "if" ≡ codes "}" = sym r.0.0.0 ∙ e in cc)
 first_open structure vars later (ReturnZero place) t ts rest new r e = (let f : codes "return" ≡ codes "}" = sym r.0.0.0 ∙ e in cc)
 
-open_by : (structure : Option StructInfo) (vars later : List VarInfo) (s : Stmt) (ts mid : List Token) → AreNew [] (map (λ v. v.name) vars) → Begins (words (codes "}" ∷ [] ∷ [])) ts [] → Reads structure (vars ++ later) (length vars) s ts mid → ⊥
+pub open_by : (structure : Option StructInfo) (vars later : List VarInfo) (s : Stmt) (ts mid : List Token) → AreNew [] (map (λ v. v.name) vars) → Begins (words (codes "}" ∷ [] ∷ [])) ts [] → Reads structure (vars ++ later) (length vars) s ts mid → ⊥
 open_by structure vars later s [] mid new b r = absurd b
 open_by structure vars later s (t ∷ ts) mid new b r = first_open structure vars later s t ts mid new r b.0
 
@@ -112,7 +112,7 @@ body_step structure tokens vars stmts rest s after more typed new open_yet e sam
       (λ r. let h = (same all body).0 r in step_on structure vars stmts rest s after more all body typed new open_yet e h.0 h.1 h.2 h.3 h.4),
       (λ h. (same all body).1 (step_back structure vars stmts rest s after more all body from h))))
 
-no_later : (vars later : List VarInfo) → length vars ≡ length (vars ++ later) → later ≡ []
+pub no_later : (vars later : List VarInfo) → length vars ≡ length (vars ++ later) → later ≡ []
 no_later vars [] e = refl
 no_later vars (v ∷ later) e = absurd (let n : length (v ∷ later) ≡ suc (length later) = refl in omega (arith, length-append vars (v ∷ later)))
 

@@ -86,14 +86,14 @@ field_from tag fields ts d e =
           dis.1.2 (word (codes ";") ∷ words (tail_of tag later)) end (words_begin (codes ";" ∷ []) (words (tail_of tag later)) c.2 rest end is_1 r.0) in
         (subst (λ ss. Begins ss ts end) (sym (fields_cons tag f later)) (type_unplaced tag c.0 dis.1.0.0.place (word c.1 ∷ word (codes ";") ∷ words (tail_of tag later)) ts end b), (new, r.1)))))
 
-closed_field : (tag : List ℕ) (fields : List FieldInfo) (ts end : List Token) → Begins (words (codes "}" ∷ codes ";" ∷ [])) ts end → field_of_tokens tag fields ts ≡ None
+pub closed_field : (tag : List ℕ) (fields : List FieldInfo) (ts end : List Token) → Begins (words (codes "}" ∷ codes ";" ∷ [])) ts end → field_of_tokens tag fields ts ≡ None
 closed_field tag fields [] end b = absurd b
 closed_field tag fields (t ∷ ts) end b = rw b.0 refl
 
 abbrev Goes : List ℕ → List FieldInfo → List Token → List FieldInfo → List Token → Type 0
 Goes tag fields rest all end = (later : List FieldInfo) × (all ≡ fields ++ later) × FieldsRead tag (named fields) later rest end
 
-named_more : (fields : List FieldInfo) (f : FieldInfo) → named (fields ++ f ∷ []) ≡ named fields ++ f.name ∷ []
+pub named_more : (fields : List FieldInfo) (f : FieldInfo) → named (fields ++ f ∷ []) ≡ named fields ++ f.name ∷ []
 named_more fields f = map-append (λ (g : FieldInfo). g.name) fields (f ∷ [])
 
 goes_on : (tag : List ℕ) (fields : List FieldInfo) (rest mid : List Token) (k : Kind) (w : List ℕ) (all : List FieldInfo) (end : List Token)
@@ -171,10 +171,10 @@ plain_on ts e (Some s) rest r = (let o = opened s ts rest r.1.0 r.0 in let wrong
 pub plain_head : (ts : List Token) → struct_name_of ts ≡ None → (structure : Option StructInfo) (rest : List Token) → HeadReads structure ts rest ↔ ((structure ≡ None) × Begins (words main_words) ts rest)
 plain_head ts e structure rest = (plain_on ts e structure rest, λ h. subst (λ s. HeadReads s ts rest) (sym h.0) (h.1, tt))
 
-abbrev Inside : List ℕ → List Token → Option StructInfo → List Token → Type 0
+abbrev pub Inside : List ℕ → List Token → Option StructInfo → List Token → Type 0
 Inside w mid structure rest = (fields : List FieldInfo) × (end : List Token) × (structure ≡ Some (record { name = w; fields = fields })) × (0 < length fields) × FieldsRead w [] fields mid end × Begins (words main_words) end rest
 
-inside_on : (ts mid : List Token) (w : List ℕ) → struct_name_of ts ≡ Some (w, mid) → (structure : Option StructInfo) (rest : List Token) → HeadReads structure ts rest → Inside w mid structure rest
+pub inside_on : (ts mid : List Token) (w : List ℕ) → struct_name_of ts ≡ Some (w, mid) → (structure : Option StructInfo) (rest : List Token) → HeadReads structure ts rest → Inside w mid structure rest
 inside_on ts mid w e None rest r = (let wrong : ◌≡◌ {A = Option (List ℕ × List Token)} None (Some (w, mid)) = sym (no_struct ts rest r.0) ∙ e in cc)
 inside_on ts mid w e (Some s) rest r =
     let o = opened s ts rest r.1.0 r.0 in

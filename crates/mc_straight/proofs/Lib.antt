@@ -13,3 +13,4 @@ pub mod Deciding
 pub mod Stating
 pub mod Bodies
 pub mod Fields
+pub mod Once

@@ -5,8 +5,9 @@ use Rattle.mc_lex.specs.declared.token.Token.{Token}
 use Rattle.mc_flow.specs.declared.graph.FieldInfo.{FieldInfo}
 use Rattle.mc_flow.specs.declared.graph.StructInfo.{StructInfo}
 use Rattle.mc_straight.specs.declared.tree.Stmt.{Stmt}
-use Rattle.mc_straight.specs.Spelling.{Begins, words, spelled_field, spelled_structure, spelled_body}
-use Rattle.mc_straight.specs.Typing.{AreNew, IsTypedStructure, IsTypedBody}
+use Rattle.mc_straight.specs.declared.tree.Program.{Program}
+use Rattle.mc_straight.specs.Spelling.{Begins, words, spelled_field, spelled_structure, spelled_body, spelled_program}
+use Rattle.mc_straight.specs.Typing.{AreNew, IsTyped, IsTypedStructure, IsTypedBody}
 
 -- the tokens are these statements with `}` and the end, in a program with these variables, of which n are declared before
 abbrev pub BodyReads : Option StructInfo → ℕ → List VarInfo → List Stmt → List Token → Type 0
@@ -24,3 +25,7 @@ main_words = codes "int" ∷ codes "main" ∷ codes "(" ∷ codes ")" ∷ codes 
 -- the tokens begin with this struct, or without one, and with `int main() {`
 abbrev pub HeadReads : Option StructInfo → List Token → List Token → Type 0
 HeadReads structure tokens rest = Begins (words (spelled_structure structure ++ main_words)) tokens rest × IsTypedStructure structure
+
+-- the tokens are this program, which is well typed
+abbrev pub ProgramReads : List Token → Program → Type 0
+ProgramReads tokens p = Begins (spelled_program p) tokens [] × IsTyped p

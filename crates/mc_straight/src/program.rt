@@ -67,13 +67,13 @@ fn is_end(tokens: &[Token]) -> bool
 
 // The variables and the statements of `main`.
 #[derive(Drop)]
-struct Body {
-    vars: Vec<VarInfo>,
-    stmts: Vec<Stmt>,
+pub struct Body {
+    pub vars: Vec<VarInfo>,
+    pub stmts: Vec<Stmt>,
 }
 
 // What is between the braces of `main`, up to the end of the text.
-fn read_body(alloc: Global, structure: &Option<StructInfo>, tokens: &[Token]) -> Result<Option<Body>, AllocError>
+pub fn read_body(alloc: Global, structure: &Option<StructInfo>, tokens: &[Token]) -> Result<Option<Body>, AllocError>
     requires { IsTypedStructure structure.now }
     ensures { IfOk result (λ o. MatchOption o ((vars : List Var) (body : List Statement) → BodyReads structure.now 0 vars body tokens.now → ⊥)
         (λ b. (vars : List Var) (body : List Statement) → BodyReads structure.now 0 vars body tokens.now ↔ ((vars ≡ b.vars.items) × (body ≡ b.stmts.items)))) }
