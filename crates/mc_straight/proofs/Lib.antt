@@ -4,3 +4,13 @@ pub mod Simulating
 pub mod Statements
 pub mod Matching
 pub mod Validity
+pub mod Tokens
+pub mod Numbers
+pub mod Names
+pub mod Operands
+pub mod Grammar
+pub mod Deciding
+pub mod Stating
+pub mod Bodies
+pub mod Fields
+pub mod Once
