@@ -1,3 +1,4 @@
 pub mod Causes
 pub mod Printing
+pub mod Safe
 pub mod Whys

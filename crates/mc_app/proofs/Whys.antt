@@ -62,3 +62,10 @@ at_none (Some x) P Q e m = cc
 pub at_some : {X : Type 0} (o : Option X) (x : X) (P : Type 0) (Q : X → Type 0) → o ≡ Some x → MatchOption o P Q → Q x
 at_some None x P Q e m = cc
 at_some (Some y) x P Q e m = let same : y ≡ x = cc in subst Q same m
+
+-- the text was read as a program, or is none
+pub read_within : (text bytes : List ℕ) (o : Option Tree) → bytes ≡ text → length text ≤ 2 ^ 20
+    → MatchOption o ((tree : Tree) → ReadsAs bytes tree → ⊥) (ReadsAs bytes)
+    → MatchOption o (IsProgram text → ⊥) (λ tree. IsTreeOf tree text)
+read_within text bytes None same within read = λ is. read is.1.0 (subst (λ bs. ReadsAs bs is.1.0) (sym same) is.1.1)
+read_within text bytes (Some tree) same within read = (within, subst (λ bs. ReadsAs bs tree) same read)

@@ -14,6 +14,7 @@ loop-at-preserved g c = record {
       let before : c.loop-at.at ≤ length bytes = c.loop-at.invariant.within bytes h in
       let more : c.in_ok-n.n ≤ length bytes - c.loop-at.at = c.in_ok-n.ensures.within bytes (c.loop-at.invariant.same c.args.name.now ∙ h) in
       omega arith;
+  len = let before = c.loop-at.invariant.len in let more = c.in_ok-n.ensures.len in omega arith;
   no_further = c.in_ok-n.ensures.bound;
   same = λ name. c.next_piece.ensures.same name ∙ c.loop-at.invariant.same name;
   count = still c.in_ok-n.n _ _ c.in_ok-n.ensures.cause ∙ c.loop-at.invariant.count;
