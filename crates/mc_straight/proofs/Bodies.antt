@@ -1,5 +1,5 @@
 -- The statements of a program, one after the other.
-use Rattle.std.proofs.Common.{◌≡◌, ◌≢◌, ◌<◌, ◌+◌, ◌++◌, ◌⊎◌, ◌↔◌, inl, inr, ℕ, zero, suc, List, [], ◌∷◌, map, length, Option, Some, None, Bool, true, false, refl, sym, ap, ◌∙◌, subst, arith, length-append, append_assoc}
+use Rattle.std.proofs.Common.{◌≡◌, ◌≢◌, ◌++◌, ◌↔◌, ℕ, suc, List, [], ◌∷◌, map, length, Option, Some, None, Bool, true, false, refl, sym, ap, ◌∙◌, subst, arith, length-append, append_assoc}
 use Rattle.std.specs.Prelude.{codes, slice_index, flat_map, IsTrue}
 use Rattle.mc_base.specs.declared.plain.Kind.{Kind}
 use Rattle.mc_base.specs.declared.plain.Kind.TheVariants.{Int, Ptr}
@@ -97,20 +97,29 @@ step_back : (structure : Option StructInfo) (vars : List VarInfo) (stmts : List 
 step_back structure vars stmts rest s after more all body from h =
     let whole : all ≡ vars ++ (from.0 ++ h.0) = h.2 ∙ ap (λ x. x ++ h.0) from.1 ∙ append_assoc vars from.0 h.0 in
     let stmts_on : body ≡ stmts ++ s ∷ h.1 = h.3 ∙ append_assoc stmts (s ∷ []) h.1 in
-    let reads : Reads structure all (length vars) s rest more = subst (λ a. Reads structure a (length vars) s rest more) (sym h.2) (from.4 h.0) in
-    (from.0 ++ h.0, s ∷ h.1, whole, stmts_on,
-      (subst (λ ss. Begins ss rest []) (sym (body_cons structure all s h.1)) (unsplit (spelled structure all s) (spelled_body structure all h.1) rest more [] reads.0 h.4.0),
-        (reads.1, subst (λ n. IsTypedBody structure all n h.1) from.2 h.4.1)))
+    let reads : Reads structure all (length vars) s rest more = subst (λ a. Reads structure a (length vars) s rest more) (sym h.2) (from.4 h.0) in (
+      from.0 ++ h.0,
+      s ∷ h.1,
+      whole,
+      stmts_on,
+      (
+        subst (λ ss. Begins ss rest []) (sym (body_cons structure all s h.1)) (unsplit (spelled structure all s) (spelled_body structure all h.1) rest more [] reads.0 h.4.0),
+        (reads.1, subst (λ n. IsTypedBody structure all n h.1) from.2 h.4.1),
+      ),
+    )
 
 -- one statement more
 pub body_step : (structure : Option StructInfo) (tokens : List Token) (vars : List VarInfo) (stmts : List Stmt) (rest : List Token) (s : Stmt) (after : List VarInfo) (more : List Token)
     → IsTypedStructure structure → AreNew [] (map (λ v. v.name) vars) → (Begins (words (codes "}" ∷ [] ∷ [])) rest [] → ⊥) → statement_of structure vars rest ≡ Some (s, after, more)
     → BodySame structure tokens vars stmts rest → AreNew [] (map (λ v. v.name) after) × BodySame structure tokens after (stmts ++ s ∷ []) more
 body_step structure tokens vars stmts rest s after more typed new open_yet e same =
-    let from = statement_from structure vars s after rest more new e in
-    (from.3, λ all body. (
-      (λ r. let h = (same all body).0 r in step_on structure vars stmts rest s after more all body typed new open_yet e h.0 h.1 h.2 h.3 h.4),
-      (λ h. (same all body).1 (step_back structure vars stmts rest s after more all body from h))))
+    let from = statement_from structure vars s after rest more new e in (
+      from.3,
+      λ all body. (
+        (λ r. let h = (same all body).0 r in step_on structure vars stmts rest s after more all body typed new open_yet e h.0 h.1 h.2 h.3 h.4),
+        (λ h. (same all body).1 (step_back structure vars stmts rest s after more all body from h)),
+      ),
+    )
 
 pub no_later : (vars later : List VarInfo) → length vars ≡ length (vars ++ later) → later ≡ []
 no_later vars [] e = refl
@@ -130,8 +139,9 @@ pub body_done : (structure : Option StructInfo) (tokens : List Token) (vars : Li
     → AreNew [] (map (λ v. v.name) vars) → Begins (words (codes "}" ∷ [] ∷ [])) rest [] → BodySame structure tokens vars stmts rest
     → (all : List VarInfo) (body : List Stmt) → BodyReads structure 0 all body tokens ↔ ((all ≡ vars) × (body ≡ stmts))
 body_done structure tokens vars stmts rest new end same all body = (
-    (λ r. let h = (same all body).0 r in done_on structure vars stmts rest all body new end h.0 h.1 h.2 h.3 h.4),
-    (λ h. (same all body).1 ([], [], h.0 ∙ sym (append_nil vars), h.1 ∙ sym (append_nil stmts), (end, ap (λ (x : List VarInfo). length x) (sym h.0)))))
+  (λ r. let h = (same all body).0 r in done_on structure vars stmts rest all body new end h.0 h.1 h.2 h.3 h.4),
+  (λ h. (same all body).1 ([], [], h.0 ∙ sym (append_nil vars), h.1 ∙ sym (append_nil stmts), (end, ap (λ (x : List VarInfo). length x) (sym h.0)))),
+)
 
 none_on : (structure : Option StructInfo) (vars : List VarInfo) (rest : List Token) (all : List VarInfo)
     → IsTypedStructure structure → AreNew [] (map (λ v. v.name) vars) → (Begins (words (codes "}" ∷ [] ∷ [])) rest [] → ⊥) → statement_of structure vars rest ≡ None
@@ -153,10 +163,11 @@ body_none structure tokens vars stmts rest typed new open_yet e same all body r 
 -- the end of the text behind `}`
 pub end_is : (ts rest : List Token) (b : Bool) → expect_of ts (codes "}" ∷ [] ∷ []) ≡ Some rest → (IsTrue b ↔ (rest ≡ [])) → IsTrue b ↔ Begins (words (codes "}" ∷ [] ∷ [])) ts []
 end_is ts rest b e h = (
-    (λ t. words_begin (codes "}" ∷ [] ∷ []) [] ts rest [] e (h.0 t)),
-    (λ r. let m = begin_words (codes "}" ∷ [] ∷ []) [] ts [] r in
+  (λ t. words_begin (codes "}" ∷ [] ∷ []) [] ts rest [] e (h.0 t)),
+  (λ r. let m = begin_words (codes "}" ∷ [] ∷ []) [] ts [] r in
       let same : m.0 ≡ rest = same_Some _ _ (sym m.1 ∙ e) in
-      h.1 (sym same ∙ m.2)))
+      h.1 (sym same ∙ m.2)),
+)
 
 pub no_end : (ts : List Token) → expect_of ts (codes "}" ∷ [] ∷ []) ≡ None → Begins (words (codes "}" ∷ [] ∷ [])) ts [] → ⊥
 no_end ts e r = (let m = begin_words (codes "}" ∷ [] ∷ []) [] ts [] r in let wrong : None ≡ Some m.0 = sym e ∙ m.1 in cc)

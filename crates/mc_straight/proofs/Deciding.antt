@@ -1,26 +1,18 @@
 -- A statement is read exactly where one is spelled.
-use Rattle.std.proofs.Common.{◌≡◌, ◌≢◌, ◌<◌, ◌+◌, ◌++◌, ◌⊎◌, inl, inr, ℕ, zero, suc, List, [], ◌∷◌, map, length, take, get_or, Option, Some, None, Bool, true, false, cond, not, refl, sym, ap, ◌∙◌, subst, arith, length-append, append_assoc, append-nil}
-use Rattle.std.specs.Prelude.{All, IsSome, is_some, codes, position, slice_get, slice_index, if◌then◌else◌}
-use Rattle.std.specs.Option.{option_map, option_map_or}
+use Rattle.std.proofs.Common.{◌≡◌, ◌++◌, ℕ, List, [], ◌∷◌, Option, Some, None, Bool, true, false, cond, refl, sym, ap, ◌∙◌, subst}
+use Rattle.std.specs.Prelude.{codes, if◌then◌else◌}
+use Rattle.std.specs.Option.{option_map}
 use Rattle.std.specs.Str.{bytes_eq}
 use Rattle.std.proofs.lemmas.Option.{some_pair_parts}
-use Rattle.mc_base.specs.declared.ids.VarId.{VarId}
 use Rattle.mc_base.specs.declared.plain.Kind.{Kind}
 use Rattle.mc_base.specs.declared.plain.Kind.TheVariants.{Int, Ptr}
-use Rattle.mc_base.specs.declared.plain.VarInfo.{VarInfo}
 use Rattle.mc_base.specs.declared.plain.Place.{Place}
 use Rattle.mc_lex.specs.declared.token.Token.{Token}
-use Rattle.mc_flow.specs.declared.graph.StructInfo.{StructInfo}
-use Rattle.mc_straight.specs.declared.tree.IfPlaces.{IfPlaces}
-use Rattle.mc_straight.specs.declared.tree.Stmt.{Stmt}
-use Rattle.mc_straight.specs.declared.tree.Stmt.TheVariants.{Declare, DeclareMalloc, Malloc, Load, Store, Free, ReturnIfNull, ReturnZero}
-use Rattle.mc_straight.specs.Spelling.{Spelling, word, word_at, words, IsSpelled, Begins, spelled, tag_of, name_of, kind_of, field_name, type_at, malloc_of}
-use Rattle.mc_straight.specs.Typing.{IsName, IsNew, AreNew, IsTypedStructure, IsVisible, IsDeclared, HasField, IsTypedStmt, declared_behind, keywords, reserved}
-use Rattle.mc_straight.specs.Reading.{◌>>=◌, or_else, next_of, expect_of, is_name, type_of_tokens, declarator_of, declare_of, declare_malloc_of, load_of, initialiser_of, return_of, return_if_null_of, free_of, store_of, assign_of, command_of, declared_of, by_declarator, statement_of}
-use Rattle.mc_straight.proofs.Operands.{visible_name}
-use Rattle.mc_straight.proofs.Names.{name_to, name_from, found_none, found_new, new_more, mapped, unmapped, get_seam, take_front}
-use Rattle.mc_straight.proofs.Tokens.{equal, equal_from, unequal, begin_words, words_begin, taken_then, chosen}
-use Rattle.mc_straight.proofs.Grammar.{Reads, Keeps, either, malloc_from, return_to, if_to, free_to, store_to, assign_to, declare_to, declare_malloc_to, load_to, return_from, if_from, free_from, store_from, assign_from, load_from}
+use Rattle.mc_straight.specs.Spelling.{Spelling, word, Begins, type_at}
+use Rattle.mc_straight.specs.Typing.{IsName}
+use Rattle.mc_straight.specs.Reading.{◌>>=◌, next_of, expect_of, is_name, type_of_tokens, declarator_of}
+use Rattle.mc_straight.proofs.Names.{name_to, name_from, mapped}
+use Rattle.mc_straight.proofs.Tokens.{equal_from, begin_words, words_begin, taken_then, chosen}
 
 -- ---- a type and a name
 
@@ -56,7 +48,7 @@ type_struct tag t ts k mid true is e =
     let kind : Ptr ≡ k = ap (λ (r : Kind × List Token). r.0) m.2 in
     let tail : m.0 ≡ mid = ap (λ (r : Kind × List Token). r.1) m.2 in
     subst (λ k. TypeIs tag (t ∷ ts) k mid) kind (subst (λ r. TypeIs tag (t ∷ ts) Ptr r) tail
-      ((t, ts), refl, λ ss rest b. ((equal_from t.text (codes "struct") is, refl), words_begin (tag ∷ codes "*" ∷ []) ss ts m.0 rest m.1 b)))
+    ((t, ts), refl, λ ss rest b. ((equal_from t.text (codes "struct") is, refl), words_begin (tag ∷ codes "*" ∷ []) ss ts m.0 rest m.1 b)))
 type_struct tag t ts k mid false is e = cc
 
 type_int : (tag : List ℕ) (t : Token) (ts : List Token) (k : Kind) (mid : List Token) (b : Bool) → bytes_eq t.text (codes "int") ≡ b
@@ -88,4 +80,4 @@ declarator_from tag ts d e =
     let same : made ≡ d = cc in
     let t = type_from tag ts k.0 k.1 is_0 in
     subst (DeclaratorIs tag ts) same
-      (name_from n.0.text two.0, (t.0, t.1, λ ss rest b. t.2 (word n.0.text ∷ ss) rest (next_word n.0.text ss k.1 n rest is_1 refl b)))))
+    (name_from n.0.text two.0, (t.0, t.1, λ ss rest b. t.2 (word n.0.text ∷ ss) rest (next_word n.0.text ss k.1 n rest is_1 refl b)))))

@@ -1,6 +1,6 @@
 -- The fields of a struct, one after the other.
-use Rattle.std.proofs.Common.{◌≡◌, ◌≢◌, ◌<◌, ◌+◌, ◌++◌, ◌⊎◌, ◌↔◌, inl, inr, ℕ, zero, suc, List, [], ◌∷◌, map, length, Option, Some, None, Bool, true, false, cond, refl, sym, ap, ◌∙◌, subst, arith, length-append, append_assoc}
-use Rattle.std.specs.Prelude.{codes, slice_index, flat_map, IsTrue, is_some, position, if◌then◌else◌}
+use Rattle.std.proofs.Common.{◌≡◌, ◌<◌, ◌++◌, ◌↔◌, ℕ, List, [], ◌∷◌, map, length, Option, Some, None, refl, sym, ap, ◌∙◌, subst, arith, append_assoc}
+use Rattle.std.specs.Prelude.{codes, flat_map, is_some, position, if◌then◌else◌}
 use Rattle.std.specs.Str.{bytes_eq}
 use Rattle.std.proofs.lemmas.List.{map-append}
 use Rattle.std.proofs.lemmas.Option.{same_Some, some_pair_parts}
@@ -11,11 +11,11 @@ use Rattle.mc_lex.specs.declared.token.Token.{Token}
 use Rattle.mc_flow.specs.declared.graph.FieldInfo.{FieldInfo}
 use Rattle.mc_flow.specs.declared.graph.StructInfo.{StructInfo}
 use Rattle.mc_straight.specs.Spelling.{Spelling, word, words, Begins, type_at, type_of, spelled_field, spelled_structure}
-use Rattle.mc_straight.specs.Typing.{IsName, IsNew, AreNew, IsTypedStructure}
+use Rattle.mc_straight.specs.Typing.{IsName, IsNew, AreNew}
 use Rattle.mc_straight.specs.Reading.{◌>>=◌, next_of, expect_of, is_name, declarator_of, field_of_tokens, struct_name_of}
 use Rattle.mc_straight.specs.Parts.{FieldsRead, HeadReads, main_words}
 use Rattle.mc_straight.proofs.Names.{name_to, name_from, found_none, found_new, new_more}
-use Rattle.mc_straight.proofs.Tokens.{equal, equal_from, unequal, begin_words, words_begin, taken_then, chosen}
+use Rattle.mc_straight.proofs.Tokens.{begin_words, words_begin, taken_then, chosen}
 use Rattle.mc_straight.proofs.Deciding.{declarator_to, declarator_from}
 use Rattle.mc_straight.proofs.Stating.{append_nil, unless, is_none}
 use Rattle.mc_straight.proofs.Bodies.{split, unsplit, triple}
@@ -62,7 +62,7 @@ pub field_to : (tag : List ℕ) (fields : List FieldInfo) (f : FieldInfo) (later
 field_to tag fields f later [] end r = absurd (no_type tag f.kind (word f.name ∷ word (codes ";") ∷ words (tail_of tag later)) end (subst (λ ss. Begins ss [] end) (fields_cons tag f later) r.0))
 field_to tag fields f later (t ∷ ts) end r =
     let b : Begins (type_at tag f.kind t.place ++ word f.name ∷ word (codes ";") ∷ words (tail_of tag later)) (t ∷ ts) end =
-      type_placed tag f.kind (word f.name ∷ word (codes ";") ∷ words (tail_of tag later)) t ts end (subst (λ ss. Begins ss (t ∷ ts) end) (fields_cons tag f later) r.0) in
+    type_placed tag f.kind (word f.name ∷ word (codes ";") ∷ words (tail_of tag later)) t ts end (subst (λ ss. Begins ss (t ∷ ts) end) (fields_cons tag f later) r.0) in
     let d = declarator_to tag f.kind t.place f.name (word (codes ";") ∷ words (tail_of tag later)) (t ∷ ts) end r.1.0.name b in
     let m = begin_words (codes ";" ∷ []) (words (tail_of tag later)) d.0 end d.2 in
     (m.0, field_is tag fields (t ∷ ts) d.0 m.0 f.kind f.name d.1 m.1 (found_new (λ (g : FieldInfo). g.name) f.name fields r.1.0.unseen), (m.2, r.1.1))
@@ -79,12 +79,14 @@ field_from tag fields ts d e =
     let new : IsNew (named fields) c.1 = record { name = dis.0; unseen = found_none (λ (f : FieldInfo). f.name) c.1 fields (is_none (position (λ f. bytes_eq f.name c.1) fields) two.0) } in
     let made : Kind × List ℕ × List Token = (c.0, c.1, rest) in
     let same : made ≡ d = same_Some made d two.1 in
-    subst (FieldIs tag fields ts) same
-      (new, λ later end r.
-        let f : FieldInfo = record { name = c.1; kind = c.0 } in
-        let b : Begins (type_at tag c.0 dis.1.0.0.place ++ word c.1 ∷ word (codes ";") ∷ words (tail_of tag later)) ts end =
+    subst (FieldIs tag fields ts) same (
+      new,
+      λ later end r.
+          let f : FieldInfo = record { name = c.1; kind = c.0 } in
+          let b : Begins (type_at tag c.0 dis.1.0.0.place ++ word c.1 ∷ word (codes ";") ∷ words (tail_of tag later)) ts end =
           dis.1.2 (word (codes ";") ∷ words (tail_of tag later)) end (words_begin (codes ";" ∷ []) (words (tail_of tag later)) c.2 rest end is_1 r.0) in
-        (subst (λ ss. Begins ss ts end) (sym (fields_cons tag f later)) (type_unplaced tag c.0 dis.1.0.0.place (word c.1 ∷ word (codes ";") ∷ words (tail_of tag later)) ts end b), (new, r.1)))))
+          (subst (λ ss. Begins ss ts end) (sym (fields_cons tag f later)) (type_unplaced tag c.0 dis.1.0.0.place (word c.1 ∷ word (codes ";") ∷ words (tail_of tag later)) ts end b), (new, r.1)),
+    )))
 
 pub closed_field : (tag : List ℕ) (fields : List FieldInfo) (ts end : List Token) → Begins (words (codes "}" ∷ codes ";" ∷ [])) ts end → field_of_tokens tag fields ts ≡ None
 closed_field tag fields [] end b = absurd b
@@ -104,9 +106,11 @@ goes_on tag fields rest mid k w all end e (f ∷ later) a r =
     let same = triple f.kind k f.name w t.0 mid (sym t.1 ∙ e) in
     let g : FieldInfo = record { name = w; kind = k } in
     let is : f ≡ g = ap (λ (n : List ℕ). let h : FieldInfo = record { name = n; kind = f.kind } in h) same.1 ∙ ap (λ (x : Kind). let h : FieldInfo = record { name = w; kind = x } in h) same.0 in
-    let seen : named fields ++ f.name ∷ [] ≡ named (fields ++ g ∷ []) = ap (λ n. named fields ++ n ∷ []) same.1 ∙ sym (named_more fields g) in
-    (later, a ∙ ap (λ x. fields ++ x ∷ later) is ∙ sym (append_assoc fields (g ∷ []) later),
-      subst (λ n. FieldsRead tag n later mid end) seen (subst (λ x. FieldsRead tag (named fields ++ f.name ∷ []) later x end) same.2 t.2))
+    let seen : named fields ++ f.name ∷ [] ≡ named (fields ++ g ∷ []) = ap (λ n. named fields ++ n ∷ []) same.1 ∙ sym (named_more fields g) in (
+      later,
+      a ∙ ap (λ x. fields ++ x ∷ later) is ∙ sym (append_assoc fields (g ∷ []) later),
+      subst (λ n. FieldsRead tag n later mid end) seen (subst (λ x. FieldsRead tag (named fields ++ f.name ∷ []) later x end) same.2 t.2),
+    )
 
 pub fields_kept : (tag : List ℕ) (tokens : List Token) (fields : List FieldInfo) (rest mid : List Token) (k : Kind) (w : List ℕ) (on : List FieldInfo)
     → AreNew [] (named fields) → field_of_tokens tag fields rest ≡ Some (k, w, mid) → on ≡ fields ++ record { name = w; kind = k } ∷ [] → FieldsSame tag tokens fields rest → AreNew [] (named on) × FieldsSame tag tokens on mid
@@ -116,7 +120,8 @@ fields_kept tag tokens fields rest mid k w on new e push same =
     let new_on : AreNew [] (named (fields ++ g ∷ [])) = subst (AreNew []) (sym (named_more fields g)) (new_more [] (named fields) w new from.0) in
     let same_on : FieldsSame tag tokens (fields ++ g ∷ []) mid = λ all end. (
       (λ r. let h = (same all end).0 r in goes_on tag fields rest mid k w all end e h.0 h.1 h.2),
-      (λ h. (same all end).1 (g ∷ h.0, h.1 ∙ append_assoc fields (g ∷ []) h.0, from.1 h.0 end (subst (λ n. FieldsRead tag n h.0 mid end) (named_more fields g) h.2)))) in
+      (λ h. (same all end).1 (g ∷ h.0, h.1 ∙ append_assoc fields (g ∷ []) h.0, from.1 h.0 end (subst (λ n. FieldsRead tag n h.0 mid end) (named_more fields g) h.2))),
+    ) in
     subst (λ x. AreNew [] (named x) × FieldsSame tag tokens x mid) (sym push) (new_on, same_on)
 
 done_fields : (tag : List ℕ) (fields : List FieldInfo) (rest out : List Token) (all : List FieldInfo) (end : List Token) → field_of_tokens tag fields rest ≡ None → expect_of rest (codes "}" ∷ codes ";" ∷ []) ≡ Some out
@@ -133,8 +138,9 @@ done_fields tag fields rest out all end e x (f ∷ later) a r =
 pub fields_done : (tag : List ℕ) (tokens : List Token) (fields : List FieldInfo) (rest out : List Token) → field_of_tokens tag fields rest ≡ None → expect_of rest (codes "}" ∷ codes ";" ∷ []) ≡ Some out → FieldsSame tag tokens fields rest
     → (all : List FieldInfo) (end : List Token) → FieldsRead tag [] all tokens end ↔ ((all ≡ fields) × (end ≡ out))
 fields_done tag tokens fields rest out e x same all end = (
-    (λ r. let h = (same all end).0 r in done_fields tag fields rest out all end e x h.0 h.1 h.2),
-    (λ h. (same all end).1 ([], h.0 ∙ sym (append_nil fields), (words_begin (codes "}" ∷ codes ";" ∷ []) [] rest out end x (sym h.1), tt))))
+  (λ r. let h = (same all end).0 r in done_fields tag fields rest out all end e x h.0 h.1 h.2),
+  (λ h. (same all end).1 ([], h.0 ∙ sym (append_nil fields), (words_begin (codes "}" ∷ codes ";" ∷ []) [] rest out end x (sym h.1), tt))),
+)
 
 none_fields : (tag : List ℕ) (fields : List FieldInfo) (rest : List Token) (end : List Token) → field_of_tokens tag fields rest ≡ None → expect_of rest (codes "}" ∷ codes ";" ∷ []) ≡ None
     → (later : List FieldInfo) → FieldsRead tag (named fields) later rest end → ⊥
@@ -180,7 +186,7 @@ inside_on ts mid w e (Some s) rest r =
     let o = opened s ts rest r.1.0 r.0 in
     let parts = some_pair_parts s.name w o.0 mid (sym o.1 ∙ e) in
     let b : Begins (words (flat_map (spelled_field s.name) s.fields ++ codes "}" ∷ codes ";" ∷ []) ++ words main_words) o.0 rest =
-      subst (λ ss. Begins ss o.0 rest) (map-append word (flat_map (spelled_field s.name) s.fields ++ codes "}" ∷ codes ";" ∷ []) main_words) o.2 in
+    subst (λ ss. Begins ss o.0 rest) (map-append word (flat_map (spelled_field s.name) s.fields ++ codes "}" ∷ codes ";" ∷ []) main_words) o.2 in
     let m = split (words (flat_map (spelled_field s.name) s.fields ++ codes "}" ∷ codes ";" ∷ [])) (words main_words) o.0 rest b in
     subst (λ n. Inside n mid (Some s) rest) parts.0 (subst (λ x. Inside s.name x (Some s) rest) parts.1 (s.fields, m.0, refl, r.1.1, (m.1, r.1.2), m.2))
 
@@ -201,9 +207,11 @@ opens ts n e =
     let two = chosen (is_name name.0.text) (Some (name.0.text, out)) n on_2 in
     let made : List ℕ × List Token = (name.0.text, out) in
     let same : made ≡ n = same_Some made n two.1 in
-    subst (Opens ts) same
-      (name_from name.0.text two.0, λ ss rest b. words_begin (codes "struct" ∷ []) (word name.0.text ∷ word (codes "{") ∷ ss) ts a rest is_0
-        (next_word name.0.text (word (codes "{") ∷ ss) a name rest is_1 refl (words_begin (codes "{" ∷ []) ss name.1 out rest is_2 b))))))
+    subst (Opens ts) same (
+      name_from name.0.text two.0,
+      λ ss rest b. words_begin (codes "struct" ∷ []) (word name.0.text ∷ word (codes "{") ∷ ss) ts a rest is_0
+          (next_word name.0.text (word (codes "{") ∷ ss) a name rest is_1 refl (words_begin (codes "{" ∷ []) ss name.1 out rest is_2 b)),
+    ))))
 
 inside_back : (ts mid : List Token) (w : List ℕ) → struct_name_of ts ≡ Some (w, mid) → (structure : Option StructInfo) (rest : List Token) → Inside w mid structure rest → HeadReads structure ts rest
 inside_back ts mid w e structure rest h =
@@ -227,7 +235,8 @@ struct_empty ts mid out w list e only none structure rest r =
 pub struct_head : (ts mid out : List Token) (w : List ℕ) (list : List FieldInfo) → struct_name_of ts ≡ Some (w, mid) → ((fields : List FieldInfo) (rest : List Token) → FieldsRead w [] fields mid rest ↔ ((fields ≡ list) × (rest ≡ out))) → 0 < length list
     → (structure : Option StructInfo) (rest : List Token) → HeadReads structure ts rest ↔ ((structure ≡ Some (record { name = w; fields = list })) × Begins (words main_words) out rest)
 struct_head ts mid out w list e only some_field structure rest = (
-    (λ r. let h = inside_on ts mid w e structure rest r in
+  (λ r. let h = inside_on ts mid w e structure rest r in
       let same = (only h.0 h.1).0 h.4 in
       (h.2 ∙ ap (λ (fs : List FieldInfo). Some (record { name = w; fields = fs })) same.0, subst (λ x. Begins (words main_words) x rest) same.1 h.5)),
-    (λ h. inside_back ts mid w e structure rest (list, out, h.0, some_field, (only list out).1 (refl, refl), h.1)))
+  (λ h. inside_back ts mid w e structure rest (list, out, h.0, some_field, (only list out).1 (refl, refl), h.1)),
+)

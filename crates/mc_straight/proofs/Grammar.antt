@@ -1,27 +1,24 @@
 -- What is read is what is spelled.
-use Rattle.std.proofs.Common.{◌≡◌, ◌≢◌, ◌<◌, ◌+◌, ◌++◌, ◌⊎◌, inl, inr, ℕ, zero, suc, List, [], ◌∷◌, map, length, take, get_or, Option, Some, None, Bool, true, false, cond, not, refl, sym, ap, ◌∙◌, subst, arith, length-append, append_assoc}
-use Rattle.std.specs.Prelude.{All, IsSome, is_some, codes, position, slice_get, slice_index, if◌then◌else◌}
-use Rattle.std.specs.Option.{option_map}
-use Rattle.std.specs.Str.{bytes_eq}
+use Rattle.std.proofs.Common.{◌≡◌, ◌++◌, ◌⊎◌, inl, inr, ℕ, List, [], ◌∷◌, map, length, Option, Some, None, refl, sym, ap, ◌∙◌, subst}
+use Rattle.std.specs.Prelude.{IsSome, codes, if◌then◌else◌}
 use Rattle.std.proofs.lemmas.Option.{some_pair_parts}
 use Rattle.mc_base.specs.declared.ids.VarId.{VarId}
 use Rattle.mc_base.specs.declared.plain.Kind.{Kind}
-use Rattle.mc_base.specs.declared.plain.Kind.TheVariants.{Int, Ptr}
+use Rattle.mc_base.specs.declared.plain.Kind.TheVariants.{Ptr}
 use Rattle.mc_base.specs.declared.plain.VarInfo.{VarInfo}
 use Rattle.mc_base.specs.declared.plain.Place.{Place}
-use Rattle.mc_lex.specs.Bytes.{is_letter}
 use Rattle.mc_lex.specs.declared.token.Token.{Token}
 use Rattle.mc_flow.specs.declared.instr.Operand.{Operand}
 use Rattle.mc_flow.specs.declared.graph.StructInfo.{StructInfo}
 use Rattle.mc_straight.specs.declared.tree.IfPlaces.{IfPlaces}
 use Rattle.mc_straight.specs.declared.tree.Stmt.{Stmt}
 use Rattle.mc_straight.specs.declared.tree.Stmt.TheVariants.{Declare, DeclareMalloc, Malloc, Load, Store, Free, ReturnIfNull, ReturnZero}
-use Rattle.mc_straight.specs.Spelling.{Spelling, word, word_at, words, IsSpelled, Begins, spelled, tag_of, fields_of, name_of, kind_of, field_name, field_kind, type_at, malloc_of, stored_as, freed_as}
-use Rattle.mc_straight.specs.Typing.{IsName, IsNew, AreNew, IsTypedStructure, IsVisible, IsVisibleOperand, IsDeclared, HasField, IsTypedStmt, declared_behind, keywords, reserved}
-use Rattle.mc_straight.specs.Reading.{◌>>=◌, or_else, next_of, expect_of, same_kind, is_name, var_of, field_of, operand_of, freed_of, malloc_rest, type_of_tokens, declarator_of, declare_of, declare_malloc_of, load_of, initialiser_of, return_of, return_if_null_of, free_of, store_of, assign_of, command_of, declared_of, by_declarator, statement_of}
-use Rattle.mc_straight.proofs.Operands.{operand_to, operand_from, freed_to, freed_from, visible_name}
-use Rattle.mc_straight.proofs.Names.{name_to, name_from, found_to, found_from, found_none, found_new, name_at, new_more, mapped, unmapped, visible_to, visible_from, field_to, field_from, same_is, same_self, get_left, get_seam, take_front}
-use Rattle.mc_straight.proofs.Tokens.{equal, equal_from, unequal, begin_words, words_begin, taken, taken_then, chosen}
+use Rattle.mc_straight.specs.Spelling.{Spelling, word, word_at, words, IsSpelled, Begins, spelled, tag_of, name_of, field_name, field_kind, malloc_of, stored_as, freed_as}
+use Rattle.mc_straight.specs.Typing.{AreNew, IsTypedStructure, IsVisible, IsVisibleOperand, HasField, IsTypedStmt, declared_behind}
+use Rattle.mc_straight.specs.Reading.{◌>>=◌, or_else, next_of, expect_of, same_kind, var_of, field_of, operand_of, freed_of, malloc_rest, declare_of, declare_malloc_of, load_of, return_of, return_if_null_of, free_of, store_of, assign_of}
+use Rattle.mc_straight.proofs.Operands.{operand_to, operand_from, freed_to, freed_from}
+use Rattle.mc_straight.proofs.Names.{visible_to, visible_from, field_to, field_from, same_is, same_self}
+use Rattle.mc_straight.proofs.Tokens.{begin_words, words_begin, taken_then, chosen}
 
 -- the tokens begin with the statement, which is well typed, and go on with the rest
 abbrev pub Reads : Option StructInfo → List VarInfo → ℕ → Stmt → List Token → List Token → Type 0
@@ -124,7 +121,7 @@ return_from structure vars later s ts rest e =
     taken_then (next_of ts) (λ first. ((expect_of ts (codes "return" ∷ codes "0" ∷ codes ";" ∷ [])) >>= λ out. Some (ReturnZero first.0.place, out))) (s, rest) e (λ first is_0 on_0.
     taken_then (expect_of ts (codes "return" ∷ codes "0" ∷ codes ";" ∷ [])) (λ out. Some (ReturnZero first.0.place, out)) (s, rest) on_0 (λ out is_1 on_1.
     close (λ s rest. Keeps structure vars later s ts rest) (ReturnZero first.0.place) s out rest
-      ((at_spelled (codes "return") (words (codes "0" ∷ codes ";" ∷ [])) ts first out is_0 (words_begin (codes "return" ∷ codes "0" ∷ codes ";" ∷ []) [] ts out out is_1 refl), tt), refl) on_1))
+    ((at_spelled (codes "return") (words (codes "0" ∷ codes ";" ∷ [])) ts first out is_0 (words_begin (codes "return" ∷ codes "0" ∷ codes ";" ∷ []) [] ts out out is_1 refl), tt), refl) on_1))
 
 pub if_from : (structure : Option StructInfo) (vars later : List VarInfo) (s : Stmt) (ts rest : List Token) → return_if_null_of vars ts ≡ Some (s, rest) → Keeps structure vars later s ts rest
 if_from structure vars later s ts rest e =
@@ -209,4 +206,3 @@ load_from structure vars later x k place s ts rest e =
     let b1 : Begins (words (name_of (vars ++ later) y ∷ codes "->" ∷ field_name structure f ∷ codes ";" ∷ [])) a out = next_spelled (word (name_of (vars ++ later) y)) (words (codes "->" ∷ field_name structure f ∷ codes ";" ∷ [])) a base out is_1 (sym seen_y.1) b2 in
     let b0 : Begins (words (codes "=" ∷ name_of (vars ++ later) y ∷ codes "->" ∷ field_name structure f ∷ codes ";" ∷ [])) ts out = words_begin (codes "=" ∷ []) (words (name_of (vars ++ later) y ∷ codes "->" ∷ field_name structure f ∷ codes ";" ∷ [])) ts a out is_0 b1 in
     (y, f, sym parts.0, seen_y.0, subst (HasField structure f) (same_is (field_kind structure f) k two.0) seen_f.1, subst (λ r. Begins (words (codes "=" ∷ name_of (vars ++ later) y ∷ codes "->" ∷ field_name structure f ∷ codes ";" ∷ [])) ts r) parts.1 b0))))))))
-

@@ -1,16 +1,16 @@
 -- A program and its flow graph run alike.
-use Rattle.std.proofs.Common.{◌≡◌, ◌==◌, ◌+◌, ◌<◌, ◌↔◌, ◌⊎◌, inl, inr, ℕ, zero, suc, List, [], ◌∷◌, ◌++◌, length, replicate, Option, Some, None, Bool, true, false, refl, sym, ap, ◌∙◌, subst, arith, ℤ, pos}
+use Rattle.std.proofs.Common.{◌≡◌, ◌+◌, ◌⊎◌, inl, inr, ℕ, zero, suc, List, [], ◌∷◌, ◌++◌, length, replicate, Option, Some, None, Bool, true, false, refl, sym, ap, ◌∙◌, subst, arith, ℤ, pos}
 use Rattle.std.specs.Prelude.{slice_get, if◌then◌else◌}
 use Rattle.std.specs.Ordering.{int_eq}
 use Rattle.std.specs.FinMap as map
 use Rattle.mc_base.specs.declared.ids.VarId.{VarId}
 use Rattle.mc_base.specs.declared.plain.Place.{Place}
 use Rattle.mc_base.specs.declared.plain.FaultKind.TheVariants.{Uninit}
-use Rattle.mc_base.specs.Runs.{Outcome, next, last, Final, ended, fault, Reaches}
+use Rattle.mc_base.specs.Runs.{next, last, Final, ended, fault, Reaches}
 use Rattle.mc_heap.specs.Heap.{Heap}
 use Rattle.mc_heap.specs.Choices.{Choice, input, malloc, shape}
 use Rattle.mc_flow.specs.declared.instr.Operand.TheVariants.{Var, Const}
-use Rattle.mc_flow.specs.declared.instr.Instr.TheVariants.{Skip, Malloc as Allocate, TestEq, End}
+use Rattle.mc_flow.specs.declared.instr.Instr.TheVariants.{Skip, Malloc as Allocate, TestEq}
 use Rattle.mc_flow.specs.declared.graph.Point.{Point}
 use Rattle.mc_flow.specs.Steps as flow
 use Rattle.mc_flow.specs.Steps.{value_in, value_of}
@@ -20,9 +20,9 @@ use Rattle.mc_straight.specs.declared.tree.Stmt.{Stmt}
 use Rattle.mc_straight.specs.declared.tree.Stmt.TheVariants.{Declare, DeclareMalloc, Malloc, Load, Store, Free, ReturnIfNull, ReturnZero}
 use Rattle.mc_straight.specs.Typing.{IsTyped, IsTypedBody}
 use Rattle.mc_straight.specs.Meaning as tree
-use Rattle.mc_straight.specs.Lowering.{nowhere, point_id, the_struct, flow_var, returned, lowered, points_of, flow_of, RunsMatch}
+use Rattle.mc_straight.specs.Lowering.{nowhere, point_id, the_struct, flow_var, returned, points_of, flow_of, RunsMatch}
 use Rattle.mc_straight.proofs.Placing.{Placed, placed_point, placed_first, placed_behind, placed_end}
-use Rattle.mc_straight.proofs.Stepping.{spare, seen, moved, read_var}
+use Rattle.mc_straight.proofs.Stepping.{spare, seen, read_var}
 use Rattle.mc_straight.proofs.Simulating.{conf, end, step_at, step_from, longer, HasEnd, returns, returned_ends, tree_ends, forth, back, Forth, Back, forth_one, back_one}
 use Rattle.mc_straight.proofs.Statements.{declare_one, load_one, store_one, free_one, declare_null, declare_block, assign_null, assign_block, MayBe}
 
@@ -69,7 +69,8 @@ declare_back p final m ih x place left at r vars heap (malloc zero ∷ choices) 
 declare_back p final m ih x place left at r vars heap (malloc (suc k) ∷ choices) placed typed run =
     let may : MayBe heap k = elim run [
       | inl s ↦ (let a = (step_from p (seen at r (spare (DeclareMalloc x place ∷ left)) (conf (DeclareMalloc x place ∷ left) vars heap)) (malloc (suc k) ∷ choices) (last final) (allocating x place at) (placed_first (points_of p.body) (end p) at (DeclareMalloc x place ∷ left) (allocating x place at) placed refl) s) in (a.0, a.1))
-      | inr h ↦ (let a = (step_from p (seen at r (spare (DeclareMalloc x place ∷ left)) (conf (DeclareMalloc x place ∷ left) vars heap)) (malloc (suc k) ∷ choices) (next h.0 h.1) (allocating x place at) (placed_first (points_of p.body) (end p) at (DeclareMalloc x place ∷ left) (allocating x place at) placed refl) h.2) in (a.0, a.1)) ] in
+      | inr h ↦ (let a = (step_from p (seen at r (spare (DeclareMalloc x place ∷ left)) (conf (DeclareMalloc x place ∷ left) vars heap)) (malloc (suc k) ∷ choices) (next h.0 h.1) (allocating x place at) (placed_first (points_of p.body) (end p) at (DeclareMalloc x place ∷ left) (allocating x place at) placed refl) h.2) in (a.0, a.1))
+    ] in
     back_one p final m ih (DeclareMalloc x place) left at r vars heap (malloc (suc k) ∷ choices) _ placed typed (declare_block p x place left at r vars heap k choices placed typed.0.1.0 may) run
 
 malloc_back : (p : Program) (final : Final) (m : ℕ) → Back p final m → (x : VarId) (place : Place) (left : List Stmt) (at : ℕ) (r : Option ℤ) (vars : List (Option ℤ)) (heap : Heap) (choices : List Choice)
@@ -84,7 +85,8 @@ malloc_back p final m ih x place left at r vars heap (malloc zero ∷ choices) p
 malloc_back p final m ih x place left at r vars heap (malloc (suc k) ∷ choices) placed typed run =
     let may : MayBe heap k = elim run [
       | inl s ↦ (let a = (step_from p (seen at r (spare (Malloc x place ∷ left)) (conf (Malloc x place ∷ left) vars heap)) (malloc (suc k) ∷ choices) (last final) (allocating x place at) (placed_first (points_of p.body) (end p) at (Malloc x place ∷ left) (allocating x place at) placed refl) s) in (a.0, a.1))
-      | inr h ↦ (let a = (step_from p (seen at r (spare (Malloc x place ∷ left)) (conf (Malloc x place ∷ left) vars heap)) (malloc (suc k) ∷ choices) (next h.0 h.1) (allocating x place at) (placed_first (points_of p.body) (end p) at (Malloc x place ∷ left) (allocating x place at) placed refl) h.2) in (a.0, a.1)) ] in
+      | inr h ↦ (let a = (step_from p (seen at r (spare (Malloc x place ∷ left)) (conf (Malloc x place ∷ left) vars heap)) (malloc (suc k) ∷ choices) (next h.0 h.1) (allocating x place at) (placed_first (points_of p.body) (end p) at (Malloc x place ∷ left) (allocating x place at) placed refl) h.2) in (a.0, a.1))
+    ] in
     back_one p final m ih (Malloc x place) left at r vars heap (malloc (suc k) ∷ choices) _ placed typed (assign_block p x place left at r vars heap k choices placed typed.0.1.0 may) run
 
 -- ---- a return
@@ -125,21 +127,23 @@ if_forth_by : (p : Program) (final : Final) (n : ℕ) → Forth p final n → (b
 if_forth_by p final n ih true y places left at r vars heap choices has_end placed typed step run =
     forth p (seen at r (spare left) (conf left vars heap)) choices final n (next (conf (ReturnZero places.returned ∷ left) vars heap) choices) (seen (at + 1) r (spare left)) step
     (λ e rest eq tail.
-      let there : e ≡ conf (ReturnZero places.returned ∷ left) vars heap = cc in
-      let d : flow.Config = seen (at + 1) r (spare left) e in
-      let here : slice_get (points_of p.body) (at + 1) ≡ Some (returned (end p) places.returned) = placed_point (points_of p.body) (end p) at 1 (ReturnIfNull y places ∷ left) (returned (end p) places.returned) placed refl in
-      return_forth p final n (conf (ReturnZero places.returned ∷ left) vars heap) d rest places.returned (λ x s. s) here has_end (subst (λ c. Reaches (tree.Step p) n c rest final) there tail))
+    let there : e ≡ conf (ReturnZero places.returned ∷ left) vars heap = cc in
+    let d : flow.Config = seen (at + 1) r (spare left) e in
+    let here : slice_get (points_of p.body) (at + 1) ≡ Some (returned (end p) places.returned) = placed_point (points_of p.body) (end p) at 1 (ReturnIfNull y places ∷ left) (returned (end p) places.returned) placed refl in
+    return_forth p final n (conf (ReturnZero places.returned ∷ left) vars heap) d rest places.returned (λ x s. s) here has_end (subst (λ c. Reaches (tree.Step p) n c rest final) there tail))
     run
 if_forth_by p final n ih false y places left at r vars heap choices has_end placed typed step run =
     forth p (seen at r (spare left) (conf left vars heap)) choices final n (next (conf left vars heap) choices) (seen (at + 2) r (spare left)) step
     (λ e rest eq tail.
-      let there : e ≡ conf left vars heap = cc in
-      let here : slice_get (points_of p.body) (at + 2) ≡ Some (skipping places at) = placed_point (points_of p.body) (end p) at 2 (ReturnIfNull y places ∷ left) (skipping places at) placed refl in
-      let more = ih left (at + 3) r vars heap rest (placed_behind (points_of p.body) (end p) at (ReturnIfNull y places) left placed) typed (subst (λ c. Reaches (tree.Step p) n c rest final) there tail) in
-      let d : flow.Config = seen (at + 2) r (spare left) (conf left vars heap) in
-      let on : flow.Config = seen (at + 3) r (spare left) (conf left vars heap) in
-      (suc more.0, subst (λ (c : tree.Config). Reaches (flow.Step (flow_of p)) (suc more.0) (seen (at + 2) r (spare left) c) rest final) (sym there)
-        (inr (on, rest, step_at p d rest (next on rest) (skipping places at) here refl, more.1))))
+    let there : e ≡ conf left vars heap = cc in
+    let here : slice_get (points_of p.body) (at + 2) ≡ Some (skipping places at) = placed_point (points_of p.body) (end p) at 2 (ReturnIfNull y places ∷ left) (skipping places at) placed refl in
+    let more = ih left (at + 3) r vars heap rest (placed_behind (points_of p.body) (end p) at (ReturnIfNull y places) left placed) typed (subst (λ c. Reaches (tree.Step p) n c rest final) there tail) in
+    let d : flow.Config = seen (at + 2) r (spare left) (conf left vars heap) in
+    let on : flow.Config = seen (at + 3) r (spare left) (conf left vars heap) in (
+      suc more.0,
+      subst (λ (c : tree.Config). Reaches (flow.Step (flow_of p)) (suc more.0) (seen (at + 2) r (spare left) c) rest final) (sym there)
+          (inr (on, rest, step_at p d rest (next on rest) (skipping places at) here refl, more.1)),
+    ))
     run
 
 if_forth : (p : Program) (final : Final) (n : ℕ) → Forth p final n → (v : Option ℤ) (y : VarId) (places : IfPlaces) (left : List Stmt) (at : ℕ) (r : Option ℤ) (vars : List (Option ℤ)) (heap : Heap) (choices : List Choice)
@@ -160,31 +164,32 @@ if_back_by : (p : Program) (final : Final) (m : ℕ) → Back p final m → (b :
 if_back_by p final m ih true y places left at r vars heap choices has_end placed typed step run =
     back p (conf (ReturnIfNull y places ∷ left) vars heap) choices final m (next (conf (ReturnZero places.returned ∷ left) vars heap) choices) (seen (at + 1) r (spare left)) step
     (λ e rest eq tail.
-      let there : e ≡ conf (ReturnZero places.returned ∷ left) vars heap = cc in
-      let here : slice_get (points_of p.body) (at + 1) ≡ Some (returned (end p) places.returned) = placed_point (points_of p.body) (end p) at 1 (ReturnIfNull y places ∷ left) (returned (end p) places.returned) placed refl in
-      let done = return_back p final m (conf (ReturnZero places.returned ∷ left) vars heap) (seen (at + 1) r (spare left) e) rest places.returned refl here has_end tail in
-      (done.0, subst (λ c. Reaches (tree.Step p) done.0 c rest final) (sym there) done.1))
+    let there : e ≡ conf (ReturnZero places.returned ∷ left) vars heap = cc in
+    let here : slice_get (points_of p.body) (at + 1) ≡ Some (returned (end p) places.returned) = placed_point (points_of p.body) (end p) at 1 (ReturnIfNull y places ∷ left) (returned (end p) places.returned) placed refl in
+    let done = return_back p final m (conf (ReturnZero places.returned ∷ left) vars heap) (seen (at + 1) r (spare left) e) rest places.returned refl here has_end tail in
+    (done.0, subst (λ c. Reaches (tree.Step p) done.0 c rest final) (sym there) done.1))
     run
 if_back_by p final zero ih false y places left at r vars heap choices has_end placed typed step run =
     back p (conf (ReturnIfNull y places ∷ left) vars heap) choices final 0 (next (conf left vars heap) choices) (seen (at + 2) r (spare left)) step (λ e rest eq tail. absurd tail) run
 if_back_by p final (suc m) ih false y places left at r vars heap choices has_end placed typed step run =
     back p (conf (ReturnIfNull y places ∷ left) vars heap) choices final (suc m) (next (conf left vars heap) choices) (seen (at + 2) r (spare left)) step
     (λ e rest eq tail.
-      let there : e ≡ conf left vars heap = cc in
-      let d : flow.Config = seen (at + 2) r (spare left) e in
-      let on : flow.Config = seen (at + 3) r (spare left) e in
-      let here : slice_get (points_of p.body) (at + 2) ≡ Some (skipping places at) = placed_point (points_of p.body) (end p) at 2 (ReturnIfNull y places ∷ left) (skipping places at) placed refl in
-      let skipped : Reaches (flow.Step (flow_of p)) m on rest final = elim tail [
-        | inl s ↦ (let wrong : last final ≡ next on rest = step_from p d rest (last final) (skipping places at) here s in cc)
-        | inr h ↦
-            let same : next h.0 h.1 ≡ next on rest = step_from p d rest (next h.0 h.1) (skipping places at) here h.2 in
-            let goes : h.0 ≡ on = cc in
-            let given : h.1 ≡ rest = cc in
-            subst (λ x. Reaches (flow.Step (flow_of p)) m x rest final) goes (subst (λ cs. Reaches (flow.Step (flow_of p)) m h.0 cs final) given h.3) ] in
-      let moved_there : Reaches (flow.Step (flow_of p)) (suc m) (seen (at + 3) r (spare left) (conf left vars heap)) rest final =
-        subst (λ (c : tree.Config). Reaches (flow.Step (flow_of p)) (suc m) (seen (at + 3) r (spare left) c) rest final) there (longer p m on rest final skipped) in
-      let more = ih left (at + 3) r vars heap rest (placed_behind (points_of p.body) (end p) at (ReturnIfNull y places) left placed) typed moved_there in
-      (more.0, subst (λ c. Reaches (tree.Step p) more.0 c rest final) (sym there) more.1))
+    let there : e ≡ conf left vars heap = cc in
+    let d : flow.Config = seen (at + 2) r (spare left) e in
+    let on : flow.Config = seen (at + 3) r (spare left) e in
+    let here : slice_get (points_of p.body) (at + 2) ≡ Some (skipping places at) = placed_point (points_of p.body) (end p) at 2 (ReturnIfNull y places ∷ left) (skipping places at) placed refl in
+    let skipped : Reaches (flow.Step (flow_of p)) m on rest final = elim tail [
+      | inl s ↦ (let wrong : last final ≡ next on rest = step_from p d rest (last final) (skipping places at) here s in cc)
+      | inr h ↦
+          let same : next h.0 h.1 ≡ next on rest = step_from p d rest (next h.0 h.1) (skipping places at) here h.2 in
+          let goes : h.0 ≡ on = cc in
+          let given : h.1 ≡ rest = cc in
+          subst (λ x. Reaches (flow.Step (flow_of p)) m x rest final) goes (subst (λ cs. Reaches (flow.Step (flow_of p)) m h.0 cs final) given h.3)
+    ] in
+    let moved_there : Reaches (flow.Step (flow_of p)) (suc m) (seen (at + 3) r (spare left) (conf left vars heap)) rest final =
+    subst (λ (c : tree.Config). Reaches (flow.Step (flow_of p)) (suc m) (seen (at + 3) r (spare left) c) rest final) there (longer p m on rest final skipped) in
+    let more = ih left (at + 3) r vars heap rest (placed_behind (points_of p.body) (end p) at (ReturnIfNull y places) left placed) typed moved_there in
+    (more.0, subst (λ c. Reaches (tree.Step p) more.0 c rest final) (sym there) more.1))
     run
 
 if_back : (p : Program) (final : Final) (m : ℕ) → Back p final m → (v : Option ℤ) (y : VarId) (places : IfPlaces) (left : List Stmt) (at : ℕ) (r : Option ℤ) (vars : List (Option ℤ)) (heap : Heap) (choices : List Choice)
@@ -201,7 +206,7 @@ if_back p final m ih (Some a) y places left at r vars heap choices has_end place
 
 tested_alike : (y : VarId) (places : IfPlaces) (left : List Stmt) (at : ℕ) (r : Option ℤ) (vars : List (Option ℤ)) (heap : Heap) (choices : List Choice)
     → flow.tested (point_id (at + 1)) (point_id (at + 2)) places.condition (seen at r (spare left) (conf left vars heap)) choices (value_in (r ∷ (vars ++ spare left)) (flow_var y)) (Some (pos 0))
-      ≡ flow.tested (point_id (at + 1)) (point_id (at + 2)) places.condition (seen at r (spare left) (conf left vars heap)) choices (value_in vars y) (Some (pos 0))
+    ≡ flow.tested (point_id (at + 1)) (point_id (at + 2)) places.condition (seen at r (spare left) (conf left vars heap)) choices (value_in vars y) (Some (pos 0))
 tested_alike y places left at r vars heap choices = ap (λ v. flow.tested (point_id (at + 1)) (point_id (at + 2)) places.condition (seen at r (spare left) (conf left vars heap)) choices v (Some (pos 0))) (read_var r vars left y)
 
 forth_all : (p : Program) (final : Final) → HasEnd p → (n : ℕ) → Forth p final n
@@ -249,7 +254,8 @@ back_all p final has_end (suc m) (ReturnIfNull y places ∷ left) at r vars heap
     if_back p final m (back_all p final has_end m) (value_in vars y) y places left at r vars heap choices has_end placed typed.1 (λ x s. s)
     (elim run [
       | inl s ↦ inl (step_from p d choices (last final) (testing y places at) here s ∙ tested_alike y places left at r vars heap choices)
-      | inr h ↦ inr (h.0, h.1, step_from p d choices (next h.0 h.1) (testing y places at) here h.2 ∙ tested_alike y places left at r vars heap choices, h.3) ])
+      | inr h ↦ inr (h.0, h.1, step_from p d choices (next h.0 h.1) (testing y places at) here h.2 ∙ tested_alike y places left at r vars heap choices, h.3)
+    ])
 back_all p final has_end (suc m) (ReturnZero place ∷ left) at r vars heap choices placed typed run =
     return_back p final (suc m) (conf (ReturnZero place ∷ left) vars heap) (seen at r (spare left) (conf (ReturnZero place ∷ left) vars heap)) choices place refl (placed_first (points_of p.body) (end p) at (ReturnZero place ∷ left) (returned (end p) place) placed refl) has_end run
 
@@ -303,15 +309,15 @@ skipped p final choices (suc m) run = longer p m (begun p) choices final (elim r
       let same : next h.0 h.1 ≡ next (begun p) choices = h.2 in
       let there : h.0 ≡ begun p = cc in
       let rest : h.1 ≡ choices = cc in
-      subst (λ x. Reaches (flow.Step (flow_of p)) m x choices final) there (subst (λ cs. Reaches (flow.Step (flow_of p)) m h.0 cs final) rest h.3) ])
+      subst (λ x. Reaches (flow.Step (flow_of p)) m x choices final) there (subst (λ cs. Reaches (flow.Step (flow_of p)) m h.0 cs final) rest h.3)
+])
 
 pub matched : (p : Program) → IsTyped p → RunsMatch p (flow_of p)
 matched p typed choices final =
-    let has_end : HasEnd p = placed_end (points_of p.body) (end p) 1 p.body (placed_body p) in
-    (
+    let has_end : HasEnd p = placed_end (points_of p.body) (end p) 1 p.body (placed_body p) in (
       λ r.
-        let there = forth_all p final has_end r.0 p.body 1 None [] map.empty choices (placed_body p) typed.body r.1 in
-        (suc there.0, inr (begun p, choices, refl, subst (λ d. Reaches (flow.Step (flow_of p)) there.0 d choices final) (begun_is p typed) there.1)),
+          let there = forth_all p final has_end r.0 p.body 1 None [] map.empty choices (placed_body p) typed.body r.1 in
+          (suc there.0, inr (begun p, choices, refl, subst (λ d. Reaches (flow.Step (flow_of p)) there.0 d choices final) (begun_is p typed) there.1)),
       λ r. back_all p final has_end r.0 p.body 1 None [] map.empty choices (placed_body p) typed.body
-        (subst (λ d. Reaches (flow.Step (flow_of p)) r.0 d choices final) (sym (begun_is p typed)) (skipped p final choices r.0 r.1)),
+          (subst (λ d. Reaches (flow.Step (flow_of p)) r.0 d choices final) (sym (begun_is p typed)) (skipped p final choices r.0 r.1)),
     )

@@ -1,11 +1,10 @@
 -- Names, and what they stand for.
-use Rattle.std.proofs.Common.{◌≡◌, ◌≢◌, ◌<◌, ◌≤◌, ◌++◌, ◌==◌, ◌&&◌, ◌||◌, ◌+◌, not, ℕ, zero, suc, List, [], ◌∷◌, length, map, take, get_or, Option, Some, None, Bool, true, false, cond, refl, sym, ap, ◌∙◌, subst, arith, length-append, append_assoc, append-nil}
-use Rattle.std.specs.Prelude.{All, IsTrue, IsSome, codes, slice_get, slice_index, position, nat_lt, nat_le, if◌then◌else◌}
+use Rattle.std.proofs.Common.{◌≡◌, ◌≢◌, ◌<◌, ◌≤◌, ◌++◌, ◌&&◌, ◌||◌, ◌+◌, not, ℕ, zero, suc, List, [], ◌∷◌, length, map, take, get_or, Option, Some, None, Bool, true, false, cond, refl, sym, ap, ◌∙◌, subst, arith, append_assoc, append-nil}
+use Rattle.std.specs.Prelude.{All, slice_get, slice_index, position, nat_lt, if◌then◌else◌}
 use Rattle.std.specs.Option.{option_map, option_map_or}
 use Rattle.std.proofs.lemmas.Option.{slice_get_within}
 use Rattle.mc_flow.specs.declared.graph.FieldInfo.{FieldInfo}
-use Rattle.std.specs.List.{list_any, list_all, prefix_len}
-use Rattle.std.specs.Char.{digit_value}
+use Rattle.std.specs.List.{list_any, prefix_len}
 use Rattle.std.specs.Str.{bytes_eq}
 use Rattle.std.proofs.lemmas.Bool.Decides.{nat_tests}
 use Rattle.mc_base.specs.declared.ids.VarId.{VarId}
@@ -16,7 +15,7 @@ use Rattle.mc_lex.specs.Bytes.{is_letter}
 use Rattle.mc_flow.specs.declared.graph.StructInfo.{StructInfo}
 use Rattle.mc_straight.specs.Spelling.{name_of, kind_of, field_name, field_kind, fields_of}
 use Rattle.mc_straight.specs.Typing.{keywords, reserved, IsName, IsNew, AreNew, IsTypedStructure, IsVisible, HasField}
-use Rattle.mc_straight.specs.Reading.{same_kind, is_name, var_of, field_of, spelled_number, number_of, numeral_of}
+use Rattle.mc_straight.specs.Reading.{same_kind, is_name, var_of, field_of}
 use Rattle.mc_straight.proofs.Tokens.{equal, equal_from, unequal, chosen, taken}
 
 -- ---- words in lists

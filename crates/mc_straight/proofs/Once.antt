@@ -1,7 +1,7 @@
 -- A text is one program at most.
-use Rattle.std.proofs.Common.{◌≡◌, ◌<◌, ◌+◌, ◌++◌, ◌↔◌, inl, inr, ℕ, zero, suc, List, [], ◌∷◌, map, length, Option, Some, None, Result, Ok, Err, refl, sym, ap, ◌∙◌, subst, arith, length-append, append_assoc}
-use Rattle.std.specs.Prelude.{codes, flat_map}
-use Rattle.std.proofs.lemmas.Option.{same_Some, some_pair_parts}
+use Rattle.std.proofs.Common.{◌≡◌, ◌++◌, ◌↔◌, ℕ, List, [], ◌∷◌, map, length, Option, Some, None, Ok, Err, refl, sym, ap, ◌∙◌, subst}
+use Rattle.std.specs.Prelude.{codes}
+use Rattle.std.proofs.lemmas.Option.{same_Some}
 use Rattle.mc_base.specs.declared.plain.Kind.{Kind}
 use Rattle.mc_base.specs.declared.plain.VarInfo.{VarInfo}
 use Rattle.mc_lex.specs.declared.token.Token.{Token}
@@ -12,14 +12,13 @@ use Rattle.mc_flow.specs.declared.graph.StructInfo.{StructInfo}
 use Rattle.mc_straight.specs.declared.tree.Program.{Program}
 use Rattle.mc_straight.specs.declared.tree.Stmt.{Stmt}
 use Rattle.mc_straight.specs.Text.{IsPlain}
-use Rattle.mc_straight.specs.Spelling.{Spelling, words, Begins, spelled, spelled_structure, spelled_body, spelled_program}
-use Rattle.mc_straight.specs.Typing.{AreNew, IsTyped, IsTypedStructure, IsTypedBody, declared_behind}
-use Rattle.mc_straight.specs.Reading.{expect_of, field_of_tokens, struct_name_of, statement_of}
+use Rattle.mc_straight.specs.Spelling.{words, Begins, spelled, spelled_structure, spelled_body}
+use Rattle.mc_straight.specs.Typing.{AreNew, IsTypedStructure, IsTypedBody, declared_behind}
+use Rattle.mc_straight.specs.Reading.{expect_of, struct_name_of}
 use Rattle.mc_straight.specs.Parts.{FieldsRead, HeadReads, BodyReads, ProgramReads, main_words}
 use Rattle.mc_straight.specs.Program.{ReadsAs}
 use Rattle.mc_straight.proofs.Tokens.{begin_words, words_begin}
 use Rattle.mc_straight.proofs.Grammar.{Reads}
-use Rattle.mc_straight.proofs.Stating.{append_nil}
 use Rattle.mc_straight.proofs.Bodies.{split, unsplit, triple, first_stated, body_cons, open_by, no_later}
 use Rattle.mc_straight.proofs.Fields.{named, named_more, closed_field, field_to, plain_head, inside_on}
 
@@ -104,9 +103,10 @@ head_by ts None e s1 s2 e1 e2 a b =
 head_by ts (Some n) e s1 s2 e1 e2 a b =
     let x = inside_on ts n.1 n.0 e s1 e1 a in
     let y = inside_on ts n.1 n.0 e s2 e2 b in
-    let same = fields_once n.0 [] x.0 y.0 n.1 x.1 y.1 x.4 y.4 in
-    (x.2 ∙ ap (λ (fs : List FieldInfo). Some (let s : StructInfo = record { name = n.0; fields = fs } in s)) same.0 ∙ sym y.2,
-      main_once y.1 e1 e2 (subst (λ t. Begins (words main_words) t e1) same.1 x.5) y.5)
+    let same = fields_once n.0 [] x.0 y.0 n.1 x.1 y.1 x.4 y.4 in (
+      x.2 ∙ ap (λ (fs : List FieldInfo). Some (let s : StructInfo = record { name = n.0; fields = fs } in s)) same.0 ∙ sym y.2,
+      main_once y.1 e1 e2 (subst (λ t. Begins (words main_words) t e1) same.1 x.5) y.5,
+    )
 
 -- ---- one body at most
 

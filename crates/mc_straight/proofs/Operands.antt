@@ -1,8 +1,7 @@
 -- What is stored and what is freed.
-use Rattle.std.proofs.Common.{◌≡◌, ◌≢◌, ◌<◌, ◌≤◌, ◌++◌, ◌==◌, ◌&&◌, ◌⊎◌, inl, inr, ℕ, zero, suc, List, [], ◌∷◌, length, map, get_or, Option, Some, None, Bool, true, false, cond, refl, sym, ap, ◌∙◌, subst, arith, ℤ, pos}
-use Rattle.std.specs.Prelude.{IsTrue, codes, slice_get, slice_index, nat_le, nat_lt, if◌then◌else◌}
+use Rattle.std.proofs.Common.{◌≡◌, ◌≢◌, ◌≤◌, ◌++◌, ◌==◌, inl, inr, ℕ, zero, suc, List, [], ◌∷◌, length, map, Option, Some, None, Bool, true, false, cond, refl, sym, ap, ◌∙◌, subst, arith, pos}
+use Rattle.std.specs.Prelude.{codes, slice_get, slice_index, nat_le, nat_lt, if◌then◌else◌}
 use Rattle.std.specs.Option.{option_map, option_map_or}
-use Rattle.std.specs.List.{list_all}
 use Rattle.std.specs.Char.{digit_value}
 use Rattle.std.specs.Str.{bytes_eq}
 use Rattle.std.proofs.lemmas.Bool.Decides.{nat_tests}
@@ -18,10 +17,10 @@ use Rattle.mc_flow.specs.declared.instr.Operand.{Operand}
 use Rattle.mc_flow.specs.declared.instr.Operand.TheVariants.{Var, Const}
 use Rattle.mc_flow.specs.Valid.{IsInt}
 use Rattle.mc_straight.specs.Spelling.{IsSpelled, name_of, stored_as, freed_as}
-use Rattle.mc_straight.specs.Typing.{keywords, reserved, IsName, AreNew, IsVisible, IsVisibleOperand}
-use Rattle.mc_straight.specs.Reading.{◌>>=◌, numeral_of, spelled_number, number_of, null_operand, number_operand, number_or_var, operand_of, freed_of, var_of}
+use Rattle.mc_straight.specs.Typing.{reserved, IsName, AreNew, IsVisible, IsVisibleOperand}
+use Rattle.mc_straight.specs.Reading.{numeral_of, spelled_number, number_of, null_operand, number_operand, number_or_var, operand_of, freed_of, var_of}
 use Rattle.mc_straight.proofs.Tokens.{equal, equal_from, unequal, chosen, taken}
-use Rattle.mc_straight.proofs.Numbers.{spelled_to, spelled_from, small}
+use Rattle.mc_straight.proofs.Numbers.{spelled_to, spelled_from}
 use Rattle.mc_straight.proofs.Names.{visible_to, visible_from, name_at, mapped, get_left, get_map}
 
 -- ---- names are no numbers

@@ -1,5 +1,5 @@
 -- Where the points of a statement stand.
-use Rattle.std.proofs.Common.{◌≡◌, ◌+◌, ◌<◌, ℕ, zero, suc, List, [], ◌∷◌, ◌++◌, length, Option, Some, None, refl, sym, ap, ◌∙◌, subst, arith, length-append, append_assoc}
+use Rattle.std.proofs.Common.{◌≡◌, ◌+◌, ℕ, suc, List, [], ◌∷◌, ◌++◌, length, Some, refl, sym, ap, ◌∙◌, arith, length-append, append_assoc}
 use Rattle.std.specs.Prelude.{slice_get}
 use Rattle.mc_flow.specs.declared.instr.Instr.TheVariants.{End}
 use Rattle.mc_flow.specs.declared.graph.Point.{Point}
@@ -39,10 +39,10 @@ placed_first points end at left q h e = let z : at + 0 ≡ at = omega arith in a
 
 pub placed_behind : (points : List Point) (end at : ℕ) (s : Stmt) (left : List Stmt) → Placed points end at (s ∷ left) → Placed points end (at + size_of s) left
 placed_behind points end at s left h = record {
-    before = h.before ++ lowered end at s;
-    whole = h.whole ∙ sym (append_assoc h.before (lowered end at s) (lowered_body end (at + size_of s) left));
-    count = (let e : length (lowered end at s) ≡ size_of s = size_is end at s in let c : length h.before ≡ at = h.count in omega (arith, length-append h.before (lowered end at s)));
-  }
+  before = h.before ++ lowered end at s;
+  whole = h.whole ∙ sym (append_assoc h.before (lowered end at s) (lowered_body end (at + size_of s) left));
+  count = (let e : length (lowered end at s) ≡ size_of s = size_is end at s in let c : length h.before ≡ at = h.count in omega (arith, length-append h.before (lowered end at s)));
+}
 
 -- the End stands where it is to
 pub placed_end : (points : List Point) (end at : ℕ) (left : List Stmt) → Placed points end at left → slice_get points (end_of at left) ≡ Some (record { code = End; place = nowhere })

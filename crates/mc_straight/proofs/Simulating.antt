@@ -1,29 +1,23 @@
 -- Runs of a program and of its flow graph, step by step.
-use Rattle.std.proofs.Common.{◌≡◌, ◌==◌, ◌+◌, ◌<◌, ◌↔◌, ◌⊎◌, inl, inr, ℕ, zero, suc, List, [], ◌∷◌, ◌++◌, length, replicate, Option, Some, None, Bool, true, false, refl, sym, ap, ◌∙◌, subst, arith, length-append, length-set, ℤ, pos}
-use Rattle.std.specs.Prelude.{slice_get, if◌then◌else◌, IsSome}
-use Rattle.std.specs.Ordering.{int_eq}
-use Rattle.mc_base.specs.declared.plain.Kind.TheVariants.{Ptr}
+use Rattle.std.proofs.Common.{◌≡◌, ◌==◌, ◌+◌, ◌⊎◌, inl, inr, ℕ, zero, suc, List, [], ◌∷◌, ◌++◌, length, Option, Some, None, true, false, refl, sym, ap, subst, arith, length-append, ℤ, pos}
+use Rattle.std.specs.Prelude.{slice_get, if◌then◌else◌}
 use Rattle.mc_base.specs.declared.plain.Place.{Place}
-use Rattle.mc_base.specs.declared.ids.VarId.{VarId}
-use Rattle.mc_base.specs.Runs.{Outcome, next, last, Final, ended, fault, Reaches}
+use Rattle.mc_base.specs.Runs.{next, last, Final, ended, fault, Reaches}
 use Rattle.mc_base.specs.declared.plain.FaultKind.TheVariants.{Null}
-use Rattle.std.specs.FinMap as map
-use Rattle.mc_heap.specs.Heap.{Block, Heap, IsAddress, region_of}
-use Rattle.mc_heap.specs.Access.{field_at, fresh_block}
-use Rattle.mc_heap.specs.Choices.{Choice, input, malloc, shape}
+use Rattle.mc_heap.specs.Heap.{Block, Heap, region_of}
+use Rattle.mc_heap.specs.Access.{field_at}
+use Rattle.mc_heap.specs.Choices.{Choice}
 use Rattle.mc_flow.specs.declared.instr.Instr.TheVariants.{End}
 use Rattle.mc_flow.specs.declared.graph.Point.{Point}
 use Rattle.mc_flow.specs.Steps as flow
 use Rattle.mc_flow.specs.Steps.{field_count, address, written}
 use Rattle.mc_straight.specs.declared.tree.Program.{Program}
 use Rattle.mc_straight.specs.declared.tree.Stmt.{Stmt}
-use Rattle.mc_straight.specs.declared.tree.Stmt.TheVariants.{Declare, DeclareMalloc, Malloc, Load, Store, Free, ReturnIfNull, ReturnZero}
-use Rattle.mc_straight.specs.Typing.{IsTyped, IsTypedBody, IsTypedStmt, declared_behind}
+use Rattle.mc_straight.specs.Typing.{IsTypedBody, declared_behind}
 use Rattle.mc_straight.specs.Meaning as tree
-use Rattle.mc_straight.specs.Spelling.{fields_of}
-use Rattle.mc_straight.specs.Lowering.{nowhere, point_id, the_struct, flow_var, flow_operand, returned, lowered, lowered_body, size_of, end_of, points_of, structs_of, flow_of, RunsMatch}
-use Rattle.mc_straight.proofs.Placing.{Placed, placed_point, placed_first, placed_behind, placed_end}
-use Rattle.mc_straight.proofs.Stepping.{spare, seen, moved, load_moved, store_moved, free_moved, same_count, read_var, read_operand, declare_var, assign_var}
+use Rattle.mc_straight.specs.Lowering.{nowhere, returned, size_of, end_of, points_of, flow_of}
+use Rattle.mc_straight.proofs.Placing.{Placed, placed_behind}
+use Rattle.mc_straight.proofs.Stepping.{spare, seen, moved}
 
 abbrev pub conf : List Stmt → List (Option ℤ) → Heap → tree.Config
 conf left vars heap = record { left = left; vars = vars; heap = heap }
@@ -97,7 +91,8 @@ pub keep_load : (f : ℕ) (place : Place) (c : tree.Config) (choices : List Choi
 keep_load f place c choices None = tt
 keep_load f place c choices (Some p) = elim (flow.address p == 0) as (λ b. Keeps c.left (suc (length c.vars)) (if b then last (fault Null place) else tree.found place c choices (field_at (region_of c.heap (address p)) 0 f))) [
   | true ↦ tt
-  | false ↦ keep_found place c choices (field_at (region_of c.heap (address p)) 0 f) ]
+  | false ↦ keep_found place c choices (field_at (region_of c.heap (address p)) 0 f)
+]
 
 pub keep_put : (place : Place) (c : tree.Config) (choices : List Choice) (o : Option Heap) → Keeps c.left (length c.vars) (tree.put place c choices o)
 keep_put place c choices None = tt
@@ -108,7 +103,8 @@ keep_store f place c choices None b = tt
 keep_store f place c choices (Some v) None = tt
 keep_store f place c choices (Some v) (Some p) = elim (address p == 0) as (λ b. Keeps c.left (length c.vars) (if b then last (fault Null place) else tree.put place c choices (written c.heap (address p) (record { 0 = 0 }) f v (region_of c.heap (address p))))) [
   | true ↦ tt
-  | false ↦ keep_put place c choices (written c.heap (address p) (record { 0 = 0 }) f v (region_of c.heap (address p))) ]
+  | false ↦ keep_put place c choices (written c.heap (address p) (record { 0 = 0 }) f v (region_of c.heap (address p)))
+]
 
 pub keep_freed : (place : Place) (c : tree.Config) (choices : List Choice) (p : ℕ) (o : Option Block) → Keeps c.left (length c.vars) (tree.freed_at place c choices p o)
 keep_freed place c choices p None = tt
@@ -118,7 +114,8 @@ pub keep_free : (place : Place) (c : tree.Config) (choices : List Choice) (o : O
 keep_free place c choices None = tt
 keep_free place c choices (Some p) = elim (address p == 0) as (λ b. Keeps c.left (length c.vars) (if b then next c choices else tree.freed_at place c choices (address p) (region_of c.heap (address p)))) [
   | true ↦ (refl, refl)
-  | false ↦ keep_freed place c choices (address p) (region_of c.heap (address p)) ]
+  | false ↦ keep_freed place c choices (address p) (region_of c.heap (address p))
+]
 
 -- ---- one step, both ways
 
@@ -182,10 +179,10 @@ pub forth_one : (p : Program) (final : Final) (n : ℕ) → Forth p final n
 forth_one p final n ih s left at r vars heap choices o placed typed one run =
     forth p (seen at r (spare (s ∷ left)) (conf (s ∷ left) vars heap)) choices final n o (seen (at + size_of s) r (spare left)) one.flow_to
     (λ e rest eq tail.
-      let k : Keeps left (declared_behind (length vars) s) (next e rest) = subst (Keeps left (declared_behind (length vars) s)) eq one.keeps in
-      ih left (at + size_of s) r e.vars e.heap rest (placed_behind (points_of p.body) (end p) at s left placed)
-        (subst (λ k. IsTypedBody p.structure p.vars k left) (sym k.1) typed.1)
-        (subst (λ l. Reaches (tree.Step p) n (conf l e.vars e.heap) rest final) k.0 tail))
+    let k : Keeps left (declared_behind (length vars) s) (next e rest) = subst (Keeps left (declared_behind (length vars) s)) eq one.keeps in
+    ih left (at + size_of s) r e.vars e.heap rest (placed_behind (points_of p.body) (end p) at s left placed)
+    (subst (λ k. IsTypedBody p.structure p.vars k left) (sym k.1) typed.1)
+    (subst (λ l. Reaches (tree.Step p) n (conf l e.vars e.heap) rest final) k.0 tail))
     (elim run [ inl t ↦ inl (one.tree_from (last final) t) | inr h ↦ inr (h.0, h.1, one.tree_from (next h.0 h.1) h.2, h.3) ])
 
 pub back_one : (p : Program) (final : Final) (m : ℕ) → Back p final m
@@ -197,9 +194,8 @@ pub back_one : (p : Program) (final : Final) (m : ℕ) → Back p final m
 back_one p final m ih s left at r vars heap choices o placed typed one run =
     back p (conf (s ∷ left) vars heap) choices final m o (seen (at + size_of s) r (spare left)) one.tree_to
     (λ e rest eq tail.
-      let k : Keeps left (declared_behind (length vars) s) (next e rest) = subst (Keeps left (declared_behind (length vars) s)) eq one.keeps in
-      let there = ih left (at + size_of s) r e.vars e.heap rest (placed_behind (points_of p.body) (end p) at s left placed)
-        (subst (λ k. IsTypedBody p.structure p.vars k left) (sym k.1) typed.1) tail in
-      (there.0, subst (λ l. Reaches (tree.Step p) there.0 (conf l e.vars e.heap) rest final) (sym k.0) there.1))
+    let k : Keeps left (declared_behind (length vars) s) (next e rest) = subst (Keeps left (declared_behind (length vars) s)) eq one.keeps in
+    let there = ih left (at + size_of s) r e.vars e.heap rest (placed_behind (points_of p.body) (end p) at s left placed)
+    (subst (λ k. IsTypedBody p.structure p.vars k left) (sym k.1) typed.1) tail in
+    (there.0, subst (λ l. Reaches (tree.Step p) there.0 (conf l e.vars e.heap) rest final) (sym k.0) there.1))
     (elim run [ inl t ↦ inl (one.flow_from (last final) t) | inr h ↦ inr (h.0, h.1, one.flow_from (next h.0 h.1) h.2, h.3) ])
-

@@ -1,10 +1,10 @@
 -- Each statement of one point, with that point.
-use Rattle.std.proofs.Common.{◌≡◌, ◌==◌, ◌+◌, ◌<◌, ◌⊎◌, inl, inr, ℕ, zero, suc, List, [], ◌∷◌, ◌++◌, length, Option, Some, None, Bool, true, false, refl, sym, ap, ◌∙◌, subst, arith, length-append, length-set, ℤ, pos}
+use Rattle.std.proofs.Common.{◌≡◌, ◌+◌, ◌<◌, ℕ, suc, List, [], ◌∷◌, ◌++◌, length, Option, Some, None, refl, sym, ap, ◌∙◌, length-set, ℤ, pos}
 use Rattle.std.specs.Prelude.{slice_get}
 use Rattle.std.specs.FinMap as map
 use Rattle.mc_base.specs.declared.ids.VarId.{VarId}
 use Rattle.mc_base.specs.declared.plain.Place.{Place}
-use Rattle.mc_base.specs.Runs.{Outcome, next, last, Final}
+use Rattle.mc_base.specs.Runs.{next}
 use Rattle.mc_heap.specs.Heap.{Heap, IsAddress, region_of}
 use Rattle.mc_heap.specs.Access.{fresh_block}
 use Rattle.mc_heap.specs.Choices.{Choice, malloc}
@@ -18,10 +18,10 @@ use Rattle.mc_straight.specs.declared.tree.Stmt.{Stmt}
 use Rattle.mc_straight.specs.declared.tree.Stmt.TheVariants.{Declare, DeclareMalloc, Malloc, Load, Store, Free}
 use Rattle.mc_straight.specs.Spelling.{fields_of}
 use Rattle.mc_straight.specs.Meaning as tree
-use Rattle.mc_straight.specs.Lowering.{point_id, the_struct, flow_var, flow_operand, lowered, lowered_body, size_of, points_of, flow_of}
+use Rattle.mc_straight.specs.Lowering.{point_id, the_struct, flow_var, flow_operand, points_of, flow_of}
 use Rattle.mc_straight.proofs.Placing.{Placed, placed_first}
 use Rattle.mc_straight.proofs.Stepping.{spare, seen, moved, load_moved, store_moved, free_moved, same_count, read_var, read_operand, declare_var, assign_var}
-use Rattle.mc_straight.proofs.Simulating.{conf, end, step_at, step_from, Keeps, declared_count, keep_load, keep_store, keep_free, One}
+use Rattle.mc_straight.proofs.Simulating.{conf, end, step_at, step_from, declared_count, keep_load, keep_store, keep_free, One}
 
 -- the variables of the flow graph
 abbrev vars_of : Option ℤ → List (Option ℤ) → List Stmt → List (Option ℤ)
@@ -35,7 +35,7 @@ declare_one p x place left at r vars heap choices placed e =
     let q : Point = record { code = Undef (flow_var x ∷ []) (point_id (at + 1)); place = place } in
     let here : slice_get (points_of p.body) at ≡ Some q = placed_first (points_of p.body) (end p) at (Declare x place ∷ left) q placed refl in
     let same : next (record { point = at + 1; vars = flow.with_value (r ∷ (vars ++ None ∷ spare left)) (flow_var x) None; heap = heap }) choices ≡ moved (seen (at + 1) r (spare left)) (next (tree.declared None (conf left vars heap)) choices) =
-      ap (λ vs. next (record { point = at + 1; vars = vs; heap = heap }) choices) (declare_var r None vars (spare left) x e) in
+    ap (λ vs. next (record { point = at + 1; vars = vs; heap = heap }) choices) (declare_var r None vars (spare left) x e) in
     record {
       flow_to = λ y s. step_at p d choices y q here (s ∙ sym same);
       flow_from = λ y s. step_from p d choices y q here s ∙ same;
@@ -53,7 +53,7 @@ load_one p x y f place left at r vars heap choices placed e =
     let q : Point = record { code = LoadField (flow_var x) (flow_var y) the_struct f (point_id (at + 1)); place = place } in
     let here : slice_get (points_of p.body) at ≡ Some q = placed_first (points_of p.body) (end p) at (Load x y f place ∷ left) q placed refl in
     let same : flow.loaded (flow_var x) the_struct f (point_id (at + 1)) place d choices (value_in (r ∷ (vars ++ None ∷ spare left)) (flow_var y)) ≡ moved (seen (at + 1) r (spare left)) (tree.loaded f place c choices (value_in vars y)) =
-      ap (flow.loaded (flow_var x) the_struct f (point_id (at + 1)) place d choices) (read_var r vars (Load x y f place ∷ left) y) ∙ load_moved r (spare left) at f x place c choices (value_in vars y) e in
+    ap (flow.loaded (flow_var x) the_struct f (point_id (at + 1)) place d choices) (read_var r vars (Load x y f place ∷ left) y) ∙ load_moved r (spare left) at f x place c choices (value_in vars y) e in
     record {
       flow_to = λ z s. step_at p d choices z q here (s ∙ sym same);
       flow_from = λ z s. step_from p d choices z q here s ∙ same;
@@ -71,9 +71,9 @@ store_one p y f value place left at r vars heap choices placed =
     let q : Point = record { code = StoreField (flow_var y) the_struct f (flow_operand value) (point_id (at + 1)); place = place } in
     let here : slice_get (points_of p.body) at ≡ Some q = placed_first (points_of p.body) (end p) at (Store y f value place ∷ left) q placed refl in
     let same : flow.stored the_struct f (point_id (at + 1)) place d choices (value_of (r ∷ (vars ++ spare left)) (flow_operand value)) (value_in (r ∷ (vars ++ spare left)) (flow_var y)) ≡ moved (seen (at + 1) r (spare left)) (tree.stored f place c choices (value_of vars value) (value_in vars y)) =
-      ap (λ o. flow.stored the_struct f (point_id (at + 1)) place d choices o (value_in (r ∷ (vars ++ spare left)) (flow_var y))) (read_operand r vars left value)
-      ∙ ap (flow.stored the_struct f (point_id (at + 1)) place d choices (value_of vars value)) (read_var r vars left y)
-      ∙ store_moved r (spare left) at f place c choices (value_of vars value) (value_in vars y) in
+    ap (λ o. flow.stored the_struct f (point_id (at + 1)) place d choices o (value_in (r ∷ (vars ++ spare left)) (flow_var y))) (read_operand r vars left value)
+    ∙ ap (flow.stored the_struct f (point_id (at + 1)) place d choices (value_of vars value)) (read_var r vars left y)
+    ∙ store_moved r (spare left) at f place c choices (value_of vars value) (value_in vars y) in
     record {
       flow_to = λ z s. step_at p d choices z q here (s ∙ sym same);
       flow_from = λ z s. step_from p d choices z q here s ∙ same;
@@ -91,7 +91,7 @@ free_one p value place left at r vars heap choices placed =
     let q : Point = record { code = FreeBlock (flow_operand value) (point_id (at + 1)); place = place } in
     let here : slice_get (points_of p.body) at ≡ Some q = placed_first (points_of p.body) (end p) at (Free value place ∷ left) q placed refl in
     let same : flow.freed (point_id (at + 1)) place d choices (value_of (r ∷ (vars ++ spare left)) (flow_operand value)) ≡ moved (seen (at + 1) r (spare left)) (tree.freed place c choices (value_of vars value)) =
-      ap (flow.freed (point_id (at + 1)) place d choices) (read_operand r vars left value) ∙ free_moved r (spare left) at place c choices (value_of vars value) in
+    ap (flow.freed (point_id (at + 1)) place d choices) (read_operand r vars left value) ∙ free_moved r (spare left) at place c choices (value_of vars value) in
     record {
       flow_to = λ z s. step_at p d choices z q here (s ∙ sym same);
       flow_from = λ z s. step_from p d choices z q here s ∙ same;
@@ -120,7 +120,7 @@ declare_null p x place left at r vars heap choices placed e =
     let q : Point = record { code = Allocate (flow_var x) the_struct (point_id (at + 1)); place = place } in
     let here : slice_get (points_of p.body) at ≡ Some q = placed_first (points_of p.body) (end p) at (DeclareMalloc x place ∷ left) q placed refl in
     let same : next (record { point = at + 1; vars = flow.with_value (r ∷ (vars ++ None ∷ spare left)) (flow_var x) (Some (pos 0)); heap = heap }) choices ≡ moved (seen (at + 1) r (spare left)) (next (tree.declared (Some (pos 0)) (conf left vars heap)) choices) =
-      ap (λ vs. next (record { point = at + 1; vars = vs; heap = heap }) choices) (declare_var r (Some (pos 0)) vars (spare left) x e) in
+    ap (λ vs. next (record { point = at + 1; vars = vs; heap = heap }) choices) (declare_var r (Some (pos 0)) vars (spare left) x e) in
     record {
       flow_to = λ z s. step_at p d (malloc 0 ∷ choices) z q here (s ∙ sym same);
       flow_from = λ z s. step_from p d (malloc 0 ∷ choices) z q here s ∙ same;
@@ -137,9 +137,9 @@ declare_block p x place left at r vars heap n choices placed e may =
     let q : Point = record { code = Allocate (flow_var x) the_struct (point_id (at + 1)); place = place } in
     let here : slice_get (points_of p.body) at ≡ Some q = placed_first (points_of p.body) (end p) at (DeclareMalloc x place ∷ left) q placed refl in
     let same : next (record { point = at + 1; vars = flow.with_value (r ∷ (vars ++ None ∷ spare left)) (flow_var x) (Some (pos (suc n))); heap = map.insert heap (suc n) (fresh_block 0 (field_count (flow_of p).structs the_struct)) }) choices
-          ≡ moved (seen (at + 1) r (spare left)) (next (tree.declared (Some (pos (suc n))) (conf left vars (allocated p heap n))) choices) =
-      ap (λ vs. next (record { point = at + 1; vars = vs; heap = map.insert heap (suc n) (fresh_block 0 (field_count (flow_of p).structs the_struct)) }) choices) (declare_var r (Some (pos (suc n))) vars (spare left) x e)
-      ∙ ap (λ h. next (record { point = at + 1; vars = r ∷ ((vars ++ Some (pos (suc n)) ∷ []) ++ spare left); heap = h }) choices) (counted p heap n) in
+    ≡ moved (seen (at + 1) r (spare left)) (next (tree.declared (Some (pos (suc n))) (conf left vars (allocated p heap n))) choices) =
+    ap (λ vs. next (record { point = at + 1; vars = vs; heap = map.insert heap (suc n) (fresh_block 0 (field_count (flow_of p).structs the_struct)) }) choices) (declare_var r (Some (pos (suc n))) vars (spare left) x e)
+    ∙ ap (λ h. next (record { point = at + 1; vars = r ∷ ((vars ++ Some (pos (suc n)) ∷ []) ++ spare left); heap = h }) choices) (counted p heap n) in
     record {
       flow_to = λ z s. step_at p d (malloc (suc n) ∷ choices) z q here (may.0, may.1, s ∙ sym same);
       flow_from = λ z s. (step_from p d (malloc (suc n) ∷ choices) z q here s).2 ∙ same;
@@ -156,7 +156,7 @@ assign_null p x place left at r vars heap choices placed lt =
     let q : Point = record { code = Allocate (flow_var x) the_struct (point_id (at + 1)); place = place } in
     let here : slice_get (points_of p.body) at ≡ Some q = placed_first (points_of p.body) (end p) at (Malloc x place ∷ left) q placed refl in
     let same : next (record { point = at + 1; vars = flow.with_value (r ∷ (vars ++ spare left)) (flow_var x) (Some (pos 0)); heap = heap }) choices ≡ moved (seen (at + 1) r (spare left)) (next (tree.assigned x (pos 0) (conf left vars heap)) choices) =
-      ap (λ vs. next (record { point = at + 1; vars = vs; heap = heap }) choices) (assign_var r (Some (pos 0)) vars (spare left) x lt) in
+    ap (λ vs. next (record { point = at + 1; vars = vs; heap = heap }) choices) (assign_var r (Some (pos 0)) vars (spare left) x lt) in
     record {
       flow_to = λ z s. step_at p d (malloc 0 ∷ choices) z q here (s ∙ sym same);
       flow_from = λ z s. step_from p d (malloc 0 ∷ choices) z q here s ∙ same;
@@ -173,9 +173,9 @@ assign_block p x place left at r vars heap n choices placed lt may =
     let q : Point = record { code = Allocate (flow_var x) the_struct (point_id (at + 1)); place = place } in
     let here : slice_get (points_of p.body) at ≡ Some q = placed_first (points_of p.body) (end p) at (Malloc x place ∷ left) q placed refl in
     let same : next (record { point = at + 1; vars = flow.with_value (r ∷ (vars ++ spare left)) (flow_var x) (Some (pos (suc n))); heap = map.insert heap (suc n) (fresh_block 0 (field_count (flow_of p).structs the_struct)) }) choices
-          ≡ moved (seen (at + 1) r (spare left)) (next (tree.assigned x (pos (suc n)) (conf left vars (allocated p heap n))) choices) =
-      ap (λ vs. next (record { point = at + 1; vars = vs; heap = map.insert heap (suc n) (fresh_block 0 (field_count (flow_of p).structs the_struct)) }) choices) (assign_var r (Some (pos (suc n))) vars (spare left) x lt)
-      ∙ ap (λ h. next (record { point = at + 1; vars = r ∷ (flow.with_value vars x (Some (pos (suc n))) ++ spare left); heap = h }) choices) (counted p heap n) in
+    ≡ moved (seen (at + 1) r (spare left)) (next (tree.assigned x (pos (suc n)) (conf left vars (allocated p heap n))) choices) =
+    ap (λ vs. next (record { point = at + 1; vars = vs; heap = map.insert heap (suc n) (fresh_block 0 (field_count (flow_of p).structs the_struct)) }) choices) (assign_var r (Some (pos (suc n))) vars (spare left) x lt)
+    ∙ ap (λ h. next (record { point = at + 1; vars = r ∷ (flow.with_value vars x (Some (pos (suc n))) ++ spare left); heap = h }) choices) (counted p heap n) in
     record {
       flow_to = λ z s. step_at p d (malloc (suc n) ∷ choices) z q here (may.0, may.1, s ∙ sym same);
       flow_from = λ z s. (step_from p d (malloc (suc n) ∷ choices) z q here s).2 ∙ same;

@@ -1,10 +1,9 @@
 -- A statement is read exactly where one is spelled, and what is declared behind it.
-use Rattle.std.proofs.Common.{◌≡◌, ◌≢◌, ◌<◌, ◌+◌, ◌++◌, ◌⊎◌, inl, inr, ℕ, zero, suc, List, [], ◌∷◌, map, length, take, get_or, Option, Some, None, Bool, true, false, cond, not, refl, sym, ap, ◌∙◌, subst, arith, length-append, append_assoc, append-nil}
+use Rattle.std.proofs.Common.{◌≡◌, ◌≢◌, ◌++◌, inl, inr, ℕ, suc, List, [], ◌∷◌, map, length, take, Option, Some, None, Bool, true, false, cond, refl, sym, ap, ◌∙◌, subst, arith, length-append, append_assoc}
 use Rattle.std.proofs.lemmas.List.{map-append}
-use Rattle.std.specs.Prelude.{All, IsSome, is_some, codes, position, slice_get, slice_index, if◌then◌else◌}
+use Rattle.std.specs.Prelude.{IsSome, is_some, codes, position, slice_get}
 use Rattle.std.specs.Option.{option_map, option_map_or}
 use Rattle.std.specs.Str.{bytes_eq}
-use Rattle.std.proofs.lemmas.Option.{some_pair_parts}
 use Rattle.mc_base.specs.declared.ids.VarId.{VarId}
 use Rattle.mc_base.specs.declared.plain.Kind.{Kind}
 use Rattle.mc_base.specs.declared.plain.Kind.TheVariants.{Int, Ptr}
@@ -12,18 +11,16 @@ use Rattle.mc_base.specs.declared.plain.VarInfo.{VarInfo}
 use Rattle.mc_base.specs.declared.plain.Place.{Place}
 use Rattle.mc_lex.specs.declared.token.Token.{Token}
 use Rattle.mc_flow.specs.declared.graph.StructInfo.{StructInfo}
-use Rattle.mc_straight.specs.declared.tree.IfPlaces.{IfPlaces}
 use Rattle.mc_straight.specs.declared.tree.Stmt.{Stmt}
 use Rattle.mc_straight.specs.declared.tree.Stmt.TheVariants.{Declare, DeclareMalloc, Malloc, Load, Store, Free, ReturnIfNull, ReturnZero}
-use Rattle.mc_straight.specs.Spelling.{Spelling, word, word_at, words, IsSpelled, Begins, spelled, tag_of, name_of, kind_of, field_name, field_kind, type_at, malloc_of}
-use Rattle.mc_straight.specs.Typing.{IsName, IsNew, AreNew, IsTypedStructure, IsVisible, IsDeclared, HasField, IsTypedStmt, declared_behind, keywords, reserved}
-use Rattle.mc_straight.specs.Reading.{◌>>=◌, or_else, next_of, expect_of, var_of, field_of, operand_of, is_name, type_of_tokens, declarator_of, malloc_rest, declare_of, declare_malloc_of, load_of, initialiser_of, return_of, return_if_null_of, free_of, store_of, assign_of, command_of, declared_of, by_declarator, statement_of}
+use Rattle.mc_straight.specs.Spelling.{Spelling, word, words, Begins, spelled, tag_of, name_of, kind_of, field_name, field_kind, type_at, malloc_of}
+use Rattle.mc_straight.specs.Typing.{IsName, IsNew, AreNew, IsTypedStructure, IsVisible, IsDeclared, declared_behind, keywords, reserved}
+use Rattle.mc_straight.specs.Reading.{◌>>=◌, or_else, next_of, expect_of, var_of, field_of, operand_of, declarator_of, malloc_rest, declare_of, declare_malloc_of, load_of, initialiser_of, return_of, return_if_null_of, free_of, store_of, assign_of, command_of, declared_of, by_declarator, statement_of}
 use Rattle.mc_straight.proofs.Operands.{visible_name}
-use Rattle.mc_straight.proofs.Names.{name_to, name_from, found_none, found_new, new_more, mapped, unmapped, get_seam, take_front}
-use Rattle.mc_straight.proofs.Tokens.{equal, equal_from, unequal, begin_words, words_begin, taken_then, chosen}
+use Rattle.mc_straight.proofs.Names.{found_none, found_new, new_more, mapped, get_seam, take_front}
+use Rattle.mc_straight.proofs.Tokens.{unequal, words_begin, taken_then}
 use Rattle.mc_straight.proofs.Grammar.{Reads, Keeps, either, malloc_from, return_to, if_to, free_to, store_to, assign_to, declare_to, declare_malloc_to, load_to, return_from, if_from, free_from, store_from, assign_from, load_from}
 use Rattle.mc_straight.proofs.Deciding.{declarator_to, declarator_from}
-use Rattle.mc_straight.proofs.Names.{get_map, name_at, get_left}
 
 abbrev names : List VarInfo → List (List ℕ)
 names vars = map (λ v. v.name) vars
@@ -43,9 +40,15 @@ declared_as vars (v ∷ more) k x h =
     let kinds : Some v.kind ≡ Some k = sym (ap (option_map (λ (v : VarInfo). v.kind)) at) ∙ h.1 in
     let kind : v.kind ≡ k = cc in
     let named : name_of (vars ++ v ∷ more) x ≡ v.name = ap (λ o. option_map_or (λ (v : VarInfo). v.name) o []) at in
-    let before : take (length vars) (vars ++ v ∷ more) ≡ vars = take_front vars (v ∷ more) in
-    (v, more, refl, kind, named, ap (λ o. option_map_or (λ (v : VarInfo). v.kind) o Int) at ∙ kind,
-      subst (λ w. IsNew (names vars) w) named (subst (λ vs. IsNew (names vs) (name_of (vars ++ v ∷ more) x)) before h.2))
+    let before : take (length vars) (vars ++ v ∷ more) ≡ vars = take_front vars (v ∷ more) in (
+      v,
+      more,
+      refl,
+      kind,
+      named,
+      ap (λ o. option_map_or (λ (v : VarInfo). v.kind) o Int) at ∙ kind,
+      subst (λ w. IsNew (names vars) w) named (subst (λ vs. IsNew (names vs) (name_of (vars ++ v ∷ more) x)) before h.2),
+    )
 
 -- what a statement leaves
 abbrev pub StatedTo : Option StructInfo → List VarInfo → List VarInfo → Stmt → List Token → List Token → Type 0
@@ -102,7 +105,7 @@ load_pointer structure vars later x y f place (t ∷ []) rest b e = absurd b.1
 load_pointer structure vars later x y f place (t ∷ u ∷ []) rest b e = absurd b.1.1
 load_pointer structure vars later x y f place (t ∷ u ∷ w ∷ ts) rest b e =
     joined (declare_of structure x place (t ∷ u ∷ w ∷ ts)) (declare_malloc_of structure x place (t ∷ u ∷ w ∷ ts)) (load_of structure vars x Ptr place (t ∷ u ∷ w ∷ ts)) (Load x y f place, rest)
-      (declare_none structure x place t (u ∷ w ∷ ts) b.0) (malloc_none structure x place t u w ts b.0 b.1.1.0) e
+    (declare_none structure x place t (u ∷ w ∷ ts) b.0) (malloc_none structure x place t u w ts b.0 b.1.1.0) e
 
 load_init : (structure : Option StructInfo) (vars later : List VarInfo) (x y : VarId) (f : ℕ) (k : Kind) (place : Place) (ts rest : List Token)
     → Begins (LoadTokens structure (vars ++ later) y f) ts rest → load_of structure vars x k place ts ≡ Some (Load x y f place, rest) → initialiser_of structure vars x k place ts ≡ Some (Load x y f place, rest)
@@ -190,14 +193,14 @@ statement_to structure vars later (Declare x place) ts rest typed new r =
     let b : Begins (type_at (tag_of structure) Ptr place ++ word d.0.name ∷ words (codes ";" ∷ [])) ts rest = subst (λ w. Begins (type_at (tag_of structure) Ptr place ++ word w ∷ words (codes ";" ∷ [])) ts rest) d.4 r.0 in
     let m = declarator_to (tag_of structure) Ptr place d.0.name (words (codes ";" ∷ [])) ts rest d.6.name b in
     stated_by structure vars later d.1 d.0 Ptr x place (Declare x place) ts m.0 rest m.3.0 d.2 d.3 r.1.1.0 m.3.1 m.3.2 m.1 new d.6
-      (first_is (declare_of structure x place m.0) (or_else (declare_malloc_of structure x place m.0) (load_of structure (vars ++ d.0 ∷ []) x Ptr place m.0)) (Declare x place, rest) (declare_to structure x place m.0 rest r.1.0 m.2)) refl
+    (first_is (declare_of structure x place m.0) (or_else (declare_malloc_of structure x place m.0) (load_of structure (vars ++ d.0 ∷ []) x Ptr place m.0)) (Declare x place, rest) (declare_to structure x place m.0 rest r.1.0 m.2)) refl
 statement_to structure vars later (DeclareMalloc x place) ts rest typed new r =
     let d = declared_as vars later Ptr x r.1.1 in
     let tail : List Spelling = words (malloc_of (tag_of structure)) in
     let b : Begins (type_at (tag_of structure) Ptr place ++ word d.0.name ∷ tail) ts rest = subst (λ w. Begins (type_at (tag_of structure) Ptr place ++ word w ∷ tail) ts rest) d.4 r.0 in
     let m = declarator_to (tag_of structure) Ptr place d.0.name tail ts rest d.6.name b in
     stated_by structure vars later d.1 d.0 Ptr x place (DeclareMalloc x place) ts m.0 rest m.3.0 d.2 d.3 r.1.1.0 m.3.1 m.3.2 m.1 new d.6
-      (second (declare_of structure x place m.0) (declare_malloc_of structure x place m.0) (load_of structure (vars ++ d.0 ∷ []) x Ptr place m.0) (DeclareMalloc x place, rest) (malloc_undeclared structure x place m.0 rest m.2) (declare_malloc_to structure x place m.0 rest r.1.0 m.2)) refl
+    (second (declare_of structure x place m.0) (declare_malloc_of structure x place m.0) (load_of structure (vars ++ d.0 ∷ []) x Ptr place m.0) (DeclareMalloc x place, rest) (malloc_undeclared structure x place m.0 rest m.2) (declare_malloc_to structure x place m.0 rest r.1.0 m.2)) refl
 statement_to structure vars later (Load x y f place) ts rest typed new r =
     let k : Kind = r.1.0 in
     let d = declared_as vars later k x r.1.1 in
@@ -210,32 +213,32 @@ statement_to structure vars later (Load x y f place) ts rest typed new r =
     let seen : IsVisible ((vars ++ d.0 ∷ []) ++ d.1) (length (vars ++ d.0 ∷ [])) Ptr y = subst (λ n. IsVisible ((vars ++ d.0 ∷ []) ++ d.1) n Ptr y) (sym (count_more vars d.0)) (subst (λ a. IsVisible a (suc (length vars)) Ptr y) same r.1.2) in
     let b1 : Begins (LoadTokens structure ((vars ++ d.0 ∷ []) ++ d.1) y f) m.0 rest = subst (λ a. Begins (LoadTokens structure a y f) m.0 rest) same m.2 in
     stated_by structure vars later d.1 d.0 k x place (Load x y f place) ts m.0 rest m.3.0 d.2 d.3 r.1.1.0 m.3.1 m.3.2 m.1 new d.6
-      (load_init structure (vars ++ d.0 ∷ []) d.1 x y f k place m.0 rest b1 (load_to structure (vars ++ d.0 ∷ []) d.1 x y f place k m.0 rest typed (names_more vars d.0 new d.6) seen r.1.3 b1)) refl
+    (load_init structure (vars ++ d.0 ∷ []) d.1 x y f k place m.0 rest b1 (load_to structure (vars ++ d.0 ∷ []) d.1 x y f place k m.0 rest typed (names_more vars d.0 new d.6) seen r.1.3 b1)) refl
 statement_to structure vars later (ReturnZero place) [] rest typed new r = absurd r.0
 statement_to structure vars later (ReturnZero place) (t ∷ ts) rest typed new r =
     command_stated structure vars later (ReturnZero place) t ts rest (rw r.0.0.0 refl)
-      (first_is (return_of (t ∷ ts)) (or_else (return_if_null_of vars (t ∷ ts)) (or_else (free_of vars (t ∷ ts)) (or_else (store_of structure vars (t ∷ ts)) (assign_of structure vars (t ∷ ts))))) (ReturnZero place, rest) (return_to place (t ∷ ts) rest r.0)) refl new
+    (first_is (return_of (t ∷ ts)) (or_else (return_if_null_of vars (t ∷ ts)) (or_else (free_of vars (t ∷ ts)) (or_else (store_of structure vars (t ∷ ts)) (assign_of structure vars (t ∷ ts))))) (ReturnZero place, rest) (return_to place (t ∷ ts) rest r.0)) refl new
 statement_to structure vars later (ReturnIfNull y places) [] rest typed new r = absurd r.0
 statement_to structure vars later (ReturnIfNull y places) (t ∷ ts) rest typed new r =
     command_stated structure vars later (ReturnIfNull y places) t ts rest (rw r.0.0.0 refl)
-      (second (return_of (t ∷ ts)) (return_if_null_of vars (t ∷ ts)) (or_else (free_of vars (t ∷ ts)) (or_else (store_of structure vars (t ∷ ts)) (assign_of structure vars (t ∷ ts)))) (ReturnIfNull y places, rest) (rw r.0.0.0 refl) (if_to vars later y places (t ∷ ts) rest new r.1 r.0)) refl new
+    (second (return_of (t ∷ ts)) (return_if_null_of vars (t ∷ ts)) (or_else (free_of vars (t ∷ ts)) (or_else (store_of structure vars (t ∷ ts)) (assign_of structure vars (t ∷ ts)))) (ReturnIfNull y places, rest) (rw r.0.0.0 refl) (if_to vars later y places (t ∷ ts) rest new r.1 r.0)) refl new
 statement_to structure vars later (Free o place) [] rest typed new r = absurd r.0
 statement_to structure vars later (Free o place) (t ∷ ts) rest typed new r =
     command_stated structure vars later (Free o place) t ts rest (rw r.0.0.0 refl)
-      (third (return_of (t ∷ ts)) (return_if_null_of vars (t ∷ ts)) (free_of vars (t ∷ ts)) (or_else (store_of structure vars (t ∷ ts)) (assign_of structure vars (t ∷ ts))) (Free o place, rest) (rw r.0.0.0 refl) (rw r.0.0.0 refl) (free_to vars later o place (t ∷ ts) rest new r.1 r.0)) refl new
+    (third (return_of (t ∷ ts)) (return_if_null_of vars (t ∷ ts)) (free_of vars (t ∷ ts)) (or_else (store_of structure vars (t ∷ ts)) (assign_of structure vars (t ∷ ts))) (Free o place, rest) (rw r.0.0.0 refl) (rw r.0.0.0 refl) (free_to vars later o place (t ∷ ts) rest new r.1 r.0)) refl new
 statement_to structure vars later (Store y f o place) [] rest typed new r = absurd r.0
 statement_to structure vars later (Store y f o place) (t ∷ ts) rest typed new r =
     let n : Begun t.text = subst Begun (sym r.0.0.0) (begun (name_of (vars ++ later) y) (visible_name vars later Ptr y new r.1.1)) in
     command_stated structure vars later (Store y f o place) t ts rest (no_declarator (tag_of structure) t ts n)
-      (fourth (return_of (t ∷ ts)) (return_if_null_of vars (t ∷ ts)) (free_of vars (t ∷ ts)) (store_of structure vars (t ∷ ts)) (assign_of structure vars (t ∷ ts)) (Store y f o place, rest) (no_return t ts n.no_return) (no_if vars t ts n.no_if) (no_free vars t ts n.no_free)
-        (store_to structure vars later y f o place r.1.0 (t ∷ ts) rest typed new r.1.1 r.1.2 r.1.3 r.0)) refl new
+    (fourth (return_of (t ∷ ts)) (return_if_null_of vars (t ∷ ts)) (free_of vars (t ∷ ts)) (store_of structure vars (t ∷ ts)) (assign_of structure vars (t ∷ ts)) (Store y f o place, rest) (no_return t ts n.no_return) (no_if vars t ts n.no_if) (no_free vars t ts n.no_free)
+    (store_to structure vars later y f o place r.1.0 (t ∷ ts) rest typed new r.1.1 r.1.2 r.1.3 r.0)) refl new
 statement_to structure vars later (Malloc x place) [] rest typed new r = absurd r.0
 statement_to structure vars later (Malloc x place) (t ∷ []) rest typed new r = absurd r.0.1
 statement_to structure vars later (Malloc x place) (t ∷ u ∷ ts) rest typed new r =
     let n : Begun t.text = subst Begun (sym r.0.0.0) (begun (name_of (vars ++ later) x) (visible_name vars later Ptr x new r.1.1)) in
     command_stated structure vars later (Malloc x place) t (u ∷ ts) rest (no_declarator (tag_of structure) t (u ∷ ts) n)
-      (fifth (return_of (t ∷ u ∷ ts)) (return_if_null_of vars (t ∷ u ∷ ts)) (free_of vars (t ∷ u ∷ ts)) (store_of structure vars (t ∷ u ∷ ts)) (assign_of structure vars (t ∷ u ∷ ts)) (Malloc x place, rest) (no_return t (u ∷ ts) n.no_return) (no_if vars t (u ∷ ts) n.no_if) (no_free vars t (u ∷ ts) n.no_free) (no_store structure vars t u ts r.0.1.0)
-        (assign_to structure vars later x place (t ∷ u ∷ ts) rest new r.1.0 r.1.1 r.0)) refl new
+    (fifth (return_of (t ∷ u ∷ ts)) (return_if_null_of vars (t ∷ u ∷ ts)) (free_of vars (t ∷ u ∷ ts)) (store_of structure vars (t ∷ u ∷ ts)) (assign_of structure vars (t ∷ u ∷ ts)) (Malloc x place, rest) (no_return t (u ∷ ts) n.no_return) (no_if vars t (u ∷ ts) n.no_if) (no_free vars t (u ∷ ts) n.no_free) (no_store structure vars t u ts r.0.1.0)
+    (assign_to structure vars later x place (t ∷ u ∷ ts) rest new r.1.0 r.1.1 r.0)) refl new
 
 -- ---- and back
 
@@ -252,7 +255,11 @@ command_from structure vars later s ts rest e = elim (either (return_of ts) (or_
       | inl a ↦ free_from structure vars later s ts rest a
       | inr e3 ↦ elim (either (store_of structure vars ts) (assign_of structure vars ts) (s, rest) e3) [
         | inl a ↦ store_from structure vars later s ts rest a
-        | inr a ↦ assign_from structure vars later s ts rest a ] ] ] ]
+        | inr a ↦ assign_from structure vars later s ts rest a
+      ]
+    ]
+  ]
+]
 
 -- what a declared variable is in the whole list
 declared_there : (vars later : List VarInfo) (v : VarInfo) → IsNew (names vars) v.name
@@ -261,9 +268,11 @@ declared_there vars later v new =
     let whole : (vars ++ v ∷ []) ++ later ≡ vars ++ v ∷ later = append_assoc vars (v ∷ []) later in
     let at : slice_get ((vars ++ v ∷ []) ++ later) (length vars) ≡ Some v = ap (λ l. slice_get l (length vars)) whole ∙ get_seam vars (v ∷ later) in
     let named : name_of ((vars ++ v ∷ []) ++ later) (record { 0 = length vars }) ≡ v.name = ap (λ o. option_map_or (λ (v : VarInfo). v.name) o []) at in
-    let before : take (length vars) ((vars ++ v ∷ []) ++ later) ≡ vars = ap (take (length vars)) whole ∙ take_front vars (v ∷ later) in
-    ((refl, ap (option_map (λ (v : VarInfo). v.kind)) at, subst (λ w. IsNew (names (take (length vars) ((vars ++ v ∷ []) ++ later))) w) (sym named) (subst (λ vs. IsNew (names vs) v.name) (sym before) new)),
-      named, ap (λ o. option_map_or (λ (v : VarInfo). v.kind) o Int) at)
+    let before : take (length vars) ((vars ++ v ∷ []) ++ later) ≡ vars = ap (take (length vars)) whole ∙ take_front vars (v ∷ later) in (
+      (refl, ap (option_map (λ (v : VarInfo). v.kind)) at, subst (λ w. IsNew (names (take (length vars) ((vars ++ v ∷ []) ++ later))) w) (sym named) (subst (λ vs. IsNew (names vs) v.name) (sym before) new)),
+      named,
+      ap (λ o. option_map_or (λ (v : VarInfo). v.kind) o Int) at,
+    )
 
 abbrev Declares : Option StructInfo → List VarInfo → VarInfo → List VarInfo → Stmt → List Token → List Token → Type 0
 Declares structure vars v later s ts rest = Reads structure ((vars ++ v ∷ []) ++ later) (length vars) s ts rest × (declared_behind (length vars) s ≡ suc (length vars))
@@ -296,7 +305,7 @@ declares_plain structure vars later w place s ts mid rest new build e =
     let h = declare_from structure (record { 0 = length vars }) place s mid rest e in
     let t = declared_there vars later v new in
     subst (λ s. Declares structure vars v later s ts rest) (sym h.1)
-      ((subst (λ n. Begins (type_at (tag_of structure) Ptr place ++ words (n ∷ codes ";" ∷ [])) ts rest) (sym t.1) (build (words (codes ";" ∷ [])) rest h.2), (h.0, t.0)), refl)
+    ((subst (λ n. Begins (type_at (tag_of structure) Ptr place ++ words (n ∷ codes ";" ∷ [])) ts rest) (sym t.1) (build (words (codes ";" ∷ [])) rest h.2), (h.0, t.0)), refl)
 
 declares_malloc : (structure : Option StructInfo) (vars later : List VarInfo) (w : List ℕ) (place : Place) (s : Stmt) (ts mid rest : List Token)
     → IsNew (names vars) w → Builds structure (record { name = w; kind = Ptr }) place ts mid → declare_malloc_of structure (record { 0 = length vars }) place mid ≡ Some (s, rest) → Declares structure vars (record { name = w; kind = Ptr }) later s ts rest
@@ -305,7 +314,7 @@ declares_malloc structure vars later w place s ts mid rest new build e =
     let h = declare_malloc_from structure (record { 0 = length vars }) place s mid rest e in
     let t = declared_there vars later v new in
     subst (λ s. Declares structure vars v later s ts rest) (sym h.1)
-      ((subst (λ n. Begins (type_at (tag_of structure) Ptr place ++ words (n ∷ malloc_of (tag_of structure))) ts rest) (sym t.1) (build (words (malloc_of (tag_of structure))) rest h.2), (h.0, t.0)), refl)
+    ((subst (λ n. Begins (type_at (tag_of structure) Ptr place ++ words (n ∷ malloc_of (tag_of structure))) ts rest) (sym t.1) (build (words (malloc_of (tag_of structure))) rest h.2), (h.0, t.0)), refl)
 
 declares_load : (structure : Option StructInfo) (vars later : List VarInfo) (v : VarInfo) (place : Place) (s : Stmt) (ts mid rest : List Token)
     → IsNew (names vars) v.name → Builds structure v place ts mid → load_of structure (vars ++ v ∷ []) (record { 0 = length vars }) v.kind place mid ≡ Some (s, rest) → Declares structure vars v later s ts rest
@@ -318,7 +327,7 @@ declares_load structure vars later v place s ts mid rest new build e =
     let b1 : Begins (type_at (tag_of structure) v.kind place ++ word (name_of all x) ∷ LoadTokens structure all h.0 h.1) ts rest = subst (λ n. Begins (type_at (tag_of structure) v.kind place ++ word n ∷ LoadTokens structure all h.0 h.1) ts rest) (sym t.1) b0 in
     let b2 : Begins (type_at (tag_of structure) (kind_of all x) place ++ word (name_of all x) ∷ LoadTokens structure all h.0 h.1) ts rest = subst (λ k. Begins (type_at (tag_of structure) k place ++ word (name_of all x) ∷ LoadTokens structure all h.0 h.1) ts rest) (sym t.2) b1 in
     subst (λ s. Declares structure vars v later s ts rest) (sym h.2)
-      ((b2, (v.kind, t.0, subst (λ n. IsVisible all n Ptr h.0) (count_more vars v) h.3, h.4)), refl)
+    ((b2, (v.kind, t.0, subst (λ n. IsVisible all n Ptr h.0) (count_more vars v) h.3, h.4)), refl)
 
 declares : (structure : Option StructInfo) (vars later : List VarInfo) (k : Kind) (w : List ℕ) (place : Place) (s : Stmt) (ts mid rest : List Token)
     → IsNew (names vars) w → Builds structure (record { name = w; kind = k }) place ts mid → initialiser_of structure (vars ++ record { name = w; kind = k } ∷ []) (record { 0 = length vars }) k place mid ≡ Some (s, rest) → Declares structure vars (record { name = w; kind = k }) later s ts rest
@@ -330,7 +339,9 @@ declares structure vars later Ptr w place s ts mid rest new build e =
       | inl a ↦ declares_plain structure vars later w place s ts mid rest new build a
       | inr e1 ↦ elim (either (declare_malloc_of structure x place mid) (load_of structure inner x Ptr place mid) (s, rest) e1) [
         | inl a ↦ declares_malloc structure vars later w place s ts mid rest new build a
-        | inr a ↦ declares_load structure vars later (record { name = w; kind = Ptr }) place s ts mid rest new build a ] ]
+        | inr a ↦ declares_load structure vars later (record { name = w; kind = Ptr }) place s ts mid rest new build a
+      ]
+    ]
 
 -- what was stated, read back
 abbrev pub StatedFrom : Option StructInfo → List VarInfo → Stmt → List VarInfo → List Token → List Token → Type 0
@@ -371,9 +382,13 @@ from_declared structure vars s after ts rest f d nx de new e =
     let same : dis.1.0 ≡ f = cc in
     let build : Builds structure v f.0.place ts d.2 = subst (λ (g : Token × List Token). Builds structure v g.0.place ts d.2) same dis.1.2 in
     let unseen : IsNew (names vars) d.1 = record { name = dis.0; unseen = found_none (λ (u : VarInfo). u.name) d.1 vars (is_none (position (λ u. bytes_eq u.name d.1) vars) two.0) } in
-    let base : StatedFrom structure vars m.0.0 (vars ++ v ∷ []) ts m.0.1 =
-      (v ∷ [], refl, count_more vars v ∙ sym (declares structure vars [] d.0 d.1 f.0.place m.0.0 ts d.2 m.0.1 unseen build m.1).1, names_more vars v new unseen,
-        λ later. (declares structure vars later d.0 d.1 f.0.place m.0.0 ts d.2 m.0.1 unseen build m.1).0) in
+    let base : StatedFrom structure vars m.0.0 (vars ++ v ∷ []) ts m.0.1 = (
+      v ∷ [],
+      refl,
+      count_more vars v ∙ sym (declares structure vars [] d.0 d.1 f.0.place m.0.0 ts d.2 m.0.1 unseen build m.1).1,
+      names_more vars v new unseen,
+      λ later. (declares structure vars later d.0 d.1 f.0.place m.0.0 ts d.2 m.0.1 unseen build m.1).0,
+    ) in
     subst (λ s. StatedFrom structure vars s after ts rest) is (subst (λ a. StatedFrom structure vars m.0.0 a ts rest) vs (subst (λ r. StatedFrom structure vars m.0.0 (vars ++ v ∷ []) ts r) tail base))
 
 from_either : (structure : Option StructInfo) (vars : List VarInfo) (s : Stmt) (after : List VarInfo) (ts rest : List Token) (f : Token × List Token) (o : Option (Kind × List ℕ × List Token))
@@ -385,4 +400,3 @@ pub statement_from : (structure : Option StructInfo) (vars : List VarInfo) (s : 
 statement_from structure vars s after ts rest new e =
     taken_then (next_of ts) (λ first. by_declarator structure vars first.0.place ts (declarator_of (tag_of structure) ts)) (s, after, rest) e (λ f is_0 on_0.
     from_either structure vars s after ts rest f (declarator_of (tag_of structure) ts) is_0 refl new on_0)
-

@@ -1,10 +1,8 @@
 -- One statement and its points do the same.
-use Rattle.std.proofs.Common.{◌≡◌, ◌+◌, ◌<◌, ◌⊎◌, inl, inr, ℕ, zero, suc, List, [], ◌∷◌, ◌++◌, length, get_or, set, Option, Some, None, Bool, true, false, cond, refl, sym, ap, ◌∙◌, subst, arith, length-append, length-set, append_assoc, ◌==◌, ℤ, pos}
-use Rattle.std.specs.Prelude.{slice_get, if◌then◌else◌}
+use Rattle.std.proofs.Common.{◌≡◌, ◌+◌, ◌<◌, ℕ, zero, suc, List, [], ◌∷◌, ◌++◌, length, get_or, set, Option, Some, None, Bool, true, false, refl, sym, ap, ◌∙◌, arith, append_assoc, ◌==◌, ℤ}
+use Rattle.std.specs.Prelude.{if◌then◌else◌}
 use Rattle.std.proofs.lemmas.List.{set-append_left}
 use Rattle.std.proofs.Math.Seq.{set-append_seam}
-use Rattle.std.specs.Ordering.{int_eq}
-use Rattle.mc_base.specs.declared.ids.PointId.{PointId}
 use Rattle.mc_base.specs.declared.ids.VarId.{VarId}
 use Rattle.mc_base.specs.declared.plain.Place.{Place}
 use Rattle.mc_base.specs.Runs.{Outcome, next, last}
@@ -88,7 +86,7 @@ found_moved r later at x place c choices (Some (Some v)) e = ap (λ vs. next (re
 
 load_if : (r : Option ℤ) (later : List (Option ℤ)) (at f p : ℕ) (x : VarId) (place : Place) (c : tree.Config) (choices : List Choice) (b : Bool) → x.0 ≡ length c.vars
     → (if b then last (Rattle.mc_base.specs.Runs.fault Rattle.mc_base.specs.declared.plain.FaultKind.TheVariants.Null place) else flow.found (flow_var x) (point_id (at + 1)) place (seen at r (None ∷ later) c) choices (field_at (region_of c.heap p) 0 f))
-      ≡ moved (seen (at + 1) r later) (if b then last (Rattle.mc_base.specs.Runs.fault Rattle.mc_base.specs.declared.plain.FaultKind.TheVariants.Null place) else tree.found place c choices (field_at (region_of c.heap p) 0 f))
+    ≡ moved (seen (at + 1) r later) (if b then last (Rattle.mc_base.specs.Runs.fault Rattle.mc_base.specs.declared.plain.FaultKind.TheVariants.Null place) else tree.found place c choices (field_at (region_of c.heap p) 0 f))
 load_if r later at f p x place c choices true e = refl
 load_if r later at f p x place c choices false e = found_moved r later at x place c choices (field_at (region_of c.heap p) 0 f) e
 
@@ -106,7 +104,7 @@ put_moved r later at place c choices (Some heap) = refl
 
 store_if : (r : Option ℤ) (later : List (Option ℤ)) (at f p : ℕ) (v : ℤ) (place : Place) (c : tree.Config) (choices : List Choice) (b : Bool)
     → (if b then last (Rattle.mc_base.specs.Runs.fault Rattle.mc_base.specs.declared.plain.FaultKind.TheVariants.Null place) else flow.put (point_id (at + 1)) place (seen at r later c) choices (written c.heap p the_struct f v (region_of c.heap p)))
-      ≡ moved (seen (at + 1) r later) (if b then last (Rattle.mc_base.specs.Runs.fault Rattle.mc_base.specs.declared.plain.FaultKind.TheVariants.Null place) else tree.put place c choices (written c.heap p the_struct f v (region_of c.heap p)))
+    ≡ moved (seen (at + 1) r later) (if b then last (Rattle.mc_base.specs.Runs.fault Rattle.mc_base.specs.declared.plain.FaultKind.TheVariants.Null place) else tree.put place c choices (written c.heap p the_struct f v (region_of c.heap p)))
 store_if r later at f p v place c choices true = refl
 store_if r later at f p v place c choices false = put_moved r later at place c choices (written c.heap p the_struct f v (region_of c.heap p))
 
@@ -125,7 +123,7 @@ freed_moved r later at p place c choices (Some block) = refl
 
 free_if : (r : Option ℤ) (later : List (Option ℤ)) (at p : ℕ) (place : Place) (c : tree.Config) (choices : List Choice) (b : Bool)
     → (if b then next (flow.at_point (point_id (at + 1)) (seen at r later c)) choices else flow.freed_at (point_id (at + 1)) place (seen at r later c) choices p (region_of c.heap p))
-      ≡ moved (seen (at + 1) r later) (if b then next c choices else tree.freed_at place c choices p (region_of c.heap p))
+    ≡ moved (seen (at + 1) r later) (if b then next c choices else tree.freed_at place c choices p (region_of c.heap p))
 free_if r later at p place c choices true = refl
 free_if r later at p place c choices false = freed_moved r later at p place c choices (region_of c.heap p)
 

@@ -1,10 +1,9 @@
 -- Words at the front of tokens.
-use Rattle.std.proofs.Common.{◌≡◌, ◌≢◌, ◌<◌, ◌++◌, ℕ, List, [], ◌∷◌, map, length, drop, Option, Some, None, Bool, true, false, cond, refl, sym, ap, ◌∙◌, subst, arith, inl, inr}
-use Rattle.std.specs.Prelude.{if◌then◌else◌}
+use Rattle.std.proofs.Common.{◌≡◌, ◌≢◌, ◌<◌, ◌++◌, ℕ, List, [], ◌∷◌, map, length, Option, Some, None, Bool, true, false, cond, refl, sym, subst, arith}
 use Rattle.std.specs.Str.{bytes_eq}
 use Rattle.std.proofs.lemmas.Slice.Eq.{bytes_eq-Decides}
 use Rattle.mc_lex.specs.declared.token.Token.{Token}
-use Rattle.mc_straight.specs.Spelling.{Spelling, word, words, IsSpelled, Begins}
+use Rattle.mc_straight.specs.Spelling.{Spelling, words, Begins}
 use Rattle.mc_straight.specs.Reading.{◌>>=◌, next_of, expect_of}
 
 -- no tokens are left where words are

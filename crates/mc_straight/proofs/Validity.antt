@@ -1,5 +1,5 @@
 -- The flow graph of a well typed program is valid.
-use Rattle.std.proofs.Common.{◌≡◌, ◌+◌, ◌<◌, ◌≤◌, ◌⊎◌, inl, inr, ℕ, zero, suc, List, [], ◌∷◌, ◌++◌, length, get_or, Option, Some, None, Bool, true, false, refl, sym, ap, ◌∙◌, subst, arith, ℤ, pos, length-append}
+use Rattle.std.proofs.Common.{◌≡◌, ◌+◌, ◌<◌, ◌≤◌, inl, ℕ, zero, suc, List, [], ◌∷◌, ◌++◌, length, get_or, Option, Some, None, true, false, refl, sym, ap, ◌∙◌, subst, arith, ℤ, pos, length-append}
 use Rattle.std.specs.Prelude.{slice_get, All, Contains, IsSome, int_lt, fold, if◌then◌else◌}
 use Rattle.std.specs.Option.{option_map}
 use Rattle.std.specs.Ordering.{int_eq}
@@ -9,10 +9,9 @@ use Rattle.mc_base.specs.declared.ids.VarId.{VarId}
 use Rattle.mc_base.specs.declared.plain.Kind.{Kind}
 use Rattle.mc_base.specs.declared.plain.Kind.TheVariants.{Int, Ptr}
 use Rattle.mc_base.specs.declared.plain.Place.{Place}
-use Rattle.mc_base.specs.declared.plain.VarInfo.{VarInfo}
 use Rattle.mc_flow.specs.declared.instr.Operand.{Operand}
 use Rattle.mc_flow.specs.declared.instr.Operand.TheVariants.{Var, Const}
-use Rattle.mc_flow.specs.declared.instr.Instr.TheVariants.{Skip, End}
+use Rattle.mc_flow.specs.declared.instr.Instr.TheVariants.{Skip}
 use Rattle.mc_flow.specs.declared.graph.Defs.{Defs}
 use Rattle.mc_flow.specs.declared.graph.Point.{Point}
 use Rattle.mc_flow.specs.declared.graph.StructInfo.{StructInfo}
@@ -21,7 +20,7 @@ use Rattle.mc_straight.specs.declared.tree.Program.{Program}
 use Rattle.mc_straight.specs.declared.tree.Stmt.{Stmt}
 use Rattle.mc_straight.specs.declared.tree.Stmt.TheVariants.{Declare, DeclareMalloc, Malloc, Load, Store, Free, ReturnIfNull, ReturnZero}
 use Rattle.mc_straight.specs.Typing.{IsTyped, IsTypedBody, IsTypedStmt, IsVisibleOperand, HasField, declared_behind}
-use Rattle.mc_straight.specs.Lowering.{nowhere, flow_var, flow_operand, point_id, the_struct, returned, lowered, lowered_body, size_of, end_of, points_of, merges_at, merges_of, with_number, with_operand, with_constants, thresholds_of, structs_of, result_var, flow_of}
+use Rattle.mc_straight.specs.Lowering.{nowhere, flow_var, flow_operand, point_id, the_struct, returned, lowered, lowered_body, size_of, end_of, points_of, merges_of, with_number, with_operand, with_constants, thresholds_of, structs_of, result_var, flow_of}
 use Rattle.mc_straight.proofs.Placing.{Placed, placed_point, placed_behind, size_is}
 use Rattle.mc_straight.proofs.Matching.{placed_body}
 
@@ -107,10 +106,10 @@ all_at P at (x ∷ xs) (suc k) q h e =
 -- a point of one target
 good_one : (p : Program) (defs : Defs) (k : ℕ) (q : Point) (t : PointId) → targets q.code ≡ t ∷ [] → t.0 < length (points_of p.body) → k < t.0 → FitsKinds (result_var ∷ p.vars) (record { list = structs_of p.structure }) defs q.code → Good p defs k q
 good_one p defs k q t e lt more fits = record {
-    goes = subst (All (λ u. u.0 < length (points_of p.body))) (sym e) (all_one (λ (u : PointId). u.0 < length (points_of p.body)) t lt);
-    fits = fits;
-    forward = λ u h. one_target t u k more (subst (λ ts. Contains ts u) e h);
-  }
+  goes = subst (All (λ u. u.0 < length (points_of p.body))) (sym e) (all_one (λ (u : PointId). u.0 < length (points_of p.body)) t lt);
+  fits = fits;
+  forward = λ u h. one_target t u k more (subst (λ ts. Contains ts u) e h);
+}
 
 int_zero : IsInt (pos 0)
 int_zero = (omega (arith, ints), omega (arith, ints))
@@ -129,14 +128,19 @@ good_stmt p defs n end at (Load x y f place) typed lt le = (good_next p defs at 
 good_stmt p defs n end at (Store y f value place) typed lt le = (good_next p defs at _ refl (omega arith) (typed.0, var_fits p Ptr y typed.1.1, field_fits p.structure f typed.0 typed.2, operand_fits p n typed.0 value typed.3), tt)
 good_stmt p defs n end at (Free value place) typed lt le = (good_next p defs at _ refl (omega arith) (operand_fits p n Ptr value typed), tt)
 good_stmt p defs n end at (ReturnIfNull y places) typed lt le = (
-    record {
-      goes = all_cons (λ (t : PointId). t.0 < length (points_of p.body)) (point_id (at + 1)) (point_id (at + 2) ∷ []) (omega arith) (all_one (λ (t : PointId). t.0 < length (points_of p.body)) (point_id (at + 2)) (omega arith));
-      fits = (Ptr, var_fits p Ptr y typed.1, refl);
-      forward = λ u h. two_at (point_id (at + 1)) (point_id (at + 2)) u at h.0 (let a : at < at + 1 = omega arith in a) (let b : at < at + 2 = omega arith in b) h.1 h.2;
-    },
-    (good_return p defs (at + 1) end places.returned lt (omega arith),
-    (good_one p defs (at + 1 + 1) _ (point_id (at + 3)) refl (let a : at + 3 < length (points_of p.body) = omega arith in a) (let b : at + 1 + 1 < at + 3 = omega arith in b) tt,
-    tt)))
+  record {
+    goes = all_cons (λ (t : PointId). t.0 < length (points_of p.body)) (point_id (at + 1)) (point_id (at + 2) ∷ []) (omega arith) (all_one (λ (t : PointId). t.0 < length (points_of p.body)) (point_id (at + 2)) (omega arith));
+    fits = (Ptr, var_fits p Ptr y typed.1, refl);
+    forward = λ u h. two_at (point_id (at + 1)) (point_id (at + 2)) u at h.0 (let a : at < at + 1 = omega arith in a) (let b : at < at + 2 = omega arith in b) h.1 h.2;
+  },
+  (
+    good_return p defs (at + 1) end places.returned lt (omega arith),
+    (
+      good_one p defs (at + 1 + 1) _ (point_id (at + 3)) refl (let a : at + 3 < length (points_of p.body) = omega arith in a) (let b : at + 1 + 1 < at + 3 = omega arith in b) tt,
+      tt,
+    ),
+  ),
+)
 good_stmt p defs n end at (ReturnZero place) typed lt le = (good_return p defs at end place lt (omega arith), tt)
 
 -- ---- all points
@@ -157,20 +161,22 @@ points_length p = (let e : 1 + length (lowered_body (end_of 1 p.body) 1 p.body) 
 
 good_body : (p : Program) (defs : Defs) (n end at : ℕ) (left : List Stmt) → IsTypedBody p.structure p.vars n left → end < length (points_of p.body) → end ≡ end_of at left → AllFrom (Good p defs) at (lowered_body end at left)
 good_body p defs n end at [] typed lt e = (
-    good_return p defs at end nowhere lt (omega arith),
-    (record { goes = all_none (λ (t : PointId). t.0 < length (points_of p.body)); fits = tt; forward = λ u h. absurd (no_target u h) },
-    tt))
+  good_return p defs at end nowhere lt (omega arith),
+  (
+    record { goes = all_none (λ (t : PointId). t.0 < length (points_of p.body)); fits = tt; forward = λ u h. absurd (no_target u h) },
+    tt,
+  ),
+)
 good_body p defs n end at (s ∷ left) typed lt e =
     let above : at + size_of s + 1 ≤ end_of (at + size_of s) left = end_above (at + size_of s) left in
     all_join (Good p defs) at (lowered end at s) (lowered_body end (at + size_of s) left)
-      (good_stmt p defs n end at s typed.0 lt (let le : at + size_of s ≤ end = omega arith in le))
-      (subst (λ k. AllFrom (Good p defs) (at + k) (lowered_body end (at + size_of s) left)) (sym (size_is end at s)) (good_body p defs (declared_behind n s) end (at + size_of s) left typed.1 lt e))
+    (good_stmt p defs n end at s typed.0 lt (let le : at + size_of s ≤ end = omega arith in le))
+    (subst (λ k. AllFrom (Good p defs) (at + k) (lowered_body end (at + size_of s) left)) (sym (size_is end at s)) (good_body p defs (declared_behind n s) end (at + size_of s) left typed.1 lt e))
 
 good_points : (p : Program) (defs : Defs) → IsTyped p → AllFrom (Good p defs) 0 (points_of p.body)
 good_points p defs typed =
     let total : length (points_of p.body) ≡ end_of 1 p.body + 1 = points_length p in
-    let above : 1 + 1 ≤ end_of 1 p.body = end_above 1 p.body in
-    (
+    let above : 1 + 1 ≤ end_of 1 p.body = end_above 1 p.body in (
       good_one p defs 0 (record { code = Skip (point_id 1); place = nowhere }) (point_id 1) refl (let a : 1 < length (points_of p.body) = omega arith in a) (let b : 0 < 1 = omega arith in b) tt,
       good_body p defs 0 (end_of 1 p.body) 1 p.body typed.body (let lt : end_of 1 p.body < length (points_of p.body) = omega arith in lt) refl,
     )
@@ -191,8 +197,8 @@ merges_good p at (Free value place ∷ left) placed = merges_good p (at + 1) lef
 merges_good p at (ReturnIfNull y places ∷ left) placed =
     let q : Point = record { code = Skip (point_id (at + 3)); place = places.keyword } in
     all_cons (IsSkip (points_of p.body)) (point_id (at + 2)) (merges_of (at + 3) left)
-      (q, point_id (at + 3), placed_point (points_of p.body) (end_of 1 p.body) at 2 (ReturnIfNull y places ∷ left) q placed refl, refl)
-      (merges_good p (at + 3) left (placed_behind (points_of p.body) (end_of 1 p.body) at (ReturnIfNull y places) left placed))
+    (q, point_id (at + 3), placed_point (points_of p.body) (end_of 1 p.body) at 2 (ReturnIfNull y places ∷ left) q placed refl, refl)
+    (merges_good p (at + 3) left (placed_behind (points_of p.body) (end_of 1 p.body) at (ReturnIfNull y places) left placed))
 merges_good p at (ReturnZero place ∷ left) placed = merges_good p (at + 1) left (placed_behind (points_of p.body) (end_of 1 p.body) at (ReturnZero place) left placed)
 
 -- ---- constants
@@ -211,7 +217,8 @@ each_number (d ∷ ds) c int h =
     let more : Each (with_number ds c) = each_number ds c int h.1 in
     elim (int_lt d c) as (λ b. Each (if b then d ∷ with_number ds c else (if int_eq d c then d ∷ ds else c ∷ d ∷ ds))) [
       | true ↦ (h.0, more)
-      | false ↦ elim (int_eq d c) as (λ b. Each (if b then d ∷ ds else c ∷ d ∷ ds)) [ true ↦ h | false ↦ (int, h) ] ]
+      | false ↦ elim (int_eq d c) as (λ b. Each (if b then d ∷ ds else c ∷ d ∷ ds)) [ true ↦ h | false ↦ (int, h) ]
+    ]
 
 each_operand : (p : Program) (n : ℕ) (k : Kind) (cs : List ℤ) (o : Operand) → IsVisibleOperand p.vars n k o → Each cs → Each (with_operand cs o)
 each_operand p n k cs (Var x) typed h = h
@@ -234,11 +241,11 @@ each_body p n cs (s ∷ left) typed h = each_body p (declared_behind n s) (with_
 
 pub valid : (p : Program) → IsTyped p → (defs : Defs) → IsValid (flow_of p) defs
 valid p typed defs = record {
-    begins = (let total : length (points_of p.body) ≡ end_of 1 p.body + 1 = points_length p in omega arith);
-    in_range = λ k q e. (good_at p defs typed k q e).goes;
-    kinds = λ k q e. (good_at p defs typed k q e).fits;
-    thresholds = each_all (thresholds_of p.body) (each_body p 0 (pos 0 ∷ []) p.body typed.body (int_zero, tt));
-    heads = all_none (IsSkip (points_of p.body));
-    merges = merges_good p 1 p.body (placed_body p);
-    back = λ k q t e h. inl ((good_at p defs typed k q e).forward t h);
-  }
+  begins = (let total : length (points_of p.body) ≡ end_of 1 p.body + 1 = points_length p in omega arith);
+  in_range = λ k q e. (good_at p defs typed k q e).goes;
+  kinds = λ k q e. (good_at p defs typed k q e).fits;
+  thresholds = each_all (thresholds_of p.body) (each_body p 0 (pos 0 ∷ []) p.body typed.body (int_zero, tt));
+  heads = all_none (IsSkip (points_of p.body));
+  merges = merges_good p 1 p.body (placed_body p);
+  back = λ k q t e h. inl ((good_at p defs typed k q e).forward t h);
+}

@@ -1,5 +1,5 @@
 -- The flow graphs of straight programs.
-use Rattle.std.specs.Prelude.{◌≡◌, ◌+◌, ◌↔◌, ℕ, List, [], ◌∷◌, ◌++◌, ℤ, pos, Option, Some, None, codes, length, fold, if◌then◌else◌}
+use Rattle.std.specs.Prelude.{◌+◌, ◌↔◌, ℕ, List, [], ◌∷◌, ◌++◌, ℤ, pos, Option, Some, None, codes, fold, if◌then◌else◌}
 use Rattle.std.specs.Ordering.{int_eq}
 use Rattle.std.specs.Prelude.{int_lt}
 use Rattle.mc_base.specs.declared.ids.PointId.{PointId}
@@ -12,7 +12,6 @@ use Rattle.mc_base.specs.Runs.{Final, Reaches}
 use Rattle.mc_heap.specs.Choices.{Choice}
 use Rattle.mc_flow.specs.declared.instr.Operand.{Operand}
 use Rattle.mc_flow.specs.declared.instr.Operand.TheVariants.{Var, Const}
-use Rattle.mc_flow.specs.declared.instr.Instr.{Instr}
 use Rattle.mc_flow.specs.declared.instr.Instr.TheVariants.{Skip, Copy, Undef, Load as LoadField, Store as StoreField, Malloc as Allocate, Free as FreeBlock, TestEq, End}
 use Rattle.mc_flow.specs.declared.graph.Point.{Point}
 use Rattle.mc_flow.specs.declared.graph.StructInfo.{StructInfo}

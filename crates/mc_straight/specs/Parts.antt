@@ -1,5 +1,5 @@
 -- How the parts of a program read.
-use Rattle.std.specs.Prelude.{◌≡◌, ◌<◌, ℕ, List, [], ◌∷◌, ◌++◌, Option, Some, None, codes, map, flat_map, length}
+use Rattle.std.specs.Prelude.{ℕ, List, [], ◌∷◌, ◌++◌, Option, codes, map, flat_map}
 use Rattle.mc_base.specs.declared.plain.VarInfo.{VarInfo}
 use Rattle.mc_lex.specs.declared.token.Token.{Token}
 use Rattle.mc_flow.specs.declared.graph.FieldInfo.{FieldInfo}

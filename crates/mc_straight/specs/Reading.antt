@@ -1,5 +1,5 @@
 -- How statements are read from tokens: what each reader of the code answers.
-use Rattle.std.specs.Prelude.{ℕ, zero, suc, ◌==◌, ◌&&◌, not, Bool, true, false, List, [], ◌∷◌, ◌++◌, ℤ, pos, Option, Some, None, is_some, codes, drop, length, position, slice_index, nat_le, nat_lt, if◌then◌else◌}
+use Rattle.std.specs.Prelude.{ℕ, zero, suc, ◌==◌, ◌&&◌, not, Bool, true, false, List, [], ◌∷◌, ◌++◌, pos, Option, Some, None, is_some, codes, drop, length, position, slice_index, nat_le, nat_lt, if◌then◌else◌}
 use Rattle.std.specs.Option.{option_map, option_and_then}
 use Rattle.std.specs.List.{list_any, list_all}
 use Rattle.std.specs.Char.{digit_value}
@@ -72,8 +72,8 @@ abbrev pub spelled_number : List ℕ → Option ℕ
 spelled_number w =
     if bytes_eq w (codes "0") then Some 0
     else (if slice_index w 0 == 48
-      then (if slice_index w 1 == 120 then numeral_of 16 (drop 2 w) else None)
-      else numeral_of 10 w)
+    then (if slice_index w 1 == 120 then numeral_of 16 (drop 2 w) else None)
+    else numeral_of 10 w)
 
 -- the number, if a text may have it
 abbrev pub number_of : List ℕ → Option ℕ
@@ -200,7 +200,7 @@ abbrev pub declared_of : Option StructInfo → List VarInfo → Place → Kind �
 declared_of structure vars place d =
     if is_some (position (λ v. bytes_eq v.name d.1) vars) then None
     else option_map (λ r. (r.0, vars ++ record { name = d.1; kind = d.0 } ∷ [], r.1))
-      (initialiser_of structure (vars ++ record { name = d.1; kind = d.0 } ∷ []) (record { 0 = length vars }) d.0 place d.2)
+    (initialiser_of structure (vars ++ record { name = d.1; kind = d.0 } ∷ []) (record { 0 = length vars }) d.0 place d.2)
 
 abbrev pub by_declarator : Option StructInfo → List VarInfo → Place → List Token → Option (Kind × List ℕ × List Token) → Option (Stmt × List VarInfo × List Token)
 by_declarator structure vars place ts None = option_map (λ r. (r.0, vars, r.1)) (command_of structure vars ts)

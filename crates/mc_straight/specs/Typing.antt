@@ -1,5 +1,5 @@
 -- Which programs are well typed.
-use Rattle.std.specs.Prelude.{◌≡◌, ◌≢◌, ◌<◌, ℕ, suc, List, [], ◌∷◌, ◌++◌, ℤ, pos, Option, Some, None, IsTrue, IsSome, All, codes, map, length, take, slice_get, slice_index}
+use Rattle.std.specs.Prelude.{◌≡◌, ◌≢◌, ◌<◌, ℕ, suc, List, [], ◌∷◌, ◌++◌, pos, Option, Some, None, IsTrue, IsSome, All, codes, map, length, take, slice_get, slice_index}
 use Rattle.std.specs.Option.{option_map}
 use Rattle.mc_base.specs.declared.ids.VarId.{VarId}
 use Rattle.mc_base.specs.declared.plain.Kind.{Kind}

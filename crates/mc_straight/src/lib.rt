@@ -23,3 +23,6 @@ pub use tree::{IfPlaces, Program, Stmt};
 pub fn runs_match()
     ensures { (p : Tree) → IsTyped p → RunsMatch p (flow_of p) }
 {}
+
+#[cfg(test)]
+mod tests;

@@ -62,7 +62,12 @@ fn push_if(points: &mut Vec<Point>, end: u64, y: VarId, places: IfPlaces) -> Res
     ensures { OnOk result (points.new.items ≡ points.old.items ++ lowered end (length points.old.items) (Stmt.ReturnIfNull y places)) }
 {
     let at = points.len() as u64;
-    let test = Instr::TestEq(Operand::Var(flow_var(y)?), Operand::Const(0), PointId(at + 1), PointId(at + 2));
+    let test = Instr::TestEq(
+        Operand::Var(flow_var(y)?),
+        Operand::Const(0),
+        PointId(at + 1),
+        PointId(at + 2),
+    );
     push(points, test, places.condition)?;
     points.push(returned(end, places.returned))?;
     push(points, Instr::Skip(PointId(at + 3)), places.keyword)?;
@@ -70,7 +75,12 @@ fn push_if(points: &mut Vec<Point>, end: u64, y: VarId, places: IfPlaces) -> Res
 }
 
 // The points of a statement.
-fn push_statement(alloc: Global, points: &mut Vec<Point>, end: u64, stmt: Stmt) -> Result<(), AllocError>
+fn push_statement(
+    alloc: Global,
+    points: &mut Vec<Point>,
+    end: u64,
+    stmt: Stmt,
+) -> Result<(), AllocError>
     ensures { OnOk result (points.new.items ≡ points.old.items ++ lowered end (length points.old.items) stmt) }
 {
     let next = PointId(points.len() as u64 + 1);

@@ -11,14 +11,24 @@ ghost use Rattle.mc_flow.specs.declared.graph.StructInfo.{StructInfo as Info};
 ghost use Rattle.mc_straight.specs.Parts.{BodyReads};
 
 use crate::Stmt;
-use crate::reader::{Done, command, expect, first_declarator, initialiser, next, place_of_var, tag_of};
+use crate::reader::{
+    Done, command, expect, first_declarator, initialiser, next, place_of_var, tag_of,
+};
 use mc_base::{Items, Kind, Place, VarId, VarInfo};
 use mc_flow::StructInfo;
 use mc_lex::Token;
 use std::alloc::{AllocError, Global};
 
 // A variable is declared, with what is behind its name. Where nothing is read the variables may have changed.
-fn declaration<'a>(alloc: Global, structure: &Option<StructInfo>, vars: &mut Vec<VarInfo>, place: Place, kind: Kind, name: &[u8], tokens: &'a [Token]) -> Result<Option<Done<'a>>, AllocError>
+fn declaration<'a>(
+    alloc: Global,
+    structure: &Option<StructInfo>,
+    vars: &mut Vec<VarInfo>,
+    place: Place,
+    kind: Kind,
+    name: &[u8],
+    tokens: &'a [Token],
+) -> Result<Option<Done<'a>>, AllocError>
     ensures value { IfOk result (λ o. MatchOption o (declared_of structure.now vars.old.items place (kind, name.now, tokens.now) ≡ None)
         (λ r. declared_of structure.now vars.old.items place (kind, name.now, tokens.now) ≡ Some (r.stmt, vars.new.items, r.rest.now))) }
     ensures shorter { IfOk result (λ o. MatchOption o (Unit {0}) (λ r. length r.rest.now ≤ length tokens.now)) }
@@ -35,7 +45,12 @@ fn declaration<'a>(alloc: Global, structure: &Option<StructInfo>, vars: &mut Vec
 }
 
 // A statement. Where none is read the variables may have changed.
-fn statement<'a>(alloc: Global, structure: &Option<StructInfo>, vars: &mut Vec<VarInfo>, tokens: &'a [Token]) -> Result<Option<Done<'a>>, AllocError>
+fn statement<'a>(
+    alloc: Global,
+    structure: &Option<StructInfo>,
+    vars: &mut Vec<VarInfo>,
+    tokens: &'a [Token],
+) -> Result<Option<Done<'a>>, AllocError>
     ensures value { IfOk result (λ o. MatchOption o (statement_of structure.now vars.old.items tokens.now ≡ None)
         (λ r. statement_of structure.now vars.old.items tokens.now ≡ Some (r.stmt, vars.new.items, r.rest.now))) }
     ensures shorter { IfOk result (λ o. MatchOption o (Unit {0}) (λ r. length r.rest.now < length tokens.now)) }
@@ -45,7 +60,15 @@ fn statement<'a>(alloc: Global, structure: &Option<StructInfo>, vars: &mut Vec<V
     };
     match first_declarator(tag_of(structure), tokens) {
         None => Ok(command(structure, vars.as_slice(), tokens)),
-        Some(declarator) => declaration(alloc, structure, vars, first.place, declarator.kind, declarator.name, declarator.rest),
+        Some(declarator) => declaration(
+            alloc,
+            structure,
+            vars,
+            first.place,
+            declarator.kind,
+            declarator.name,
+            declarator.rest,
+        ),
     }
 }
 
@@ -73,7 +96,11 @@ pub struct Body {
 }
 
 // What is between the braces of `main`, up to the end of the text.
-pub fn read_body(alloc: Global, structure: &Option<StructInfo>, tokens: &[Token]) -> Result<Option<Body>, AllocError>
+pub fn read_body(
+    alloc: Global,
+    structure: &Option<StructInfo>,
+    tokens: &[Token],
+) -> Result<Option<Body>, AllocError>
     requires { IsTypedStructure structure.now }
     ensures { IfOk result (λ o. MatchOption o ((vars : List Var) (body : List Statement) → BodyReads structure.now 0 vars body tokens.now → ⊥)
         (λ b. (vars : List Var) (body : List Statement) → BodyReads structure.now 0 vars body tokens.now ↔ ((vars ≡ b.vars.items) × (body ≡ b.stmts.items)))) }

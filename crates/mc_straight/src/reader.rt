@@ -277,7 +277,12 @@ fn malloc_rest<'a>(structure: &Option<StructInfo>, tokens: &'a [Token]) -> Optio
         None => None,
         Some(only) => {
             let tag = only.name.as_slice();
-            expect(tokens, &[b"=", b"malloc", b"(", b"sizeof", b"(", b"struct", tag, b")", b")", b";"])
+            expect(
+                tokens,
+                &[
+                    b"=", b"malloc", b"(", b"sizeof", b"(", b"struct", tag, b")", b")", b";",
+                ],
+            )
         }
     }
 }
@@ -344,7 +349,12 @@ pub struct Done<'a> {
     pub rest: &'a [Token],
 }
 
-fn declare<'a>(structure: &Option<StructInfo>, x: VarId, place: Place, tokens: &'a [Token]) -> Option<Done<'a>>
+fn declare<'a>(
+    structure: &Option<StructInfo>,
+    x: VarId,
+    place: Place,
+    tokens: &'a [Token],
+) -> Option<Done<'a>>
     ensures value { MatchOption result (declare_of structure.now x place tokens.now ≡ None) (λ r. declare_of structure.now x place tokens.now ≡ Some (r.stmt, r.rest.now)) }
     ensures shorter { MatchOption result (Unit {0}) (λ r. length r.rest.now ≤ length tokens.now) }
 {
@@ -360,7 +370,12 @@ fn declare<'a>(structure: &Option<StructInfo>, x: VarId, place: Place, tokens: &
     }
 }
 
-fn declare_malloc<'a>(structure: &Option<StructInfo>, x: VarId, place: Place, tokens: &'a [Token]) -> Option<Done<'a>>
+fn declare_malloc<'a>(
+    structure: &Option<StructInfo>,
+    x: VarId,
+    place: Place,
+    tokens: &'a [Token],
+) -> Option<Done<'a>>
     ensures value { MatchOption result (declare_malloc_of structure.now x place tokens.now ≡ None) (λ r. declare_malloc_of structure.now x place tokens.now ≡ Some (r.stmt, r.rest.now)) }
     ensures shorter { MatchOption result (Unit {0}) (λ r. length r.rest.now ≤ length tokens.now) }
 {
@@ -371,7 +386,14 @@ fn declare_malloc<'a>(structure: &Option<StructInfo>, x: VarId, place: Place, to
     })
 }
 
-fn load<'a>(structure: &Option<StructInfo>, vars: &[VarInfo], x: VarId, kind: Kind, place: Place, tokens: &'a [Token]) -> Option<Done<'a>>
+fn load<'a>(
+    structure: &Option<StructInfo>,
+    vars: &[VarInfo],
+    x: VarId,
+    kind: Kind,
+    place: Place,
+    tokens: &'a [Token],
+) -> Option<Done<'a>>
     ensures value { MatchOption result (load_of structure.now vars.now x kind place tokens.now ≡ None) (λ r. load_of structure.now vars.now x kind place tokens.now ≡ Some (r.stmt, r.rest.now)) }
     ensures shorter { MatchOption result (Unit {0}) (λ r. length r.rest.now ≤ length tokens.now) }
 {
@@ -401,7 +423,14 @@ fn field_kind(structure: &Option<StructInfo>, field: u64) -> Kind
     }
 }
 
-pub fn initialiser<'a>(structure: &Option<StructInfo>, vars: &[VarInfo], x: VarId, kind: Kind, place: Place, tokens: &'a [Token]) -> Option<Done<'a>>
+pub fn initialiser<'a>(
+    structure: &Option<StructInfo>,
+    vars: &[VarInfo],
+    x: VarId,
+    kind: Kind,
+    place: Place,
+    tokens: &'a [Token],
+) -> Option<Done<'a>>
     ensures value { MatchOption result (initialiser_of structure.now vars.now x kind place tokens.now ≡ None) (λ r. initialiser_of structure.now vars.now x kind place tokens.now ≡ Some (r.stmt, r.rest.now)) }
     ensures shorter { MatchOption result (Unit {0}) (λ r. length r.rest.now ≤ length tokens.now) }
 {
@@ -468,7 +497,11 @@ fn free<'a>(vars: &[VarInfo], tokens: &'a [Token]) -> Option<Done<'a>>
     })
 }
 
-fn store<'a>(structure: &Option<StructInfo>, vars: &[VarInfo], tokens: &'a [Token]) -> Option<Done<'a>>
+fn store<'a>(
+    structure: &Option<StructInfo>,
+    vars: &[VarInfo],
+    tokens: &'a [Token],
+) -> Option<Done<'a>>
     ensures value { MatchOption result (store_of structure.now vars.now tokens.now ≡ None) (λ r. store_of structure.now vars.now tokens.now ≡ Some (r.stmt, r.rest.now)) }
     ensures shorter { MatchOption result (Unit {0}) (λ r. length r.rest.now < length tokens.now) }
 {
@@ -487,7 +520,11 @@ fn store<'a>(structure: &Option<StructInfo>, vars: &[VarInfo], tokens: &'a [Toke
     })
 }
 
-fn assign<'a>(structure: &Option<StructInfo>, vars: &[VarInfo], tokens: &'a [Token]) -> Option<Done<'a>>
+fn assign<'a>(
+    structure: &Option<StructInfo>,
+    vars: &[VarInfo],
+    tokens: &'a [Token],
+) -> Option<Done<'a>>
     ensures value { MatchOption result (assign_of structure.now vars.now tokens.now ≡ None) (λ r. assign_of structure.now vars.now tokens.now ≡ Some (r.stmt, r.rest.now)) }
     ensures shorter { MatchOption result (Unit {0}) (λ r. length r.rest.now < length tokens.now) }
 {
@@ -501,7 +538,11 @@ fn assign<'a>(structure: &Option<StructInfo>, vars: &[VarInfo], tokens: &'a [Tok
 }
 
 // A statement that declares nothing.
-pub fn command<'a>(structure: &Option<StructInfo>, vars: &[VarInfo], tokens: &'a [Token]) -> Option<Done<'a>>
+pub fn command<'a>(
+    structure: &Option<StructInfo>,
+    vars: &[VarInfo],
+    tokens: &'a [Token],
+) -> Option<Done<'a>>
     ensures value { MatchOption result (command_of structure.now vars.now tokens.now ≡ None) (λ r. command_of structure.now vars.now tokens.now ≡ Some (r.stmt, r.rest.now)) }
     ensures shorter { MatchOption result (Unit {0}) (λ r. length r.rest.now < length tokens.now) }
 {

@@ -37,7 +37,11 @@ struct Fields<'a> {
     rest: &'a [Token],
 }
 
-fn read_fields<'a>(alloc: Global, tag: &[u8], tokens: &'a [Token]) -> Result<Option<Fields<'a>>, AllocError>
+fn read_fields<'a>(
+    alloc: Global,
+    tag: &[u8],
+    tokens: &'a [Token],
+) -> Result<Option<Fields<'a>>, AllocError>
     ensures { IfOk result (λ o. MatchOption o ((fields : List Field) (rest : List Word) → FieldsRead tag.now [] fields tokens.now rest → ⊥)
         (λ f. (fields : List Field) (rest : List Word) → FieldsRead tag.now [] fields tokens.now rest ↔ ((fields ≡ f.list.items) × (rest ≡ f.rest.now)))) }
 {

@@ -1,4 +1,4 @@
-use Rattle.mc_straight.proofs.Bodies.{end_is, no_end}
+use Rattle.mc_straight.proofs.Bodies.{end_is}
 use Rattle.mc_straight.proofs.program.is_end.Goals as goal
 
 pub returns-in-Some : goal.returns-in-Some

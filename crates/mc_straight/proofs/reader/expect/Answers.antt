@@ -1,6 +1,4 @@
-use Rattle.std.proofs.Common.{◌≡◌, ◌<◌, sym, ◌∙◌, drop, length, arith, length-drop, List}
-use Rattle.std.proofs.lemmas.Option.{MatchOption-at_none}
-use Rattle.mc_straight.specs.Reading.{next_of}
+use Rattle.std.proofs.Common.{sym, ◌∙◌, drop, arith, length-drop}
 use Rattle.mc_straight.proofs.Tokens.{expect_none}
 use Rattle.mc_straight.proofs.reader.expect.Goals as goal
 
@@ -8,4 +6,4 @@ pub returns-in_default-clause-value : goal.returns-in_default-clause-value
 returns-in_default-clause-value c =
     sym c.loop-word.invariant.same
     ∙ expect_none (λ w. w.now) c.loop-word.rest.now (drop c.loop-word.word-index c.args.words.now) c.in_default.ensures.value
-      (omega (arith, length-drop c.loop-word.word-index c.args.words.now, c.loop-word-test.true))
+    (omega (arith, length-drop c.loop-word.word-index c.args.words.now, c.loop-word-test.true))

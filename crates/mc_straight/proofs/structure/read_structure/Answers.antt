@@ -1,4 +1,4 @@
-use Rattle.std.proofs.Common.{◌≡◌, ◌<◌, ◌↔◌, ◌∙◌, Some, Option, List, ℕ, length, sym, ap, subst, arith}
+use Rattle.std.proofs.Common.{◌≡◌, ◌<◌, ◌↔◌, ◌∙◌, Some, List, ℕ, length, sym, ap, subst, arith}
 use Rattle.std.proofs.lemmas.Option.{MatchOption-at_some, MatchOption-at_none}
 use Rattle.std.proofs.lemmas.Bool.Decides.{nat_tests}
 use Rattle.mc_flow.specs.declared.graph.StructInfo.{StructInfo}
@@ -28,4 +28,4 @@ returns c =
     let made_too : StructInfo = record { name = c.of.result; fields = c.of-2.result } in
     let same : made ≡ made_too = ap (λ (w : List ℕ). let s : StructInfo = record { name = w; fields = f.list.items } in s) n ∙ ap (λ fs. let s : StructInfo = record { name = c.of.result; fields = fs } in s) (sym c.of-2.ensures) in
     λ structure rest. subst (λ s. HeadReads structure c.args.tokens.now rest ↔ ((structure ≡ Some s) × Begins (words main_words) f.rest.now rest)) same
-      (struct_head c.args.tokens.now c.in-Some.named.rest.now f.rest.now c.in-Some.named.name.now f.list.items c.in-Some.ensures (MatchOption-at_some _ _ f c.in-Some-2.is c.in_ok-fields.ensures) some_field structure rest)
+    (struct_head c.args.tokens.now c.in-Some.named.rest.now f.rest.now c.in-Some.named.name.now f.list.items c.in-Some.ensures (MatchOption-at_some _ _ f c.in-Some-2.is c.in_ok-fields.ensures) some_field structure rest)
