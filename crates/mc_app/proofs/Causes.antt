@@ -1,10 +1,8 @@
 -- A call that did not fail left the count of faults as it was.
-use Rattle.std.proofs.Common.{◌≡◌, ◌<◌, ℕ, arith}
-use Rattle.std.specs.Prelude.{Result, Ok, Err}
+use Rattle.std.proofs.Common.{◌≡◌, ℕ, arith}
+use Rattle.std.specs.Prelude.{Ok}
 use Rattle.std.proofs.lemmas.Bool.{cases_lt}
-use Rattle.std.proofs.Common.{inl, inr, ◌⊎◌}
-use Rattle.mc_base.specs.declared.outside.FileFault.{FileFault}
-use Rattle.mc_base.specs.declared.outside.FileFault.TheVariants.{Failed}
+use Rattle.std.proofs.Common.{inl, inr}
 use Rattle.mc_base.specs.Outside.{HasCause}
 
 pub still : {T : Type 0} (x : T) (before now : ℕ) → HasCause before now (Ok x) → now ≡ before

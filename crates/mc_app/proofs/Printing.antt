@@ -1,6 +1,6 @@
 -- What is printed is the text of an answer, or the front of it.
 use Rattle.std.proofs.Common.{◌≡◌, ◌++◌, inr, ℕ, List, length, take, sym, ap, ◌∙◌, arith, ◌≤◌}
-use Rattle.std.specs.Prelude.{Result, Ok, Err, Option, Some, ⊤}
+use Rattle.std.specs.Prelude.{Result, Ok, Err, Option, ⊤}
 use Rattle.std.proofs.lemmas.List.{take_all}
 use Rattle.mc_base.specs.declared.outside.FileFault.{FileFault}
 use Rattle.mc_base.specs.Outside.{Adds, AddsIfTold}

@@ -1,6 +1,6 @@
 -- Causes, from those of the parts.
-use Rattle.std.proofs.Common.{◌≡◌, ◌≤◌, ◌^◌, ℕ, List, [], ◌∷◌, refl, sym, ap, ◌∙◌, subst, length, get_or, map, arith}
-use Rattle.std.specs.Prelude.{None, MatchOption, Some, Option, String, string_bytes, codes}
+use Rattle.std.proofs.Common.{◌≡◌, ◌≤◌, ◌^◌, ℕ, List, [], ◌∷◌, sym, ◌∙◌, subst, length, get_or, arith}
+use Rattle.std.specs.Prelude.{None, MatchOption, Some, Option, String, codes}
 use Rattle.std.specs.declared.alloc.Global.{Global}
 use Rattle.mc_base.specs.Outside.{Told}
 use Rattle.mc_straight.specs.declared.tree.Program.{Program as Tree}

@@ -18,11 +18,7 @@ use mc_kernel::certified_is_safe;
 use mc_straight::{Program, lower, runs_match, text_is_read_once};
 use std::alloc::{AllocError, Global};
 
-fn program<F: Files>(
-    alloc: Global,
-    files: &mut F,
-    name: &str,
-) -> Result<Option<Program>, FileFault>
+fn program<F: Files>(alloc: Global, files: &mut F, name: &str) -> Result<Option<Program>, FileFault>
     ensures told { Told (F.holds files.old name.now) (λ text. IfOk result (λ o. MatchOption o (IsProgram text → ⊥) (λ t. (length text ≤ 2 ^ 20) × ReadsAs text t))) }
     ensures typed { IfOk result (λ o. IfSome o IsTyped) }
     ensures same { Stays (F.holds files.old) (F.holds files.new) }

@@ -1,5 +1,5 @@
 -- The first line of a document.
-use Rattle.std.proofs.Common.{◌≡◌, ◌≢◌, ◌+◌, ℕ, suc, List, [], ◌∷◌, Bool, true, false, cond, eqb, take, drop, refl, ap, ◌∙◌, sym}
+use Rattle.std.proofs.Common.{◌≡◌, ◌≢◌, ℕ, suc, List, [], ◌∷◌, Bool, true, false, cond, eqb, take, drop, refl, ap}
 use Rattle.mc_cert.specs.Lines.{onto_first, lines_of, line_len}
 
 last_line : (b : ℕ) (v : Bool) → cond v ([] ∷ []) ((b ∷ []) ∷ []) ≡ take (cond v 0 1) (b ∷ []) ∷ lines_of (drop (suc (cond v 0 1)) (b ∷ []))

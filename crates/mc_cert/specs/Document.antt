@@ -1,5 +1,5 @@
 -- How the lines of documents are spelled.
-use Rattle.std.specs.Prelude.{◌≡◌, ◌≢◌, ℕ, List, Option, Some, Result, Ok, Err, codes, IsUtf8}
+use Rattle.std.specs.Prelude.{◌≡◌, ◌≢◌, ℕ, List, Some, Result, Ok, Err, codes, IsUtf8}
 use Rattle.serde_json.specs.Data as json
 use Rattle.serde_json.specs.Data.{Data, Num, unsigned, negative, float, number, string, array, object, boolean, Items, no_items, item}
 use Rattle.serde_json.specs.Read.{read}

@@ -97,7 +97,11 @@ static BODIES: [(&str, &str, u8); 44] = [
     ("struct node *p; return 0;", "S1 S3 S2 S17", 0),
     ("struct node *p; return 0;", "S1 S2 S17", 6),
     ("struct node *p; free(p); return 0;", "S1 S3 S11 S2 S17", 6),
-    ("struct node *p; if (p == NULL) return 0; return 0;", "S1 S3 S13 S2 S17 S1 S2 S17", 6),
+    (
+        "struct node *p; if (p == NULL) return 0; return 0;",
+        "S1 S3 S13 S2 S17 S1 S2 S17",
+        6,
+    ),
     // Pointers in fields: null, the block itself, and the block freed by its own field.
     (
         "struct node *p = malloc(sizeof(struct node)); if (p == NULL) return 0; p->next = NULL; struct node *q = p->next; if (q == NULL) return 0; free(p); return 0;",
@@ -150,15 +154,43 @@ static BODIES: [(&str, &str, u8); 44] = [
     ("return 0;", "S1 L12", 6),
     ("return 0;", "S1 S2 S17 S17", 6),
     // No straight programs.
-    ("struct node *p; struct node *p; return 0;", "S1 S3 S3 S2 S17", 3),
-    ("p->data = 1; struct node *p; return 0;", "S1 S9 S3 S2 S17", 3),
-    ("struct node *p; p->size = 1; return 0;", "S1 S3 S9 S2 S17", 3),
-    ("struct node *p; p->data = NULL; return 0;", "S1 S3 S9 S2 S17", 3),
-    ("struct node *p; p->data = 2147483648; return 0;", "S1 S3 S9 S2 S17", 3),
-    ("struct node *p; int x = p->next; return 0;", "S1 S3 S8 S2 S17", 3),
+    (
+        "struct node *p; struct node *p; return 0;",
+        "S1 S3 S3 S2 S17",
+        3,
+    ),
+    (
+        "p->data = 1; struct node *p; return 0;",
+        "S1 S9 S3 S2 S17",
+        3,
+    ),
+    (
+        "struct node *p; p->size = 1; return 0;",
+        "S1 S3 S9 S2 S17",
+        3,
+    ),
+    (
+        "struct node *p; p->data = NULL; return 0;",
+        "S1 S3 S9 S2 S17",
+        3,
+    ),
+    (
+        "struct node *p; p->data = 2147483648; return 0;",
+        "S1 S3 S9 S2 S17",
+        3,
+    ),
+    (
+        "struct node *p; int x = p->next; return 0;",
+        "S1 S3 S8 S2 S17",
+        3,
+    ),
     ("struct node *free; return 0;", "S1 S3 S2 S17", 3),
     ("struct list *p; return 0;", "S1 S3 S2 S17", 3),
-    ("struct node *p; if (p == 0) return 0; return 0;", "S1 S3 S13 S2 S17 S1 S2 S17", 3),
+    (
+        "struct node *p; if (p == 0) return 0; return 0;",
+        "S1 S3 S13 S2 S17 S1 S2 S17",
+        3,
+    ),
     ("free(NULL); /* nothing */ return 0;", "S1 S11 S2 S17", 3),
     ("int x; return 0;", "S1 S3 S2 S17", 3),
 ];
@@ -189,7 +221,10 @@ fn bodies_are_judged(rt: HostRuntime) -> Result<(), Fail> {
     for (body, names, code) in &BODIES {
         let document = document(alloc, names)?;
         let files = files(alloc, program(alloc, body)?, Vec::new(alloc), &document, 0)?;
-        assert!(rt; ends(alloc, "check p d c", files, 0, *code)?, "{code}: {body}");
+        assert!(rt;
+            ends(alloc, "check p d c", files, 0, *code)?,
+            "{code}: {body}"
+        );
     }
     Ok(())
 }

@@ -1,8 +1,7 @@
-use Rattle.std.proofs.Common.{◌≡◌, subst}
+use Rattle.std.proofs.Common.{subst}
 use Rattle.mc_flow.specs.declared.graph.Flow.{Flow}
 use Rattle.mc_flow.specs.Valid.{IsValid}
 use Rattle.mc_check.specs.Document.{IsValidDocument}
-use Rattle.mc_straight.specs.Lowering.{flow_of}
 use Rattle.mc_app.proofs.Safe.{safe_program}
 use Rattle.mc_app.proofs.work.certifies.Goals as goal
 

@@ -1,4 +1,4 @@
-use Rattle.std.proofs.Common.{◌≡◌, ◌∙◌, List, ℕ, length}
+use Rattle.std.proofs.Common.{◌∙◌}
 use Rattle.mc_app.proofs.Whys.{at_some, read_within}
 use Rattle.mc_app.proofs.work.program.Goals as goal
 

@@ -1,4 +1,4 @@
-use Rattle.std.proofs.Common.{◌≡◌, add-one, [], ap, length, arith}
+use Rattle.std.proofs.Common.{◌≡◌, add-one, ap, length, arith}
 use Rattle.mc_cert.proofs.LineFirst.{line_first}
 use Rattle.mc_cert.proofs.pieces.first_line.Goals as goal
 
