@@ -1,7 +1,7 @@
 -- Values for the names of a rule, and what they make true.
-use Rattle.std.specs.Prelude.{◌≡◌, ◌≢◌, ℕ, ℤ, pos, negsuc, ◌+ℤ◌, ◌≤ℤ◌, Option, Some, None, List, [], ◌∷◌, get_or}
+use Rattle.std.specs.Prelude.{◌≡◌, ◌≢◌, ℕ, ℤ, pos, ◌+ℤ◌, ◌≤ℤ◌, Option, Some, None, List, [], ◌∷◌, get_or}
 use Rattle.mc_base.specs.declared.plain.Kind.{Kind}
-use Rattle.mc_base.specs.declared.plain.Kind.TheVariants.{Int, Ptr}
+use Rattle.mc_base.specs.Kinds.{InKind}
 use Rattle.mc_defs.specs.declared.rules.DefAtom.{DefAtom}
 use Rattle.mc_defs.specs.declared.rules.DefAtom.TheVariants.{Eq, Ne, In}
 
@@ -19,11 +19,6 @@ abbrev pub IsTrueAtom : List ℤ → DefAtom → Type 0
 IsTrueAtom names (Eq left base add fixes) = value_of names left ≡ base_of names base +ℤ add
 IsTrueAtom names (Ne left base add) = value_of names left ≢ base_of names base +ℤ add
 IsTrueAtom names (In left lo hi) = (lo ≤ℤ value_of names left) × (value_of names left ≤ℤ hi)
-
--- the number lies in the range of the kind
-abbrev pub InKind : Kind → ℤ → Type 0
-InKind Int z = (negsuc 2147483647 ≤ℤ z) × (z ≤ℤ pos 2147483647)
-InKind Ptr z = (pos 0 ≤ℤ z) × (z ≤ℤ pos 4611686018427387903)
 
 -- there is one number for each kind, and it lies in its range
 abbrev pub InKinds : List Kind → List ℤ → Type 0

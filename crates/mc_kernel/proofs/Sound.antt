@@ -39,7 +39,8 @@ use Rattle.mc_state.specs.declared.edge.Edge.{Edge}
 use Rattle.mc_state.specs.declared.edge.Edge.TheVariants as edge
 use Rattle.mc_state.specs.State as st
 use Rattle.mc_state.specs.State.{State, null, unknown, var_node, with_var, without_vars, with_number, with_atom, with_block, next_node, is_null, is_false, is_wrong, is_at_null, are_same, is_block_at, has_shape, is_shaped_block_at, block_place, shaped_block_place, edge_at, fields_of, start_of, put_field, without_block, apart}
-use Rattle.mc_state.specs.Stands.{Valuation, InKind, IsTrueAtom, Parts, StandsBy, EdgeIsBelow, AtomIsBelow, IsBelow, IsBounded}
+use Rattle.mc_base.specs.Kinds.{InKind}
+use Rattle.mc_state.specs.Stands.{Valuation, IsTrueAtom, Parts, StandsBy, EdgeIsBelow, AtomIsBelow, IsBelow, IsBounded}
 use Rattle.mc_kernel.specs.declared.branch.Branch.{Branch}
 use Rattle.mc_kernel.specs.Rules.{entry, instr_at, operand_node, with_operand, moved_to, S1Is, S2Is, S3Is, S8Is, S9Is, S10Is, S11Is, S12Is, S13Is, S17Is, L12Is, Instance, Proves, IsCertificate}
 use Rattle.mc_kernel.proofs.Parts.{HeapLaws, all_append, all_at, all_without, all_set}

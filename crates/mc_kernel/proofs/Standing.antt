@@ -19,7 +19,8 @@ use Rattle.mc_state.specs.declared.edge.Edge.{Edge}
 use Rattle.mc_state.specs.declared.edge.Edge.TheVariants as edge
 use Rattle.mc_state.specs.State.{State, unknown, var_node, with_var, without_vars, with_number, next_node, with_atom, with_block}
 use Rattle.mc_flow.specs.Steps.{without}
-use Rattle.mc_state.specs.Stands.{Valuation, InKind, IsTrueAtom, VarsMeet, EdgeMeets, StandsBy, IsBelow, AtomIsBelow, EdgeIsBelow, IsBounded}
+use Rattle.mc_base.specs.Kinds.{InKind}
+use Rattle.mc_state.specs.Stands.{Valuation, IsTrueAtom, VarsMeet, EdgeMeets, StandsBy, IsBelow, AtomIsBelow, EdgeIsBelow, IsBounded}
 
 -- the valuation with one number at one node
 pub extended : Valuation → ℕ → ℤ → Valuation

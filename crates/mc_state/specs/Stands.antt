@@ -1,10 +1,9 @@
 -- Which configurations a symbolic state stands for.
-use Rattle.std.specs.Prelude.{◌≡◌, ◌≢◌, ◌<◌, ◌^◌, ℕ, List, [], ◌∷◌, ℤ, pos, negsuc, ◌+ℤ◌, ◌≤ℤ◌, Bool, Option, Some, None, IsTrue}
+use Rattle.std.specs.Prelude.{◌≡◌, ◌≢◌, ◌<◌, ◌^◌, ℕ, List, [], ◌∷◌, ℤ, pos, ◌+ℤ◌, ◌≤ℤ◌, Bool, Option, Some, None, IsTrue}
 use Rattle.std.specs.List.{AllByRecursion}
 use Rattle.mc_base.specs.declared.ids.EdgeId.{EdgeId}
 use Rattle.mc_base.specs.declared.ids.NodeId.{NodeId}
-use Rattle.mc_base.specs.declared.plain.Kind.{Kind}
-use Rattle.mc_base.specs.declared.plain.Kind.TheVariants.{Int, Ptr}
+use Rattle.mc_base.specs.Kinds.{InKind}
 use Rattle.mc_base.specs.declared.plain.Atom.{Atom}
 use Rattle.mc_base.specs.declared.plain.Atom.TheVariants.{Eq, Ne, In}
 use Rattle.mc_heap.specs.Heap.{Block, Region}
@@ -16,11 +15,6 @@ use Rattle.mc_state.specs.State.{State}
 -- a whole number for each node
 abbrev pub Valuation : Type 0
 Valuation = ℕ → ℤ
-
--- the number lies in the range of the kind
-abbrev pub InKind : Kind → ℤ → Type 0
-InKind Int z = (negsuc 2147483647 ≤ℤ z) × (z ≤ℤ pos 2147483647)
-InKind Ptr z = (pos 0 ≤ℤ z) × (z ≤ℤ pos 4611686018427387903)
 
 -- the atom is true
 abbrev pub IsTrueAtom : Valuation → Atom → Type 0
