@@ -66,6 +66,10 @@ pub record Sat (defs : List Def) (pred : PredId) (value : ℤ) (args : List ℤ)
   pub height : ℕ
   pub holds : SatAt defs height pred value args region
 
+-- the predicate holds on some part of the region
+abbrev pub HoldsSomewhere : List Def → Meaning
+HoldsSomewhere defs pred value args region = (part : Region) × (rest : Region) × Split region part rest × Sat defs pred value args part
+
 -- a segment that is empty ends where it begins
 abbrev pub EndsThere : ℤ → List ℤ → ℤ → List ℤ → Region → Type 0
 EndsThere end ends value args region = (value ≡ end) × (args ≡ ends) × IsEmpty region

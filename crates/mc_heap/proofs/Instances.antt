@@ -7,6 +7,7 @@ use mathlib.Core.Path.{fun_ext}
 use Rattle.std.specs.FinMap as map
 use Rattle.mc_heap.specs.Heap.{Block, region_of, HasAddresses}
 use Rattle.mc_heap.specs.Parts.{Joins, Split, IsEmpty, Changes, Star, StarAt}
+use Rattle.mc_heap.specs.Adding.{AreFree}
 use Rattle.mc_heap.specs.Instances.{block_at, two_blocks, two_blocks_turned, one_block, nowhere, only_at, IsBlockAt, IsNothingAt}
 use Rattle.mc_heap.proofs.Splits.{split_turned, split_whole, insert_changes, insert_keeps_addresses, empty_heap_is_empty}
 
@@ -65,3 +66,6 @@ turned a = grind (arith, gets, nat_tests)
 
 pub same_region : region_of two_blocks ≡ region_of two_blocks_turned
 same_region = fun_ext turned
+
+pub nine_comes : AreFree one_block ((9, block_at 9) ∷ [])
+nine_comes = ((omega arith, omega arith), nine_free, tt)

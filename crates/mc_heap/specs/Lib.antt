@@ -1,4 +1,5 @@
 pub mod Access
+pub mod Adding
 pub mod Choices
 pub mod Heap
 pub mod Instances

@@ -4,6 +4,7 @@ ghost use Rattle.std.specs.FinMap as map;
 ghost use Rattle.mc_heap.specs.Heap.{region_of, HasAddresses};
 ghost use Rattle.mc_heap.specs.Parts.{Split, IsEmpty, Star, StarAt, Changes};
 ghost use Rattle.mc_heap.specs.PartLaws.{SplitCommutes, SplitRegroupsLeft, SplitRegroupsRight, SplitDropsEmpty, SplitAddsEmpty, SplitKeepsAddresses, EmptyHeapIsEmpty, RegionTellsHeap, InsertChanges, RemoveChanges, InsertKeepsAddresses, RemoveKeepsAddresses, CellIsRead, CellIsAdded, CellIsReplaced, CellIsRemoved};
+ghost use Rattle.mc_heap.specs.Adding.{AreFree, BlocksAreAdded, BlocksKeepAddresses};
 ghost use Rattle.mc_heap.specs.Instances.{block_at, one_block, two_blocks, two_blocks_turned, nowhere, only_at, IsBlockAt, IsNothingAt};
 
 /// Parts may be named and grouped in any order, and an empty part plays no role.
@@ -34,6 +35,12 @@ pub fn changes_are_local()
     ensures removed { CellIsRemoved }
 {}
 
+/// Blocks at free addresses come into a heap as a part more.
+pub fn blocks_come_together()
+    ensures added { BlocksAreAdded }
+    ensures keeps_addresses { BlocksKeepAddresses }
+{}
+
 /// A heap of two blocks meets the premises of each of these laws.
 pub fn two_blocks_are_parts()
     ensures split { Split (region_of two_blocks) (only_at 7) (only_at 9) }
@@ -48,5 +55,6 @@ pub fn two_blocks_are_parts()
     ensures replaced { Changes (region_of two_blocks) (region_of (map.insert two_blocks 9 (block_at 7))) 9 (Some (block_at 7)) }
     ensures removed { Changes (region_of two_blocks) (only_at 7) 9 None }
     ensures addresses { HasAddresses one_block }
+    ensures come { AreFree one_block ((9, block_at 9) ∷ []) }
     ensures turned { region_of two_blocks ≡ region_of two_blocks_turned }
 {}

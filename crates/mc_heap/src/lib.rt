@@ -5,4 +5,7 @@ mod blocks;
 mod laws;
 
 pub use blocks::{Heap, NoMemory, Read};
-pub use laws::{changes_are_local, heaps_change_one_address, parts_regroup, two_blocks_are_parts};
+pub use laws::{
+    blocks_come_together, changes_are_local, heaps_change_one_address, parts_regroup,
+    two_blocks_are_parts,
+};
