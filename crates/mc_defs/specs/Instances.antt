@@ -4,23 +4,20 @@ use Rattle.mc_base.specs.declared.ids.NodeId.{NodeId}
 use Rattle.mc_base.specs.declared.ids.PredId.{PredId}
 use Rattle.mc_base.specs.declared.plain.Atom.{Atom}
 use Rattle.mc_base.specs.declared.plain.Atom.TheVariants.{Eq, Ne, In}
+use Rattle.mc_base.specs.Nodes.{null}
 use Rattle.mc_defs.specs.declared.rules.Call.{Call}
 use Rattle.mc_defs.specs.declared.rules.DefAtom as D
 use Rattle.mc_defs.specs.declared.rules.DefAtom.TheVariants as V
 use Rattle.mc_defs.specs.declared.rules.Rule.{Rule}
 use Rattle.mc_defs.specs.declared.instance.Instance.{Instance}
 
--- the node of zero
-abbrev pub null_node : NodeId
-null_node = record { 0 = 0 }
-
 -- the node of a name
 abbrev pub node_of : List NodeId → ℕ → NodeId
-node_of nodes name = get_or nodes name null_node
+node_of nodes name = get_or nodes name null
 
 -- the node of a base: that of a name, or of zero
 abbrev pub base_node : List NodeId → Option ℕ → NodeId
-base_node nodes None = null_node
+base_node nodes None = null
 base_node nodes (Some name) = node_of nodes name
 
 -- the atom with nodes for its names
