@@ -1,4 +1,12 @@
+pub mod Bodies
+pub mod BodyLaws
+pub mod Covers
+pub mod Facts
+pub mod Fits
 pub mod Kept
+pub mod Laws
 pub mod Nulls
-pub mod State
 pub mod Stands
+pub mod State
+pub mod Straight
+pub mod Terms

@@ -1,13 +1,14 @@
 //! Symbolic states, and the lines of documents.
 #![tactic(auto)]
 
-mod edge;
 mod facts;
 mod line;
 mod state;
+mod terms;
 #[cfg(test)]
 mod tests;
 
-pub use edge::Edge;
 pub use line::{Form, Line, Version};
+pub use mc_graph::Edge;
 pub use state::State;
+pub use terms::Term;
