@@ -6,6 +6,7 @@ pub mod Fits
 pub mod Kept
 pub mod Laws
 pub mod Nulls
+pub mod Rules
 pub mod Stands
 pub mod State
 pub mod Straight

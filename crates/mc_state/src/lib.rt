@@ -2,6 +2,7 @@
 #![tactic(auto)]
 
 mod facts;
+mod goal;
 mod line;
 mod state;
 mod terms;
@@ -9,6 +10,7 @@ mod terms;
 mod tests;
 
 pub use line::{Form, Line, Version};
+pub use goal::Goal;
 pub use mc_graph::Edge;
 pub use state::State;
 pub use terms::Term;

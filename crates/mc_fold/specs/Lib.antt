@@ -1,0 +1,4 @@
+pub mod Changed
+pub mod Folded
+pub mod Goals
+pub mod Laws

@@ -1,0 +1,16 @@
+//! The rules of logic that unfold an edge.
+#![tactic(auto)]
+
+use mc_base::EdgeId;
+
+/// L1: takes an Ind for the body of one of its rules.
+#[derive(Clone, Copy, Debug, PartialEq, Eq)]
+pub struct UnfoldInd {
+    pub edge: EdgeId,
+}
+
+/// L2: takes a Seg to be empty, or for the body of a rule of which one call goes on as the segment.
+#[derive(Clone, Copy, Debug, PartialEq, Eq)]
+pub struct UnfoldSeg {
+    pub edge: EdgeId,
+}
