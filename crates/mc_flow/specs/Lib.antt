@@ -1,2 +1,3 @@
-pub mod Valid
+pub mod Values
 pub mod Steps
+pub mod Valid

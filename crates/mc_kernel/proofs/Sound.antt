@@ -22,17 +22,18 @@ use Rattle.mc_heap.specs.Heap.{Block, Region, region_of, IsAddress, HasAddresses
 use Rattle.mc_heap.specs.Access.{field_at, block_field, with_field, fresh_block}
 use Rattle.mc_heap.specs.Choices.{Choice}
 use Rattle.mc_heap.specs.Choices as choice
+use Rattle.mc_defs.specs.declared.rules.Def.{Def}
+use Rattle.mc_defs.specs.declared.shapes.Structs.{Structs}
 use Rattle.mc_flow.specs.declared.instr.Operand.{Operand}
 use Rattle.mc_flow.specs.declared.instr.Operand.TheVariants.{Var, Const}
 use Rattle.mc_flow.specs.declared.instr.Instr.{Instr}
 use Rattle.mc_flow.specs.declared.instr.Instr.TheVariants.{Skip, Copy, Undef, Load, Store, Malloc, Free, TestEq}
 use Rattle.mc_flow.specs.declared.instr.Instr.TheVariants as instr
 use Rattle.mc_flow.specs.declared.graph.Point.{Point}
-use Rattle.mc_flow.specs.declared.graph.Structs.{Structs}
 use Rattle.mc_flow.specs.declared.graph.Flow.{Flow}
-use Rattle.mc_flow.specs.declared.graph.Defs.{Defs}
-use Rattle.mc_flow.specs.Valid.{IsValid, IsInt, IsOperand, FitsKinds}
-use Rattle.mc_flow.specs.Steps.{Config, Result, StepOf, StepAt, Step, Allocates, copied, value_in, value_of, with_value, at_point, set_to, with_heap, address, found, loaded, written, put, stored, freed_at, freed, tested, field_count, start, IsSafeFlow}
+use Rattle.mc_flow.specs.Valid.{IsValid, IsOperand, FitsKinds}
+use Rattle.mc_flow.specs.Values.{value_in, value_of, with_value, address}
+use Rattle.mc_flow.specs.Steps.{Config, Result, StepOf, StepAt, Step, Allocates, copied, at_point, set_to, with_heap, found, loaded, written, put, stored, freed_at, freed, tested, field_count, start, IsSafeFlow}
 use Rattle.mc_state.specs.declared.line.Line.{Line}
 use Rattle.mc_state.specs.declared.line.Line.TheVariants.{Header, S1, S2, S3, S8, S9, S10, S11, S12, S13, S17, L12, End}
 use Rattle.mc_state.specs.declared.edge.Edge.{Edge}
@@ -67,17 +68,17 @@ LeadsTo bs (last ended) = Unit {0}
 LeadsTo bs (last stopped) = Unit {0}
 LeadsTo bs (last (fault kind place)) = ⊥
 
-abbrev pub IsSound : Flow → Branch → List Branch → Type 0
-IsSound flow b bs = (c : Config) (choices : List Choice) (r : Result) → StandsAt c b → Step flow c choices r → LeadsTo bs r
+abbrev pub IsSound : Flow → List Def → Branch → List Branch → Type 0
+IsSound flow defs b bs = (c : Config) (choices : List Choice) (r : Result) → StandsAt c b → Step flow defs c choices r → LeadsTo bs r
 
 -- ---- the instruction at a point
 
-at_instr : (structs : Structs) (o : Option Point) (i : Instr) (c : Config) (choices : List Choice) (r : Result) → option_map (λ p. p.code) o ≡ Some i → StepAt structs o c choices r → (place : Place) × StepOf structs place i c choices r
-at_instr structs None i c choices r e s = absurd s
-at_instr structs (Some p) i c choices r e s = (p.place, (let same : p.code ≡ i = cc in subst (λ (j : Instr). StepOf structs p.place j c choices r) same s))
+at_instr : (structs : Structs) (defs : List Def) (o : Option Point) (i : Instr) (c : Config) (choices : List Choice) (r : Result) → option_map (λ p. p.code) o ≡ Some i → StepAt structs defs o c choices r → (place : Place) × StepOf structs defs place i c choices r
+at_instr structs defs None i c choices r e s = absurd s
+at_instr structs defs (Some p) i c choices r e s = (p.place, (let same : p.code ≡ i = cc in subst (λ (j : Instr). StepOf structs defs p.place j c choices r) same s))
 
-step_at : (flow : Flow) (b : Branch) (i : Instr) (c : Config) (choices : List Choice) (r : Result) → instr_at flow b.point ≡ Some i → c.point ≡ b.point → Step flow c choices r → (place : Place) × StepOf flow.structs place i c choices r
-step_at flow b i c choices r e at s = at_instr flow.structs (slice_get flow.points c.point) i c choices r (ap (instr_at flow) at ∙ e) s
+step_at : (flow : Flow) (defs : List Def) (b : Branch) (i : Instr) (c : Config) (choices : List Choice) (r : Result) → instr_at flow b.point ≡ Some i → c.point ≡ b.point → Step flow defs c choices r → (place : Place) × StepOf flow.structs defs place i c choices r
+step_at flow defs b i c choices r e at s = at_instr flow.structs defs (slice_get flow.points c.point) i c choices r (ap (instr_at flow) at ∙ e) s
 
 -- ---- operands
 
@@ -92,7 +93,7 @@ pub record OperandMet (values : List (Option ℤ)) (region : Region) (o : Operan
   pub below : n.0 < (with_operand s o).next
 
 -- a constant that is not 0 is no pointer
-is_int : (vars : List VarInfo) (k : Kind) (c : ℤ) → IsOperand vars k (Const c) → int_eq c (pos 0) ≡ false → IsInt c
+is_int : (vars : List VarInfo) (k : Kind) (c : ℤ) → IsOperand vars k (Const c) → int_eq c (pos 0) ≡ false → InKind Int c
 is_int vars Int c h e = h
 is_int vars Ptr c h e = let f : int_eq c (pos 0) ≡ true = (Decides-int_eq c (pos 0)).1 h in cc
 
@@ -147,18 +148,18 @@ pointer_value values region v s vars (Const c) n fits h st =
     let is : null ≡ n = sym (ap (λ (b : Bool). if b then null else next_node s) so) ∙ node in
     ap Some (zero ∙ sym st.null ∙ ap (λ (j : NodeId). v j.0) is)
 
-fits_at : (flow : Flow) (defs : Defs) (p : ℕ) (i : Instr) → IsValid flow defs → (o : Option Point) → slice_get flow.points p ≡ o → option_map (λ q. q.code) o ≡ Some i → FitsKinds flow.vars flow.structs defs i
+fits_at : (flow : Flow) (defs : List Def) (p : ℕ) (i : Instr) → IsValid flow defs → (o : Option Point) → slice_get flow.points p ≡ o → option_map (λ q. q.code) o ≡ Some i → FitsKinds flow.vars flow.structs defs i
 fits_at flow defs p i valid None e h = cc
-fits_at flow defs p i valid (Some point) e h = let same : point.code ≡ i = cc in subst (FitsKinds flow.vars flow.structs defs) same (valid.kinds p point e)
+fits_at flow defs p i valid (Some point) e h = let same : point.code ≡ i = cc in subst (FitsKinds flow.vars flow.structs defs) same (valid.points p point e).kinds
 
 -- ---- the rules
 
 leads_one : (d : Config) (rest : List Choice) (r : Result) (b : Branch) (bs : List Branch) → r ≡ next d rest → bs ≡ b ∷ [] → StandsAt d b → LeadsTo bs r
 leads_one d rest r b bs e g st = subst (LeadsTo bs) (sym e) (subst (StandsAtSome d) (sym g) (inl st))
 
-s1_sound : (flow : Flow) (b : Branch) (bs : List Branch) → S1Is flow b bs → IsSound flow b bs
-s1_sound flow b bs i c choices r st step =
-    let s = step_at flow b (Skip i.q) c choices r i.at st.point step in
+s1_sound : (flow : Flow) (defs : List Def) (b : Branch) (bs : List Branch) → S1Is flow b bs → IsSound flow defs b bs
+s1_sound flow defs b bs i c choices r st step =
+    let s = step_at flow defs b (Skip i.q) c choices r i.at st.point step in
     leads_one (at_point i.q c) choices r (moved_to i.q b.state) bs s.1 i.gives (record { point = refl; addresses = st.addresses; bounded = st.bounded; v = st.v; stands = st.stands })
 
 -- a variable gets a node and its value
@@ -175,16 +176,16 @@ copied_leads x q place c choices r (Some z) n s bs v e f has st b lt g =
     let same : z ≡ v n.0 = cc in
     var_leads x q c choices r v n s bs (e ∙ ap (set_to x q c choices) same) has st b lt g
 
-s2_sound : (flow : Flow) (defs : Defs) (b : Branch) (bs : List Branch) → IsValid flow defs → S2Is flow b bs → IsSound flow b bs
+s2_sound : (flow : Flow) (defs : List Def) (b : Branch) (bs : List Branch) → IsValid flow defs → S2Is flow b bs → IsSound flow defs b bs
 s2_sound flow defs b bs valid i c choices r st step =
-    let s = step_at flow b (Copy i.x i.from i.q) c choices r i.at st.point step in
+    let s = step_at flow defs b (Copy i.x i.from i.q) c choices r i.at st.point step in
     let fits = fits_at flow defs b.point (Copy i.x i.from i.q) valid (slice_get flow.points b.point) refl i.at in
     let m = operand_met c.vars (region_of c.heap) st.v b.state flow.vars fits.0 i.from i.n fits.2 i.known st.bounded st.stands in
     copied_leads i.x i.q s.0 c choices r (value_of c.vars i.from) i.n (with_operand b.state i.from) bs m.w s.1 m.value st.addresses m.stands m.bounded m.below i.gives
 
-s3_sound : (flow : Flow) (b : Branch) (bs : List Branch) → S3Is flow b bs → IsSound flow b bs
-s3_sound flow b bs i c choices r st step =
-    let s = step_at flow b (Undef i.xs i.q) c choices r i.at st.point step in
+s3_sound : (flow : Flow) (defs : List Def) (b : Branch) (bs : List Branch) → S3Is flow b bs → IsSound flow defs b bs
+s3_sound flow defs b bs i c choices r st step =
+    let s = step_at flow defs b (Undef i.xs i.q) c choices r i.at st.point step in
     leads_one _ choices r (moved_to i.q (without_vars b.state i.xs)) bs s.1 i.gives
     (record { point = refl; addresses = st.addresses; bounded = forget_bounded i.xs b.state st.bounded; v = st.v; stands = forget_stands st.v i.xs c.vars (region_of c.heap) b.state st.stands })
 
@@ -244,9 +245,9 @@ s8_block laws flow b bs i c choices r place id (edge.Block at own fields) st e p
     let below = all_at (IsBelow s.next) fields i.f (Some i.m) field edge_below.1 in
     var_leads i.x i.q c choices r st.v i.m s bs gets st.addresses st.stands st.bounded below i.gives
 
-s8_sound : HeapLaws → (flow : Flow) (b : Branch) (bs : List Branch) → S8Is flow b bs → IsSound flow b bs
-s8_sound laws flow b bs i c choices r st step =
-    let s = step_at flow b (Load i.x i.y i.shape i.f i.q) c choices r i.at st.point step in
+s8_sound : HeapLaws → (flow : Flow) (defs : List Def) (b : Branch) (bs : List Branch) → S8Is flow b bs → IsSound flow defs b bs
+s8_sound laws flow defs b bs i c choices r st step =
+    let s = step_at flow defs b (Load i.x i.y i.shape i.f i.q) c choices r i.at st.point step in
     let e = edge_with_id (slice_get b.state.edges i.place) i.edge i.block in
     s8_block laws flow b bs i c choices r s.0 e.0 i.edge st e.1 (at_position (is_shaped_block_at b.state.atoms i.n i.shape) b.state.edges i.place (e.0, i.edge) i.there e.1) i.field s.1
 
@@ -328,9 +329,9 @@ s9_block laws flow b bs i c choices r place id (edge.Block at own fields) stands
       };
     })
 
-s9_sound : HeapLaws → (flow : Flow) (defs : Defs) (b : Branch) (bs : List Branch) → IsValid flow defs → S9Is flow b bs → IsSound flow b bs
+s9_sound : HeapLaws → (flow : Flow) (defs : List Def) (b : Branch) (bs : List Branch) → IsValid flow defs → S9Is flow b bs → IsSound flow defs b bs
 s9_sound laws flow defs b bs valid i c choices r stands step =
-    let s = step_at flow b (Store i.y i.shape i.f i.from i.q) c choices r i.at stands.point step in
+    let s = step_at flow defs b (Store i.y i.shape i.f i.from i.q) c choices r i.at stands.point step in
     let fits = fits_at flow defs b.point (Store i.y i.shape i.f i.from i.q) valid (slice_get flow.points b.point) refl i.at in
     let met = operand_met c.vars (region_of c.heap) stands.v b.state flow.vars fits.0 i.from i.m fits.3 i.value stands.bounded stands.stands in
     let e = edge_with_id (slice_get b.state.edges i.place) i.edge i.block in
@@ -379,15 +380,15 @@ s10_choices laws flow b bs i c (choice.malloc (suc n) ∷ choices) r st step = b
 s10_choices laws flow b bs i c (choice.input z ∷ choices) r st step = absurd step
 s10_choices laws flow b bs i c (choice.shape z part ∷ choices) r st step = absurd step
 
-s10_sound : HeapLaws → (flow : Flow) (b : Branch) (bs : List Branch) → S10Is flow b bs → IsSound flow b bs
-s10_sound laws flow b bs i c choices r st step =
-    s10_choices laws flow b bs i c choices r st (step_at flow b (Malloc i.x i.shape i.q) c choices r i.at st.point step).1
+s10_sound : HeapLaws → (flow : Flow) (defs : List Def) (b : Branch) (bs : List Branch) → S10Is flow b bs → IsSound flow defs b bs
+s10_sound laws flow defs b bs i c choices r st step =
+    s10_choices laws flow b bs i c choices r st (step_at flow defs b (Malloc i.x i.shape i.q) c choices r i.at st.point step).1
 
 -- ---- freeing
 
-s11_sound : (flow : Flow) (defs : Defs) (b : Branch) (bs : List Branch) → IsValid flow defs → S11Is flow b bs → IsSound flow b bs
+s11_sound : (flow : Flow) (defs : List Def) (b : Branch) (bs : List Branch) → IsValid flow defs → S11Is flow b bs → IsSound flow defs b bs
 s11_sound flow defs b bs valid i c choices r st step =
-    let s = step_at flow b (Free i.from i.q) c choices r i.at st.point step in
+    let s = step_at flow defs b (Free i.from i.q) c choices r i.at st.point step in
     let fits = fits_at flow defs b.point (Free i.from i.q) valid (slice_get flow.points b.point) refl i.at in
     let zero : st.v i.n.0 ≡ pos 0 = null_value st.v b.state.atoms st.stands.null st.stands.atoms i.n i.zero in
     let value : value_of c.vars i.from ≡ Some (pos 0) = pointer_value c.vars (region_of c.heap) st.v b.state flow.vars i.from i.n fits i.known st.stands ∙ ap Some zero in
@@ -446,9 +447,9 @@ s12_block laws flow b bs i c choices r place id (edge.Block at own fields) stand
       };
     })
 
-s12_sound : HeapLaws → (flow : Flow) (defs : Defs) (b : Branch) (bs : List Branch) → IsValid flow defs → S12Is flow b bs → IsSound flow b bs
+s12_sound : HeapLaws → (flow : Flow) (defs : List Def) (b : Branch) (bs : List Branch) → IsValid flow defs → S12Is flow b bs → IsSound flow defs b bs
 s12_sound laws flow defs b bs valid i c choices r stands step =
-    let s = step_at flow b (Free i.from i.q) c choices r i.at stands.point step in
+    let s = step_at flow defs b (Free i.from i.q) c choices r i.at stands.point step in
     let fits = fits_at flow defs b.point (Free i.from i.q) valid (slice_get flow.points b.point) refl i.at in
     let value = pointer_value c.vars (region_of c.heap) stands.v b.state flow.vars i.from i.n fits i.known stands.stands in
     let e = edge_with_id (slice_get b.state.edges i.place) i.edge i.block in
@@ -472,15 +473,15 @@ tested_leads c choices r t f n s v bs false test e has stands b lt g =
     subst (LeadsTo bs) (sym e) (subst (StandsAtSome (at_point f c)) (sym g)
     (inr (inl (record { point = refl; addresses = has; bounded = atom_bounded s (Ne n null (pos 0)) (lt, b.positive) b; v = v; stands = atom_stands v c.vars (region_of c.heap) s (Ne n null (pos 0)) holds stands }))))
 
-s13_sound : (flow : Flow) (b : Branch) (bs : List Branch) → S13Is flow b bs → IsSound flow b bs
-s13_sound flow b bs i c choices r st step =
-    let s = step_at flow b (TestEq (Var i.x) (Const (pos 0)) i.t i.f) c choices r i.at st.point step in
+s13_sound : (flow : Flow) (defs : List Def) (b : Branch) (bs : List Branch) → S13Is flow b bs → IsSound flow defs b bs
+s13_sound flow defs b bs i c choices r st step =
+    let s = step_at flow defs b (TestEq (Var i.x) (Const (pos 0)) i.t i.f) c choices r i.at st.point step in
     let value : value_in c.vars i.x ≡ Some (st.v i.n.0) = vars_get st.v b.state.env c.vars i.x.0 i.n st.stands.vars i.known in
-    tested_leads c choices r i.t i.f i.n b.state st.v bs (int_eq (st.v i.n.0) (pos 0)) refl (s.1 ∙ ap (λ o. tested i.t i.f s.0 c choices o (Some (pos 0))) value) st.addresses st.stands st.bounded (known_below b.state i.x i.n st.bounded i.known) i.gives
+    tested_leads c choices r i.t i.f i.n b.state st.v bs (int_eq (st.v i.n.0) (pos 0)) refl (s.1 ∙ ap (λ o. tested int_eq i.t i.f s.0 c choices o (Some (pos 0))) value) st.addresses st.stands st.bounded (known_below b.state i.x i.n st.bounded i.known) i.gives
 
-s17_sound : (flow : Flow) (b : Branch) (bs : List Branch) → S17Is flow b bs → IsSound flow b bs
-s17_sound flow b bs i c choices r st step =
-    let s = step_at flow b instr.End c choices r i.at st.point step in
+s17_sound : (flow : Flow) (defs : List Def) (b : Branch) (bs : List Branch) → S17Is flow b bs → IsSound flow defs b bs
+s17_sound flow defs b bs i c choices r st step =
+    let s = step_at flow defs b instr.End c choices r i.at st.point step in
     subst (LeadsTo bs) (sym s.1) tt
 
 -- ---- false states
@@ -503,51 +504,51 @@ false_stands laws c b e st =
       | inr h ↦ any_gives (is_at_null s.atoms) (Lies st.v (region_of c.heap)) ⊥ s.edges h (all_lie laws st.v (region_of c.heap) st.stands.parts.held st.stands.parts.rest s.edges st.stands.parts.split st.stands.parts.each) (at_null c b st)
     ]
 
-l12_sound : HeapLaws → (flow : Flow) (b : Branch) (bs : List Branch) → L12Is b bs → IsSound flow b bs
-l12_sound laws flow b bs i c choices r st step = absurd (false_stands laws c b i.unsound st)
+l12_sound : HeapLaws → (flow : Flow) (defs : List Def) (b : Branch) (bs : List Branch) → L12Is b bs → IsSound flow defs b bs
+l12_sound laws flow defs b bs i c choices r st step = absurd (false_stands laws c b i.unsound st)
 
-line_sound : HeapLaws → (flow : Flow) (defs : Defs) (line : Line) (b : Branch) (bs : List Branch) → IsValid flow defs → Instance flow line b bs → IsSound flow b bs
-line_sound laws flow defs S1 b bs valid i = s1_sound flow b bs i
+line_sound : HeapLaws → (flow : Flow) (defs : List Def) (line : Line) (b : Branch) (bs : List Branch) → IsValid flow defs → Instance flow line b bs → IsSound flow defs b bs
+line_sound laws flow defs S1 b bs valid i = s1_sound flow defs b bs i
 line_sound laws flow defs S2 b bs valid i = s2_sound flow defs b bs valid i
-line_sound laws flow defs S3 b bs valid i = s3_sound flow b bs i
-line_sound laws flow defs S8 b bs valid i = s8_sound laws flow b bs i
+line_sound laws flow defs S3 b bs valid i = s3_sound flow defs b bs i
+line_sound laws flow defs S8 b bs valid i = s8_sound laws flow defs b bs i
 line_sound laws flow defs S9 b bs valid i = s9_sound laws flow defs b bs valid i
-line_sound laws flow defs S10 b bs valid i = s10_sound laws flow b bs i
+line_sound laws flow defs S10 b bs valid i = s10_sound laws flow defs b bs i
 line_sound laws flow defs S11 b bs valid i = s11_sound flow defs b bs valid i
 line_sound laws flow defs S12 b bs valid i = s12_sound laws flow defs b bs valid i
-line_sound laws flow defs S13 b bs valid i = s13_sound flow b bs i
-line_sound laws flow defs S17 b bs valid i = s17_sound flow b bs i
-line_sound laws flow defs L12 b bs valid i = l12_sound laws flow b bs i
+line_sound laws flow defs S13 b bs valid i = s13_sound flow defs b bs i
+line_sound laws flow defs S17 b bs valid i = s17_sound flow defs b bs i
+line_sound laws flow defs L12 b bs valid i = l12_sound laws flow defs b bs i
 line_sound laws flow defs (Header version form) b bs valid i = absurd i
 line_sound laws flow defs End b bs valid i = absurd i
 
 -- ---- the induction
 
 -- no run from a configuration that stands for the branch has a fault
-abbrev pub IsSafeAt : Flow → Branch → Type 0
-IsSafeAt flow b = (c : Config) → StandsAt c b → IsSafeFrom (Step flow) c
+abbrev pub IsSafeAt : Flow → List Def → Branch → Type 0
+IsSafeAt flow defs b = (c : Config) → StandsAt c b → IsSafeFrom (Step flow defs) c
 
 split_all : {X : Type 0} (P : X → Type 0) (xs ys : List X) → AllByRecursion P (xs ++ ys) → AllByRecursion P xs × AllByRecursion P ys
 split_all P [] ys a = (tt, a)
 split_all P (x ∷ xs) ys a = let rest = split_all P xs ys a.1 in ((a.0, rest.0), rest.1)
 
-safe_among : (flow : Flow) (bs : List Branch) (c : Config) → StandsAtSome c bs → AllByRecursion (IsSafeAt flow) bs → IsSafeFrom (Step flow) c
-safe_among flow [] c st a = absurd st
-safe_among flow (b ∷ bs) c st a = elim st [ inl here ↦ a.0 c here | inr more ↦ safe_among flow bs c more a.1 ]
+safe_among : (flow : Flow) (defs : List Def) (bs : List Branch) (c : Config) → StandsAtSome c bs → AllByRecursion (IsSafeAt flow defs) bs → IsSafeFrom (Step flow defs) c
+safe_among flow defs [] c st a = absurd st
+safe_among flow defs (b ∷ bs) c st a = elim st [ inl here ↦ a.0 c here | inr more ↦ safe_among flow defs bs c more a.1 ]
 
-safe_branch : (flow : Flow) (b : Branch) (bs : List Branch) → IsSound flow b bs → AllByRecursion (IsSafeAt flow) bs → IsSafeAt flow b
-safe_branch flow b bs sound a c st zero choices kind place run = run
-safe_branch flow b bs sound a c st (suc n) choices kind place run = elim run [
+safe_branch : (flow : Flow) (defs : List Def) (b : Branch) (bs : List Branch) → IsSound flow defs b bs → AllByRecursion (IsSafeAt flow defs) bs → IsSafeAt flow defs b
+safe_branch flow defs b bs sound a c st zero choices kind place run = run
+safe_branch flow defs b bs sound a c st (suc n) choices kind place run = elim run [
   | inl faults ↦ sound c choices (last (fault kind place)) st faults
-  | inr goes ↦ safe_among flow bs goes.0 (sound c choices (next goes.0 goes.1) st goes.2) a n goes.1 kind place goes.3
+  | inr goes ↦ safe_among flow defs bs goes.0 (sound c choices (next goes.0 goes.1) st goes.2) a n goes.1 kind place goes.3
 ]
 
-lines_safe : HeapLaws → (flow : Flow) (defs : Defs) (lines : List Line) (bs : List Branch) → IsValid flow defs → Proves flow lines bs → AllByRecursion (IsSafeAt flow) bs
+lines_safe : HeapLaws → (flow : Flow) (defs : List Def) (lines : List Line) (bs : List Branch) → IsValid flow defs → Proves flow lines bs → AllByRecursion (IsSafeAt flow defs) bs
 lines_safe laws flow defs [] bs valid p = absurd p
 lines_safe laws flow defs (line ∷ lines) [] valid p = tt
 lines_safe laws flow defs (line ∷ lines) (b ∷ bs) valid p =
-    let both = split_all (IsSafeAt flow) p.0 bs (lines_safe laws flow defs lines (p.0 ++ bs) valid p.2) in
-    (safe_branch flow b p.0 (line_sound laws flow defs line b p.0 valid p.1) both.0, both.1)
+    let both = split_all (IsSafeAt flow defs) p.0 bs (lines_safe laws flow defs lines (p.0 ++ bs) valid p.2) in
+    (safe_branch flow defs b p.0 (line_sound laws flow defs line b p.0 valid p.1) both.0, both.1)
 
 start_stands : HeapLaws → (flow : Flow) → StandsAt (start flow) (entry flow)
 start_stands laws flow = record {
@@ -562,6 +563,6 @@ start_stands laws flow = record {
     none_some None e h = grind arith
     none_some (Some b) e h = cc
 
-pub certified : HeapLaws → (flow : Flow) (defs : Defs) (lines : List Line) → IsValid flow defs → IsCertificate flow lines → IsSafeFlow flow
+pub certified : HeapLaws → (flow : Flow) (defs : List Def) (lines : List Line) → IsValid flow defs → IsCertificate flow lines → IsSafeFlow flow defs
 certified laws flow defs [] valid c = absurd c
 certified laws flow defs (line ∷ lines) valid c = (lines_safe laws flow defs lines (entry flow ∷ []) valid c.2).0 (start flow) (start_stands laws flow)

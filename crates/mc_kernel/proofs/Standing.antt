@@ -18,7 +18,7 @@ use Rattle.mc_base.specs.declared.ids.StructId.{StructId}
 use Rattle.mc_state.specs.declared.edge.Edge.{Edge}
 use Rattle.mc_state.specs.declared.edge.Edge.TheVariants as edge
 use Rattle.mc_state.specs.State.{State, unknown, var_node, with_var, without_vars, with_number, next_node, with_atom, with_block}
-use Rattle.mc_flow.specs.Steps.{without}
+use Rattle.mc_flow.specs.Values.{without}
 use Rattle.mc_base.specs.Kinds.{InKind}
 use Rattle.mc_state.specs.Stands.{Valuation, IsTrueAtom, VarsMeet, EdgeMeets, StandsBy, IsBelow, AtomIsBelow, EdgeIsBelow, IsBounded}
 

@@ -2,8 +2,8 @@
 #![tactic(auto)]
 
 ghost use Rattle.std.specs.Prelude.{◌≡◌, List};
+ghost use Rattle.mc_defs.specs.declared.rules.Def.{Def};
 ghost use Rattle.mc_flow.specs.declared.graph.Flow.{Flow};
-ghost use Rattle.mc_flow.specs.declared.graph.Defs.{Defs};
 ghost use Rattle.mc_flow.specs.Valid.{IsValid};
 ghost use Rattle.mc_flow.specs.Steps.{IsSafeFlow};
 ghost use Rattle.mc_state.specs.declared.line.Line.{Line};
@@ -22,7 +22,7 @@ pub use proof::{ApplyFault, Complete, Proof};
 
 /// A certificate of a valid flow graph means that no run of it has a fault.
 pub fn certified_is_safe()
-    ensures { (flow : Flow) (defs : Defs) (lines : List Line) → IsValid flow defs → IsCertificate flow lines → IsSafeFlow flow }
+    ensures { (flow : Flow) (defs : List Def) (lines : List Line) → IsValid flow defs → IsCertificate flow lines → IsSafeFlow flow defs }
 {
     parts_regroup();
     heaps_change_one_address();

@@ -1,11 +1,7 @@
-ghost use Rattle.std.specs.Prelude.{◌≡◌, IfOk};
-ghost use Rattle.mc_flow.specs.declared.graph.Defs.{Defs as Definitions};
-ghost use Rattle.mc_flow.specs.Valid.{IsValid};
-
 use crate::rules::{Next, advance};
 use crate::{ApplyFault, Branch, Complete, Proof, certified_is_safe, successors_are_determined};
 use mc_base::{Items, Kind, NodeId, Place, PointId, StructId, VarId, VarInfo};
-use mc_flow::{Defs, FieldInfo, Flow, Instr, Operand, Point, StructInfo, Structs};
+use mc_flow::{Defs, FieldInfo, Flow, Instr, Operand, Point, StructInfo, Structs, valid};
 use mc_state::{Form, Line, Version};
 use std::alloc::{AllocError, Global};
 use std::test::Fail;
@@ -105,9 +101,7 @@ static READING: [(Line, bool); 9] = [
     (Line::S12, false),
 ];
 
-fn at(code: Instr) -> Point
-    ensures { result ≡ record { code = code; place = record { line = 1; column = 1 } } }
-{
+fn at(code: Instr) -> Point {
     Point {
         code,
         place: Place { line: 1, column: 1 },
@@ -115,9 +109,7 @@ fn at(code: Instr) -> Point
 }
 
 // `x = malloc(..); if (x == NULL) return 0; x->f = 7; free(x); return 0;`
-fn program(alloc: Global) -> Result<Flow, AllocError>
-    ensures { IfOk result (λ f. (defs : Definitions) → IsValid f defs) }
-{
+fn program(alloc: Global) -> Result<Flow, AllocError> {
     let x = VarId(0);
     let returned = VarId(1);
     let cell = StructId(0);
@@ -163,8 +155,9 @@ fn program(alloc: Global) -> Result<Flow, AllocError>
 #[test]
 fn a_certificate_is_followed_line_by_line(rt: HostRuntime) -> Result<(), Fail> {
     let alloc = rt.alloc();
-    let flow = program(alloc)?;
-    let mut proof = Proof::start(alloc, &flow, &Defs {}, Form::Certificate)?;
+    let (flow, defs) = (program(alloc)?, Defs::new(alloc));
+    assert!(rt; valid(&flow, &defs));
+    let mut proof = Proof::start(alloc, &flow, &defs, Form::Certificate)?;
     for line in &CERTIFICATE {
         assert_eq!(rt; proof.apply(line), Ok(()), "{line:?}");
     }
@@ -182,8 +175,9 @@ fn a_certificate_is_followed_line_by_line(rt: HostRuntime) -> Result<(), Fail> {
 #[test]
 fn every_other_line_is_refused_and_changes_nothing(rt: HostRuntime) -> Result<(), Fail> {
     let alloc = rt.alloc();
-    let flow = program(alloc)?;
-    let mut proof = Proof::start(alloc, &flow, &Defs {}, Form::Certificate)?;
+    let (flow, defs) = (program(alloc)?, Defs::new(alloc));
+    assert!(rt; valid(&flow, &defs));
+    let mut proof = Proof::start(alloc, &flow, &defs, Form::Certificate)?;
     for line in &CERTIFICATE {
         for other in &EACH {
             if *other != *line {
@@ -202,9 +196,10 @@ fn every_other_line_is_refused_and_changes_nothing(rt: HostRuntime) -> Result<()
 #[test]
 fn documents_with_an_open_branch_are_refused(rt: HostRuntime) -> Result<(), Fail> {
     let alloc = rt.alloc();
-    let flow = program(alloc)?;
+    let (flow, defs) = (program(alloc)?, Defs::new(alloc));
+    assert!(rt; valid(&flow, &defs));
     for (lines, refused) in &WRONG {
-        let mut proof = Proof::start(alloc, &flow, &Defs {}, Form::Certificate)?;
+        let mut proof = Proof::start(alloc, &flow, &defs, Form::Certificate)?;
         for (place, line) in lines.iter().enumerate() {
             assert_eq!(rt;
                 proof.apply(line).is_err(),
@@ -273,8 +268,9 @@ fn null_is_freed_and_a_field_is_read(rt: HostRuntime) -> Result<(), Fail> {
 #[test]
 fn chains_and_laws_stand(rt: HostRuntime) -> Result<(), Fail> {
     let alloc = rt.alloc();
-    let flow = program(alloc)?;
-    let mut chain = Proof::start(alloc, &flow, &Defs {}, Form::Chain)?;
+    let (flow, defs) = (program(alloc)?, Defs::new(alloc));
+    assert!(rt; valid(&flow, &defs));
+    let mut chain = Proof::start(alloc, &flow, &defs, Form::Chain)?;
     for line in &EACH {
         assert_eq!(rt; chain.apply(line), Err(ApplyFault::Refused), "{line:?}");
     }
