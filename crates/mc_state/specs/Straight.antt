@@ -8,6 +8,7 @@ use Rattle.mc_base.specs.declared.ids.StructId.{StructId}
 use Rattle.mc_base.specs.declared.plain.Atom.{Atom}
 use Rattle.mc_base.specs.declared.plain.Atom.TheVariants.{Eq, Ne, In}
 use Rattle.mc_graph.specs.declared.edge.Edge.{Edge}
+use Rattle.mc_graph.specs.declared.edge.Edge.TheVariants.{Block, Ind, Seg}
 use Rattle.mc_graph.specs.Edges.{start_of, has_shape, with_field_node, nodes_of, known_nodes}
 use Rattle.mc_graph.specs.Graph.{Edges}
 use Rattle.mc_base.specs.Atoms.{nodes_of_atom}
@@ -81,15 +82,27 @@ without_block s place a =
 
 -- ---- numbers of nodes
 
--- each of these nodes is below a number
-abbrev pub AllBelow : ℕ → List NodeId → Type 0
-AllBelow n nodes = AllByRecursion (λ m. m.0 < n) nodes
+-- a node that is known is below a number
+abbrev pub IsBelow : ℕ → Option NodeId → Type 0
+IsBelow n None = Unit {0}
+IsBelow n (Some m) = m.0 < n
 
--- every node of the state is below the next one, and so is every edge
+abbrev pub AtomIsBelow : ℕ → Atom → Type 0
+AtomIsBelow n (Eq a b c) = (a.0 < n) × (b.0 < n)
+AtomIsBelow n (Ne a b c) = (a.0 < n) × (b.0 < n)
+AtomIsBelow n (In a lo hi) = a.0 < n
+
+-- the edge is a block, and its nodes are below a number
+abbrev pub BlockIsBelow : ℕ → Edge → Type 0
+BlockIsBelow n (Block at shape fields) = (at.0 < n) × AllByRecursion (IsBelow n) fields
+BlockIsBelow n (Ind at pred args) = ⊥
+BlockIsBelow n (Seg at args pred «end» ends) = ⊥
+
+-- every edge is a block, every node of the state is below the next one, and so is every edge
 pub record IsBelowNext (s : State) : Type 0 where
   pub positive : 0 < s.next
   pub kinds : AllByRecursion (λ k. k.0.0 < s.next) s.kinds
-  pub edges : AllByRecursion (λ e. AllBelow s.next (nodes_of e.1)) s.graph.edges
+  pub edges : AllByRecursion (λ e. BlockIsBelow s.next e.1) s.graph.edges
   pub ids : AllByRecursion (λ e. e.0.0 < s.graph.next) s.graph.edges
-  pub atoms : AllByRecursion (λ a. AllBelow s.next (nodes_of_atom a)) s.atoms
-  pub vars : AllBelow s.next (known_nodes s.env)
+  pub atoms : AllByRecursion (AtomIsBelow s.next) s.atoms
+  pub vars : AllByRecursion (IsBelow s.next) s.env

@@ -9,8 +9,8 @@ mod terms;
 #[cfg(test)]
 mod tests;
 
-pub use line::{Form, Line, Version};
 pub use goal::Goal;
+pub use line::{Form, Line, Version};
 pub use mc_graph::Edge;
 pub use state::State;
 pub use terms::Term;
