@@ -1,5 +1,5 @@
 -- What the kernel of straight programs knows of nodes and blocks: which nodes are null by a written atom.
-use Rattle.std.specs.Prelude.{◌==◌, ◌&&◌, ◌||◌, ◌<◌, ℕ, zero, suc, List, [], ◌∷◌, pos, Bool, false, not, Option, int_le, map, option_map, position, remove, slice_get}
+use Rattle.std.specs.Prelude.{Some, None, ◌==◌, ◌&&◌, ◌||◌, ◌<◌, ℕ, zero, suc, List, [], ◌∷◌, pos, Bool, false, not, Option, int_le, map, option_map, position, remove, slice_get}
 use Rattle.std.specs.List.{AllByRecursion, list_any}
 use Rattle.std.specs.Ordering.{int_eq}
 use Rattle.mc_base.specs.declared.ids.EdgeId.{EdgeId}
@@ -9,9 +9,8 @@ use Rattle.mc_base.specs.declared.plain.Atom.{Atom}
 use Rattle.mc_base.specs.declared.plain.Atom.TheVariants.{Eq, Ne, In}
 use Rattle.mc_graph.specs.declared.edge.Edge.{Edge}
 use Rattle.mc_graph.specs.declared.edge.Edge.TheVariants.{Block, Ind, Seg}
-use Rattle.mc_graph.specs.Edges.{start_of, has_shape, with_field_node, nodes_of, known_nodes}
+use Rattle.mc_graph.specs.Edges.{start_of, has_shape, with_field_node}
 use Rattle.mc_graph.specs.Graph.{Edges}
-use Rattle.mc_base.specs.Atoms.{nodes_of_atom}
 use Rattle.mc_state.specs.State.{State, with_only_edges, with_atoms}
 
 -- the atom says that the node is null
