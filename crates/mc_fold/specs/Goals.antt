@@ -1,11 +1,7 @@
 -- How a side branch ends.
-use Rattle.std.specs.Prelude.{◌≡◌, List, Some, map}
+use Rattle.std.specs.Prelude.{◌≡◌, List, Some}
 use Rattle.mc_base.specs.declared.ids.EdgeId.{EdgeId}
 use Rattle.mc_base.specs.declared.ids.NodeId.{NodeId}
-use Rattle.mc_base.specs.Nodes.{Valuation, at_node}
-use Rattle.mc_heap.specs.Heap.{Region}
-use Rattle.mc_defs.specs.declared.rules.Def.{Def}
-use Rattle.mc_defs.specs.Meaning.{HoldsSomewhere}
 use Rattle.mc_graph.specs.declared.edge.Edge.TheVariants.{Ind}
 use Rattle.mc_graph.specs.Graph.{edge_with}
 use Rattle.mc_state.specs.declared.goal.Goal.{Goal}
@@ -20,7 +16,3 @@ pub record MeetsGoal (goal : Goal) (edge : EdgeId) (s : State) : Type 0 where
   pub there : edge_with s.graph.edges edge ≡ Some (Ind at goal.pred args)
   pub meets : AreEqual s goal.at at
   pub args_meet : AreAllEqual s goal.args args
-
--- the goal holds on some part of the memory
-abbrev pub GoalHolds : List Def → Valuation → Region → Goal → Type 0
-GoalHolds defs v region goal = HoldsSomewhere defs goal.pred (v goal.at.0) (map (at_node v) goal.args) region

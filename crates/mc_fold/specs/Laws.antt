@@ -13,10 +13,10 @@ use Rattle.mc_state.specs.State.{State}
 use Rattle.mc_state.specs.Facts.{AreSame}
 use Rattle.mc_state.specs.Fits.{IsBounded}
 use Rattle.mc_state.specs.Stands.{StandsBy}
-use Rattle.mc_state.specs.Rules.{IsSound}
+use Rattle.mc_state.specs.Rules.{IsSound, GoalHolds}
 use Rattle.mc_fold.specs.Folded.{FoldsInd, FoldsSeg, ClosesSeg, JoinsSegs, MakesEmptySeg}
 use Rattle.mc_fold.specs.Changed.{NamesSpare, MergesNodes, DropsEdge, ForgetsNode}
-use Rattle.mc_fold.specs.Goals.{MeetsGoal, GoalHolds}
+use Rattle.mc_fold.specs.Goals.{MeetsGoal}
 
 -- an instance of a rule: whatever stands for the state stands for a successor, and the successors' numbers are in their bounds
 abbrev pub IsLawful : List Def → State → List State → Type 0

@@ -1,0 +1,4 @@
+pub mod Laws
+pub mod Operands
+pub mod Steps
+pub mod Unmet
