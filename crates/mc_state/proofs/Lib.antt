@@ -1,3 +1,10 @@
+pub mod Changing
+pub mod Lists
+pub mod Nodes
 pub mod Nulls
+pub mod Parts
 pub mod Places
+pub mod Standing
+pub mod Truth
+pub mod Variables
 pub mod Wrong

@@ -3,6 +3,7 @@
 
 mod facts;
 mod goal;
+mod laws;
 mod line;
 mod state;
 mod terms;
@@ -10,6 +11,9 @@ mod terms;
 mod tests;
 
 pub use goal::Goal;
+pub use laws::{
+    derived_is_true, edges_come_and_go, less_is_known, new_nodes_are_free, variables_change,
+};
 pub use line::{Form, Line, Version};
 pub use mc_graph::Edge;
 pub use state::State;
