@@ -1,3 +1,5 @@
 pub mod Nulls
 pub mod Places
 pub mod Wrong
+pub mod Stars
+pub mod Bodies

@@ -1,6 +1,7 @@
 //! Symbolic states, and the lines of documents.
 #![tactic(auto)]
 
+mod covers;
 mod facts;
 mod line;
 mod state;
@@ -8,6 +9,7 @@ mod terms;
 #[cfg(test)]
 mod tests;
 
+pub use covers::bodies_are_edges;
 pub use line::{Form, Line, Version};
 pub use mc_graph::Edge;
 pub use state::State;
