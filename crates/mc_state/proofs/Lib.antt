@@ -3,3 +3,5 @@ pub mod Places
 pub mod Wrong
 pub mod Stars
 pub mod Bodies
+pub mod CoversTerms
+pub mod CoversSound
