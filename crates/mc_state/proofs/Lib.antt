@@ -5,3 +5,5 @@ pub mod Stars
 pub mod Bodies
 pub mod CoversTerms
 pub mod CoversSound
+pub mod CoversExamples
+pub mod CoversPremises

@@ -9,7 +9,7 @@ mod terms;
 #[cfg(test)]
 mod tests;
 
-pub use covers::{bodies_are_edges, covers_are_sound};
+pub use covers::{bodies_are_edges, body_premises, covers_are_sound, example_covers, example_segment_covers};
 pub use line::{Form, Line, Version};
 pub use mc_graph::Edge;
 pub use state::State;
