@@ -17,9 +17,10 @@ use Rattle.mc_graph.specs.declared.edge.Edge.TheVariants.{Block}
 use Rattle.mc_state.specs.Bodies.{call_edge, block_edges, body_edges, calls_to}
 use Rattle.mc_state.specs.BodyLaws.{IsBody, BodiesAreEdges, SegBodiesAreEdges}
 use Rattle.mc_state.specs.Stands.{VarsMeet, EdgeMeets}
-use Rattle.mc_state.proofs.Stars.{Regrouping, nothing_there, none_left, star_one, star_append, star_parts}
+use Rattle.mc_state.proofs.Parts.{PartLaws, star_append}
+use Rattle.mc_state.proofs.Stars.{star_one, star_parts}
 
-module _ (parts : Regrouping) (defs : List Def) (v : Valuation) (nodes : List NodeId) (zero_is : v 0 ≡ pos 0) where
+module _ (laws : PartLaws) (defs : List Def) (v : Valuation) (nodes : List NodeId) (zero_is : v 0 ≡ pos 0) where
   abbrev names : List ℤ
   names = map (at_node v) nodes
 
@@ -59,12 +60,12 @@ module _ (parts : Regrouping) (defs : List Def) (v : Valuation) (nodes : List No
   block_meets : (block : Option StructId) (contents : List ℕ) (region : Region) → BlockMeets block contents names region → Star (EdgeMeets defs v) (block_edges nodes block contents) region
   block_meets None contents region m = m
   block_meets (Some shape) contents region m =
-      star_one parts (EdgeMeets defs v) (Block (node_of nodes 0) shape (map (λ name. Some (node_of nodes name)) contents)) region (m.0, sym (name_value 0) ∙ m.1, (map (λ name. Some (value_of names name)) contents, m.2, fields_meet contents))
+      star_one laws (EdgeMeets defs v) (Block (node_of nodes 0) shape (map (λ name. Some (node_of nodes name)) contents)) region (m.0, sym (name_value 0) ∙ m.1, (map (λ name. Some (value_of names name)) contents, m.2, fields_meet contents))
 
   meet_block : (block : Option StructId) (contents : List ℕ) (region : Region) → Star (EdgeMeets defs v) (block_edges nodes block contents) region → BlockMeets block contents names region
   meet_block None contents region s = s
   meet_block (Some shape) contents region s =
-      let here : region ≡ s.0 = parts.drops_empty region s.1 s.0 s.4 (parts.commutes region s.0 s.1 s.2) in
+      let here : region ≡ s.0 = laws.drops_empty region s.1 s.0 s.4 (laws.commutes region s.0 s.1 s.2) in
       rw here (s.3.0, name_value 0 ∙ s.3.1, rw (← (meet_fields contents s.3.2.0 s.3.2.2)) s.3.2.1)
 
   -- the calls, of which one is a segment to an end
@@ -79,18 +80,18 @@ module _ (parts : Regrouping) (defs : List Def) (v : Valuation) (nodes : List No
 
   body_parts : (block : Option StructId) (contents : List ℕ) (calls : List Call) (region : Region) → Star (EdgeMeets defs v) (body_edges nodes block contents calls) region → IsBody defs v nodes block contents calls region
   body_parts block contents calls region s =
-      let both = star_parts parts (EdgeMeets defs v) (block_edges nodes block contents) (map (call_edge nodes) calls) region s in
+      let both = star_parts laws (EdgeMeets defs v) (block_edges nodes block contents) (map (call_edge nodes) calls) region s in
       (both.0, both.1, both.2, meet_block block contents both.0 both.3, meet_calls calls both.1 both.4)
 
-pub bodies_edges : Regrouping → BodiesAreEdges
-bodies_edges parts defs v nodes block contents calls region zero_is = (
+pub bodies_edges : PartLaws → BodiesAreEdges
+bodies_edges laws defs v nodes block contents calls region zero_is = (
   λ b.
-      star_append parts (EdgeMeets defs v) (block_edges nodes block contents) (map (call_edge nodes) calls) region b.0 b.1 b.2
-      (block_meets parts defs v nodes zero_is block contents b.0 b.3) (calls_meet parts defs v nodes zero_is calls b.1 b.4),
-  λ s. body_parts parts defs v nodes zero_is block contents calls region s,
+      star_append laws (EdgeMeets defs v) (block_edges nodes block contents) (map (call_edge nodes) calls) region b.0 b.1 b.2
+      (block_meets laws defs v nodes zero_is block contents b.0 b.3) (calls_meet laws defs v nodes zero_is calls b.1 b.4),
+  λ s. body_parts laws defs v nodes zero_is block contents calls region s,
 )
 
-pub seg_bodies_edges : Regrouping → SegBodiesAreEdges
-seg_bodies_edges parts defs v nodes pred «end» ends place block contents calls region zero_is b =
-    star_append parts (EdgeMeets defs v) (block_edges nodes block contents) (calls_to nodes end ends place calls) region b.0 b.1 b.2
-    (block_meets parts defs v nodes zero_is block contents b.0 b.3) (seg_calls_meet parts defs v nodes zero_is pred end ends place calls b.1 b.4)
+pub seg_bodies_edges : PartLaws → SegBodiesAreEdges
+seg_bodies_edges laws defs v nodes pred «end» ends place block contents calls region zero_is b =
+    star_append laws (EdgeMeets defs v) (block_edges nodes block contents) (calls_to nodes end ends place calls) region b.0 b.1 b.2
+    (block_meets laws defs v nodes zero_is block contents b.0 b.3) (seg_calls_meet laws defs v nodes zero_is pred end ends place calls b.1 b.4)

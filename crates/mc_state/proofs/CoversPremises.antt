@@ -13,9 +13,10 @@ use Rattle.mc_pure.specs.Examples.{node}
 use Rattle.mc_state.specs.BodyLaws.{IsBody, IsBodyTo}
 use Rattle.mc_state.specs.CoverExamples.{cell_and_list, at_seven}
 use Rattle.mc_state.specs.Stands.{EdgesMeet, StandsBy}
-use Rattle.mc_state.proofs.Stars.{Regrouping, nothing_there, none_right, none_left}
+use Rattle.mc_state.proofs.Parts.{PartLaws, nowhere-IsEmpty}
+use Rattle.mc_state.proofs.Stars.{none_left, none_right}
 
-module _ (parts : Regrouping) (empty : EmptyHeapIsEmpty) (insert : InsertChanges) (keeps : InsertKeepsAddresses) where
+module _ (laws : PartLaws) (empty : EmptyHeapIsEmpty) (insert : InsertChanges) (keeps : InsertKeepsAddresses) where
   cell_alone : IsCell (blocks first_cell) 7 (cell_with (pos 5) (pos 9))
   cell_alone =
       let change = insert (finmap.from_entries []) 7 (cell_with (pos 5) (pos 9)) in
@@ -33,7 +34,7 @@ module _ (parts : Regrouping) (empty : EmptyHeapIsEmpty) (insert : InsertChanges
       blocks second_cell,
       split,
       (7, refl, (Some (pos 5) ∷ Some (pos 9) ∷ [], cell_alone, (refl, (refl, tt)))),
-      (blocks second_cell, nowhere, none_right parts (blocks second_cell), at_end, nothing_there),
+      (blocks second_cell, nowhere, none_right laws (blocks second_cell), at_end, nowhere-IsEmpty),
     )
 
     pub stands : StandsBy defs at_seven [] (blocks two_cells) cell_and_list
@@ -42,7 +43,7 @@ module _ (parts : Regrouping) (empty : EmptyHeapIsEmpty) (insert : InsertChanges
       kinds = ((omega (arith, ints), omega (arith, ints)), ((omega (arith, ints), omega (arith, ints)), ((omega (arith, ints), omega (arith, ints)), tt)));
       atoms = tt;
       vars = tt;
-      parts = record { held = blocks two_cells; rest = nowhere; split = none_right parts (blocks two_cells); each = edges; alone = λ t. nothing_there };
+      parts = record { held = blocks two_cells; rest = nowhere; split = none_right laws (blocks two_cells); each = edges; alone = λ t. nowhere-IsEmpty };
     }
 
     pub body : IsBody defs at_seven (node 1 ∷ node 2 ∷ node 3 ∷ []) list_rule.block list_rule.contents list_rule.calls (blocks two_cells)
@@ -51,14 +52,14 @@ module _ (parts : Regrouping) (empty : EmptyHeapIsEmpty) (insert : InsertChanges
       blocks second_cell,
       split,
       (7, refl, cell_alone),
-      (blocks second_cell, nowhere, none_right parts (blocks second_cell), at_end, nothing_there),
+      (blocks second_cell, nowhere, none_right laws (blocks second_cell), at_end, nowhere-IsEmpty),
     )
 
   pub body_to : IsBodyTo defs at_seven (node 1 ∷ node 2 ∷ node 3 ∷ []) list_id (node 3) [] 0 list_rule.block list_rule.contents list_rule.calls (blocks first_cell)
   body_to = (
     blocks first_cell,
     nowhere,
-    none_right parts (blocks first_cell),
+    none_right laws (blocks first_cell),
     (7, refl, cell_alone),
-    (nowhere, nowhere, none_left parts nowhere, (refl, record { height = 0; holds = (refl, refl, nothing_there) }), nothing_there),
+    (nowhere, nowhere, none_left laws nowhere, (refl, record { height = 0; holds = (refl, refl, nowhere-IsEmpty) }), nowhere-IsEmpty),
   )

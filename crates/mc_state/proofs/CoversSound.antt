@@ -23,12 +23,13 @@ use Rattle.mc_state.specs.Laws.{DerivedIsTrue}
 use Rattle.mc_state.specs.BodyLaws.{CoverMakesPredicate, SegCoverMakesSegment}
 use Rattle.mc_state.specs.Terms.{plain, term_value, AreEqualTerms, term_of}
 use Rattle.mc_state.specs.Covers.{Finding, BlockIsTaken, CallsAreFound, CallsAreFoundAt, IsByInd, IsBySeg, IsByRule, IsByRuleAt, CoverAt, Cover, EndsThere, SegCoverAt, SegCover}
-use Rattle.mc_state.proofs.Stars.{Regrouping, nothing_there, none_left, none_right, taken}
+use Rattle.mc_state.proofs.Parts.{PartLaws, nowhere-IsEmpty, star_take}
+use Rattle.mc_state.proofs.Stars.{none_left}
 use Rattle.mc_state.proofs.CoversTerms.{known_fields, plain_value, plain_values, name_value, name_values, one_value, same_values, rule_values, first_name, contents_are}
 
 -- what covers rest on
 pub record CoverLaws : Type 0 where
-  pub parts : Regrouping
+  pub parts : PartLaws
   pub folds : SatFolds
   pub then_sat : SegThenSat
   pub then_seg : SegThenSeg
@@ -55,7 +56,7 @@ module _ (laws : CoverLaws) (defs : List Def) (fit : IsDefs defs) (v : Valuation
   -- nothing is taken
   none_taken : (P : Region → Type 0) → ((part : Region) → IsEmpty part → P part) → (es left : Edges) (region : Region) → left ≡ es → EdgesMeet defs v es region → Beside P left region
   none_taken P f es left region is m =
-      (nowhere, region, none_left laws.parts region, f nowhere nothing_there, subst (λ xs. EdgesMeet defs v xs region) (sym is) m)
+      (nowhere, region, none_left laws.parts region, f nowhere nowhere-IsEmpty, subst (λ xs. EdgesMeet defs v xs region) (sym is) m)
 
   -- one part after another
   both_beside : (P Q R : Region → Type 0) (mid left : Edges) (region : Region) → ((part held more : Region) → Split part held more → P held → Q more → R part)
@@ -67,7 +68,7 @@ module _ (laws : CoverLaws) (defs : List Def) (fit : IsDefs defs) (v : Valuation
 
   by_ind : Makes (IsByInd s)
   by_ind pred at args es left region f m =
-      let got = taken laws.parts (EdgeMeets defs v) es f.0 (edge.Ind f.1 pred f.2) region f.3 m in
+      let got = star_take laws.parts (EdgeMeets defs v) es f.0 (edge.Ind f.1 pred f.2) region f.3 m in
       let here : term_value v at ≡ v f.1.0 = one_value laws.truth defs v values whole s addresses st at (plain f.1) f.4 ∙ plain_value v f.1 in
       let there : map (term_value v) args ≡ map (at_node v) f.2 = same_values laws.truth defs v values whole s addresses st args (map plain f.2) f.5 ∙ plain_values v f.2 in
       (got.0, got.1, got.2, rw (here, there) got.3, rw f.6 got.4)
@@ -78,10 +79,10 @@ module _ (laws : CoverLaws) (defs : List Def) (fit : IsDefs defs) (v : Valuation
       → BlockIsTaken s block at nodes es left → EdgesMeet defs v es region → Beside (BlockMeets block contents names) left region
   block_taken None contents names at nodes es left region first are b m = none_taken IsEmpty (λ part e. e) es left region b.1 m
   block_taken (Some shape) contents names at nodes es left region first are b m =
-      let got = taken laws.parts (EdgeMeets defs v) es b.0 (edge.Block b.1 shape (map Some nodes)) region b.2 m in
+      let got = star_take laws.parts (EdgeMeets defs v) es b.0 (edge.Block b.1 shape (map Some nodes)) region b.2 m in
       let here : term_value v at ≡ v b.1.0 = one_value laws.truth defs v values whole s addresses st at (plain b.1) b.3 ∙ plain_value v b.1 in
       let fields : got.3.2.0 ≡ map (λ name. Some (value_of names name)) contents =
-          known_fields v nodes got.3.2.0 got.3.2.2 ∙ ap (map Some) (sym are) ∙ map-map Some (value_of names) contents in
+      known_fields v nodes got.3.2.0 got.3.2.2 ∙ ap (map Some) (sym are) ∙ map-map Some (value_of names) contents in
       (got.0, got.1, got.2, (got.3.0, first ∙ here ∙ got.3.1, rw (← fields) got.3.2.1), rw b.4 got.4)
 
   -- the calls of a rule, one after the other
@@ -96,7 +97,7 @@ module _ (laws : CoverLaws) (defs : List Def) (fit : IsDefs defs) (v : Valuation
 
   by_seg : (M : Finding) → Makes M → Makes (IsBySeg M s)
   by_seg M makes pred at args es left region f m =
-      let got = taken laws.parts (EdgeMeets defs v) es f.0 (edge.Seg f.1 f.2 pred f.3 f.4) region f.5 m in
+      let got = star_take laws.parts (EdgeMeets defs v) es f.0 (edge.Seg f.1 f.2 pred f.3 f.4) region f.5 m in
       let here : term_value v at ≡ v f.1.0 = one_value laws.truth defs v values whole s addresses st at (plain f.1) f.6 ∙ plain_value v f.1 in
       let there : map (term_value v) args ≡ map (at_node v) f.2 = same_values laws.truth defs v values whole s addresses st args (map plain f.2) f.7 ∙ plain_values v f.2 in
       both_beside (Seg defs pred (v f.1.0) (map (at_node v) f.2) (v f.3.0) (map (at_node v) f.4)) (Sat defs pred (v f.3.0) (map (at_node v) f.4)) (Sat defs pred (term_value v at) (map (term_value v) args))
@@ -142,7 +143,7 @@ module _ (laws : CoverLaws) (defs : List Def) (fit : IsDefs defs) (v : Valuation
 
     seg_by_seg : (S : Finding) → MakesTo end ends S → MakesTo end ends (IsBySeg S s)
     seg_by_seg S makes pred at args es left region f m =
-        let got = taken laws.parts (EdgeMeets defs v) es f.0 (edge.Seg f.1 f.2 pred f.3 f.4) region f.5 m in
+        let got = star_take laws.parts (EdgeMeets defs v) es f.0 (edge.Seg f.1 f.2 pred f.3 f.4) region f.5 m in
         let here : term_value v at ≡ v f.1.0 = one_value laws.truth defs v values whole s addresses st at (plain f.1) f.6 ∙ plain_value v f.1 in
         let there : map (term_value v) args ≡ map (at_node v) f.2 = same_values laws.truth defs v values whole s addresses st args (map plain f.2) f.7 ∙ plain_values v f.2 in
         both_beside (Seg defs pred (v f.1.0) (map (at_node v) f.2) (v f.3.0) (map (at_node v) f.4)) (Seg defs pred (v f.3.0) (map (at_node v) f.4) (term_value v end) (map (term_value v) ends))

@@ -155,7 +155,7 @@ module _ (truth : DerivedIsTrue) (defs : List Def) (v : Valuation) (values : Lis
         let rule_fits = all_at (RuleFitsStructs fit.0 defs by.def.params) by.def.rules by.place by.rule by.listed rules in
         let first : suc (length by.def.params) ≡ length (term_value v at ∷ map (term_value v) args) = ap suc (sym by.count ∙ sym (length-map args (term_value v))) in
         let count : length by.rule.contents ≡ length (map (term_value v) (map plain by.contents)) =
-            sym by.contents_count ∙ sym (length-map by.contents plain) ∙ sym (length-map (map plain by.contents) (term_value v)) in
+        sym by.contents_count ∙ sym (length-map by.contents plain) ∙ sym (length-map (map plain by.contents) (term_value v)) in
         contents_behind (term_value v at ∷ map (term_value v) args) (map (term_value v) (map plain by.contents)) (map (term_value v) by.fixed)
         (map (term_value v) by.names) by.rule.contents (suc (length by.def.params)) split_names rule_fits.fits.names.contents first count
         ∙ plain_values v by.contents

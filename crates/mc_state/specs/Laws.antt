@@ -150,14 +150,14 @@ StandsRenamed =
 abbrev pub StandsMerged : Type 0
 StandsMerged =
     (defs : List Def) (v : Valuation) (values : List (Option ℤ)) (region : Region) (s : State) (keep gone : NodeId)
-    → IsAtAddresses region → CanMerge s.kinds keep gone → AreEqual s keep gone
+    → IsAtAddresses region → AreEqual s keep gone
     → StandsBy defs v values region s → StandsBy defs v values region (merged keep gone s)
 
 -- and what stands for the merged state stands for the state
 abbrev pub MergedStands : Type 0
 MergedStands =
     (defs : List Def) (values : List (Option ℤ)) (region : Region) (s : State) (keep gone : NodeId)
-    → CanMerge s.kinds keep gone → Stands defs values region (merged keep gone s) → Stands defs values region s
+    → IsBounded s → CanMerge s.kinds keep gone → Stands defs values region (merged keep gone s) → Stands defs values region s
 
 -- ---- numbers stay in their bounds
 

@@ -3,13 +3,19 @@
 
 mod covers;
 mod facts;
+mod laws;
 mod line;
 mod state;
 mod terms;
 #[cfg(test)]
 mod tests;
 
-pub use covers::{bodies_are_edges, body_premises, covers_are_sound, example_covers, example_segment_covers};
+pub use covers::{
+    bodies_are_edges, body_premises, covers_are_sound, example_covers, example_segment_covers,
+};
+pub use laws::{
+    derived_is_true, edges_come_and_go, less_is_known, new_nodes_are_free, variables_change,
+};
 pub use line::{Form, Line, Version};
 pub use mc_graph::Edge;
 pub use state::State;

@@ -14,6 +14,6 @@ returns c =
       folds = c.predicates_are_bodies.ensures.folds;
       then_sat = c.segments_join.ensures.predicate;
       then_seg = c.segments_join.ensures.segment;
-      truth = c.requires;
+      truth = c.derived_is_true.ensures.derived;
     } in
     record { predicate = cover_predicate laws; segment = seg_cover_segment laws }
