@@ -1,10 +1,16 @@
+pub mod Bodies
 pub mod Changing
+pub mod CoversExamples
+pub mod CoversPremises
+pub mod CoversSound
+pub mod CoversTerms
 pub mod Lists
 pub mod Nodes
 pub mod Nulls
 pub mod Parts
 pub mod Places
 pub mod Standing
+pub mod Stars
 pub mod Truth
 pub mod Variables
 pub mod Wrong

@@ -8,6 +8,7 @@ use Rattle.mc_heap.specs.Heap.{Region, IsAtAddresses}
 use Rattle.mc_heap.specs.Parts.{Split, Star, StarAt}
 use Rattle.mc_defs.specs.declared.rules.Call.{Call}
 use Rattle.mc_defs.specs.declared.rules.Def.{Def}
+use Rattle.mc_defs.specs.Conditions.{IsDefs}
 use Rattle.mc_defs.specs.Meaning.{BlockMeets, CallMeets, SegCallMeets, Sat, Seg}
 use Rattle.mc_graph.specs.Graph.{Edges}
 use Rattle.mc_state.specs.declared.terms.Term.{Term}
@@ -47,12 +48,12 @@ SegBodiesAreEdges =
 abbrev pub CoverMakesPredicate : Type 0
 CoverMakesPredicate =
     (defs : List Def) (v : Valuation) (values : List (Option ℤ)) (region whole : Region) (s : State) (pred : PredId) (at : Term) (args : List Term) (es left : Edges)
-    → IsAtAddresses whole → StandsBy defs v values whole s → Cover defs s pred at args es left → EdgesMeet defs v es region
+    → IsDefs defs → IsAtAddresses whole → StandsBy defs v values whole s → Cover defs s pred at args es left → EdgesMeet defs v es region
     → (part : Region) × (rest : Region) × Split region part rest × Sat defs pred (term_value v at) (map (term_value v) args) part × EdgesMeet defs v left rest
 
 -- and those of a segment cover the segment
 abbrev pub SegCoverMakesSegment : Type 0
 SegCoverMakesSegment =
     (defs : List Def) (v : Valuation) (values : List (Option ℤ)) (region whole : Region) (s : State) (pred : PredId) (at : Term) (args : List Term) («end» : Term) (ends : List Term) (es left : Edges)
-    → IsAtAddresses whole → StandsBy defs v values whole s → SegCover defs s pred at args end ends es left → EdgesMeet defs v es region
+    → IsDefs defs → IsAtAddresses whole → StandsBy defs v values whole s → SegCover defs s pred at args end ends es left → EdgesMeet defs v es region
     → (part : Region) × (rest : Region) × Split region part rest × Seg defs pred (term_value v at) (map (term_value v) args) (term_value v end) (map (term_value v) ends) part × EdgesMeet defs v left rest

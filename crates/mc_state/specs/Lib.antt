@@ -1,5 +1,6 @@
 pub mod Bodies
 pub mod BodyLaws
+pub mod CoverExamples
 pub mod Covers
 pub mod Facts
 pub mod Fits

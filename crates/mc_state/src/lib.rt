@@ -1,6 +1,7 @@
 //! Symbolic states, and the lines of documents.
 #![tactic(auto)]
 
+mod covers;
 mod facts;
 mod goal;
 mod laws;
@@ -10,6 +11,9 @@ mod terms;
 #[cfg(test)]
 mod tests;
 
+pub use covers::{
+    bodies_are_edges, body_premises, covers_are_sound, example_covers, example_segment_covers,
+};
 pub use goal::Goal;
 pub use laws::{
     derived_is_true, edges_come_and_go, less_is_known, new_nodes_are_free, variables_change,
