@@ -34,8 +34,8 @@ use Rattle.mc_flow.specs.declared.graph.Flow.{Flow}
 use Rattle.mc_flow.specs.Valid.{IsValid, IsOperand, FitsKinds}
 use Rattle.mc_flow.specs.Values.{value_in, value_of, with_value, address}
 use Rattle.mc_flow.specs.Steps.{Config, Result, StepOf, StepAt, Step, Allocates, copied, at_point, set_to, with_heap, found, loaded, written, put, stored, freed_at, freed, tested, field_count, start, IsSafeFlow}
-use Rattle.mc_state.specs.declared.line.Line.{Line}
-use Rattle.mc_state.specs.declared.line.Line.TheVariants.{Header, S1, S2, S3, S8, S9, S10, S11, S12, S13, S17, L12, End}
+use Rattle.mc_state.specs.declared.straight_line.StraightLine.{StraightLine as Line}
+use Rattle.mc_state.specs.declared.straight_line.StraightLine.TheVariants.{Header, S1, S2, S3, S8, S9, S10, S11, S12, S13, S17, L12, End}
 use Rattle.mc_state.specs.declared.edge.Edge.{Edge}
 use Rattle.mc_state.specs.declared.edge.Edge.TheVariants as edge
 use Rattle.mc_state.specs.State as st

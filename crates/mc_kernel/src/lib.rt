@@ -6,7 +6,7 @@ ghost use Rattle.mc_defs.specs.declared.rules.Def.{Def};
 ghost use Rattle.mc_flow.specs.declared.graph.Flow.{Flow};
 ghost use Rattle.mc_flow.specs.Valid.{IsValid};
 ghost use Rattle.mc_flow.specs.Steps.{IsSafeFlow};
-ghost use Rattle.mc_state.specs.declared.line.Line.{Line};
+ghost use Rattle.mc_state.specs.declared.straight_line.StraightLine.{StraightLine as Line};
 ghost use Rattle.mc_kernel.specs.declared.branch.Branch.{Branch as Open};
 ghost use Rattle.mc_kernel.specs.Rules.{Instance, IsCertificate};
 
@@ -31,5 +31,5 @@ pub fn certified_is_safe()
 
 /// A line gives a branch one list of successors at most.
 pub fn successors_are_determined()
-    ensures { (flow : Flow) (line : Line) (b : Open) (n m : List Open) → Instance flow line b n → Instance flow line b m → n ≡ m }
+    ensures { (flow : Flow) (line : StraightLine) (b : Open) (n m : List Open) → Instance flow line b n → Instance flow line b m → n ≡ m }
 {}

@@ -10,7 +10,7 @@ ghost use Rattle.mc_kernel.specs.Next.{branches, Becomes};
 use crate::Branch;
 use mc_base::{NodeId, StructId};
 use mc_flow::{Flow, Instr, Operand, Structs};
-use mc_state::{Line, State};
+use mc_state::{StraightLine, State};
 use std::alloc::{AllocError, Global};
 
 /// What became of a branch.
@@ -300,25 +300,25 @@ fn unsound(branch: &mut Branch) -> Option<Next>
 pub fn advance(
     alloc: Global,
     flow: &Flow,
-    line: Line,
+    line: StraightLine,
     branch: &mut Branch,
 ) -> Result<Option<Next>, AllocError>
     ensures ok { IfOk result (Becomes (Instance flow.now line) branch.old branch.new) }
     ensures err { OnErr result (branch.new ≡ branch.old) }
 {
     match line {
-        Line::S1 => Ok(skip(flow, branch)),
-        Line::S2 => copy(flow, branch),
-        Line::S3 => Ok(undef(flow, branch)),
-        Line::S8 => Ok(load(flow, branch)),
-        Line::S9 => store(flow, branch),
-        Line::S10 => malloc(alloc, flow, branch),
-        Line::S11 => Ok(free_null(flow, branch)),
-        Line::S12 => free(alloc, flow, branch),
-        Line::S13 => test(alloc, flow, branch),
-        Line::S17 => Ok(end(flow, branch)),
-        Line::L12 => Ok(unsound(branch)),
-        Line::Header(_, _) => Ok(None),
-        Line::End => Ok(None),
+        StraightLine::S1 => Ok(skip(flow, branch)),
+        StraightLine::S2 => copy(flow, branch),
+        StraightLine::S3 => Ok(undef(flow, branch)),
+        StraightLine::S8 => Ok(load(flow, branch)),
+        StraightLine::S9 => store(flow, branch),
+        StraightLine::S10 => malloc(alloc, flow, branch),
+        StraightLine::S11 => Ok(free_null(flow, branch)),
+        StraightLine::S12 => free(alloc, flow, branch),
+        StraightLine::S13 => test(alloc, flow, branch),
+        StraightLine::S17 => Ok(end(flow, branch)),
+        StraightLine::L12 => Ok(unsound(branch)),
+        StraightLine::Header(_, _) => Ok(None),
+        StraightLine::End => Ok(None),
     }
 }

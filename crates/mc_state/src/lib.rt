@@ -6,7 +6,9 @@ mod facts;
 mod goal;
 mod laws;
 mod line;
+mod raw_state;
 mod state;
+mod straight_line;
 mod terms;
 #[cfg(test)]
 mod tests;
@@ -18,7 +20,9 @@ pub use goal::Goal;
 pub use laws::{
     derived_is_true, edges_come_and_go, less_is_known, new_nodes_are_free, variables_change,
 };
-pub use line::{Form, Line, Version};
+pub use line::{Form, JoinStep, Line, Side, Version};
 pub use mc_graph::Edge;
+pub use raw_state::{NodeKind, RawState};
 pub use state::State;
+pub use straight_line::StraightLine;
 pub use terms::Term;
