@@ -31,5 +31,5 @@ pub fn certified_is_safe()
 
 /// A line gives a branch one list of successors at most.
 pub fn successors_are_determined()
-    ensures { (flow : Flow) (line : StraightLine) (b : Open) (n m : List Open) → Instance flow line b n → Instance flow line b m → n ≡ m }
+    ensures { (flow : Flow) (line : Line) (b : Open) (n m : List Open) → Instance flow line b n → Instance flow line b m → n ≡ m }
 {}

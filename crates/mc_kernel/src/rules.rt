@@ -2,15 +2,17 @@
 ghost use Rattle.std.specs.Prelude.{◌≡◌, ◌<◌, ◌↔◌, IfOk, IsTrue, MatchOption, OnOk, OnErr, Some, length, option_map, slice_get};
 ghost use Rattle.mc_base.specs.declared.ids.NodeId.{NodeId};
 ghost use Rattle.mc_flow.specs.Steps.{field_count};
-ghost use Rattle.mc_state.specs.declared.edge.Edge.{Edge as Block};
-ghost use Rattle.mc_state.specs.State.{edge_at, fields_of, start_of};
-ghost use Rattle.mc_kernel.specs.Rules.{instr_at, operand_node, with_operand, S1Is, S2Is, S3Is, S8Is, S9Is, S10Is, S11Is, S12Is, S13Is, S17Is, L12Is, Instance};
+ghost use Rattle.mc_graph.specs.declared.edge.Edge.{Edge as Block};
+ghost use Rattle.mc_graph.specs.Edges.{fields_of, start_of};
+ghost use Rattle.mc_state.specs.Straight.{edge_at};
+ghost use Rattle.mc_step.specs.Operands.{operand_node, with_operand};
+ghost use Rattle.mc_kernel.specs.Rules.{instr_at, S1Is, S2Is, S3Is, S8Is, S9Is, S10Is, S11Is, S12Is, S13Is, S17Is, L12Is, Instance};
 ghost use Rattle.mc_kernel.specs.Next.{branches, Becomes};
 
 use crate::Branch;
 use mc_base::{NodeId, StructId};
 use mc_flow::{Flow, Instr, Operand, Structs};
-use mc_state::{StraightLine, State};
+use mc_state::{State, StraightLine};
 use std::alloc::{AllocError, Global};
 
 /// What became of a branch.

@@ -46,7 +46,15 @@ static CERTIFICATE: [StraightLine; 14] = [
 // Lines that are no certificate of it, each with the place of the first that is refused: the branch
 // of null is left out, a false state is not closed, the block is not freed, and the end comes early.
 static WRONG: [(&[StraightLine], usize); 4] = [
-    (&[StraightLine::S1, StraightLine::S10, StraightLine::S13, StraightLine::L12], 3),
+    (
+        &[
+            StraightLine::S1,
+            StraightLine::S10,
+            StraightLine::S13,
+            StraightLine::L12,
+        ],
+        3,
+    ),
     (
         &[
             StraightLine::S1,
