@@ -1,9 +1,14 @@
+pub mod Bounds
 pub mod Changing
+pub mod Ids
+pub mod Images
 pub mod Lists
+pub mod Merging
 pub mod Nodes
 pub mod Nulls
 pub mod Parts
 pub mod Places
+pub mod Renaming
 pub mod Standing
 pub mod Truth
 pub mod Variables
