@@ -1,0 +1,4 @@
+pub mod Lists
+pub mod Matching
+pub mod Names
+pub mod Standing

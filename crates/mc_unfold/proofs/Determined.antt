@@ -1,5 +1,5 @@
 -- A rule that unfolds gives one list of successors at most.
-use Rattle.std.proofs.Common.{◌≡◌, ℕ, Some, List, ◌∷◌, map, slice_get, refl, sym, ◌∙◌, ap, ap₂}
+use Rattle.std.proofs.Common.{◌≡◌, Some, List, ◌∷◌, map, slice_get, sym, ◌∙◌, ap}
 use Rattle.std.specs.List.{flat_map}
 use Rattle.mc_base.specs.declared.ids.EdgeId.{EdgeId}
 use Rattle.mc_base.specs.declared.ids.NodeId.{NodeId}

@@ -1,12 +1,11 @@
 -- The body of a rule takes the place of an edge.
-use Rattle.std.proofs.Common.{◌≡◌, ◌<◌, ℕ, zero, suc, ℤ, pos, Option, Some, None, List, [], ◌∷◌, ◌++◌, map, length, drop, refl, sym, ◌∙◌, ap, ap₂, subst, arith}
+use Rattle.std.proofs.Common.{◌≡◌, ℕ, zero, suc, ℤ, pos, Option, Some, None, List, [], ◌∷◌, ◌++◌, map, length, drop, refl, sym, ◌∙◌, ap, ap₂, subst}
 use Rattle.std.specs.List.{AllByRecursion}
 use Rattle.std.proofs.lemmas.List.{map-append, length-map}
 use Rattle.mc_base.specs.declared.ids.EdgeId.{EdgeId}
 use Rattle.mc_base.specs.declared.ids.NodeId.{NodeId}
 use Rattle.mc_base.specs.declared.ids.PredId.{PredId}
 use Rattle.mc_base.specs.declared.ids.StructId.{StructId}
-use Rattle.mc_base.specs.declared.plain.Kind.{Kind}
 use Rattle.mc_base.specs.declared.plain.Atom.{Atom}
 use Rattle.mc_base.specs.Atoms.{nodes_of_atom}
 use Rattle.mc_base.specs.Nodes.{Valuation, at_node}
@@ -15,7 +14,6 @@ use Rattle.mc_heap.specs.Parts.{Split, Star}
 use Rattle.mc_heap.specs.PartLaws.{SplitCommutes, SplitDropsEmpty}
 use Rattle.mc_defs.specs.declared.rules.Call.{Call}
 use Rattle.mc_defs.specs.declared.rules.Def.{Def}
-use Rattle.mc_defs.specs.declared.rules.DefAtom.{DefAtom}
 use Rattle.mc_defs.specs.declared.rules.Rule.{Rule}
 use Rattle.mc_defs.specs.Instances.{node_of, atom_of}
 use Rattle.mc_defs.specs.Laws.{SatUnfolds, SegBegins}
@@ -23,18 +21,17 @@ use Rattle.mc_defs.specs.Meaning.{RuleValues}
 use Rattle.mc_defs.specs.Values as named
 use Rattle.mc_defs.specs.Values.{InKinds}
 use Rattle.mc_graph.specs.declared.edge.Edge.{Edge}
-use Rattle.mc_graph.specs.declared.edge.Edge.TheVariants.{Block, Ind, Seg}
 use Rattle.mc_graph.specs.Edges.{known_nodes, nodes_of}
-use Rattle.mc_graph.specs.Graph.{without, edge_with}
+use Rattle.mc_graph.specs.Graph.{without}
 use Rattle.mc_pure.specs.Pure.{Kinds, IsNode}
-use Rattle.mc_state.specs.Bodies.{call_edge, call_segment, block_edges, body_edges, calls_to, body_to}
+use Rattle.mc_state.specs.Bodies.{call_edge, block_edges, body_edges, calls_to, body_to}
 use Rattle.mc_state.specs.BodyLaws.{BodiesAreEdges, SegBodiesAreEdges}
 use Rattle.mc_state.specs.Fits.{AreNodes, IsBounded}
 use Rattle.mc_state.specs.Laws.{NodesAreAdded, NodesHaveValues, AtomsAreAdded, EdgesAreTaken, EdgesArePut, NodesStayBounded, NewNodesAreThere, AtomsStayBounded, EdgesStayBounded, FewerEdgesStayBounded, PickedNodesAreThere}
 use Rattle.mc_state.specs.Stands.{EdgeMeets, StandsBy, AgreeBelow, extended}
-use Rattle.mc_state.specs.State.{State, numbered_nodes, with_nodes, with_atoms, with_edges, with_only_edges}
+use Rattle.mc_state.specs.State.{State, numbered_nodes, with_nodes, with_edges, with_only_edges}
 use Rattle.mc_unfold.specs.Unfolded.{new_kinds, rule_nodes, opened}
-use Rattle.mc_unfold.proofs.Lists.{all_append, all_left, all_right, all_map, all_images}
+use Rattle.mc_unfold.proofs.Lists.{all_append, all_map, all_images}
 use Rattle.mc_unfold.proofs.Names.{atoms_true, numbers_count, numbers_behind, node_below, name_there, names_there, atom_there}
 
 -- what the rules that unfold rest on
@@ -106,7 +103,7 @@ module _ (laws : UnfoldLaws) (defs : List Def) (v : Valuation) (s : State) (edge
       → StandsBy defs new values region (opened s edge at args by.rule body)
   opened_stands values region part others body split each st =
       let wider : StandsBy defs new values others (with_nodes (closed s edge) (new_kinds args by.rule)) =
-          laws.nodes defs v values others (closed s edge) (new_kinds args by.rule) by.others less in_kinds st in
+      laws.nodes defs v values others (closed s edge) (new_kinds args by.rule) by.others less in_kinds st in
       let full = laws.put defs new values region part others (with_nodes (closed s edge) (new_kinds args by.rule)) body split each wider in
       laws.atoms defs new values region (with_edges (with_nodes (closed s edge) (new_kinds args by.rule)) body) (map (atom_of nodes) by.rule.atoms)
       (atoms_true new nodes new_zero by.rule.atoms (subst (λ names. AllByRecursion (named.IsTrueAtom names) by.rule.atoms) (sym names_are) by.atoms)) full

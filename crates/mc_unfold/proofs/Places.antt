@@ -1,5 +1,5 @@
 -- Where the successors stand in their list.
-use Rattle.std.proofs.Common.{◌≡◌, ℕ, zero, suc, ◌+◌, List, [], ◌∷◌, ◌++◌, Bool, true, false, Some, slice_get, map, refl, sym, ap, ◌∙◌, eq-eqb, arith}
+use Rattle.std.proofs.Common.{◌≡◌, ℕ, zero, suc, ◌+◌, List, [], ◌∷◌, ◌++◌, Bool, true, false, Some, slice_get, map, refl, ap, ◌∙◌, eq-eqb, arith}
 use Rattle.std.specs.Prelude.{◌==◌, if◌then◌else◌}
 use Rattle.std.specs.List.{flat_map, AllByRecursion}
 use Rattle.mc_base.specs.declared.ids.PredId.{PredId}
@@ -40,7 +40,7 @@ module _ {X Y : Type 0} where
 pub own_place : (M : Call → Region → Type 0) (S : Call → Region → Type 0) (pred : PredId) → ((call : Call) (part : Region) → S call part → call.pred ≡ pred)
     → (from place : ℕ) (calls : List Call) (region : Region) → StarAt M S place calls region → (index : ℕ) × (slice_get (own_places pred from calls) index ≡ Some (from + place))
 own_place M S pred own from place [] region s = absurd s
-own_place M S pred own from zero (call ∷ calls) region s = 
+own_place M S pred own from zero (call ∷ calls) region s =
     let same : (call.pred.0 == pred.0) ≡ true = eq-eqb call.pred.0 pred.0 (ap (λ p. p.0) (own call s.0 s.3)) in
     let here : from + 0 ≡ from = omega arith in
     (0, rw (same, here) refl)

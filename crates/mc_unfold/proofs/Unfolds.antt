@@ -1,16 +1,14 @@
 -- The rules that unfold are sound, and numbers stay in their bounds.
-use Rattle.std.proofs.Common.{◌≡◌, ◌+◌, ℕ, zero, suc, ℤ, pos, Option, Some, None, List, [], ◌∷◌, ◌++◌, map, slice_get, refl, sym, ◌∙◌, ap, ap₂, subst, inl, inr, arith}
+use Rattle.std.proofs.Common.{◌≡◌, ◌+◌, ℕ, suc, ℤ, pos, Option, Some, List, [], ◌∷◌, ◌++◌, map, slice_get, refl, sym, ◌∙◌, ap, ap₂, subst, inl, inr, arith}
 use Rattle.std.specs.List.{AllByRecursion, flat_map}
 use Rattle.std.proofs.lemmas.Int.{ints}
 use Rattle.mc_base.specs.declared.ids.EdgeId.{EdgeId}
 use Rattle.mc_base.specs.declared.ids.NodeId.{NodeId}
 use Rattle.mc_base.specs.declared.ids.PredId.{PredId}
-use Rattle.mc_base.specs.declared.plain.Atom.{Atom}
 use Rattle.mc_base.specs.Atoms.{IsTrueAtom, nodes_of_atom}
 use Rattle.mc_base.specs.Nodes.{Valuation, at_node}
 use Rattle.mc_heap.specs.Heap.{Region}
-use Rattle.mc_heap.specs.Parts.{Split, IsEmpty, Star, StarAt}
-use Rattle.mc_defs.specs.declared.rules.Call.{Call}
+use Rattle.mc_heap.specs.Parts.{Split, Star, StarAt}
 use Rattle.mc_defs.specs.declared.rules.Def.{Def}
 use Rattle.mc_defs.specs.declared.rules.Rule.{Rule}
 use Rattle.mc_defs.specs.Meaning.{RuleValues, CallMeets, SegCallMeets, BodyMeets, SegBodyMeets, Sat, EndsThere}
@@ -23,12 +21,12 @@ use Rattle.mc_state.specs.Bodies.{body_edges, body_to}
 use Rattle.mc_state.specs.BodyLaws.{IsBody, IsBodyTo}
 use Rattle.mc_state.specs.Fits.{AreNodes, IsBounded}
 use Rattle.mc_state.specs.Rules.{StandsForSome, IsSound}
-use Rattle.mc_state.specs.Stands.{EdgeMeets, StandsBy, AgreeBelow}
+use Rattle.mc_state.specs.Stands.{EdgeMeets, StandsBy}
 use Rattle.mc_state.specs.State.{State}
-use Rattle.mc_unfold.specs.Unfolded.{new_kinds, rule_nodes, unfolded, unfolded_at, equal_atoms, emptied, own_places, UnfoldsInd, UnfoldsSeg}
+use Rattle.mc_unfold.specs.Unfolded.{new_kinds, rule_nodes, unfolded, unfolded_at, equal_atoms, emptied, own_places}
 use Rattle.mc_unfold.specs.Laws.{LawOfInd, LawOfSeg}
 use Rattle.mc_unfold.proofs.Lists.{all_left, all_right, all_map, all_images}
-use Rattle.mc_unfold.proofs.Openings.{UnfoldLaws, closed, values_stay, new, nodes, agrees, new_zero, names_are, opened_stands, body_there, body_to_there, wide, nodes_there, opened_bounded}
+use Rattle.mc_unfold.proofs.Openings.{UnfoldLaws, closed, values_stay, new, agrees, new_zero, names_are, opened_stands, body_there, body_to_there, wide, nodes_there, opened_bounded}
 use Rattle.mc_unfold.proofs.Places.{image_at, in_pieces, all_pieces, own_place}
 
 -- a list of one thing has the whole region
@@ -73,10 +71,10 @@ module _ (laws : UnfoldLaws) (defs : List Def) (s : State) (bounded : IsBounded 
     ind_bounded =
         all_images IsBounded (unfolded s edge at args)
         (λ rule.
-            let less = less_bounded (Ind at pred args) there in
-            let ns = rule_nodes s at args rule in
-            opened_bounded laws s edge less at args ind_there rule (body_edges ns rule.block rule.contents rule.calls)
-            (body_there (wide laws s edge less at args ind_there rule).kinds ns (nodes_there laws s edge less at args ind_there rule) rule.block rule.contents rule.calls)) def.rules
+        let less = less_bounded (Ind at pred args) there in
+        let ns = rule_nodes s at args rule in
+        opened_bounded laws s edge less at args ind_there rule (body_edges ns rule.block rule.contents rule.calls)
+        (body_there (wide laws s edge less at args ind_there rule).kinds ns (nodes_there laws s edge less at args ind_there rule) rule.block rule.contents rule.calls)) def.rules
 
 pub unfold_ind : UnfoldLaws → LawOfInd
 unfold_ind laws defs accessed edge s next bounded i =
@@ -174,11 +172,11 @@ module _ (laws : UnfoldLaws) (defs : List Def) (s : State) (bounded : IsBounded 
   opened_all_bounded rule =
       all_images IsBounded (unfolded_at s edge at args stop ends rule)
       (λ place.
-          let ns = rule_nodes s at args rule in
-          let kinds = (wide laws s edge less at args start_there rule).kinds in
-          let far = all_map (IsNode s.kinds) (IsNode kinds) (laws.new_there (closed s edge) (new_kinds args rule)).1 (stop ∷ ends) end_there in
-          opened_bounded laws s edge less at args start_there rule (body_to ns stop ends place rule.block rule.contents rule.calls)
-          (body_to_there kinds ns (nodes_there laws s edge less at args start_there rule) stop ends far place rule.block rule.contents rule.calls))
+      let ns = rule_nodes s at args rule in
+      let kinds = (wide laws s edge less at args start_there rule).kinds in
+      let far = all_map (IsNode s.kinds) (IsNode kinds) (laws.new_there (closed s edge) (new_kinds args rule)).1 (stop ∷ ends) end_there in
+      opened_bounded laws s edge less at args start_there rule (body_to ns stop ends place rule.block rule.contents rule.calls)
+      (body_to_there kinds ns (nodes_there laws s edge less at args start_there rule) stop ends far place rule.block rule.contents rule.calls))
       (own_places pred 0 rule.calls)
 
   pub seg_bounded : AllByRecursion IsBounded seg_next
