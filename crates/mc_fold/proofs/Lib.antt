@@ -1,3 +1,5 @@
+pub mod Determined
+pub mod Forgetting
 pub mod Lists
 pub mod Matching
 pub mod Meeting

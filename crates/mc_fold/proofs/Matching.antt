@@ -121,8 +121,8 @@ fold_ind laws defs pred rule nodes block edges s next bounded i =
     let calls : Rule → List Call = λ r. r.calls in
     let lawful = folded_lawful laws defs s (option_to_list block ++ edges) (body.blocks ++ body.inds) body.left (Ind body.this pred body.args) bounded body.picks (front_there laws defs s pred rule nodes block edges calls body)
     (λ v values region part addresses st each.
-        let is = body_is laws defs s pred rule nodes block edges calls body v values region addresses st part each in
-        laws.folds defs pred (v body.this.0) (map (at_node v) body.args) part (by_rule laws defs s pred rule nodes block edges calls body v values region addresses st, is.0, is.1, is.2, is.3, is.4)) in
+    let is = body_is laws defs s pred rule nodes block edges calls body v values region addresses st part each in
+    laws.folds defs pred (v body.this.0) (map (at_node v) body.args) part (by_rule laws defs s pred rule nodes block edges calls body v values region addresses st, is.0, is.1, is.2, is.3, is.4)) in
     rw i.gives lawful
 
 pub fold_seg : FoldLaws → LawOfFoldSeg
@@ -134,8 +134,8 @@ fold_seg laws defs pred rule nodes block edges call s next bounded i =
     let lawful = folded_lawful laws defs s (block ∷ edges) (body.blocks ++ body.inds) body.left new bounded body.picks
     (front.0, all_append (IsNode s.kinds) body.args (node_of nodes i.open_call.at ∷ map (node_of nodes) i.open_call.args) front.1 (called_there laws defs s pred rule nodes (Some block) edges calls body i.open_call))
     (λ v values region part addresses st each.
-        let is = body_is laws defs s pred rule nodes (Some block) edges calls body v values region addresses st part each in
-        let by = by_rule laws defs s pred rule nodes (Some block) edges calls body v values region addresses st in
-        let seg = laws.of_body defs pred (v body.this.0) (map (at_node v) body.args) part is.0 is.1 by call i.open_call i.called i.own is.2 is.3 is.4 in
-        rw (← (name_value v nodes st.null i.open_call.at), ← (name_values v nodes st.null i.open_call.args)) seg) in
+    let is = body_is laws defs s pred rule nodes (Some block) edges calls body v values region addresses st part each in
+    let by = by_rule laws defs s pred rule nodes (Some block) edges calls body v values region addresses st in
+    let seg = laws.of_body defs pred (v body.this.0) (map (at_node v) body.args) part is.0 is.1 by call i.open_call i.called i.own is.2 is.3 is.4 in
+    rw (← (name_value v nodes st.null i.open_call.at), ← (name_values v nodes st.null i.open_call.args)) seg) in
     rw i.gives lawful

@@ -27,10 +27,10 @@ close_seg laws defs first second s next bounded i =
     let nodes = laws.picked_there s (first ∷ second ∷ []) old i.left i.picks bounded in
     let lawful = folded_lawful laws defs s (first ∷ second ∷ []) old i.left (Ind i.at i.pred i.args) bounded i.picks (nodes.0.0, all_left (IsNode s.kinds) i.args (i.stop ∷ i.ends) nodes.0.1)
     (λ v values region part addresses st each.
-        let here = one_value laws defs v values region s i.stop i.from addresses st i.meet in
-        let there = laws.equal defs v values region s i.ends i.from_args addresses st i.args_meet in
-        let sat : meaning.Sat defs i.pred (v i.stop.0) (map (at_node v) i.ends) each.1 = rw (here, there) (one_star laws (EdgeMeets defs v) (Ind i.from i.pred i.from_args) each.1 each.4) in
-        laws.then_sat defs i.pred (v i.at.0) (map (at_node v) i.args) (v i.stop.0) (map (at_node v) i.ends) part each.0 each.1 each.2 each.3 sat) in
+    let here = one_value laws defs v values region s i.stop i.from addresses st i.meet in
+    let there = laws.equal defs v values region s i.ends i.from_args addresses st i.args_meet in
+    let sat : meaning.Sat defs i.pred (v i.stop.0) (map (at_node v) i.ends) each.1 = rw (here, there) (one_star laws (EdgeMeets defs v) (Ind i.from i.pred i.from_args) each.1 each.4) in
+    laws.then_sat defs i.pred (v i.at.0) (map (at_node v) i.args) (v i.stop.0) (map (at_node v) i.ends) part each.0 each.1 each.2 each.3 sat) in
     rw i.gives lawful
 
 pub join_segs : FoldLaws → LawOfJoinSegs
@@ -41,11 +41,11 @@ join_segs laws defs first second s next bounded i =
     let back = all_right (IsNode s.kinds) i.from_args (i.last ∷ i.last_args) nodes.1.0.1 in
     let lawful = folded_lawful laws defs s (first ∷ second ∷ []) old i.left (Seg i.at i.args i.pred i.last i.last_args) bounded i.picks (nodes.0.0, all_append (IsNode s.kinds) i.args (i.last ∷ i.last_args) front back)
     (λ v values region part addresses st each.
-        let here = one_value laws defs v values region s i.stop i.from addresses st i.meet in
-        let there = laws.equal defs v values region s i.ends i.from_args addresses st i.args_meet in
-        let seg : meaning.Seg defs i.pred (v i.stop.0) (map (at_node v) i.ends) (v i.last.0) (map (at_node v) i.last_args) each.1 =
-            rw (here, there) (one_star laws (EdgeMeets defs v) (Seg i.from i.from_args i.pred i.last i.last_args) each.1 each.4) in
-        laws.then_seg defs i.pred (v i.at.0) (map (at_node v) i.args) (v i.stop.0) (map (at_node v) i.ends) (v i.last.0) (map (at_node v) i.last_args) part each.0 each.1 each.2 each.3 seg) in
+    let here = one_value laws defs v values region s i.stop i.from addresses st i.meet in
+    let there = laws.equal defs v values region s i.ends i.from_args addresses st i.args_meet in
+    let seg : meaning.Seg defs i.pred (v i.stop.0) (map (at_node v) i.ends) (v i.last.0) (map (at_node v) i.last_args) each.1 =
+    rw (here, there) (one_star laws (EdgeMeets defs v) (Seg i.from i.from_args i.pred i.last i.last_args) each.1 each.4) in
+    laws.then_seg defs i.pred (v i.at.0) (map (at_node v) i.args) (v i.stop.0) (map (at_node v) i.ends) (v i.last.0) (map (at_node v) i.last_args) part each.0 each.1 each.2 each.3 seg) in
     rw i.gives lawful
 
 args_there : (defs : List Def) (kinds : Kinds) (pred : PredId) (args : List NodeId) → ArgsFit defs kinds pred args → AreNodes kinds args
