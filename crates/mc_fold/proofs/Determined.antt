@@ -1,5 +1,5 @@
 -- A rule gives one list of successors at most.
-use Rattle.std.proofs.Common.{◌≡◌, ℕ, Option, Some, List, [], ◌∷◌, ◌++◌, length, map, slice_get, refl, sym, ◌∙◌, ap, ap₂, subst}
+use Rattle.std.proofs.Common.{◌≡◌, ℕ, Option, Some, List, [], ◌∷◌, ◌++◌, length, map, slice_get, sym, ◌∙◌, ap, ap₂}
 use Rattle.std.specs.Prelude.{option_to_list, remove}
 use Rattle.mc_base.specs.declared.ids.EdgeId.{EdgeId}
 use Rattle.mc_base.specs.declared.ids.NodeId.{NodeId}
@@ -10,7 +10,7 @@ use Rattle.mc_defs.specs.declared.rules.Rule.{Rule}
 use Rattle.mc_defs.specs.Instances.{node_of}
 use Rattle.mc_graph.specs.declared.edge.Edge.{Edge}
 use Rattle.mc_graph.specs.declared.edge.Edge.TheVariants.{Ind, Seg}
-use Rattle.mc_graph.specs.Graph.{Edges, Picks, edge_with, without}
+use Rattle.mc_graph.specs.Graph.{Edges, Picks, without}
 use Rattle.mc_state.specs.State.{State}
 use Rattle.mc_fold.specs.Folded.{folded, Matches}
 use Rattle.mc_fold.specs.Laws.{FoldIndIsDetermined, FoldSegIsDetermined, CloseSegIsDetermined, JoinSegsIsDetermined, EmptySegIsDetermined, SpareIsDetermined, MergeIsDetermined, DropIsDetermined}

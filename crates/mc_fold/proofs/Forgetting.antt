@@ -1,9 +1,9 @@
 -- Two states without one node derive the same.
-use Rattle.std.proofs.Common.{◌≡◌, ℕ, None, Some, List, slice_get, sym, ◌∙◌, ap, subst, inl, inr}
+use Rattle.std.proofs.Common.{◌≡◌, ℕ, Some, slice_get, sym, ◌∙◌, ap, subst, inl, inr}
 use Rattle.mc_base.specs.declared.ids.NodeId.{NodeId}
 use Rattle.mc_base.specs.declared.plain.Atom.{Atom}
 use Rattle.mc_graph.specs.Graph.{Graph, block_starts}
-use Rattle.mc_pure.specs.Derived.{Follows, IsFalse, base}
+use Rattle.mc_pure.specs.Derived.{Follows, base}
 use Rattle.mc_pure.specs.Laws.{FollowsFromMore, FalseFromMore}
 use Rattle.mc_pure.specs.Pure as known
 use Rattle.mc_pure.specs.Pure.{Kinds, IsNode, Base}

@@ -1,5 +1,5 @@
 -- What holds of each of a list, and lists that are parted at one length.
-use Rattle.std.proofs.Common.{◌≡◌, ℕ, zero, suc, List, [], ◌∷◌, ◌++◌, length, Some, slice_get, refl, ap₂}
+use Rattle.std.proofs.Common.{◌≡◌, ℕ, suc, List, [], ◌∷◌, ◌++◌, length, Some, slice_get, refl, ap₂}
 use Rattle.std.specs.List.{AllByRecursion}
 
 module _ {X : Type 0} where

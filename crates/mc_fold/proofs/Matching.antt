@@ -1,5 +1,5 @@
 -- Edges that match a rule are its body.
-use Rattle.std.proofs.Common.{◌≡◌, ℕ, zero, suc, ℤ, pos, Option, Some, None, List, [], ◌∷◌, ◌++◌, map, length, slice_get, refl, sym, ◌∙◌, ap, ap₂, subst}
+use Rattle.std.proofs.Common.{◌≡◌, ℕ, ℤ, Option, Some, None, List, [], ◌∷◌, ◌++◌, map, refl, sym, ◌∙◌, ap, ap₂, subst}
 use Rattle.std.specs.List.{AllByRecursion}
 use Rattle.std.specs.Prelude.{remove, option_to_list}
 use Rattle.std.proofs.lemmas.List.{map-append, length-map}
@@ -9,24 +9,23 @@ use Rattle.mc_base.specs.declared.ids.PredId.{PredId}
 use Rattle.mc_base.specs.declared.ids.StructId.{StructId}
 use Rattle.mc_base.specs.Nodes.{Valuation, at_node}
 use Rattle.mc_heap.specs.Heap.{Region, IsAtAddresses}
-use Rattle.mc_heap.specs.Parts.{Split, IsCell, Star}
+use Rattle.mc_heap.specs.Parts.{Split, Star}
 use Rattle.mc_defs.specs.declared.rules.Call.{Call}
 use Rattle.mc_defs.specs.declared.rules.Def.{Def}
 use Rattle.mc_defs.specs.declared.rules.DefAtom.{DefAtom}
 use Rattle.mc_defs.specs.declared.rules.Rule.{Rule}
 use Rattle.mc_defs.specs.Instances.{node_of, atom_of}
 use Rattle.mc_defs.specs.Meaning.{RuleValues, BlockMeets, CallMeets, Sat}
-use Rattle.mc_defs.specs.Meaning as meaning
 use Rattle.mc_defs.specs.Values as named
 use Rattle.mc_defs.specs.Values.{value_of}
 use Rattle.mc_graph.specs.declared.edge.Edge.{Edge}
 use Rattle.mc_graph.specs.declared.edge.Edge.TheVariants.{Block, Ind, Seg}
 use Rattle.mc_pure.specs.Pure.{IsNode}
 use Rattle.mc_state.specs.Facts.{Derives}
-use Rattle.mc_state.specs.Fits.{AreNodes, IsBounded}
+use Rattle.mc_state.specs.Fits.{AreNodes}
 use Rattle.mc_state.specs.Stands.{VarsMeet, EdgeMeets, StandsBy}
 use Rattle.mc_state.specs.State.{State}
-use Rattle.mc_fold.specs.Folded.{folded, FieldsMatch, BlocksMatch, CallsMatch, Matches, FoldsInd, FoldsSeg}
+use Rattle.mc_fold.specs.Folded.{FieldsMatch, BlocksMatch, CallsMatch, Matches}
 use Rattle.mc_fold.specs.Laws.{LawOfFoldInd, LawOfFoldSeg}
 use Rattle.mc_fold.proofs.Lists.{all_left, all_append}
 use Rattle.mc_fold.proofs.Names.{name_value, name_values, atom_true, in_kinds, kinds_there, name_there, names_there}

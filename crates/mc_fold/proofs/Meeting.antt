@@ -1,5 +1,5 @@
 -- An Ind that meets a goal.
-use Rattle.std.proofs.Common.{◌≡◌, Some, [], ◌∷◌, map, refl}
+use Rattle.std.proofs.Common.{[], ◌∷◌, map, refl}
 use Rattle.mc_base.specs.Nodes.{at_node}
 use Rattle.mc_defs.specs.Meaning.{Sat}
 use Rattle.mc_graph.specs.declared.edge.Edge.TheVariants.{Ind}

@@ -1,8 +1,7 @@
 -- Nodes are named, merged and forgotten, and edges dropped.
-use Rattle.std.proofs.Common.{◌≡◌, ◌<◌, ℕ, suc, ℤ, pos, ◌+ℤ◌, ◌-ℤ◌, Option, Some, None, List, [], ◌∷◌, ◌++◌, map, slice_get, refl, sym, ◌∙◌, ap, subst, inl, inr, arith, false}
+use Rattle.std.proofs.Common.{◌≡◌, ℕ, ℤ, ◌+ℤ◌, ◌-ℤ◌, Some, List, [], ◌∷◌, map, slice_get, refl, sym, ◌∙◌, ap, subst, arith, false}
 use Rattle.std.specs.List.{AllByRecursion}
 use Rattle.std.proofs.lemmas.Int.{ints}
-use Rattle.mc_base.specs.declared.ids.EdgeId.{EdgeId}
 use Rattle.mc_base.specs.declared.ids.NodeId.{NodeId}
 use Rattle.mc_base.specs.declared.plain.Kind.{Kind}
 use Rattle.mc_base.specs.declared.plain.Kind.TheVariants.{Int, Ptr}
@@ -11,19 +10,16 @@ use Rattle.mc_base.specs.declared.plain.Atom.TheVariants.{Eq, In}
 use Rattle.mc_base.specs.Atoms.{IsTrueAtom, nodes_of_atom}
 use Rattle.mc_base.specs.Kinds.{InKind}
 use Rattle.mc_base.specs.Nodes.{Valuation, at_node}
-use Rattle.mc_heap.specs.Heap.{Region, IsAtAddresses}
-use Rattle.mc_defs.specs.declared.rules.Def.{Def}
-use Rattle.mc_graph.specs.declared.edge.Edge.{Edge}
 use Rattle.mc_graph.specs.Graph.{without}
 use Rattle.mc_pure.specs.Derived as pure
 use Rattle.mc_pure.specs.Pure as known
 use Rattle.mc_pure.specs.Pure.{IsNode, low_of, high_of}
-use Rattle.mc_state.specs.Facts.{AreEqual, Derives, kinds_without, merged}
+use Rattle.mc_state.specs.Facts.{Derives, kinds_without, merged}
 use Rattle.mc_state.specs.Fits.{AreNodes, IsBounded}
 use Rattle.mc_state.specs.Laws.{DerivedIsTrue, EqualNodesAreOne, NodesAreAdded, NodesHaveValues, AtomsAreAdded, AtomsAreDropped, EdgesAreDropped, NodeIsDropped, StandsMerged, NodesStayBounded, NewNodesAreThere, AtomsStayBounded, FewerEdgesStayBounded, MergedStaysBounded, DroppedStaysBounded}
 use Rattle.mc_state.specs.Stands.{StandsBy, extended}
 use Rattle.mc_state.specs.State.{State, next_node, with_nodes, with_atoms, with_only_edges}
-use Rattle.mc_fold.specs.Changed.{alone, Forgets, NamesSpare, MergesNodes, DropsEdge, ForgetsNode}
+use Rattle.mc_fold.specs.Changed.{Forgets}
 use Rattle.mc_fold.specs.Laws.{IsLawful, LawOfSpare, LawOfMerge, LawOfDrop, LawOfForget}
 use Rattle.mc_fold.proofs.Lists.{all_places}
 use Rattle.mc_fold.proofs.Names.{node_below}

@@ -1,12 +1,10 @@
 -- Segments are closed, joined and made of nothing.
-use Rattle.std.proofs.Common.{◌≡◌, ℤ, Option, Some, List, [], ◌∷◌, ◌++◌, map, refl, sym, ◌∙◌, subst}
-use Rattle.mc_base.specs.declared.ids.EdgeId.{EdgeId}
+use Rattle.std.proofs.Common.{List, [], ◌∷◌, map, refl}
 use Rattle.mc_base.specs.declared.ids.NodeId.{NodeId}
 use Rattle.mc_base.specs.declared.ids.PredId.{PredId}
 use Rattle.mc_base.specs.declared.plain.Kind.TheVariants.{Ptr}
-use Rattle.mc_base.specs.Nodes.{Valuation, at_node}
+use Rattle.mc_base.specs.Nodes.{at_node}
 use Rattle.mc_heap.specs.Instances.{nowhere}
-use Rattle.mc_heap.specs.Parts.{Star}
 use Rattle.mc_defs.specs.declared.rules.Def.{Def}
 use Rattle.mc_defs.specs.Meaning as meaning
 use Rattle.mc_graph.specs.declared.edge.Edge.{Edge}
@@ -14,8 +12,7 @@ use Rattle.mc_graph.specs.declared.edge.Edge.TheVariants.{Ind, Seg}
 use Rattle.mc_pure.specs.Pure.{Kinds, IsNode}
 use Rattle.mc_state.specs.Fits.{AreNodes, ArgsFit}
 use Rattle.mc_state.specs.Stands.{EdgeMeets}
-use Rattle.mc_state.specs.State.{State, with_edges}
-use Rattle.mc_fold.specs.Folded.{ClosesSeg, JoinsSegs, MakesEmptySeg}
+use Rattle.mc_state.specs.State.{with_edges}
 use Rattle.mc_fold.specs.Laws.{LawOfCloseSeg, LawOfJoinSegs, LawOfEmptySeg}
 use Rattle.mc_fold.proofs.Lists.{all_append, all_left, all_right}
 use Rattle.mc_fold.proofs.Names.{kinds_there}

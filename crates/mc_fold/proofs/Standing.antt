@@ -1,6 +1,5 @@
 -- Edges in place of others.
-use Rattle.std.proofs.Common.{◌≡◌, ℕ, ℤ, Option, Some, List, [], ◌∷◌, ◌++◌, map, refl, sym, subst}
-use Rattle.std.specs.List.{AllByRecursion}
+use Rattle.std.proofs.Common.{◌≡◌, ℤ, Option, List, [], ◌∷◌, ◌++◌, map, refl, sym, subst}
 use Rattle.mc_base.specs.declared.ids.EdgeId.{EdgeId}
 use Rattle.mc_base.specs.declared.ids.NodeId.{NodeId}
 use Rattle.mc_base.specs.Nodes.{Valuation, at_node}
@@ -13,11 +12,9 @@ use Rattle.mc_defs.specs.Laws.{SatFolds, SegOfBody, SegThenSat, SegThenSeg}
 use Rattle.mc_graph.specs.declared.edge.Edge.{Edge}
 use Rattle.mc_graph.specs.Edges.{nodes_of}
 use Rattle.mc_graph.specs.Graph.{Edges, Picks}
-use Rattle.mc_pure.specs.Pure.{IsNode}
 use Rattle.mc_state.specs.Facts.{AreEqual}
 use Rattle.mc_state.specs.Fits.{AreNodes, IsBounded}
-use Rattle.mc_state.specs.Laws.{DerivedIsTrue, EqualNodesAreOne, NodesAreAdded, NodesHaveValues, AtomsAreAdded, EdgesAreTaken, EdgesArePut, AtomsAreDropped, EdgesAreDropped, NodeIsDropped, StandsMerged, NodesStayBounded, NewNodesAreThere, AtomsStayBounded, EdgesStayBounded, FewerEdgesStayBounded, PickedNodesAreThere, MergedStaysBounded, DroppedStaysBounded}
-use Rattle.mc_state.specs.Rules.{IsSound}
+use Rattle.mc_state.specs.Laws.{DerivedIsTrue, EqualNodesAreOne, EdgesAreTaken, EdgesArePut, EdgesStayBounded, FewerEdgesStayBounded, PickedNodesAreThere}
 use Rattle.mc_state.specs.Stands.{EdgeMeets, StandsBy}
 use Rattle.mc_state.specs.State.{State, with_only_edges}
 use Rattle.mc_fold.specs.Folded.{folded}
