@@ -1,0 +1,6 @@
+pub mod Determined
+pub mod Lists
+pub mod Names
+pub mod Openings
+pub mod Places
+pub mod Unfolds

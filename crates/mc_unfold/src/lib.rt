@@ -1,6 +1,9 @@
 //! The rules of logic that unfold an edge.
 #![tactic(auto)]
 
+mod laws;
+
+pub use laws::{unfolding_is_determined, unfolding_is_sound};
 use mc_base::EdgeId;
 
 /// L1: takes an Ind for the body of one of its rules.
