@@ -1,2 +1,3 @@
+pub mod Jumping
 pub mod Moves
 pub mod Once
