@@ -1,0 +1,5 @@
+pub mod Lists
+pub mod LowerLaws
+pub mod Moving
+pub mod Operands
+pub mod Tests
