@@ -1,7 +1,9 @@
+pub mod Fields
 pub mod Lists
 pub mod LowerLaws
 pub mod Moving
 pub mod Numbers
 pub mod Operands
+pub mod Parts
 pub mod Tests
 pub mod Wrapping

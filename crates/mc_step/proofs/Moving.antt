@@ -65,11 +65,15 @@ first_of_one xs x e = ap (λ ys. slice_get ys 0) e
 
 module _ (laws : StepLaws) (defs : List Def) where
   -- a variable gets the value of a node
+  pub set_leads_at : (next : List Next) (place : ℕ) (x : VarId) (q : PointId) (t : State) (n : NodeId) (w : Valuation) (c : Config) (choices : List Choice) (r : Result)
+      → r ≡ set_to x q c choices (w n.0) → slice_get next place ≡ Some (moved_to q (with_var t x (Some n))) → HasAddresses c.heap → StandsBy defs w c.vars (region_of c.heap) t → LeadsOn defs next r
+  set_leads_at next place x q t n w c choices r e there has st =
+      leads defs next place q (with_var t x (Some n)) w _ choices r e there refl has (laws.states.set defs w c.vars (region_of c.heap) t x n st)
+
   pub set_leads : (next : List Next) (x : VarId) (q : PointId) (t : State) (n : NodeId) (w : Valuation) (c : Config) (choices : List Choice) (r : Result)
       → r ≡ set_to x q c choices (w n.0) → next ≡ moved_to q (with_var t x (Some n)) ∷ [] → HasAddresses c.heap → StandsBy defs w c.vars (region_of c.heap) t → LeadsOn defs next r
   set_leads next x q t n w c choices r e gives has st =
-      leads defs next 0 q (with_var t x (Some n)) w _ choices r e (first_of_one next (moved_to q (with_var t x (Some n))) gives) refl has
-      (laws.states.set defs w c.vars (region_of c.heap) t x n st)
+      set_leads_at next 0 x q t n w c choices r e (first_of_one next (moved_to q (with_var t x (Some n))) gives) has st
 
   pub s1_sound : (flow : Flow) (p : PointId) (s : State) (next : List Next) → S1Is flow p s next → IsSoundAt flow defs p s next
   s1_sound flow p s next i v c choices r valid bounded at sides step =
