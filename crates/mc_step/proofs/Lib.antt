@@ -1,3 +1,5 @@
+pub mod Blocks
+pub mod Bounded
 pub mod Fields
 pub mod Lists
 pub mod LowerLaws
@@ -5,5 +7,7 @@ pub mod Moving
 pub mod Numbers
 pub mod Operands
 pub mod Parts
+pub mod Shapes
+pub mod Sound
 pub mod Tests
 pub mod Wrapping

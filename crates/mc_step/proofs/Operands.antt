@@ -144,8 +144,7 @@ module _ (laws : StepLaws) (defs : List Def) (values : List (Option ℤ)) (regio
       (record { w = v; agrees = λ m lt. refl; stands = st }, ap Some (value ∙ sym st.null))
   const_met v s vars k c false fits e b st =
       let new = new_node v s Int c b (is_int vars k c fits e) st in
-      let here = new.here in
-      (
+      let here = new.here in (
         record { w = new.w; agrees = new.agrees; stands = laws.states.atoms defs new.w values region (with_nodes s (Int ∷ [])) (In (next_node s) c c ∷ []) (rw here (omega (arith, ints), omega (arith, ints)), tt) new.stands },
         ap Some (sym here),
       )
@@ -168,8 +167,7 @@ module _ (laws : StepLaws) (defs : List Def) (values : List (Option ℤ)) (regio
       let there = operand_there laws.bounds s o a bounded left in
       let first = operand_met v s vars k o a fits left bounded st in
       let second = operand_met first.0.w (with_operand s o) vars k p b fits' right there.bounded first.0.stands in
-      let same : second.0.w a.0 ≡ first.0.w a.0 = second.0.agrees a.0 (below (with_operand s o) a there.bounded there.all.0) in
-      (
+      let same : second.0.w a.0 ≡ first.0.w a.0 = second.0.agrees a.0 (below (with_operand s o) a there.bounded there.all.0) in (
         record { w = second.0.w; agrees = λ m lt. second.0.agrees m (let more = there.grows in omega arith) ∙ first.0.agrees m lt; stands = second.0.stands },
         first.1 ∙ ap Some (sym same),
         second.1,
@@ -192,8 +190,7 @@ module _ (laws : StepLaws) (defs : List Def) (values : List (Option ℤ)) (regio
       let there = operand_there laws.bounds s o n b h.0 in
       let first = operand_met v s vars kind o n fits.0 h.0 b st in
       let others = many_met vars os kinds first.0.w (with_operand s o) ns fits.1 h.1 there.bounded first.0.stands in
-      let same : others.0.w n.0 ≡ first.0.w n.0 = others.0.agrees n.0 (below (with_operand s o) n there.bounded there.all.0) in
-      (
+      let same : others.0.w n.0 ≡ first.0.w n.0 = others.0.agrees n.0 (below (with_operand s o) n there.bounded there.all.0) in (
         record { w = others.0.w; agrees = λ m lt. others.0.agrees m (let more = there.grows in omega arith) ∙ first.0.agrees m lt; stands = others.0.stands },
         ap (λ (x : Option ℤ). all_there (x ∷ map (value_of values) os)) (first.1 ∙ ap Some (sym same)) ∙ ap (option_map (λ (zs : List ℤ). others.0.w n.0 ∷ zs)) others.1,
       )

@@ -66,8 +66,7 @@ gt_true w a b left right l r lt =
     let low = l.0 in
     let high = l.1 in
     let from = r.0 in
-    let upto = r.1 in
-    (
+    let upto = r.1 in (
       (omega (arith, ints, clamps), omega (arith, ints, clamps)),
       ((omega (arith, ints, clamps), omega (arith, ints, clamps)), (λ same. let is : w a.0 ≡ w b.0 +ℤ pos 0 = same in omega (arith, ints), tt)),
     )

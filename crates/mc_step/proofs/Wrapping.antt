@@ -93,6 +93,7 @@ range_true op w n a b left right results least l r is = at (is_single left && is
         let upto = h.1.2.1 in
         let value : w n.0 ≡ z = is ∙ wrapped_is z (omega (arith, ints), omega (arith, ints)) in
         ((omega (arith, ints), omega (arith, ints)), tt)
+
     at : (test : Bool) → (is_single left && is_single right) ≡ test
         → AllByRecursion (IsTrueAtom w) (if test then In n (wrapped (op left.lo right.lo)) (wrapped (op left.lo right.lo)) ∷ [] else in_range n results)
     at false e = within results least
