@@ -1,6 +1,7 @@
 pub mod Bodies
 pub mod BodyLaws
 pub mod Covers
+pub mod Examples
 pub mod Facts
 pub mod Fits
 pub mod Kept

@@ -1,6 +1,7 @@
 //! Symbolic states, and the lines of documents.
 #![tactic(auto)]
 
+mod examples;
 mod facts;
 mod laws;
 mod line;
@@ -9,6 +10,7 @@ mod terms;
 #[cfg(test)]
 mod tests;
 
+pub use examples::{example_list, example_merging, example_parts, example_renaming};
 pub use laws::{
     derived_is_true, edges_come_and_go, less_is_known, merging_is_sound, new_nodes_are_free,
     nodes_are_there, numbers_stay_bounded, renaming_is_sound, variables_change,
