@@ -35,7 +35,7 @@ use Rattle.mc_step.specs.Laws.{IsAt, LeadsOn}
 use Rattle.mc_step.proofs.LowerLaws.{StepLaws}
 use Rattle.mc_step.proofs.Lists.{edge_at}
 use Rattle.mc_step.proofs.Moving.{IsSoundAt, step_at, fits_at, leads, first_of_one, set_leads, set_leads_at}
-use Rattle.mc_step.proofs.Operands.{operand_graph, below, operand_met, new_node}
+use Rattle.mc_step.proofs.Operands.{operand_graph, operand_met, new_node}
 use Rattle.mc_step.proofs.Fields.{vars_slice, vars_set, vars_length, unknown_vars, block_field_is, some_field, loaded_is, stored_is, freed_is}
 use Rattle.mc_step.proofs.Parts.{equal_value, one_part, block_out, there, is_address, freed_true}
 
@@ -100,7 +100,7 @@ module _ (laws : StepLaws) (defs : List Def) where
       let is = is_address laws defs w c.vars region t b.id b.at i.shape b.fields out stood.addresses in
       let same : v i.n.0 ≡ v b.at.0 = equal_value laws defs v c.vars region s i.n b.at stood.addresses stood.stands b.equal in
       let nodes = edge_at (λ e. AreNodes s.kinds (nodes_of e)) s.graph.edges b.id (edge.Block b.at i.shape b.fields) b.there bounded.edges in
-      let stays : w b.at.0 ≡ v b.at.0 = met.0.agrees b.at.0 (below s b.at bounded nodes.0) in
+      let stays : w b.at.0 ≡ v b.at.0 = met.0.agrees b.at.0 (laws.bounds.below s b.at bounded nodes.0) in
       let value : value_in c.vars i.y ≡ Some (v i.n.0) = laws.states.known defs v c.vars region s i.y i.n stood.stands i.known in
       let lengths : length out.contents ≡ length b.fields = vars_length w b.fields out.contents out.meets in
       let inside : i.f < length out.contents = (let lt = i.field in omega arith) in

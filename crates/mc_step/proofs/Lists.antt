@@ -1,16 +1,13 @@
 -- What holds of each of a list, of known nodes and of edges.
-use Rattle.std.proofs.Common.{◌≡◌, ◌<◌, ℕ, zero, suc, List, [], ◌∷◌, ◌++◌, Bool, true, false, Option, Some, None, get_or, slice_get, slice_set, refl, sym, subst, arith, eqb-true, inl, inr}
+use Rattle.std.proofs.Common.{◌≡◌, ℕ, zero, suc, List, [], ◌∷◌, ◌++◌, Bool, true, false, Option, Some, None, get_or, slice_get, slice_set, subst}
 use Rattle.std.specs.Prelude.{◌==◌, if◌then◌else◌, All}
 use Rattle.std.specs.List.{AllByRecursion}
 use Rattle.std.proofs.lemmas.Option.{slice_get_within, get_or_from_slice_get}
 use Rattle.mc_base.specs.declared.ids.EdgeId.{EdgeId}
 use Rattle.mc_base.specs.declared.ids.NodeId.{NodeId}
-use Rattle.mc_base.specs.declared.plain.Kind.{Kind}
 use Rattle.mc_graph.specs.declared.edge.Edge.{Edge}
 use Rattle.mc_graph.specs.Edges.{known_nodes}
 use Rattle.mc_graph.specs.Graph.{Edges, edge_with}
-use Rattle.mc_pure.specs.Pure.{Kinds, IsNode, kind_of}
-use Rattle.mc_state.specs.Fits.{NodesAscend}
 
 pub all_append : {X : Type 0} (P : X → Type 0) (xs ys : List X) → AllByRecursion P xs → AllByRecursion P ys → AllByRecursion P (xs ++ ys)
 all_append P [] ys a b = b
@@ -46,7 +43,7 @@ known_set P (Some k ∷ xs) zero n p a = (p, a.1)
 known_set P (None ∷ xs) (suc place) n p a = known_set P xs place n p a
 known_set P (Some k ∷ xs) (suc place) n p a = (a.0, known_set P xs place n p a.1)
 
--- ---- edges and nodes
+-- ---- edges
 
 pub edge_at : (P : Edge → Type 0) (es : Edges) (id : EdgeId) (e : Edge) → edge_with es id ≡ Some e → AllByRecursion (λ (x : EdgeId × Edge). P x.1) es → P e
 edge_at P [] id e h a = cc
@@ -55,18 +52,3 @@ edge_at P (x ∷ es) id e h a = at (λ k. edge_at P es id e k a.1) (x.0.0 == id.
     at : (edge_with es id ≡ Some e → P e) → (here : Bool) → (if here then Some x.1 else edge_with es id) ≡ Some e → P e
     at others true k = let same : x.1 ≡ e = cc in subst P same a.0
     at others false k = others k
-
-kind_below : (kinds : Kinds) (low high : ℕ) (n : NodeId) (kind : Kind) → NodesAscend low kinds high → kind_of kinds n ≡ Some kind → n.0 < high
-kind_below [] low high n kind a e = cc
-kind_below (k ∷ kinds) low high n kind a e = at (λ h. kind_below kinds (suc k.0.0) high n kind a.2 h) (k.0.0 == n.0) refl e
-  where
-    at : (kind_of kinds n ≡ Some kind → n.0 < high) → (here : Bool) → (k.0.0 == n.0) ≡ here → (if here then Some k.1 else kind_of kinds n) ≡ Some kind → n.0 < high
-    at others true t h = let same : k.0.0 ≡ n.0 = eqb-true k.0.0 n.0 t in subst (λ m. m < high) same a.1
-    at others false t h = others h
-
--- nodes that are there lie below the next one
-pub node_below : (kinds : Kinds) (low high : ℕ) (n : NodeId) → 0 < high → NodesAscend low kinds high → IsNode kinds n → n.0 < high
-node_below kinds low high n positive ascend there = elim there.1 [
-  | inl e ↦ subst (λ (m : NodeId). m.0 < high) (sym e) positive
-  | inr e ↦ kind_below kinds low high n there.0 ascend e
-]

@@ -1,7 +1,7 @@
 -- What the laws of steps rest on.
 use Rattle.mc_heap.specs.PartLaws.{SplitCommutes, SplitDropsEmpty, SplitAddsEmpty, InsertChanges, RemoveChanges, InsertKeepsAddresses, RemoveKeepsAddresses, CellIsRead, CellIsAdded, CellIsReplaced, CellIsRemoved}
 use Rattle.mc_heap.specs.Adding.{BlocksAreAdded, BlocksKeepAddresses}
-use Rattle.mc_state.specs.Laws.{DerivedIsTrue, NodesAreAdded, NodesHaveValues, AtomsAreAdded, VarIsSet, VarIsForgotten, VarIsKnown, EdgesAreTaken, EdgesArePut, EdgeIsReplaced, VarStaysBounded, NodesStayBounded, NewNodesAreThere, AtomsStayBounded, EdgesStayBounded, FewerEdgesStayBounded, ReplacedStaysBounded}
+use Rattle.mc_state.specs.Laws.{DerivedIsTrue, NodesAreAdded, NodesHaveValues, AtomsAreAdded, VarIsSet, VarIsForgotten, VarIsKnown, EdgesAreTaken, EdgesArePut, EdgeIsReplaced, VarStaysBounded, NodesStayBounded, NewNodesAreThere, AtomsStayBounded, EdgesStayBounded, FewerEdgesStayBounded, ReplacedStaysBounded, NodesAreBelow, ValuesAgree, WholeWithoutEdges}
 
 -- how numbers stay in their bounds
 pub record BoundLaws : Type 0 where
@@ -12,12 +12,14 @@ pub record BoundLaws : Type 0 where
   pub fewer_edges : FewerEdgesStayBounded
   pub replaced : ReplacedStaysBounded
   pub new : NewNodesAreThere
+  pub below : NodesAreBelow
 
 -- how what stands for a state stands for a changed one
 pub record StateLaws : Type 0 where
   pub derived : DerivedIsTrue
   pub nodes : NodesAreAdded
   pub values : NodesHaveValues
+  pub agree : ValuesAgree
   pub atoms : AtomsAreAdded
   pub set : VarIsSet
   pub forgotten : VarIsForgotten
@@ -25,6 +27,7 @@ pub record StateLaws : Type 0 where
   pub taken : EdgesAreTaken
   pub put : EdgesArePut
   pub replaced : EdgeIsReplaced
+  pub whole : WholeWithoutEdges
 
 -- how heaps and their parts change
 pub record HeapLaws : Type 0 where

@@ -32,7 +32,7 @@ use Rattle.mc_step.specs.Laws.{IsAt, LeadsOn}
 use Rattle.mc_step.proofs.LowerLaws.{StepLaws}
 use Rattle.mc_step.proofs.Lists.{all_append}
 use Rattle.mc_step.proofs.Moving.{IsSoundAt, step_at, fits_at, leads, first_of_one, set_leads}
-use Rattle.mc_step.proofs.Operands.{below, two_there, two_met, new_node}
+use Rattle.mc_step.proofs.Operands.{two_there, two_met, new_node}
 use Rattle.mc_step.proofs.Tests.{in_range}
 use Rattle.mc_step.proofs.Wrapping.{OffsetsAreTrue, wrapped_int, range_true, sum_offsets_true, difference_offsets_true, no_offsets_true}
 
@@ -66,8 +66,8 @@ module _ (laws : StepLaws) (defs : List Def) where
       let z : ℤ = wrapped (op (met.0.w i.a.0) (met.0.w i.b.0)) in
       let new = new_node laws defs c.vars region met.0.w both Int z there.bounded (wrapped_int (op (met.0.w i.a.0) (met.0.w i.b.0))) met.0.stands in
       let w = new.w in
-      let a_same : w i.a.0 ≡ met.0.w i.a.0 = new.agrees i.a.0 (below both i.a there.bounded there.all.0) in
-      let b_same : w i.b.0 ≡ met.0.w i.b.0 = new.agrees i.b.0 (below both i.b there.bounded there.all.1.0) in
+      let a_same : w i.a.0 ≡ met.0.w i.a.0 = new.agrees i.a.0 (laws.bounds.below both i.a there.bounded there.all.0) in
+      let b_same : w i.b.0 ≡ met.0.w i.b.0 = new.agrees i.b.0 (laws.bounds.below both i.b there.bounded there.all.1.0) in
       let n = next_node both in
       let value : w n.0 ≡ wrapped (op (w i.a.0) (w i.b.0)) = new.here ∙ ap wrapped (ap₂ op (sym a_same) (sym b_same)) in
       let l : Holds i.left (w i.a.0) = subst (Holds i.left) (sym a_same) left in

@@ -24,7 +24,7 @@ use Rattle.mc_state.specs.Fits.{AreNodes, IsBounded}
 use Rattle.mc_state.specs.Stands.{StandsBy, AgreeBelow, extended}
 use Rattle.mc_step.specs.Operands.{operand_node, with_operand, with_operands, AreNodesOf}
 use Rattle.mc_step.proofs.LowerLaws.{BoundLaws, StepLaws}
-use Rattle.mc_step.proofs.Lists.{all_map, known_at, node_below}
+use Rattle.mc_step.proofs.Lists.{known_at}
 
 -- ---- the node of an operand changes no variable and no edge
 
@@ -52,9 +52,6 @@ pub record AreThere (s : State) (ns : List NodeId) (t : State) : Type 0 where
   pub all : AreNodes t.kinds ns
   pub more : (m : NodeId) → IsNode s.kinds m → IsNode t.kinds m
   pub grows : s.next ≤ t.next
-
-pub below : (s : State) (n : NodeId) → IsBounded s → IsNode s.kinds n → n.0 < s.next
-below s n b there = node_below s.kinds 1 s.next n b.positive b.kinds there
 
 module _ (laws : BoundLaws) where
   const_there : (s : State) (c : ℤ) (zero : Bool) → IsBounded s
@@ -167,7 +164,7 @@ module _ (laws : StepLaws) (defs : List Def) (values : List (Option ℤ)) (regio
       let there = operand_there laws.bounds s o a bounded left in
       let first = operand_met v s vars k o a fits left bounded st in
       let second = operand_met first.0.w (with_operand s o) vars k p b fits' right there.bounded first.0.stands in
-      let same : second.0.w a.0 ≡ first.0.w a.0 = second.0.agrees a.0 (below (with_operand s o) a there.bounded there.all.0) in (
+      let same : second.0.w a.0 ≡ first.0.w a.0 = second.0.agrees a.0 (laws.bounds.below (with_operand s o) a there.bounded there.all.0) in (
         record { w = second.0.w; agrees = λ m lt. second.0.agrees m (let more = there.grows in omega arith) ∙ first.0.agrees m lt; stands = second.0.stands },
         first.1 ∙ ap Some (sym same),
         second.1,
@@ -176,10 +173,6 @@ module _ (laws : StepLaws) (defs : List Def) (values : List (Option ℤ)) (regio
   -- each of the operands has the value of its node
   abbrev pub ManyMet : Valuation → State → List Operand → List NodeId → Type 0
   ManyMet v s os ns = (m : IsMet defs v values region s (with_operands s os)) × (values_of values os ≡ Some (map (at_node m.w) ns))
-
-  pub nodes_agree : (v w : Valuation) (n : ℕ) (ns : List NodeId) → AgreeBelow n v w → AllByRecursion (λ (m : NodeId). m.0 < n) ns → map (at_node w) ns ≡ map (at_node v) ns
-  nodes_agree v w n [] agree a = refl
-  nodes_agree v w n (m ∷ ns) agree a = ap₂ (λ (z : ℤ) (zs : List ℤ). z ∷ zs) (agree m.0 a.0) (nodes_agree v w n ns agree a.1)
 
   pub many_met : (vars : List VarInfo) (os : List Operand) (kinds : List Kind) (v : Valuation) (s : State) (ns : List NodeId) → ArgsFit vars os kinds → AreNodesOf s os ns → IsBounded s → StandsBy defs v values region s → ManyMet v s os ns
   many_met vars [] kinds v s [] fits h b st = (record { w = v; agrees = λ m lt. refl; stands = st }, refl)
@@ -190,7 +183,7 @@ module _ (laws : StepLaws) (defs : List Def) (values : List (Option ℤ)) (regio
       let there = operand_there laws.bounds s o n b h.0 in
       let first = operand_met v s vars kind o n fits.0 h.0 b st in
       let others = many_met vars os kinds first.0.w (with_operand s o) ns fits.1 h.1 there.bounded first.0.stands in
-      let same : others.0.w n.0 ≡ first.0.w n.0 = others.0.agrees n.0 (below (with_operand s o) n there.bounded there.all.0) in (
+      let same : others.0.w n.0 ≡ first.0.w n.0 = others.0.agrees n.0 (laws.bounds.below (with_operand s o) n there.bounded there.all.0) in (
         record { w = others.0.w; agrees = λ m lt. others.0.agrees m (let more = there.grows in omega arith) ∙ first.0.agrees m lt; stands = others.0.stands },
         ap (λ (x : Option ℤ). all_there (x ∷ map (value_of values) os)) (first.1 ∙ ap Some (sym same)) ∙ ap (option_map (λ (zs : List ℤ). others.0.w n.0 ∷ zs)) others.1,
       )

@@ -1,5 +1,5 @@
 -- Shapes that are assumed and asserted, and the empty heap.
-use Rattle.std.proofs.Common.{◌≡◌, ◌<◌, ℕ, zero, suc, List, [], ◌∷◌, map, take, Option, Some, None, slice_get, refl, sym, ap, ◌∙◌, subst, inl, inr, ℤ, pos}
+use Rattle.std.proofs.Common.{◌≡◌, ℕ, zero, suc, List, [], ◌∷◌, map, take, Option, Some, None, slice_get, refl, sym, ap, ◌∙◌, subst, inl, inr, ℤ, pos}
 use Rattle.std.specs.List.{AllByRecursion}
 use Rattle.mc_base.specs.declared.ids.NodeId.{NodeId}
 use Rattle.mc_base.specs.declared.ids.PointId.{PointId}
@@ -31,16 +31,16 @@ use Rattle.mc_graph.specs.declared.edge.Edge.TheVariants as edge
 use Rattle.mc_state.specs.declared.goal.Goal.{Goal}
 use Rattle.mc_state.specs.State.{State, next_node, with_nodes, with_edges, with_var}
 use Rattle.mc_state.specs.Fits.{AreNodes, IsBounded}
-use Rattle.mc_state.specs.Stands.{EdgeMeets, EdgesMeet, StandsBy}
+use Rattle.mc_state.specs.Stands.{EdgeMeets, StandsBy}
 use Rattle.mc_state.specs.Rules.{GoalHolds}
 use Rattle.mc_step.specs.declared.next.Next.{Next}
 use Rattle.mc_step.specs.Operands.{with_operand, with_operands}
 use Rattle.mc_step.specs.Steps.{moved_to, S15Is, S16Is, S18Is}
 use Rattle.mc_step.specs.Laws.{IsAt, LeadsOn, SidesHold}
 use Rattle.mc_step.proofs.LowerLaws.{StepLaws}
-use Rattle.mc_step.proofs.Lists.{all_at, all_map}
+use Rattle.mc_step.proofs.Lists.{all_at}
 use Rattle.mc_step.proofs.Moving.{IsSoundAt, step_at, fits_at, leads, set_leads_at}
-use Rattle.mc_step.proofs.Operands.{below, operand_there, many_there, operand_met, many_met, new_node, nodes_agree}
+use Rattle.mc_step.proofs.Operands.{operand_there, many_there, operand_met, many_met, new_node}
 use Rattle.mc_step.proofs.Parts.{one_part}
 
 -- ---- what a predicate holds of is a pointer
@@ -77,7 +77,7 @@ module _ (laws : StepLaws) (defs : List Def) where
       let t = with_nodes before (Ptr ∷ []) in
       let n = next_node before in
       let made = edge.Ind n pred args in
-      let same : map (at_node u) args ≡ map (at_node w) args = nodes_agree laws defs c.vars region w u before.next args new.agrees (all_map _ (λ (m : NodeId). m.0 < before.next) (λ m is. below before m bounded is) args there) in
+      let same : map (at_node u) args ≡ map (at_node w) args = laws.states.agree before w u args bounded new.agrees there in
       let meets : EdgeMeets defs u made part = rw (new.here, same) holds in
       let heap = with_blocks c.heap blocks in
       let after = region_of heap in
@@ -110,7 +110,7 @@ module _ (laws : StepLaws) (defs : List Def) where
       let one = operand_met laws defs c.vars region v s flow.vars Ptr i.o i.n fits.0 i.known bounded stood.stands in
       let many = many_met laws defs c.vars region flow.vars i.os fits.1.def.params one.0.w first i.args fits.1.args i.args_known there.bounded one.0.stands in
       let w = many.0.w in
-      let same : w i.n.0 ≡ one.0.w i.n.0 = many.0.agrees i.n.0 (below first i.n there.bounded there.all.0) in
+      let same : w i.n.0 ≡ one.0.w i.n.0 = many.0.agrees i.n.0 (laws.bounds.below first i.n there.bounded there.all.0) in
       let value : value_of c.vars i.o ≡ Some (w i.n.0) = one.1 ∙ ap Some (sym same) in
       let asserts : Demands (HoldsSomewhere defs i.pred (w i.n.0) (map (at_node w) i.args) region) faults.Shape i.q st.0 c choices r =
       subst (λ o. Asserts defs i.pred i.q st.0 c choices (Some (w i.n.0)) o r) many.1 (subst (λ o. Asserts defs i.pred i.q st.0 c choices o (values_of c.vars i.os) r) value st.1) in
@@ -127,10 +127,7 @@ module _ (laws : StepLaws) (defs : List Def) where
   s18_sound flow p s next i v c choices r valid bounded stood sides step =
       let region = region_of c.heap in
       let st = step_at flow defs p (instr.AssertEmpty i.q) c choices r i.at stood.point step in
-      let parts = stood.stands.parts in
-      let held : IsEmpty parts.held = subst (λ es. EdgesMeet defs v es parts.held) i.none parts.each in
-      let same : region ≡ parts.rest = laws.heaps.drops_empty region parts.held parts.rest held parts.split in
-      let empty : IsEmpty region = subst IsEmpty (sym same) (parts.alone i.whole) in
+      let empty : IsEmpty region = laws.states.whole defs c.vars region s i.whole i.none (v, stood.stands) in
       elim st.1 [
         | inl goes ↦ leads defs next 0 i.q s v (at_point i.q c) choices r goes.1 (ap (λ xs. slice_get xs 0) i.gives) refl stood.addresses stood.stands
         | inr fails ↦ absurd (fails.0 empty)

@@ -6,6 +6,7 @@ pub fn steps_are_sound()
     ensures { StepsAreSound }
 {
     mc_state::derived_is_true();
+    mc_state::nothing_is_allocated();
     mc_state::new_nodes_are_free();
     mc_state::variables_change();
     mc_state::edges_come_and_go();

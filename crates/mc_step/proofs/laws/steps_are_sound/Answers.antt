@@ -13,11 +13,13 @@ returns c =
         fewer_edges = c.numbers_stay_bounded.ensures.fewer_edges;
         replaced = c.numbers_stay_bounded.ensures.replaced;
         new = c.nodes_are_there.ensures.new;
+        below = c.nodes_are_there.ensures.below;
       };
       states = record {
         derived = c.derived_is_true.ensures.derived;
         nodes = c.new_nodes_are_free.ensures.nodes;
         values = c.new_nodes_are_free.ensures.values;
+        agree = c.new_nodes_are_free.ensures.values_agree;
         atoms = c.new_nodes_are_free.ensures.atoms;
         set = c.variables_change.ensures.set;
         forgotten = c.variables_change.ensures.forgotten;
@@ -25,6 +27,7 @@ returns c =
         taken = c.edges_come_and_go.ensures.taken;
         put = c.edges_come_and_go.ensures.put;
         replaced = c.edges_come_and_go.ensures.replaced;
+        whole = c.nothing_is_allocated.ensures.whole;
       };
       heaps = record {
         commutes = c.parts_regroup.ensures.commutes;

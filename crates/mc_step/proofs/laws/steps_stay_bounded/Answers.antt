@@ -12,5 +12,6 @@ returns c =
       fewer_edges = c.numbers_stay_bounded.ensures.fewer_edges;
       replaced = c.numbers_stay_bounded.ensures.replaced;
       new = c.nodes_are_there.ensures.new;
+      below = c.nodes_are_there.ensures.below;
     } in
     proof.steps_stay_bounded laws
