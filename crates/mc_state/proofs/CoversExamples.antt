@@ -1,8 +1,7 @@
 -- Covers of small states, and none.
-use Rattle.std.proofs.Common.{◌≡◌, ◌≢◌, ◌⊎◌, ℕ, zero, suc, ℤ, pos, negsuc, ◌+ℤ◌, ◌-ℤ◌, true, false, Option, Some, None, List, [], ◌∷◌, ◌++◌, map, slice_get, refl, sym, ◌∙◌, ap, subst, inl, inr, arith}
+use Rattle.std.proofs.Common.{◌≡◌, ◌⊎◌, ℕ, zero, suc, pos, negsuc, ◌+ℤ◌, ◌-ℤ◌, Some, [], ◌∷◌, slice_get, refl, sym, ap, subst, inl, inr, arith}
 use Rattle.std.specs.List.{AllByRecursion}
 use Rattle.std.proofs.lemmas.Int.{ints}
-use Rattle.mc_base.specs.declared.ids.EdgeId.{EdgeId}
 use Rattle.mc_base.specs.declared.ids.NodeId.{NodeId}
 use Rattle.mc_base.specs.declared.plain.Atom.{Atom}
 use Rattle.mc_base.specs.declared.plain.Atom.TheVariants as atom
@@ -12,7 +11,7 @@ use Rattle.mc_base.specs.Atoms.{IsTrueAtom}
 use Rattle.mc_base.specs.Nodes.{null}
 use Rattle.mc_defs.specs.declared.rules.Def.{Def}
 use Rattle.mc_defs.specs.declared.rules.Rule.{Rule}
-use Rattle.mc_defs.specs.Examples.{defs, cell_id, fork_id, list_id, lenlist_id, tree_id, null_rule, list_rule, lenlist_rule, tree_rule, list_def, lenlist_def, tree_def}
+use Rattle.mc_defs.specs.Examples.{defs, cell_id, list_id, lenlist_id, tree_id, null_rule, list_rule, lenlist_rule, tree_rule, list_def, lenlist_def, tree_def}
 use Rattle.mc_graph.specs.declared.edge.Edge.TheVariants as edge
 use Rattle.mc_graph.specs.Graph.{Edges}
 use Rattle.mc_pure.specs.Derived as pure
@@ -23,8 +22,8 @@ use Rattle.mc_pure.specs.Pure.{Base, kind_atom}
 use Rattle.mc_state.specs.declared.terms.Term.{Term}
 use Rattle.mc_state.specs.State.{State, pure_of}
 use Rattle.mc_state.specs.Facts.{Derives}
-use Rattle.mc_state.specs.Terms.{plain, plus, AreEqualTerms, TermLiesIn, term_of, atom_on}
-use Rattle.mc_state.specs.Covers.{RuleTerms, BlockIsTaken, CallsAreFound, CoverAt, Cover, SegCover, IsByRule}
+use Rattle.mc_state.specs.Terms.{plus, term_of, atom_on}
+use Rattle.mc_state.specs.Covers.{RuleTerms, BlockIsTaken, CoverAt, Cover, SegCover}
 use Rattle.mc_state.specs.CoverExamples.{lone_pointer, cell_and_list, rest_list, segment_and_list, cell_and_length, fork_and_tree, other_list, at, entry}
 
 -- ---- what follows at once
