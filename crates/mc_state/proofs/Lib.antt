@@ -1,6 +1,7 @@
 pub mod Bodies
 pub mod Changing
 pub mod CoversExamples
+pub mod CoversNone
 pub mod CoversPremises
 pub mod CoversSound
 pub mod CoversTerms

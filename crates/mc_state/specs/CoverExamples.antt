@@ -60,6 +60,11 @@ fork_and_tree =
     (other_list ∷ Block (node 1) fork_id (Some (node 2) ∷ Some (node 3) ∷ []) ∷ Ind (node 2) tree_id [] ∷ [])
     (Eq (node 3) null (pos 0) ∷ [])
 
+-- a fork both of whose pointers point to one tree, which is not null
+abbrev pub shared_tree : State
+shared_tree =
+    state_of ((node 1, Ptr) ∷ (node 2, Ptr) ∷ []) (Block (node 1) fork_id (Some (node 2) ∷ Some (node 2) ∷ []) ∷ Ind (node 2) tree_id [] ∷ []) (Ne (node 2) null (pos 0) ∷ [])
+
 -- the cell at 7 points to 9
 abbrev pub at_seven : Valuation
 at_seven n = get_or (pos 0 ∷ pos 7 ∷ pos 5 ∷ pos 9 ∷ []) n (pos 0)
