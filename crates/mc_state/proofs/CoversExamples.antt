@@ -1,29 +1,22 @@
 -- Covers of small states.
-use Rattle.std.proofs.Common.{◌≡◌, ◌⊎◌, ℕ, zero, suc, pos, negsuc, ◌+ℤ◌, ◌-ℤ◌, Some, [], ◌∷◌, slice_get, refl, sym, ap, subst, inl, inr, arith}
-use Rattle.std.specs.List.{AllByRecursion}
-use Rattle.std.proofs.lemmas.Int.{ints}
+use Rattle.std.proofs.Common.{◌≡◌, ℕ, pos, negsuc, Some, [], ◌∷◌, slice_get, refl, inl, inr}
 use Rattle.mc_base.specs.declared.ids.NodeId.{NodeId}
 use Rattle.mc_base.specs.declared.plain.Atom.{Atom}
 use Rattle.mc_base.specs.declared.plain.Atom.TheVariants as atom
 use Rattle.mc_base.specs.declared.plain.Kind.{Kind}
 use Rattle.mc_base.specs.declared.plain.Kind.TheVariants.{Int, Ptr}
-use Rattle.mc_base.specs.Atoms.{IsTrueAtom}
 use Rattle.mc_base.specs.Nodes.{null}
-use Rattle.mc_defs.specs.declared.rules.Def.{Def}
-use Rattle.mc_defs.specs.declared.rules.Rule.{Rule}
 use Rattle.mc_defs.specs.Examples.{defs, cell_id, list_id, lenlist_id, tree_id, null_rule, list_rule, lenlist_rule, tree_rule, list_def, lenlist_def, tree_def}
 use Rattle.mc_graph.specs.declared.edge.Edge.TheVariants as edge
 use Rattle.mc_graph.specs.Graph.{Edges}
 use Rattle.mc_pure.specs.Derived as pure
 use Rattle.mc_pure.specs.Examples.{node}
-use Rattle.mc_pure.specs.Laws as pure_laws
 use Rattle.mc_pure.specs.Pure as known
 use Rattle.mc_pure.specs.Pure.{Base, kind_atom}
-use Rattle.mc_state.specs.declared.terms.Term.{Term}
-use Rattle.mc_state.specs.State.{State, pure_of}
+use Rattle.mc_state.specs.State.{State}
 use Rattle.mc_state.specs.Facts.{Derives}
-use Rattle.mc_state.specs.Terms.{plus, term_of, atom_on}
-use Rattle.mc_state.specs.Covers.{RuleTerms, BlockIsTaken, CoverAt, Cover, SegCover}
+use Rattle.mc_state.specs.Terms.{plus}
+use Rattle.mc_state.specs.Covers.{RuleTerms, BlockIsTaken, Cover, SegCover}
 use Rattle.mc_state.specs.CoverExamples.{lone_pointer, cell_and_list, rest_list, segment_and_list, cell_and_length, fork_and_tree, other_list, at, entry}
 
 -- ---- what follows at once
