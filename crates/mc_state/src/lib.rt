@@ -18,7 +18,8 @@ pub use covers::{
 };
 pub use goal::Goal;
 pub use laws::{
-    derived_is_true, edges_come_and_go, less_is_known, new_nodes_are_free, variables_change,
+    derived_is_true, edges_come_and_go, less_is_known, merging_is_sound, new_nodes_are_free,
+    nodes_are_there, numbers_stay_bounded, renaming_is_sound, variables_change,
 };
 pub use line::{Form, JoinStep, Line, Side, Version};
 pub use mc_graph::Edge;
