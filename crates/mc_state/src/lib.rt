@@ -7,6 +7,7 @@ mod goal;
 mod laws;
 mod line;
 mod raw_state;
+mod rule;
 mod state;
 mod straight_line;
 mod terms;
@@ -24,6 +25,7 @@ pub use laws::{
 pub use line::{Form, JoinStep, Line, Side, Version};
 pub use mc_graph::Edge;
 pub use raw_state::{NodeKind, RawState};
+pub use rule::{LogicFault, LogicRule};
 pub use state::State;
 pub use straight_line::StraightLine;
 pub use terms::Term;
