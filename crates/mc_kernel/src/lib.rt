@@ -6,7 +6,7 @@ ghost use Rattle.mc_defs.specs.declared.rules.Def.{Def};
 ghost use Rattle.mc_flow.specs.declared.graph.Flow.{Flow};
 ghost use Rattle.mc_flow.specs.Valid.{IsValid};
 ghost use Rattle.mc_flow.specs.Steps.{IsSafeFlow};
-ghost use Rattle.mc_state.specs.declared.line.Line.{Line};
+ghost use Rattle.mc_state.specs.declared.straight_line.StraightLine.{StraightLine as Line};
 ghost use Rattle.mc_kernel.specs.declared.branch.Branch.{Branch as Open};
 ghost use Rattle.mc_kernel.specs.Rules.{Instance, IsCertificate};
 

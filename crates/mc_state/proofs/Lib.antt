@@ -1,8 +1,8 @@
-pub mod Beginning
 pub mod Bodies
 pub mod Bounds
 pub mod Changing
 pub mod CoversExamples
+pub mod CoversNone
 pub mod CoversPremises
 pub mod CoversSound
 pub mod CoversTerms

@@ -7,7 +7,10 @@ mod facts;
 mod goal;
 mod laws;
 mod line;
+mod raw_state;
+mod rule;
 mod state;
+mod straight_line;
 mod terms;
 #[cfg(test)]
 mod tests;
@@ -22,7 +25,10 @@ pub use laws::{
     nodes_are_there, nothing_is_allocated, numbers_stay_bounded, renaming_is_sound,
     variables_change,
 };
-pub use line::{Form, Line, Version};
+pub use line::{Form, JoinStep, Line, Side, Version};
 pub use mc_graph::Edge;
+pub use raw_state::{NodeKind, RawState};
+pub use rule::{LogicFault, LogicRule};
 pub use state::State;
+pub use straight_line::StraightLine;
 pub use terms::Term;
