@@ -1,6 +1,6 @@
 -- The laws that the soundness of documents rests on.
 use Rattle.mc_heap.specs.PartLaws.{EmptyHeapIsEmpty}
-use Rattle.mc_state.specs.Laws.{NoneStandsForFalse, UnknownIsBounded}
+use Rattle.mc_state.specs.Laws.{NoneStandsForFalse, UnknownStands, UnknownIsBounded}
 use Rattle.mc_unfold.specs.Laws.{LawOfInd, LawOfSeg}
 use Rattle.mc_fold.specs.Laws.{LawOfFoldInd, LawOfFoldSeg, LawOfCloseSeg, LawOfJoinSegs, LawOfEmptySeg, LawOfSpare, LawOfMerge, LawOfDrop, LawOfForget, LawOfGoal}
 use Rattle.mc_step.specs.Laws.{StepsAreSound, StepsStayBounded}
@@ -9,6 +9,7 @@ use Rattle.mc_kernel.specs.JumpLaws.{JumpsAreSound}
 pub record CalculusLaws : Type 0 where
   pub empty : EmptyHeapIsEmpty
   pub unknown : UnknownIsBounded
+  pub beginning : UnknownStands
   pub not_false : NoneStandsForFalse
   pub steps : StepsAreSound
   pub bounded : StepsStayBounded

@@ -1,5 +1,5 @@
 -- What is claimed of branches.
-use Rattle.std.proofs.Common.{◌≡◌, ℕ, zero, suc, Bool, true, false, Option, Some, None, List, [], ◌∷◌, map, slice_get, refl, sym, ◌∙◌, subst, eqb-true}
+use Rattle.std.proofs.Common.{◌≡◌, ◌<◌, ℕ, zero, suc, Bool, true, false, Option, Some, None, List, [], ◌∷◌, map, slice_get, refl, sym, ◌∙◌, subst, eqb-true}
 use Rattle.std.specs.Prelude.{◌==◌, if◌then◌else◌, option_map}
 use Rattle.std.specs.List.{AllByRecursion}
 use Rattle.mc_base.specs.declared.ids.NodeId.{NodeId}
@@ -74,10 +74,11 @@ module _ (flow : Flow) (defs : List Def) (P : Config → Type 0) where
   pub heads_hold : (n : ℕ) (p : PointId) (heads : List Head) → AllByRecursion (Holds n) (map (λ (h : Head). begins h.0 h.1) heads)
       → (j : ℕ) (s : State) → slice_get (states_at p heads) j ≡ Some s → Holds n (begins p s)
   heads_hold n p [] all j s e = cc
-  heads_hold n p (h ∷ heads) all j s e = at (h.0.0 == p.0) refl j e
+  heads_hold n p (h ∷ heads) all j s e = at (λ k more. heads_hold n p heads all.1 k s more) (h.0.0 == p.0) refl j e
     where
-      at : (here : Bool) → (h.0.0 == p.0) ≡ here → (j : ℕ) → slice_get (if here then h.1 ∷ states_at p heads else states_at p heads) j ≡ Some s → Holds n (begins p s)
-      at true is zero e =
+      at : ((k : ℕ) → slice_get (states_at p heads) k ≡ Some s → Holds n (begins p s)) → (here : Bool) → (h.0.0 == p.0) ≡ here
+          → (j : ℕ) → slice_get (if here then h.1 ∷ states_at p heads else states_at p heads) j ≡ Some s → Holds n (begins p s)
+      at later true is zero e =
           let same : h.0.0 ≡ p.0 = eqb-true h.0.0 p.0 is in
           let state : h.1 ≡ s = cc in
           λ v c there. all.0 v c (record {
@@ -85,5 +86,5 @@ module _ (flow : Flow) (defs : List Def) (P : Config → Type 0) where
             addresses = there.addresses;
             stands = subst (λ (x : State). StandsBy defs v c.vars (region_of c.heap) x) (sym state) there.stands;
           })
-      at true is (suc j) e = heads_hold n p heads all.1 j s e
-      at false is j e = heads_hold n p heads all.1 j s e
+      at later true is (suc j) e = later j e
+      at later false is j e = later j e

@@ -36,11 +36,11 @@ goal_below_more n m (Some goal) le below = all_map (λ (k : NodeId). k.0 < n) (�
 
 kind_below : (low high : ℕ) (kinds : Kinds) (n : NodeId) (kind : Kind) → NodesAscend low kinds high → kind_of kinds n ≡ Some kind → n.0 < high
 kind_below low high [] n kind ascend e = cc
-kind_below low high (k ∷ kinds) n kind ascend e = at (k.0.0 == n.0) refl e
+kind_below low high (k ∷ kinds) n kind ascend e = at (kind_below (suc k.0.0) high kinds n kind ascend.2) (k.0.0 == n.0) refl e
   where
-    at : (here : Bool) → (k.0.0 == n.0) ≡ here → (if here then Some k.1 else kind_of kinds n) ≡ Some kind → n.0 < high
-    at true is e = let same : k.0.0 ≡ n.0 = eqb-true k.0.0 n.0 is in let below = ascend.1 in omega arith
-    at false is e = kind_below (suc k.0.0) high kinds n kind ascend.2 e
+    at : (kind_of kinds n ≡ Some kind → n.0 < high) → (here : Bool) → (k.0.0 == n.0) ≡ here → (if here then Some k.1 else kind_of kinds n) ≡ Some kind → n.0 < high
+    at more true is e = let same : k.0.0 ≡ n.0 = eqb-true k.0.0 n.0 is in let below = ascend.1 in omega arith
+    at more false is e = more e
 
 pub node_below : (s : State) (n : NodeId) → IsBounded s → IsNode s.kinds n → n.0 < s.next
 node_below s n bounded there = elim there.1 [

@@ -25,7 +25,7 @@ use Rattle.mc_pure.specs.Derived.{LiesIn}
 use Rattle.mc_state.specs.State.{State, pure_of, with_only_edges}
 use Rattle.mc_state.specs.Facts.{Derives, AreEqual}
 use Rattle.mc_state.specs.Stands.{VarMeets, VarsMeet, EdgeMeets, StandsBy, Parts}
-use Rattle.mc_state.specs.Laws.{DerivedIsTrue, EqualNodesAreOne, EdgesAreTaken}
+use Rattle.mc_state.specs.Laws.{DerivedIsTrue, EqualNodesAreOne, EdgesAreTaken, WholeWithoutEdges}
 use Rattle.mc_kernel.specs.Jumps.{Jumps, image_of, IsKnownToo, AreKnownToo, AreImages, EdgeMatches, EdgesMatch}
 use Rattle.mc_kernel.specs.JumpLaws.{JumpsAreSound}
 
@@ -34,6 +34,7 @@ pub record StateLaws : Type 0 where
   pub derived : DerivedIsTrue
   pub equal : EqualNodesAreOne
   pub taken : EdgesAreTaken
+  pub whole : WholeWithoutEdges
 
 same_sat : (defs : List Def) (pred own : PredId) (x y : ℤ) (xs ys : List ℤ) (part : Region) → own ≡ pred → x ≡ y → xs ≡ ys → Sat defs own y ys part → Sat defs pred x xs part
 same_sat defs pred own x y xs ys part e f g m = rw (← e, f, g) m
@@ -41,11 +42,6 @@ same_sat defs pred own x y xs ys part e f g m = rw (← e, f, g) m
 same_seg : (defs : List Def) (pred own : PredId) (x y : ℤ) (xs ys : List ℤ) (a b : ℤ) (as' bs : List ℤ) (part : Region)
     → own ≡ pred → x ≡ y → xs ≡ ys → a ≡ b → as' ≡ bs → Segment defs own y ys b bs part → Segment defs pred x xs a as' part
 same_seg defs pred own x y xs ys a b as' bs part e f g h i m = rw (← e, f, g, h, i) m
-
--- of two empty parts the whole is empty
-both_empty : (whole left right : Region) → ((at : ℕ) → Joins (whole at) (left at) (right at)) → IsEmpty left → IsEmpty right → IsEmpty whole
-both_empty whole left right joins none empty =
-    record { none = λ at. subst (λ r. Joins (whole at) None r) (empty.none at) (subst (λ l. Joins (whole at) l (right at)) (none.none at) (joins at)) }
 
 module _ (laws : StateLaws) (defs : List Def) (v : Valuation) (values : List (Option ℤ)) (region : Region) (s : State) (images : List NodeId) (addresses : IsAtAddresses region) (st : StandsBy defs v values region s) where
   abbrev imaged : Valuation
@@ -115,12 +111,6 @@ module _ (laws : StateLaws) (defs : List Def) (v : Valuation) (values : List (Op
   atoms_stand [] a = tt
   atoms_stand (f ∷ fs) a = (atom_stands f a.0, atoms_stand fs a.1)
 
-  -- where no edge is left of a whole state, nothing is left of the region
-  nothing_left : (others : Region) (left : Edges) → left ≡ [] → s.whole ≡ true → StandsBy defs v values others (with_only_edges s left) → IsEmpty others
-  nothing_left others left none whole stands =
-      let parts : Parts defs v others [] true = subst (λ b. Parts defs v others [] b) whole (subst (λ es. Parts defs v others es s.whole) none stands.parts) in
-      both_empty others parts.held parts.rest parts.split.joins parts.each (parts.alone refl)
-
   pub jumped : (t : State) (edges : List EdgeId) → Jumps s t images edges → StandsBy defs imaged values region t
   jumped t edges j =
       let got = laws.taken defs v values region s edges j.picked j.left j.picks st in
@@ -134,7 +124,7 @@ module _ (laws : StateLaws) (defs : List Def) (v : Valuation) (values : List (Op
           rest = got.1;
           split = got.2;
           each = edges_stand t.graph.edges j.picked got.0 j.match got.3;
-          alone = λ whole. let both = j.whole whole in nothing_left got.1 j.left both.1 both.0 got.4;
+          alone = λ whole. let both = j.whole whole in laws.whole defs values got.1 (with_only_edges s j.left) both.0 both.1 (v, got.4);
         };
       }
 
