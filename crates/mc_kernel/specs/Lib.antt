@@ -7,3 +7,4 @@ pub mod Instances
 pub mod Certificates
 pub mod Straight
 pub mod JumpLaws
+pub mod Examples
