@@ -5,6 +5,7 @@ pub mod Goals
 pub mod Induction
 pub mod Jumping
 pub mod Lines
+pub mod ListExample
 pub mod Lists
 pub mod LoopExample
 pub mod Moves
