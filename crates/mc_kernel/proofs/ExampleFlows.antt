@@ -1,10 +1,10 @@
 -- The flow graphs of the examples are valid.
-use Rattle.std.proofs.Common.{◌≡◌, ◌+◌, ◌<◌, ◌⊎◌, ℕ, zero, suc, List, [], ◌∷◌, length, Some, slice_get, refl, sym, subst, arith, inl, inr, pos}
-use Rattle.std.specs.Prelude.{All, Contains}
+use Rattle.std.proofs.Common.{◌≡◌, ◌+◌, ◌<◌, ℕ, zero, suc, List, [], ◌∷◌, length, Some, slice_get, refl, sym, subst, arith, inl, inr, pos}
+use Rattle.std.specs.Prelude.{All}
 use Rattle.std.proofs.lemmas.Int.{ints}
 use Rattle.mc_base.specs.declared.ids.PointId.{PointId}
 use Rattle.mc_base.specs.declared.ids.VarId.{VarId}
-use Rattle.mc_base.specs.declared.plain.Kind.TheVariants.{Int, Ptr}
+use Rattle.mc_base.specs.declared.plain.Kind.TheVariants.{Int}
 use Rattle.mc_base.specs.declared.plain.VarInfo.{VarInfo}
 use Rattle.mc_base.specs.Kinds.{InKind}
 use Rattle.mc_defs.specs.Conditions.{DefsFit}
@@ -61,16 +61,31 @@ loop_goes : (p q : ℕ) → p < q → q < 9 → GoesOn ex.loop_flow p (ex.at q)
 loop_goes p q lt less = (less, inl lt)
 
 loop_fits : FitFrom ex.loop_flow 0 (ex.points ex.loop_code)
-loop_fits =
-    (to_one ex.loop_flow 0 1 _ refl (loop_goes 0 1 (omega arith) (omega arith)) tt,
-    (to_one ex.loop_flow 1 2 _ refl (loop_goes 1 2 (omega arith) (omega arith)) tt,
-    (to_one ex.loop_flow 2 3 _ refl (loop_goes 2 3 (omega arith) (omega arith)) refl,
-    (to_two ex.loop_flow 3 4 7 _ refl (loop_goes 3 4 (omega arith) (omega arith)) (loop_goes 3 7 (omega arith) (omega arith)) (Int, refl, (omega (arith, ints), omega (arith, ints))),
-    (to_one ex.loop_flow 4 5 _ refl (loop_goes 4 5 (omega arith) (omega arith)) (all_one (λ (x : VarId). x.0 < 2) (ex.var 1) (omega arith)),
-    (to_one ex.loop_flow 5 6 _ refl (loop_goes 5 6 (omega arith) (omega arith)) tt,
-    (to_one ex.loop_flow 6 8 _ refl (loop_goes 6 8 (omega arith) (omega arith)) (Int, refl, (omega (arith, ints), omega (arith, ints))),
-    (to_one ex.loop_flow 7 1 _ refl (omega arith, inr (contains_here (ex.at 1) [])) (all_one (λ (x : VarId). x.0 < 2) (ex.var 1) (omega arith)),
-    (to_none ex.loop_flow 8 _ refl tt, tt)))))))))
+loop_fits = (
+  to_one ex.loop_flow 0 1 _ refl (loop_goes 0 1 (omega arith) (omega arith)) tt,
+  (
+    to_one ex.loop_flow 1 2 _ refl (loop_goes 1 2 (omega arith) (omega arith)) tt,
+    (
+      to_one ex.loop_flow 2 3 _ refl (loop_goes 2 3 (omega arith) (omega arith)) refl,
+      (
+        to_two ex.loop_flow 3 4 7 _ refl (loop_goes 3 4 (omega arith) (omega arith)) (loop_goes 3 7 (omega arith) (omega arith)) (Int, refl, (omega (arith, ints), omega (arith, ints))),
+        (
+          to_one ex.loop_flow 4 5 _ refl (loop_goes 4 5 (omega arith) (omega arith)) (all_one (λ (x : VarId). x.0 < 2) (ex.var 1) (omega arith)),
+          (
+            to_one ex.loop_flow 5 6 _ refl (loop_goes 5 6 (omega arith) (omega arith)) tt,
+            (
+              to_one ex.loop_flow 6 8 _ refl (loop_goes 6 8 (omega arith) (omega arith)) (Int, refl, (omega (arith, ints), omega (arith, ints))),
+              (
+                to_one ex.loop_flow 7 1 _ refl (omega arith, inr (contains_here (ex.at 1) [])) (all_one (λ (x : VarId). x.0 < 2) (ex.var 1) (omega arith)),
+                (to_none ex.loop_flow 8 _ refl tt, tt),
+              ),
+            ),
+          ),
+        ),
+      ),
+    ),
+  ),
+)
 
 pub loop_is_valid : DefsFit structs defs → IsValid ex.loop_flow defs
 loop_is_valid fit = is_valid ex.loop_vars (ex.at 1 ∷ []) ex.loop_code fit (omega arith) (all_one (IsSkip ex.loop_flow.points) (ex.at 1) (record { next = ex.at 2; skips = refl })) loop_fits
@@ -81,13 +96,22 @@ list_goes : (p q : ℕ) → p < q → q < 6 → GoesOn ex.list_flow p (ex.at q)
 list_goes p q lt less = (less, inl lt)
 
 list_fits : FitFrom ex.list_flow 0 (ex.points ex.list_code)
-list_fits =
-    (to_one ex.list_flow 0 1 _ refl (list_goes 0 1 (omega arith) (omega arith)) tt,
-    (to_one ex.list_flow 1 2 _ refl (list_goes 1 2 (omega arith) (omega arith)) (all_one (λ (x : VarId). x.0 < 2) (ex.var 1) (omega arith)),
-    (to_one ex.list_flow 2 3 _ refl (list_goes 2 3 (omega arith) (omega arith)) (refl, record { def = list_def; defined = refl; args = tt }),
-    (to_one ex.list_flow 3 4 _ refl (list_goes 3 4 (omega arith) (omega arith)) (refl, record { def = list_def; defined = refl; args = tt }),
-    (to_one ex.list_flow 4 5 _ refl (list_goes 4 5 (omega arith) (omega arith)) (Int, refl, (omega (arith, ints), omega (arith, ints))),
-    (to_none ex.list_flow 5 _ refl tt, tt))))))
+list_fits = (
+  to_one ex.list_flow 0 1 _ refl (list_goes 0 1 (omega arith) (omega arith)) tt,
+  (
+    to_one ex.list_flow 1 2 _ refl (list_goes 1 2 (omega arith) (omega arith)) (all_one (λ (x : VarId). x.0 < 2) (ex.var 1) (omega arith)),
+    (
+      to_one ex.list_flow 2 3 _ refl (list_goes 2 3 (omega arith) (omega arith)) (refl, record { def = list_def; defined = refl; args = tt }),
+      (
+        to_one ex.list_flow 3 4 _ refl (list_goes 3 4 (omega arith) (omega arith)) (refl, record { def = list_def; defined = refl; args = tt }),
+        (
+          to_one ex.list_flow 4 5 _ refl (list_goes 4 5 (omega arith) (omega arith)) (Int, refl, (omega (arith, ints), omega (arith, ints))),
+          (to_none ex.list_flow 5 _ refl tt, tt),
+        ),
+      ),
+    ),
+  ),
+)
 
 pub list_is_valid : DefsFit structs defs → IsValid ex.list_flow defs
 list_is_valid fit = is_valid ex.list_vars [] ex.list_code fit (omega arith) (all_none _) list_fits

@@ -1,9 +1,11 @@
 pub mod Calculus
 pub mod Claims
+pub mod EdgesOnce
 pub mod ExampleFlows
 pub mod Goals
 pub mod Induction
 pub mod Jumping
+pub mod JumpingAtOnce
 pub mod Lines
 pub mod ListExample
 pub mod Lists

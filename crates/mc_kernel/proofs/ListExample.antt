@@ -1,6 +1,5 @@
 -- The certificate of the asserted list is valid.
-use Rattle.std.proofs.Common.{◌≡◌, ◌<◌, ℕ, List, [], ◌∷◌, Option, Some, None, true, refl, arith, inl, inr, ℤ, pos}
-use Rattle.std.specs.Prelude.{Contains}
+use Rattle.std.proofs.Common.{ℕ, [], ◌∷◌, Some, None, true, refl, arith, inl, inr, pos}
 use Rattle.std.proofs.lemmas.Int.{ints}
 use Rattle.mc_base.specs.declared.plain.Kind.TheVariants.{Ptr}
 use Rattle.mc_base.specs.Nodes.{Valuation, null}
@@ -67,43 +66,91 @@ module _ (law : TrueIsNotFalse) where
 
   -- each line with the branches that come of it
   reads : Reads ex.list_flow defs setting ex.list_rules (roots ex.list_flow []) []
-  reads =
-      (gone 1 entry ∷ [], [], (record { plain = refl; open_still = refl; before_cut = inr refl }, (moved_to (ex.at 1) entry ∷ [], record { q = ex.at 1; at = refl; sound = entry_sound; gives = refl }, refl)),
-      (gone 2 entry ∷ [], [], (may 1 entry, (moved_to (ex.at 2) entry ∷ [], record { xs = ex.var 1 ∷ []; q = ex.at 2; at = refl; sound = entry_sound; gives = refl }, refl)),
-      (gone 3 with_list ∷ [], [], (may 2 entry, (moved_to (ex.at 3) with_list ∷ [], record {
-        pred = list_id;
-        x = ex.var 1;
-        os = [];
-        q = ex.at 3;
-        at = refl;
-        sound = entry_sound;
-        args = [];
-        known = tt;
-        before = entry;
-        operands = refl;
-        gives = refl;
-      }, refl)),
-      (path_of side ∷ gone 4 with_list ∷ [], [], (may 3 with_list, (side ∷ moved_to (ex.at 4) with_list ∷ [], record {
-        pred = list_id;
-        o = _;
-        os = [];
-        q = ex.at 4;
-        at = refl;
-        sound = list_sound;
-        n = node 1;
-        known = refl;
-        args = [];
-        args_known = tt;
-        goal = goal;
-        goal_is = refl;
-        side = side;
-        side_is = refl;
-        gives = refl;
-      }, refl)),
-      ([], [], record { goal = goal; side = refl; meets = record { sound = list_sound; at = node 1; args = []; there = refl; meets = inl (itself (Ptr, inr refl)); args_meet = tt }; gives = refl },
-      (gone 5 with_result ∷ [], [], (may 4 with_list, (moved_to (ex.at 5) with_result ∷ [], record { x = ex.var 0; from = _; q = ex.at 5; at = refl; sound = list_sound; n = null; known = refl; gives = refl }, refl)),
-      ([], [], (may 5 with_result, ([], record { at = refl; sound = list_sound; gives = refl }, refl)),
-      (refl, refl), refl), refl), refl), refl), refl), refl), refl)
+  reads = (
+    gone 1 entry ∷ [],
+    [],
+    (record { plain = refl; open_still = refl; before_cut = inr refl }, (moved_to (ex.at 1) entry ∷ [], record { q = ex.at 1; at = refl; sound = entry_sound; gives = refl }, refl)),
+    (
+      gone 2 entry ∷ [],
+      [],
+      (may 1 entry, (moved_to (ex.at 2) entry ∷ [], record { xs = ex.var 1 ∷ []; q = ex.at 2; at = refl; sound = entry_sound; gives = refl }, refl)),
+      (
+        gone 3 with_list ∷ [],
+        [],
+        (
+          may 2 entry,
+          (
+            moved_to (ex.at 3) with_list ∷ [],
+            record {
+              pred = list_id;
+              x = ex.var 1;
+              os = [];
+              q = ex.at 3;
+              at = refl;
+              sound = entry_sound;
+              args = [];
+              known = tt;
+              before = entry;
+              operands = refl;
+              gives = refl;
+            },
+            refl,
+          ),
+        ),
+        (
+          path_of side ∷ gone 4 with_list ∷ [],
+          [],
+          (
+            may 3 with_list,
+            (
+              side ∷ moved_to (ex.at 4) with_list ∷ [],
+              record {
+                pred = list_id;
+                o = _;
+                os = [];
+                q = ex.at 4;
+                at = refl;
+                sound = list_sound;
+                n = node 1;
+                known = refl;
+                args = [];
+                args_known = tt;
+                goal = goal;
+                goal_is = refl;
+                side = side;
+                side_is = refl;
+                gives = refl;
+              },
+              refl,
+            ),
+          ),
+          (
+            [],
+            [],
+            record { goal = goal; side = refl; meets = record { sound = list_sound; at = node 1; args = []; there = refl; meets = inl (itself (Ptr, inr refl)); args_meet = tt }; gives = refl },
+            (
+              gone 5 with_result ∷ [],
+              [],
+              (may 4 with_list, (moved_to (ex.at 5) with_result ∷ [], record { x = ex.var 0; from = _; q = ex.at 5; at = refl; sound = list_sound; n = null; known = refl; gives = refl }, refl)),
+              (
+                [],
+                [],
+                (may 5 with_result, ([], record { at = refl; sound = list_sound; gives = refl }, refl)),
+                (refl, refl),
+                refl,
+              ),
+              refl,
+            ),
+            refl,
+          ),
+          refl,
+        ),
+        refl,
+      ),
+      refl,
+    ),
+    refl,
+  )
 
   cuts_are : AreCuts ex.list_flow []
   cuts_are = record { ascend = tt; skips = λ p c. absurd (contains_none p c); all_heads = λ p c. c }

@@ -1,5 +1,5 @@
 -- The certificate of the loop is valid.
-use Rattle.std.proofs.Common.{◌≡◌, ◌≢◌, ◌<◌, ℕ, zero, suc, List, [], ◌∷◌, ◌++◌, map, Option, Some, None, true, false, refl, sym, ap, subst, arith, inl, inr, ℤ, pos, negsuc}
+use Rattle.std.proofs.Common.{◌≡◌, ◌≢◌, ℕ, zero, suc, [], ◌∷◌, Some, None, false, refl, ap, subst, arith, inl, inr, ℤ, pos}
 use Rattle.std.specs.Prelude.{Contains}
 use Rattle.std.proofs.lemmas.Int.{ints}
 use Rattle.mc_base.specs.declared.ids.PointId.{PointId}
@@ -15,11 +15,9 @@ use Rattle.mc_state.specs.declared.line.Form.TheVariants.{Certificate}
 use Rattle.mc_state.specs.RawStates.{IsWellFormedRaw, state_of}
 use Rattle.mc_state.specs.State.{State, unknown, with_atom}
 use Rattle.mc_state.specs.Facts.{IsFalse}
-use Rattle.mc_step.specs.declared.next.Next.{Next}
 use Rattle.mc_step.specs.Steps.{moved_to}
-use Rattle.mc_kernel.specs.Branches.{Path, Setting, MayStep, path_to, path_of, roots, AreCuts}
-use Rattle.mc_kernel.specs.Jumps.{Jumps}
-use Rattle.mc_kernel.specs.Instances.{ByStep, JumpsTo, Reads}
+use Rattle.mc_kernel.specs.Branches.{Path, Setting, MayStep, path_of, roots, AreCuts}
+use Rattle.mc_kernel.specs.Instances.{JumpsTo, Reads}
 use Rattle.mc_kernel.specs.Certificates.{IsValidCertificate}
 use Rattle.mc_kernel.specs.Examples as ex
 use Rattle.mc_kernel.proofs.Lists.{contains_here}
@@ -118,33 +116,94 @@ module _ (law : TrueIsNotFalse) where
 
   -- each line with the branches that come of it
   reads : Reads ex.loop_flow defs setting ex.loop_rules (roots ex.loop_flow setting.heads) []
-  reads =
-      (gone 1 entry ∷ [], [], (record { plain = refl; open_still = refl; before_cut = inr refl }, (moved_to (ex.at 1) entry ∷ [], record { q = ex.at 1; at = refl; sound = entry_sound; gives = refl }, refl)),
-      ([], [], jumps entry refl entry_sound,
-      (gone 2 head ∷ [], [], (record { plain = refl; open_still = refl; before_cut = inr refl }, (moved_to (ex.at 2) head ∷ [], record { q = ex.at 2; at = refl; sound = head_sound; gives = refl }, refl)),
-      (gone 3 with_input ∷ [], [], (may 2 head (omega arith), (moved_to (ex.at 3) with_input ∷ [], record { x = ex.var 1; q = ex.at 3; at = refl; sound = head_sound; gives = refl }, refl)),
-      (gone 4 at_zero ∷ gone 7 not_zero ∷ [], [], (may 3 with_input (omega arith), (moved_to (ex.at 4) at_zero ∷ moved_to (ex.at 7) not_zero ∷ [], record {
-        o = _;
-        o' = _;
-        t = ex.at 4;
-        f = ex.at 7;
-        at = refl;
-        sound = input_sound;
-        a = node 1;
-        left_known = refl;
-        b = null;
-        right_known = refl;
-        before = with_input;
-        operands = refl;
-        gives = refl;
-      }, refl)),
-      (gone 5 after_zero ∷ [], [], (may 4 at_zero (omega arith), (moved_to (ex.at 5) after_zero ∷ [], record { xs = ex.var 1 ∷ []; q = ex.at 5; at = refl; sound = zero_sound; gives = refl }, refl)),
-      (gone 6 after_zero ∷ [], [], (may 5 after_zero (omega arith), (moved_to (ex.at 6) after_zero ∷ [], record { q = ex.at 6; at = refl; sound = zero_sound; gives = refl }, refl)),
-      (gone 8 with_result ∷ [], [], (may 6 after_zero (omega arith), (moved_to (ex.at 8) with_result ∷ [], record { x = ex.var 0; from = _; q = ex.at 8; at = refl; sound = zero_sound; n = null; known = refl; gives = refl }, refl)),
-      ([], [], (may 8 with_result (omega arith), ([], record { at = refl; sound = zero_sound; gives = refl }, refl)),
-      (gone 1 after_other ∷ [], [], (may 7 not_zero (omega arith), (moved_to (ex.at 1) after_other ∷ [], record { xs = ex.var 1 ∷ []; q = ex.at 1; at = refl; sound = other_sound; gives = refl }, refl)),
-      ([], [], jumps after_other refl other_sound,
-      (refl, refl), refl), refl), refl), refl), refl), refl), refl), refl), refl), refl), refl)
+  reads = (
+    gone 1 entry ∷ [],
+    [],
+    (record { plain = refl; open_still = refl; before_cut = inr refl }, (moved_to (ex.at 1) entry ∷ [], record { q = ex.at 1; at = refl; sound = entry_sound; gives = refl }, refl)),
+    (
+      [],
+      [],
+      jumps entry refl entry_sound,
+      (
+        gone 2 head ∷ [],
+        [],
+        (record { plain = refl; open_still = refl; before_cut = inr refl }, (moved_to (ex.at 2) head ∷ [], record { q = ex.at 2; at = refl; sound = head_sound; gives = refl }, refl)),
+        (
+          gone 3 with_input ∷ [],
+          [],
+          (may 2 head (omega arith), (moved_to (ex.at 3) with_input ∷ [], record { x = ex.var 1; q = ex.at 3; at = refl; sound = head_sound; gives = refl }, refl)),
+          (
+            gone 4 at_zero ∷ gone 7 not_zero ∷ [],
+            [],
+            (
+              may 3 with_input (omega arith),
+              (
+                moved_to (ex.at 4) at_zero ∷ moved_to (ex.at 7) not_zero ∷ [],
+                record {
+                  o = _;
+                  o' = _;
+                  t = ex.at 4;
+                  f = ex.at 7;
+                  at = refl;
+                  sound = input_sound;
+                  a = node 1;
+                  left_known = refl;
+                  b = null;
+                  right_known = refl;
+                  before = with_input;
+                  operands = refl;
+                  gives = refl;
+                },
+                refl,
+              ),
+            ),
+            (
+              gone 5 after_zero ∷ [],
+              [],
+              (may 4 at_zero (omega arith), (moved_to (ex.at 5) after_zero ∷ [], record { xs = ex.var 1 ∷ []; q = ex.at 5; at = refl; sound = zero_sound; gives = refl }, refl)),
+              (
+                gone 6 after_zero ∷ [],
+                [],
+                (may 5 after_zero (omega arith), (moved_to (ex.at 6) after_zero ∷ [], record { q = ex.at 6; at = refl; sound = zero_sound; gives = refl }, refl)),
+                (
+                  gone 8 with_result ∷ [],
+                  [],
+                  (may 6 after_zero (omega arith), (moved_to (ex.at 8) with_result ∷ [], record { x = ex.var 0; from = _; q = ex.at 8; at = refl; sound = zero_sound; n = null; known = refl; gives = refl }, refl)),
+                  (
+                    [],
+                    [],
+                    (may 8 with_result (omega arith), ([], record { at = refl; sound = zero_sound; gives = refl }, refl)),
+                    (
+                      gone 1 after_other ∷ [],
+                      [],
+                      (may 7 not_zero (omega arith), (moved_to (ex.at 1) after_other ∷ [], record { xs = ex.var 1 ∷ []; q = ex.at 1; at = refl; sound = other_sound; gives = refl }, refl)),
+                      (
+                        [],
+                        [],
+                        jumps after_other refl other_sound,
+                        (refl, refl),
+                        refl,
+                      ),
+                      refl,
+                    ),
+                    refl,
+                  ),
+                  refl,
+                ),
+                refl,
+              ),
+              refl,
+            ),
+            refl,
+          ),
+          refl,
+        ),
+        refl,
+      ),
+      refl,
+    ),
+    refl,
+  )
 
   cuts_are : AreCuts ex.loop_flow (ex.at 1 ∷ [])
   cuts_are = record {

@@ -1,5 +1,5 @@
 -- Small flow graphs, and documents over them.
-use Rattle.std.specs.Prelude.{ℕ, pos, false, Option, None, List, [], ◌∷◌, ◌++◌, codes}
+use Rattle.std.specs.Prelude.{ℕ, pos, false, None, List, [], ◌∷◌, ◌++◌, codes}
 use Rattle.mc_base.specs.declared.ids.EdgeId.{EdgeId}
 use Rattle.mc_base.specs.declared.ids.PointId.{PointId}
 use Rattle.mc_base.specs.declared.ids.VarId.{VarId}

@@ -8,3 +8,4 @@ pub mod Certificates
 pub mod Straight
 pub mod JumpLaws
 pub mod Examples
+pub mod WrongJumps
