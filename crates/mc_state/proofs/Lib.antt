@@ -1,4 +1,5 @@
 pub mod Bodies
+pub mod Beginning
 pub mod Bounds
 pub mod Changing
 pub mod CoversExamples
@@ -12,6 +13,7 @@ pub mod Lists
 pub mod Merging
 pub mod Nodes
 pub mod Nulls
+pub mod OneCell
 pub mod Parts
 pub mod Places
 pub mod Renaming
@@ -19,4 +21,5 @@ pub mod Standing
 pub mod Stars
 pub mod Truth
 pub mod Variables
+pub mod Worked
 pub mod Wrong
