@@ -1,19 +1,17 @@
 -- A list and a segment are unfolded.
-use Rattle.std.proofs.Common.{◌≡◌, ℕ, ℤ, pos, Option, Some, List, [], ◌∷◌, refl, arith, inl, inr}
+use Rattle.std.proofs.Common.{ℕ, pos, Some, [], ◌∷◌, refl, arith, inl, inr}
 use Rattle.std.proofs.lemmas.Int.{ints}
-use Rattle.mc_base.specs.declared.plain.Kind.{Kind}
 use Rattle.mc_base.specs.declared.plain.Kind.TheVariants.{Ptr}
 use Rattle.mc_base.specs.Kinds.{InKind}
 use Rattle.mc_heap.specs.Heap.{Region, IsAtAddresses}
 use Rattle.mc_heap.specs.Instances.{nowhere}
 use Rattle.mc_heap.specs.Parts.{Split, IsEmpty, Star}
 use Rattle.mc_heap.specs.PartLaws.{SplitCommutes, SplitAddsEmpty}
-use Rattle.mc_defs.specs.Examples.{defs, list_id, list_def, blocks, two_cells, first_cell}
+use Rattle.mc_defs.specs.Examples.{defs, list_id, list_def, blocks, two_cells}
 use Rattle.mc_defs.specs.Meaning as meaning
 use Rattle.mc_pure.specs.Derived as pure
 use Rattle.mc_pure.specs.Examples.{node}
 use Rattle.mc_state.specs.CoverExamples.{at_seven}
-use Rattle.mc_state.specs.Fits.{IsBounded}
 use Rattle.mc_state.specs.Laws.{NoneStandsForFalse}
 use Rattle.mc_state.specs.Stands.{StandsBy}
 use Rattle.mc_unfold.specs.Examples.{edge, one_list, no_cell, cell_then_list, one_segment, no_segment, cell_then_segment, first_two}

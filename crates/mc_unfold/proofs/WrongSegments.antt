@@ -1,5 +1,5 @@
 -- A segment may be empty, and may go on in any of a rule's calls.
-use Rattle.std.proofs.Common.{◌≡◌, ◌≢◌, ◌⊎◌, ℕ, zero, suc, ◌<◌, ℤ, pos, ◌+ℤ◌, Option, Some, None, List, [], ◌∷◌, slice_get, refl, sym, ◌∙◌, ap, subst, inl, inr, arith}
+use Rattle.std.proofs.Common.{◌≡◌, ◌⊎◌, ℕ, zero, suc, ℤ, pos, ◌+ℤ◌, Option, Some, None, List, [], ◌∷◌, slice_get, refl, sym, ◌∙◌, ap, subst, inl, inr, arith}
 use Rattle.std.specs.FinMap as finmap
 use Rattle.std.specs.FinMap.{get-from_entries}
 use Rattle.std.specs.Cmp.{nat_cmp_total}
@@ -23,13 +23,12 @@ use Rattle.mc_pure.specs.Derived as pure
 use Rattle.mc_pure.specs.Examples.{node}
 use Rattle.mc_state.specs.Fits.{IsBounded}
 use Rattle.mc_state.specs.Laws.{NoneStandsForFalse}
-use Rattle.mc_state.specs.Rules.{StandsForSome}
 use Rattle.mc_state.specs.Stands.{VarsMeet, AgreeBelow, StandsBy}
 use Rattle.mc_state.specs.State.{State}
 use Rattle.mc_unfold.specs.Examples.{edge, one_segment, no_segment, cell_then_segment, first_two, tree_segment, goes_left, goes_right, right_fork}
 use Rattle.mc_unfold.specs.Unfolded.{UnfoldsSeg}
 use Rattle.mc_unfold.specs.WrongRules.{IsSoundRule, NeverEmpty, FirstCallOnly}
-use Rattle.mc_unfold.proofs.ExampleStates.{nowhere-IsEmpty, none_left, none_right, segment_stands, segment_unfolds}
+use Rattle.mc_unfold.proofs.ExampleStates.{nowhere-IsEmpty, none_left, none_right, segment_stands}
 
 -- what a part holds, the whole holds
 joins_some : (x r : Option Block) (b : Block) → Joins x (Some b) r → x ≡ Some b

@@ -1,9 +1,6 @@
 use Rattle.std.proofs.Common.{arith}
 use Rattle.std.proofs.lemmas.Int.{ints}
-use Rattle.mc_heap.specs.Heap.{IsAtAddresses}
-use Rattle.mc_defs.specs.Examples.{defs, blocks, two_cells, first_cell, second_cell}
-use Rattle.mc_state.specs.Stands.{StandsBy}
-use Rattle.mc_unfold.specs.Examples.{one_segment, first_two}
+use Rattle.mc_defs.specs.Examples.{blocks, two_cells, first_cell, second_cell}
 use Rattle.mc_unfold.proofs.ExampleStates.{segment_stands, segment_unfolds}
 use Rattle.mc_unfold.proofs.examples.example_of_seg.Goals as goal
 
