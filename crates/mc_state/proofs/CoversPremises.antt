@@ -12,10 +12,10 @@ use Rattle.mc_pure.specs.Examples.{node}
 use Rattle.mc_state.specs.BodyLaws.{IsBody, IsBodyTo}
 use Rattle.mc_state.specs.CoverExamples.{cell_and_list, at_seven}
 use Rattle.mc_state.specs.Stands.{EdgesMeet, StandsBy}
-use Rattle.mc_state.proofs.Parts.{PartLaws, nowhere-IsEmpty}
+use Rattle.mc_state.proofs.Parts.{SplitLaws, nowhere-IsEmpty}
 use Rattle.mc_state.proofs.Stars.{none_left, none_right}
 
-module _ (laws : PartLaws) (empty : EmptyHeapIsEmpty) (insert : InsertChanges) (keeps : InsertKeepsAddresses) where
+module _ (laws : SplitLaws) (empty : EmptyHeapIsEmpty) (insert : InsertChanges) (keeps : InsertKeepsAddresses) where
   cell_alone : IsCell (blocks first_cell) 7 (cell_with (pos 5) (pos 9))
   cell_alone =
       let change = insert (finmap.from_entries []) 7 (cell_with (pos 5) (pos 9)) in

@@ -18,6 +18,7 @@ mod tests;
 pub use covers::{
     bodies_are_edges, body_premises, covers_are_sound, example_covers, example_segment_covers,
 };
+pub use examples::{example_list, example_merging, example_parts, example_renaming};
 pub use goal::Goal;
 pub use examples::{example_list, example_merging, example_parts, example_renaming};
 pub use laws::{
