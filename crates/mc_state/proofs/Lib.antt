@@ -1,3 +1,4 @@
+pub mod Beginning
 pub mod Bodies
 pub mod Beginning
 pub mod Bounds
