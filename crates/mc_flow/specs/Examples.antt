@@ -1,16 +1,16 @@
 -- Single steps on small heaps.
-use Rattle.std.specs.Prelude.{ℕ, ℤ, pos, Option, Some, List, [], ◌∷◌}
+use Rattle.std.specs.Prelude.{ℕ, ℤ, pos, Option, List, [], ◌∷◌}
 use Rattle.std.specs.FinMap as map
 use Rattle.mc_base.specs.declared.ids.PointId.{PointId}
 use Rattle.mc_base.specs.declared.ids.VarId.{VarId}
 use Rattle.mc_base.specs.declared.plain.Place.{Place}
-use Rattle.mc_heap.specs.Heap.{Block, Heap}
+use Rattle.mc_heap.specs.Heap.{Block}
 use Rattle.mc_heap.specs.Adding.{with_blocks}
 use Rattle.mc_heap.specs.Choices.{Choice}
 use Rattle.mc_defs.specs.Examples.{structs, defs}
 use Rattle.mc_flow.specs.declared.instr.Instr.{Instr}
 use Rattle.mc_flow.specs.declared.instr.Operand.{Operand}
-use Rattle.mc_flow.specs.declared.instr.Operand.TheVariants.{Var, Const}
+use Rattle.mc_flow.specs.declared.instr.Operand.TheVariants.{Const}
 use Rattle.mc_flow.specs.declared.graph.Flow.{Flow}
 use Rattle.mc_flow.specs.Steps.{Config, Result, Step}
 

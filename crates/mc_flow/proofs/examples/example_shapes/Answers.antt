@@ -1,4 +1,4 @@
-use Rattle.std.proofs.Common.{◌≡◌, ◌⊎◌, ℕ, zero, suc, ℤ, pos, Option, Some, None, List, [], ◌∷◌, slice_get, refl, sym, ap, subst, ◌∙◌, inl, inr, arith}
+use Rattle.std.proofs.Common.{◌≡◌, ◌⊎◌, ℕ, zero, suc, pos, Option, Some, None, [], ◌∷◌, slice_get, refl, sym, ap, subst, ◌∙◌, inl, inr, arith}
 use Rattle.std.specs.List.{AllByRecursion}
 use Rattle.std.proofs.lemmas.Int.{ints}
 use Rattle.std.specs.FinMap as map
@@ -7,7 +7,7 @@ use Rattle.mc_heap.specs.Parts.{Joins, Split, IsEmpty}
 use Rattle.mc_heap.specs.Adding.{with_blocks}
 use Rattle.mc_defs.specs.declared.rules.Rule.{Rule}
 use Rattle.mc_defs.specs.Values.{value_of, IsTrueAtom}
-use Rattle.mc_defs.specs.Meaning.{BlockMeets, BodyMeets, Sat, HoldsSomewhere}
+use Rattle.mc_defs.specs.Meaning.{BlockMeets, BodyMeets, Sat}
 use Rattle.mc_defs.specs.Examples.{defs, list_id, list_def, null_rule, list_rule, blocks, second_cell}
 use Rattle.mc_flow.proofs.examples.example_shapes.Goals as goal
 
