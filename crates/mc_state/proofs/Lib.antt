@@ -1,6 +1,5 @@
 pub mod Beginning
 pub mod Bodies
-pub mod Beginning
 pub mod Bounds
 pub mod Changing
 pub mod CoversExamples

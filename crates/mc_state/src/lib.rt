@@ -20,7 +20,6 @@ pub use covers::{
 };
 pub use examples::{example_list, example_merging, example_parts, example_renaming};
 pub use goal::Goal;
-pub use examples::{example_list, example_merging, example_parts, example_renaming};
 pub use laws::{
     derived_is_true, edges_come_and_go, less_is_known, merging_is_sound, new_nodes_are_free,
     nodes_are_there, nothing_is_allocated, numbers_stay_bounded, renaming_is_sound,
