@@ -2,6 +2,7 @@ pub mod Calculus
 pub mod Claims
 pub mod EdgesOnce
 pub mod ExampleFlows
+pub mod FailingExample
 pub mod Goals
 pub mod Induction
 pub mod Jumping

@@ -14,10 +14,12 @@ use Rattle.mc_flow.specs.declared.instr.Instr.TheVariants as instr
 use Rattle.mc_flow.specs.declared.instr.Operand.TheVariants.{Var, Const}
 use Rattle.mc_state.specs.declared.line.Form.TheVariants.{Certificate}
 use Rattle.mc_state.specs.declared.line.Line.{Line}
-use Rattle.mc_state.specs.declared.line.Line.TheVariants.{Header, Cut, Head, End, S1, S2, S3, S4, S13, S15, S16, S17, L13, L14}
+use Rattle.mc_state.specs.declared.line.Line.TheVariants.{Header, Cut, Head, End, S1, S2, S3, S4, S13, S15, S16, S17, L13, L14, C1}
 use Rattle.mc_state.specs.declared.line.Version.TheVariants.{One}
 use Rattle.mc_state.specs.declared.raw_state.NodeKind.TheVariants.{Zero}
 use Rattle.mc_state.specs.declared.raw_state.RawState.{RawState}
+use Rattle.mc_state.specs.RawStates.{state_of}
+use Rattle.mc_kernel.specs.Branches.{Path, path_to}
 
 abbrev pub at : ℕ → PointId
 at n = record { 0 = n }
@@ -99,3 +101,24 @@ list_rules = S1 ∷ S3 ∷ S15 ∷ S16 ∷ L14 (edge 0) ∷ S2 ∷ S17 ∷ []
 
 abbrev pub list_document : List Line
 list_document = Header One Certificate ∷ (list_rules ++ End ∷ [])
+
+-- ---- a program that fails
+
+-- the head of a loop goes on to a point that fails
+abbrev pub failing_code : List Instr
+failing_code = instr.Skip (at 1) ∷ instr.Skip (at 2) ∷ instr.Fail ∷ []
+
+abbrev pub failing_flow : Flow
+failing_flow = flow_of [] (at 1 ∷ []) failing_code
+
+-- [[],["0"],[],[]]
+abbrev pub failing_state : RawState
+failing_state = record { vars = []; kinds = Zero ∷ []; edges = []; atoms = []; whole = false }
+
+-- a pass of a chain, which is stuck where the program fails
+abbrev pub failing_pass : List Line
+failing_pass = S1 ∷ L13 0 (null ∷ []) [] ∷ S1 ∷ C1 ∷ []
+
+-- where it is stuck: at the fault, with the state of the head
+abbrev pub failing_path : Path
+failing_path = path_to (at 2) (state_of failing_state) None

@@ -10,8 +10,6 @@ use Rattle.mc_base.specs.Nodes.{null, moved}
 use Rattle.mc_defs.specs.declared.rules.Def.{Def}
 use Rattle.mc_defs.specs.Examples.{cell_id}
 use Rattle.mc_flow.specs.declared.graph.Flow.{Flow}
-use Rattle.mc_flow.specs.declared.instr.Instr.{Instr}
-use Rattle.mc_flow.specs.declared.instr.Instr.TheVariants as instr
 use Rattle.mc_graph.specs.declared.edge.Edge.{Edge}
 use Rattle.mc_graph.specs.declared.edge.Edge.TheVariants.{Block}
 use Rattle.mc_graph.specs.Graph.{Edges, edge_with}
@@ -22,13 +20,11 @@ use Rattle.mc_state.specs.declared.line.Form.TheVariants.{Certificate}
 use Rattle.mc_state.specs.declared.line.Line.{Line}
 use Rattle.mc_state.specs.declared.line.Line.TheVariants.{Header, Cut, Head, End, S1, S2, S3, S4, S13, S17, L13}
 use Rattle.mc_state.specs.declared.line.Version.TheVariants.{One}
-use Rattle.mc_state.specs.declared.raw_state.NodeKind.TheVariants.{Zero}
-use Rattle.mc_state.specs.declared.raw_state.RawState.{RawState}
 use Rattle.mc_state.specs.State.{State, pure_of}
 use Rattle.mc_state.specs.Facts.{IsFalse, Derives}
 use Rattle.mc_kernel.specs.Branches.{Path, Setting, IsPlain, AreCuts, roots, states_at}
 use Rattle.mc_kernel.specs.Certificates.{WrittenHead, AreOrdered, AreHeads, states_of}
-use Rattle.mc_kernel.specs.Examples.{at, edge, flow_of}
+use Rattle.mc_kernel.specs.Examples.{at, edge, failing_state}
 use Rattle.mc_kernel.specs.Instances.{IsInstance}
 use Rattle.mc_kernel.specs.Jumps.{Jumps, image_of, AreKnownToo, EdgesMatch}
 
@@ -106,17 +102,6 @@ pub record IsCertificateAtOnce (flow : Flow) (defs : List Def) (lines : List Lin
   pub ordered : AreOrdered heads
   pub heads_are : AreHeads flow defs cuts heads
   pub reads : ReadsAtOnce flow defs (record { form = Certificate; cuts = cuts; heads = states_of heads }) rules (roots flow (states_of heads))
-
--- the head of a loop goes on to a point that fails
-abbrev pub failing_code : List Instr
-failing_code = instr.Skip (at 1) ∷ instr.Skip (at 2) ∷ instr.Fail ∷ []
-
-abbrev pub failing_flow : Flow
-failing_flow = flow_of [] (at 1 ∷ []) failing_code
-
--- [[],["0"],[],[]]
-abbrev pub failing_state : RawState
-failing_state = record { vars = []; kinds = Zero ∷ []; edges = []; atoms = []; whole = false }
 
 -- from the entry to the head, and from the head to itself at once
 abbrev pub failing_document : List Line

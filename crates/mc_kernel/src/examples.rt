@@ -1,8 +1,13 @@
-// Certificates of small programs.
+// Documents of small programs.
+ghost use Rattle.std.specs.Prelude.{[], ◌∷◌};
+ghost use Rattle.mc_base.specs.declared.plain.FaultKind.TheVariants.{Assertion};
+ghost use Rattle.mc_base.specs.Runs.{Reaches, fault};
 ghost use Rattle.mc_defs.specs.Examples.{defs};
+ghost use Rattle.mc_flow.specs.Steps.{Step, start};
 ghost use Rattle.mc_flow.specs.Valid.{IsValid};
-ghost use Rattle.mc_kernel.specs.Certificates.{IsValidCertificate};
-ghost use Rattle.mc_kernel.specs.Examples.{loop_flow, loop_document, list_flow, list_document};
+ghost use Rattle.mc_state.specs.RawStates.{state_of};
+ghost use Rattle.mc_kernel.specs.Certificates.{IsValidCertificate, IsLastPass};
+ghost use Rattle.mc_kernel.specs.Examples.{at, loop_flow, loop_document, list_flow, list_document, failing_flow, failing_state, failing_pass, failing_path};
 
 /// A loop over inputs, with its certificate.
 pub fn loop_is_certified()
@@ -17,6 +22,16 @@ pub fn loop_is_certified()
 pub fn list_is_certified()
     ensures valid { IsValid list_flow defs }
     ensures certificate { IsValidCertificate list_flow defs list_document }
+{
+    mc_defs::examples_fit();
+    mc_pure::derived_is_true();
+}
+
+/// A program that fails, and the last pass of a chain, which is stuck at the fault.
+pub fn failing_is_stuck()
+    ensures valid { IsValid failing_flow defs }
+    ensures pass { IsLastPass failing_flow defs (at 1 ∷ []) ((at 1, state_of failing_state) ∷ []) failing_pass (failing_path ∷ []) }
+    ensures faults { Reaches (Step failing_flow defs) 3 (start failing_flow) [] (fault Assertion (record { line = 1; column = 1 })) }
 {
     mc_defs::examples_fit();
     mc_pure::derived_is_true();

@@ -20,7 +20,7 @@ mod tests;
 mod wrong_jumps;
 
 pub use branch::Branch;
-pub use examples::{list_is_certified, loop_is_certified};
+pub use examples::{failing_is_stuck, list_is_certified, loop_is_certified};
 pub use laws::{certificates_are_safe, jumps_are_sound, last_pass_finds_faults};
 use mc_heap::{changes_are_local, heaps_change_one_address, parts_regroup};
 pub use proof::{ApplyFault, Complete, Proof};
