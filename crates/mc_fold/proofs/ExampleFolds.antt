@@ -1,11 +1,11 @@
 -- Edges that are folded, and some that are not.
-use Rattle.std.proofs.Common.{◌≡◌, ℕ, ℤ, pos, Option, Some, None, List, [], ◌∷◌, map, refl, sym, ap, ◌∙◌, inl, inr, arith}
+use Rattle.std.proofs.Common.{◌≡◌, pos, Some, List, [], ◌∷◌, map, refl, sym, ap, ◌∙◌, inl, inr, arith}
 use Rattle.std.proofs.lemmas.Int.{ints}
 use Rattle.mc_base.specs.declared.plain.Kind.{Kind}
 use Rattle.mc_base.specs.declared.plain.Kind.TheVariants.{Int, Ptr}
 use Rattle.mc_base.specs.declared.ids.NodeId.{NodeId}
 use Rattle.mc_base.specs.Nodes.{at_node}
-use Rattle.mc_heap.specs.Heap.{Region, IsAtAddresses}
+use Rattle.mc_heap.specs.Heap.{IsAtAddresses}
 use Rattle.mc_heap.specs.Instances.{nowhere}
 use Rattle.mc_heap.specs.Parts.{Split, IsEmpty}
 use Rattle.mc_defs.specs.Examples.{defs, cell_id, list_id, lenlist_id, list_rule, list_def, blocks, two_cells, first_cell, second_cell}
@@ -18,11 +18,11 @@ use Rattle.mc_pure.specs.Pure as known
 use Rattle.mc_state.specs.CoverExamples.{cell_and_list, rest_list, segment_and_list, entry, at_seven}
 use Rattle.mc_state.specs.Facts.{IsFalse, AreEqual}
 use Rattle.mc_state.specs.Laws.{NoneStandsForFalse, EqualNodesAreOne}
-use Rattle.mc_state.specs.Stands.{EdgeMeets, EdgesMeet, StandsBy}
+use Rattle.mc_state.specs.Stands.{StandsBy}
 use Rattle.mc_state.specs.State.{State}
 use Rattle.mc_fold.specs.Examples.{edge, valued, cell_folded, cell_as_segment, segment_closed, two_segments, segments_joined, pointer, with_segment, other_length}
-use Rattle.mc_fold.specs.Folded.{Matches, FoldsInd, FoldsSeg, ClosesSeg, JoinsSegs, MakesEmptySeg}
-use Rattle.mc_fold.proofs.Parts.{PartLaws, nowhere-IsEmpty, none_left, none_right, star_one, star_two}
+use Rattle.mc_fold.specs.Folded.{FoldsInd, FoldsSeg, ClosesSeg, JoinsSegs, MakesEmptySeg}
+use Rattle.mc_fold.proofs.Parts.{PartLaws, nowhere-IsEmpty, none_left, none_right}
 
 -- a node that is there is equal to itself
 pub itself : (s : State) (n : NodeId) (k : Kind) → known.kind_of s.kinds n ≡ Some k → AreEqual s n n
@@ -143,6 +143,16 @@ module _ (not_false : NoneStandsForFalse) where
       }
 
 module _ (laws : PartLaws) where
+  pub pointer_stands : IsEmpty (blocks []) → StandsBy defs (valued []) [] (blocks []) pointer
+  pointer_stands empty =
+      record {
+        null = refl;
+        kinds = ((omega (arith, ints), omega (arith, ints)), tt);
+        atoms = tt;
+        vars = tt;
+        parts = record { held = blocks []; rest = nowhere; split = none_right laws (blocks []); each = empty; alone = λ t. nowhere-IsEmpty };
+      }
+
   module _ (split : Split (blocks two_cells) (blocks first_cell) (blocks second_cell)) (first : meaning.Seg defs list_id (pos 7) [] (pos 9) [] (blocks first_cell)) where
     pub closing_stands : meaning.Sat defs list_id (pos 9) [] (blocks second_cell) → StandsBy defs (valued (pos 7 ∷ pos 9 ∷ [])) [] (blocks two_cells) segment_and_list
     closing_stands second =

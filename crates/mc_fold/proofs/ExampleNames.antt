@@ -1,13 +1,13 @@
 -- Nodes that are named, merged and dropped with their edges, and a goal that is met.
-use Rattle.std.proofs.Common.{◌≡◌, ℕ, zero, suc, ℤ, pos, Option, Some, List, [], ◌∷◌, slice_get, refl, sym, ap, ◌∙◌, subst, inl, inr, arith}
+use Rattle.std.proofs.Common.{◌≡◌, ℕ, zero, suc, pos, [], ◌∷◌, refl, sym, ap, ◌∙◌, inl, inr, arith}
 use Rattle.std.proofs.lemmas.Int.{ints}
 use Rattle.mc_base.specs.declared.ids.EdgeId.{EdgeId}
 use Rattle.mc_base.specs.declared.ids.NodeId.{NodeId}
 use Rattle.mc_base.specs.declared.plain.Kind.TheVariants.{Int, Ptr}
-use Rattle.mc_base.specs.declared.plain.Atom.TheVariants as atom
 use Rattle.mc_base.specs.Nodes.{null}
-use Rattle.mc_heap.specs.Heap.{Region, IsAtAddresses}
+use Rattle.mc_heap.specs.Heap.{IsAtAddresses}
 use Rattle.mc_heap.specs.Instances.{nowhere}
+use Rattle.mc_heap.specs.Parts.{IsEmpty}
 use Rattle.mc_defs.specs.Examples.{defs, list_id, blocks, two_cells}
 use Rattle.mc_defs.specs.Meaning as meaning
 use Rattle.mc_graph.specs.declared.edge.Edge.{Edge}
@@ -26,6 +26,16 @@ use Rattle.mc_fold.specs.Goals.{MeetsGoal}
 use Rattle.mc_fold.proofs.ExampleFolds.{itself}
 use Rattle.mc_fold.proofs.Parts.{PartLaws, nowhere-IsEmpty, none_right}
 use Rattle.mc_fold.proofs.Standing.{one_value}
+
+pub small_stands : PartLaws → IsEmpty (blocks []) → StandsBy defs (valued (pos 6 ∷ [])) [] (blocks []) small_number
+small_stands laws empty =
+    record {
+      null = refl;
+      kinds = ((omega (arith, ints), omega (arith, ints)), tt);
+      atoms = ((omega (arith, ints), omega (arith, ints)), tt);
+      vars = tt;
+      parts = record { held = blocks []; rest = nowhere; split = none_right laws (blocks []); each = empty; alone = λ t. nowhere-IsEmpty };
+    }
 
 module _ (laws : PartLaws) (sat : meaning.Sat defs list_id (pos 7) [] (blocks two_cells)) where
   pub lost_stands : StandsBy defs (valued (pos 7 ∷ [])) [] (blocks two_cells) lost_list

@@ -1,5 +1,5 @@
 -- Edges in place of others.
-use Rattle.std.proofs.Common.{◌≡◌, ℤ, Option, List, [], ◌∷◌, ◌++◌, map, refl, sym, subst}
+use Rattle.std.proofs.Common.{◌≡◌, ℤ, Option, List, [], ◌∷◌, map, refl}
 use Rattle.mc_base.specs.declared.ids.EdgeId.{EdgeId}
 use Rattle.mc_base.specs.declared.ids.NodeId.{NodeId}
 use Rattle.mc_base.specs.Nodes.{Valuation, at_node}

@@ -1,5 +1,5 @@
 -- One edge is not two calls, other arguments are not those at a segment's end, and what is dropped is allocated still.
-use Rattle.std.proofs.Common.{◌≡◌, ◌<◌, ℕ, zero, suc, ℤ, pos, true, Option, Some, None, List, [], ◌∷◌, slice_get, refl, sym, ◌∙◌, ap, subst, inl, inr, arith}
+use Rattle.std.proofs.Common.{◌≡◌, ◌<◌, ℕ, zero, suc, pos, true, Some, None, [], ◌∷◌, refl, sym, ◌∙◌, ap, subst, inr, arith}
 use Rattle.std.specs.FinMap as finmap
 use Rattle.std.specs.FinMap.{get-from_entries}
 use Rattle.std.specs.Cmp.{nat_cmp_total}
@@ -9,15 +9,13 @@ use Rattle.mc_base.specs.declared.plain.Kind.TheVariants.{Int, Ptr}
 use Rattle.mc_base.specs.Nodes.{Valuation}
 use Rattle.mc_heap.specs.Heap.{Region, IsAtAddresses}
 use Rattle.mc_heap.specs.Instances.{nowhere}
-use Rattle.mc_heap.specs.Parts.{Split, IsEmpty, IsCell}
+use Rattle.mc_heap.specs.Parts.{IsCell}
 use Rattle.mc_heap.specs.PartLaws.{EmptyHeapIsEmpty, InsertChanges, InsertKeepsAddresses, CellIsAdded}
-use Rattle.mc_defs.specs.declared.rules.Def.{Def}
 use Rattle.mc_defs.specs.Examples.{defs, fork_id, tree_id, lenlist_id, null_rule, tree_rule, tree_def, fork_with, cell_with, blocks, two_cells, shared_fork}
 use Rattle.mc_defs.specs.Meaning.{RuleValues, SatAt, Sat}
 use Rattle.mc_graph.specs.declared.edge.Edge.{Edge}
-use Rattle.mc_graph.specs.declared.edge.Edge.TheVariants.{Block, Ind, Seg}
+use Rattle.mc_graph.specs.declared.edge.Edge.TheVariants.{Block, Ind}
 use Rattle.mc_pure.specs.Examples.{node}
-use Rattle.mc_state.specs.Facts.{IsFalse}
 use Rattle.mc_state.specs.Fits.{IsBounded}
 use Rattle.mc_state.specs.Laws.{NoneStandsForFalse}
 use Rattle.mc_state.specs.Rules.{StandsForSome}
@@ -37,7 +35,7 @@ one_of_one n v region s (suc place, t, w, e, agree, st) = absurd (cc e)
 -- the one edge of a whole state has the whole heap
 only_edge : PartLaws → (w : Valuation) (region : Region) (id : EdgeId) (e : Edge) → Parts defs w region ((id, e) ∷ []) true → EdgeMeets defs w e region
 only_edge laws w region id e p =
-    let same : region ≡ p.held = laws.drops_empty region p.rest p.held (p.alone tt) (laws.commutes region p.held p.rest p.split) in
+    let same : region ≡ p.held = laws.drops_empty region p.rest p.held (p.alone refl) (laws.commutes region p.held p.rest p.split) in
     subst (EdgeMeets defs w e) (sym same) (one_star laws (λ (x : EdgeId × Edge). EdgeMeets defs w x.1) (id, e) p.held p.each)
 
 -- ---- a fork with one tree for both its children
@@ -143,28 +141,28 @@ module _ (laws : PartLaws) (empty : EmptyHeapIsEmpty) (insert : InsertChanges) (
       let addresses = shared_addresses none in
       let v = valued (pos 7 ∷ pos 9 ∷ []) in
       let some =
-          sound defs tree_id 1 (node 1 ∷ node 2 ∷ node 2 ∷ []) (Some (edge 0)) (edge 1 ∷ edge 1 ∷ []) shared_tree (shared_folded ∷ []) bounded_shared
-          (record {
-            sound = λ wrong. not_false defs [] (blocks shared_fork) shared_tree addresses (v, shared_stands) wrong;
-            blocks = Block (node 1) fork_id (Some (node 2) ∷ Some (node 2) ∷ []) ∷ [];
-            inds = Ind (node 2) tree_id [] ∷ Ind (node 2) tree_id [] ∷ [];
-            named = (refl, (refl, (refl, tt)));
-            one_each = refl;
-            def = tree_def;
-            defined = refl;
-            by = tree_rule;
-            listed = refl;
-            kinds = (inr refl, (inr refl, (inr refl, tt)));
-            this = node 1;
-            args = [];
-            others = node 2 ∷ node 2 ∷ [];
-            front = refl;
-            count = refl;
-            block_fits = (refl, itself shared_tree (node 1) Ptr refl, (itself shared_tree (node 2) Ptr refl, (itself shared_tree (node 2) Ptr refl, tt)));
-            calls_fit = ((refl, itself shared_tree (node 2) Ptr refl, tt), ((refl, itself shared_tree (node 2) Ptr refl, tt), tt));
-            atoms = tt;
-            gives = refl;
-          }) v [] (blocks shared_fork) addresses shared_stands in
+      sound defs tree_id 1 (node 1 ∷ node 2 ∷ node 2 ∷ []) (Some (edge 0)) (edge 1 ∷ edge 1 ∷ []) shared_tree (shared_folded ∷ []) bounded_shared
+      (record {
+        sound = λ wrong. not_false defs [] (blocks shared_fork) shared_tree addresses (v, shared_stands) wrong;
+        blocks = Block (node 1) fork_id (Some (node 2) ∷ Some (node 2) ∷ []) ∷ [];
+        inds = Ind (node 2) tree_id [] ∷ Ind (node 2) tree_id [] ∷ [];
+        named = (refl, (refl, (refl, tt)));
+        one_each = refl;
+        def = tree_def;
+        defined = refl;
+        by = tree_rule;
+        listed = refl;
+        kinds = (inr refl, (inr refl, (inr refl, tt)));
+        this = node 1;
+        args = [];
+        others = node 2 ∷ node 2 ∷ [];
+        front = refl;
+        count = refl;
+        block_fits = (refl, itself shared_tree (node 1) Ptr refl, (itself shared_tree (node 2) Ptr refl, (itself shared_tree (node 2) Ptr refl, tt)));
+        calls_fit = ((refl, itself shared_tree (node 2) Ptr refl, tt), ((refl, itself shared_tree (node 2) Ptr refl, tt), tt));
+        atoms = tt;
+        gives = refl;
+      }) v [] (blocks shared_fork) addresses shared_stands in
       let one = one_of_one 3 v (blocks shared_fork) shared_folded some in
       let seven : one.0 1 ≡ pos 7 = one.1 1 (omega arith) in
       let tree : Sat defs tree_id (one.0 1) [] (blocks shared_fork) = only_edge laws one.0 (blocks shared_fork) (edge 2) (Ind (node 1) tree_id []) one.2.parts in
@@ -188,21 +186,21 @@ pub not_any_args : PartLaws → NoneStandsForFalse → IsAtAddresses (blocks two
 not_any_args laws not_false addresses st no_list sound =
     let v = valued (pos 7 ∷ pos 3 ∷ pos 2 ∷ []) in
     let some =
-        sound defs (edge 0) (edge 1) other_length (length_closed ∷ []) bounded_lengths
-        (record {
-          sound = λ wrong. not_false defs [] (blocks two_cells) other_length addresses (v, st) wrong;
-          at = node 1;
-          args = node 2 ∷ [];
-          pred = lenlist_id;
-          stop = node 1;
-          ends = node 2 ∷ [];
-          from = node 1;
-          from_args = node 3 ∷ [];
-          left = [];
-          picks = (refl, (refl, (refl, refl)));
-          meet = itself other_length (node 1) Ptr refl;
-          gives = refl;
-        }) v [] (blocks two_cells) addresses st in
+    sound defs (edge 0) (edge 1) other_length (length_closed ∷ []) bounded_lengths
+    (record {
+      sound = λ wrong. not_false defs [] (blocks two_cells) other_length addresses (v, st) wrong;
+      at = node 1;
+      args = node 2 ∷ [];
+      pred = lenlist_id;
+      stop = node 1;
+      ends = node 2 ∷ [];
+      from = node 1;
+      from_args = node 3 ∷ [];
+      left = [];
+      picks = (refl, (refl, (refl, refl)));
+      meet = itself other_length (node 1) Ptr refl;
+      gives = refl;
+    }) v [] (blocks two_cells) addresses st in
     let one = one_of_one 4 v (blocks two_cells) length_closed some in
     let seven : one.0 1 ≡ pos 7 = one.1 1 (omega arith) in
     let three : one.0 2 ≡ pos 3 = one.1 2 (omega arith) in
@@ -223,7 +221,7 @@ not_whole laws drops addresses st sound =
     let one = one_of_one 2 v (blocks two_cells) kept some in
     let p = one.2.parts in
     let rest : blocks two_cells ≡ p.rest = laws.drops_empty (blocks two_cells) p.held p.rest p.each p.split in
-    let none : p.rest 7 ≡ None = (p.alone tt).none 7 in
+    let none : p.rest 7 ≡ None = (p.alone refl).none 7 in
     let here : blocks two_cells 7 ≡ Some (cell_with (pos 5) (pos 9)) = get-from_entries nat_cmp_total two_cells 7 in
     let gone : blocks two_cells 7 ≡ None = ap (λ (r : Region). r 7) rest ∙ none in
     cc (here, gone)

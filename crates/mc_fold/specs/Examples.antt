@@ -1,10 +1,9 @@
 -- States whose edges are folded and whose nodes are named, merged and forgotten, and what they become.
-use Rattle.std.specs.Prelude.{ℕ, ℤ, pos, Bool, true, false, Some, List, [], ◌∷◌, get_or}
+use Rattle.std.specs.Prelude.{ℕ, ℤ, pos, true, false, Some, List, [], ◌∷◌, get_or}
 use Rattle.mc_base.specs.declared.ids.EdgeId.{EdgeId}
-use Rattle.mc_base.specs.declared.plain.Atom.{Atom}
-use Rattle.mc_base.specs.declared.plain.Atom.TheVariants.{Eq, Ne, In}
+use Rattle.mc_base.specs.declared.plain.Atom.TheVariants.{Eq, In}
 use Rattle.mc_base.specs.declared.plain.Kind.TheVariants.{Int, Ptr}
-use Rattle.mc_base.specs.Nodes.{Valuation, null}
+use Rattle.mc_base.specs.Nodes.{Valuation}
 use Rattle.mc_heap.specs.Heap.{Block}
 use Rattle.mc_defs.specs.Examples.{fork_id, list_id, lenlist_id, tree_id, fork_with}
 use Rattle.mc_graph.specs.declared.edge.Edge.TheVariants.{Block as Fork, Ind, Seg}
