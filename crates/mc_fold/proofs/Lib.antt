@@ -2,6 +2,7 @@ pub mod Determined
 pub mod ExampleFolds
 pub mod ExampleForgets
 pub mod ExampleNames
+pub mod ExampleRules
 pub mod Forgetting
 pub mod Lists
 pub mod Matching
@@ -10,5 +11,6 @@ pub mod Names
 pub mod Naming
 pub mod Parts
 pub mod Segments
+pub mod SmallHeaps
 pub mod Standing
 pub mod WrongFolds

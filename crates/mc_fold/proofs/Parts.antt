@@ -1,8 +1,8 @@
 -- Parts of a region, one for each of a list of things.
-use Rattle.std.proofs.Common.{◌≡◌, ℕ, Option, Some, None, List, [], ◌∷◌, ◌++◌, refl, sym, subst}
-use Rattle.mc_heap.specs.Heap.{Block, Region}
+use Rattle.std.proofs.Common.{List, [], ◌∷◌, ◌++◌, refl, sym, subst}
+use Rattle.mc_heap.specs.Heap.{Region}
 use Rattle.mc_heap.specs.Instances.{nowhere}
-use Rattle.mc_heap.specs.Parts.{Joins, Split, IsEmpty, Star}
+use Rattle.mc_heap.specs.Parts.{Split, IsEmpty, Star}
 use Rattle.mc_heap.specs.PartLaws.{SplitCommutes, SplitRegroupsLeft, SplitDropsEmpty, SplitAddsEmpty}
 
 -- what holds of parts
@@ -15,14 +15,6 @@ pub record PartLaws : Type 0 where
 pub nowhere-IsEmpty : IsEmpty nowhere
 nowhere-IsEmpty = record { none = λ at. refl }
 
--- what a part holds, the whole holds
-joins_some : (x r : Option Block) (b : Block) → Joins x (Some b) r → x ≡ Some b
-joins_some x None b j = j
-joins_some x (Some c) b j = absurd j
-
-pub inside : (whole left right : Region) (at : ℕ) (b : Block) → Split whole left right → left at ≡ Some b → whole at ≡ Some b
-inside whole left right at b split e = joins_some (whole at) (right at) b (subst (λ l. Joins (whole at) l (right at)) e (split.joins at))
-
 module _ (laws : PartLaws) where
   pub none_left : (region : Region) → Split region nowhere region
   none_left region = laws.adds_empty region nowhere nowhere-IsEmpty
@@ -34,10 +26,6 @@ module _ (laws : PartLaws) where
     -- one thing alone has the whole region
     pub star_one : (x : A) (region : Region) → M x region → Star M (x ∷ []) region
     star_one x region m = (region, nowhere, none_right region, m, nowhere-IsEmpty)
-
-    -- two things have their parts
-    pub star_two : (x y : A) (region left right : Region) → Split region left right → M x left → M y right → Star M (x ∷ y ∷ []) region
-    star_two x y region left right split m n = (left, right, split, m, star_one y right n)
 
     -- and a list of one thing has its region
     pub one_star : (x : A) (region : Region) → Star M (x ∷ []) region → M x region

@@ -9,10 +9,9 @@ use Rattle.mc_base.specs.declared.plain.Kind.TheVariants.{Int, Ptr}
 use Rattle.mc_base.specs.Nodes.{Valuation}
 use Rattle.mc_heap.specs.Heap.{Region, IsAtAddresses}
 use Rattle.mc_heap.specs.Instances.{nowhere}
-use Rattle.mc_heap.specs.Parts.{IsCell}
 use Rattle.mc_heap.specs.PartLaws.{EmptyHeapIsEmpty, InsertChanges, InsertKeepsAddresses, CellIsAdded}
-use Rattle.mc_defs.specs.Examples.{defs, fork_id, tree_id, lenlist_id, null_rule, tree_rule, tree_def, fork_with, cell_with, blocks, two_cells, shared_fork}
-use Rattle.mc_defs.specs.Meaning.{RuleValues, SatAt, Sat}
+use Rattle.mc_defs.specs.Examples.{defs, fork_id, tree_id, lenlist_id, tree_rule, tree_def, fork_with, cell_with, blocks, two_cells, shared_fork}
+use Rattle.mc_defs.specs.Meaning.{Sat}
 use Rattle.mc_graph.specs.declared.edge.Edge.{Edge}
 use Rattle.mc_graph.specs.declared.edge.Edge.TheVariants.{Block, Ind}
 use Rattle.mc_pure.specs.Examples.{node}
@@ -25,7 +24,8 @@ use Rattle.mc_fold.specs.Changed.{DropsEdge}
 use Rattle.mc_fold.specs.Examples.{edge, valued, shared_tree, shared_folded, other_length, length_closed, lost_list, list_dropped, second_fork}
 use Rattle.mc_fold.specs.WrongRules.{SharedFoldIsSound, ClosingAnyArgsIsSound, DroppingKeepsWhole}
 use Rattle.mc_fold.proofs.ExampleFolds.{itself}
-use Rattle.mc_fold.proofs.Parts.{PartLaws, nowhere-IsEmpty, none_left, none_right, one_star}
+use Rattle.mc_fold.proofs.SmallHeaps.{block_before, second_tree}
+use Rattle.mc_fold.proofs.Parts.{PartLaws, nowhere-IsEmpty, none_right, one_star}
 
 -- what stands for one state
 one_of_one : (n : ℕ) (v : Valuation) (region : Region) (s : State) → StandsForSome defs n v [] region (s ∷ []) → (w : Valuation) × ((m : ℕ) → m < n → w m ≡ v m) × StandsBy defs w [] region s
@@ -40,38 +40,6 @@ only_edge laws w region id e p =
 
 -- ---- a fork with one tree for both its children
 
-abbrev leaf_by : RuleValues defs tree_id (pos 0) []
-leaf_by =
-    record {
-      def = tree_def;
-      defined = refl;
-      rule = null_rule;
-      place = 0;
-      listed = refl;
-      names = pos 0 ∷ [];
-      kinds = ((omega (arith, ints), omega (arith, ints)), tt);
-      count = refl;
-      others = [];
-      front = refl;
-      atoms = (refl, tt);
-    }
-
-abbrev fork_by : RuleValues defs tree_id (pos 9) []
-fork_by =
-    record {
-      def = tree_def;
-      defined = refl;
-      rule = tree_rule;
-      place = 1;
-      listed = refl;
-      names = pos 9 ∷ pos 0 ∷ pos 0 ∷ [];
-      kinds = ((omega (arith, ints), omega (arith, ints)), ((omega (arith, ints), omega (arith, ints)), ((omega (arith, ints), omega (arith, ints)), tt)));
-      count = refl;
-      others = pos 0 ∷ pos 0 ∷ [];
-      front = refl;
-      atoms = tt;
-    }
-
 bounded_shared : IsBounded shared_tree
 bounded_shared =
     record {
@@ -84,38 +52,14 @@ bounded_shared =
     }
 
 module _ (laws : PartLaws) (empty : EmptyHeapIsEmpty) (insert : InsertChanges) (keeps : InsertKeepsAddresses) (added : CellIsAdded) where
-  second_alone : IsCell (blocks second_fork) 9 (fork_with (pos 0) (pos 0))
-  second_alone =
-      let change = insert (finmap.from_entries []) 9 (fork_with (pos 0) (pos 0)) in
-      record { here = change.here; only = λ other ne. change.others other ne ∙ empty.none other }
-
   shared_addresses : IsAtAddresses (blocks []) → IsAtAddresses (blocks shared_fork)
   shared_addresses none =
       keeps (finmap.from_entries second_fork) 7 (fork_with (pos 9) (pos 9)) (omega arith, omega arith)
       (keeps (finmap.from_entries []) 9 (fork_with (pos 0) (pos 0)) (omega arith, omega arith) none)
 
-  leaf : SatAt defs 1 tree_id (pos 0) [] nowhere
-  leaf = (leaf_by, nowhere, nowhere, none_left laws nowhere, nowhere-IsEmpty, nowhere-IsEmpty)
-
-  second_tree : Sat defs tree_id (pos 9) [] (blocks second_fork)
-  second_tree =
-      let nothing = none_left laws nowhere in
-      record {
-        height = 2;
-        holds = (
-          fork_by,
-          blocks second_fork,
-          nowhere,
-          none_right laws (blocks second_fork),
-          (9, refl, second_alone),
-          (nowhere, nowhere, nothing, leaf, (nowhere, nowhere, nothing, leaf, nowhere-IsEmpty)),
-        );
-      }
-
   shared_stands : StandsBy defs (valued (pos 7 ∷ pos 9 ∷ [])) [] (blocks shared_fork) shared_tree
   shared_stands =
-      let none : blocks second_fork 7 ≡ None = get-from_entries nat_cmp_total second_fork 7 in
-      let first = added (blocks second_fork) (blocks shared_fork) 7 (fork_with (pos 9) (pos 9)) none (insert (finmap.from_entries second_fork) 7 (fork_with (pos 9) (pos 9))) in
+      let first = block_before insert added 7 (fork_with (pos 9) (pos 9)) second_fork (get-from_entries nat_cmp_total second_fork 7) in
       record {
         null = refl;
         kinds = ((omega (arith, ints), omega (arith, ints)), ((omega (arith, ints), omega (arith, ints)), tt));
@@ -130,7 +74,7 @@ module _ (laws : PartLaws) (empty : EmptyHeapIsEmpty) (insert : InsertChanges) (
             blocks second_fork,
             first.1,
             (7, refl, (Some (pos 9) ∷ Some (pos 9) ∷ [], first.2, (refl, (refl, tt)))),
-            (blocks second_fork, nowhere, none_right laws (blocks second_fork), second_tree, nowhere-IsEmpty),
+            (blocks second_fork, nowhere, none_right laws (blocks second_fork), second_tree laws empty insert, nowhere-IsEmpty),
           );
           alone = λ t. nowhere-IsEmpty;
         };
