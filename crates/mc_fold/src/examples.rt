@@ -31,7 +31,7 @@ pub fn example_folds()
 }
 
 /// A cell and a list of a length behind it are folded: the arguments and an atom of the rule match.
-pub fn example_of_length()
+pub fn example_of_arguments()
     ensures bounded { IsBounded cell_and_length }
     ensures ind { FoldsInd defs lenlist_id 1 (node 1 ∷ node 5 ∷ node 2 ∷ node 3 ∷ node 4 ∷ []) (Some (edge 0)) (edge 1 ∷ []) cell_and_length (length_folded ∷ []) }
     ensures stands { StandsBy defs (valued (pos 7 ∷ pos 5 ∷ pos 9 ∷ pos 1 ∷ pos 2 ∷ [])) [] (blocks two_cells) cell_and_length }
@@ -88,7 +88,6 @@ pub fn examples_of_pointers()
     ensures bounded { IsBounded pointer }
     ensures makes { MakesEmptySeg defs list_id (node 1) [] (node 1) [] pointer (with_segment ∷ []) }
     ensures forgets { ForgetsNode (node 1) pointer (no_pointer ∷ []) }
-    ensures addresses { IsAtAddresses (blocks []) }
     ensures stands { StandsBy defs (valued []) [] (blocks []) pointer }
 {
     mc_pure::derived_grows();
@@ -127,7 +126,6 @@ pub fn examples_of_lists()
     ensures bounded { IsBounded lost_list }
     ensures drops { DropsEdge (edge 0) lost_list (list_dropped ∷ []) }
     ensures meets { MeetsGoal list_goal (edge 0) lost_list }
-    ensures addresses { IsAtAddresses (blocks two_cells) }
     ensures stands { StandsBy defs (valued (pos 7 ∷ [])) [] (blocks two_cells) lost_list }
 {
     parts_regroup();
@@ -137,7 +135,7 @@ pub fn examples_of_lists()
 }
 
 /// A segment to a list of another length is not closed.
-pub fn example_of_lengths()
+pub fn example_of_other_length()
     ensures bounded { IsBounded other_length }
     ensures not_closed { (next : List Symbolic) → ¬ ClosesSeg (edge 0) (edge 1) other_length next }
     ensures stands { StandsBy defs (valued (pos 7 ∷ pos 3 ∷ pos 2 ∷ [])) [] (blocks two_cells) other_length }
