@@ -1,7 +1,6 @@
 -- A small flow graph, states at its points, and configurations that stand for them.
 use Rattle.std.specs.Prelude.{ℕ, ℤ, pos, negsuc, true, false, Option, Some, None, List, [], ◌∷◌, codes, get_or}
 use Rattle.std.specs.FinMap as map
-use Rattle.mc_base.specs.declared.ids.EdgeId.{EdgeId}
 use Rattle.mc_base.specs.declared.ids.PointId.{PointId}
 use Rattle.mc_base.specs.declared.ids.VarId.{VarId}
 use Rattle.mc_base.specs.declared.plain.Atom.TheVariants.{In, Eq, Ne}
@@ -9,18 +8,21 @@ use Rattle.mc_base.specs.declared.plain.Kind.{Kind}
 use Rattle.mc_base.specs.declared.plain.Kind.TheVariants.{Int, Ptr}
 use Rattle.mc_base.specs.declared.plain.VarInfo.{VarInfo}
 use Rattle.mc_base.specs.Nodes.{Valuation, null}
+use Rattle.mc_base.specs.Runs as runs
+use Rattle.mc_heap.specs.Access.{fresh_block, with_field}
+use Rattle.mc_heap.specs.Choices.{Choice}
 use Rattle.mc_heap.specs.Heap.{Block, Heap}
-use Rattle.mc_defs.specs.Examples.{structs, cell_id, list_id, lenlist_id}
+use Rattle.mc_defs.specs.Examples.{defs, structs, cell_id, list_id, lenlist_id}
 use Rattle.mc_flow.specs.declared.instr.Instr.{Instr}
 use Rattle.mc_flow.specs.declared.instr.Instr.TheVariants as instr
 use Rattle.mc_flow.specs.declared.instr.Operand.TheVariants.{Var, Const}
 use Rattle.mc_flow.specs.declared.graph.Flow.{Flow}
 use Rattle.mc_flow.specs.declared.graph.Point.{Point}
-use Rattle.mc_flow.specs.Steps.{Config}
+use Rattle.mc_flow.specs.Steps.{Config, Step}
+use Rattle.mc_flow.specs.Values.{with_value}
 use Rattle.mc_graph.specs.declared.edge.Edge.{Edge}
 use Rattle.mc_graph.specs.declared.edge.Edge.TheVariants.{Block as BlockEdge, Ind}
 use Rattle.mc_pure.specs.Examples.{node}
-use Rattle.mc_ranges.specs.declared.Range.{Range}
 use Rattle.mc_state.specs.declared.goal.Goal.{Goal}
 use Rattle.mc_state.specs.State.{State, with_var, with_nodes, with_atoms, with_edges, with_only_edges, with_number, with_block}
 use Rattle.mc_step.specs.declared.next.Next.{Next}
@@ -148,6 +150,26 @@ config p number = record { point = p; vars = values number; heap = heap }
 -- and the one where nothing is allocated
 abbrev pub bare : ℕ → ℤ → Config
 bare p number = record { point = p; vars = values number; heap = map.empty }
+
+-- the configuration where a variable has this value
+abbrev pub config_with : ℕ → VarId → ℤ → Config
+config_with p v number = record { point = p; vars = with_value (values (pos 5)) v (Some number); heap = heap }
+
+-- and the one with this heap
+abbrev pub config_on : ℕ → Heap → Config
+config_on p other = record { point = p; vars = values (pos 5); heap = other }
+
+-- the cell's item is 5
+abbrev pub stored : Heap
+stored = map.insert heap 7 (with_field block 0 (pos 5))
+
+-- t points to a new cell at 9
+abbrev pub allocated : Config
+allocated = record { point = 10; vars = with_value (values (pos 5)) t (Some (pos 9)); heap = map.insert heap 9 (fresh_block 0 2) }
+
+-- the configuration takes a step to another, by these choices
+abbrev pub Goes : Config → List Choice → Config → Type 0
+Goes c choices d = Step flow defs c choices (runs.next d [])
 
 -- ---- successors
 
