@@ -51,7 +51,8 @@ module _ (defs : List Def) (w : Valuation) (a : NodeId) (address : ℕ) (leads :
       let is : w a.0 ≡ w at.0 +ℤ pos 0 = same in
       let value : pos address ≡ pos m.0 = (let own : w a.0 ≡ pos address = leads in omega (arith, ints)) in
       let here : address ≡ m.0 = cc in
-      let clash : None ≡ Some (record { shape = shape.0; fields = m.2.0 }) = sym free ∙ ap part here ∙ m.2.1.here in
+      let block : Block = record { shape = shape.0; fields = m.2.0 } in
+      let clash : None ≡ Some block = sym free ∙ ap part here ∙ m.2.1.here in
       cc
 
   pub starts_differ : (es : Edges) (region : Region) → EdgesMeet defs w es region → region address ≡ None → AllByRecursion (IsTrueAtom w) (map (λ b. Ne a b (pos 0)) (block_starts es))
