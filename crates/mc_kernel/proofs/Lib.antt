@@ -1,2 +1,11 @@
+pub mod Calculus
+pub mod Claims
+pub mod Goals
+pub mod Induction
+pub mod Jumping
+pub mod Lines
+pub mod Lists
 pub mod Moves
 pub mod Once
+pub mod Soundness
+pub mod Visits

@@ -6,3 +6,4 @@ pub mod Jumps
 pub mod Instances
 pub mod Certificates
 pub mod Straight
+pub mod JumpLaws

@@ -11,12 +11,14 @@ ghost use Rattle.mc_kernel.specs.declared.branch.Branch.{Branch as Open};
 ghost use Rattle.mc_kernel.specs.Rules.{Instance, IsCertificate};
 
 mod branch;
+mod laws;
 mod proof;
 mod rules;
 #[cfg(test)]
 mod tests;
 
 pub use branch::Branch;
+pub use laws::{certificates_are_safe, jumps_are_sound, last_pass_finds_faults};
 use mc_heap::{changes_are_local, heaps_change_one_address, parts_regroup};
 pub use proof::{ApplyFault, Complete, Proof};
 
