@@ -1,5 +1,5 @@
 -- The small flow graph is valid.
-use Rattle.std.proofs.Common.{◌≡◌, ◌+◌, ◌<◌, ℕ, zero, suc, List, [], ◌∷◌, Some, slice_get, refl, sym, subst, arith, inl}
+use Rattle.std.proofs.Common.{◌≡◌, ◌+◌, ◌<◌, ℕ, zero, suc, List, [], ◌∷◌, Some, slice_get, drop, refl, sym, subst, arith, inl}
 use Rattle.std.specs.Prelude.{All}
 use Rattle.std.proofs.lemmas.Int.{ints}
 use Rattle.mc_base.specs.declared.ids.VarId.{VarId}
@@ -38,82 +38,43 @@ fit_at (q ∷ ps) n (suc p) point f e =
     let sum : suc n + p ≡ n + suc p = omega arith in
     subst (λ (m : ℕ). PointFits ex.flow defs m point) sum (fit_at ps (suc n) p point f.1 e)
 
-goes : (p q : ℕ) → p < q → q < 21 → GoesOn ex.flow p (ex.at q)
+goes : (p q : ℕ) → p < q → q < 23 → GoesOn ex.flow p (ex.at q)
 goes p q lt less = (less, inl lt)
 
 -- a point that goes on to one other
-to_one : (n q : ℕ) (code : Instr) → targets code ≡ ex.at q ∷ [] → n < q → q < 21 → FitsKinds ex.vars ex.flow.structs defs code → PointFits ex.flow defs n (ex.point code)
+to_one : (n q : ℕ) (code : Instr) → targets code ≡ ex.at q ∷ [] → n < q → q < 23 → FitsKinds ex.vars ex.flow.structs defs code → PointFits ex.flow defs n (ex.point code)
 to_one n q code e lt less kinds = record { follows = subst (All (GoesOn ex.flow n)) (sym e) (all_one (GoesOn ex.flow n) (ex.at q) (goes n q lt less)); kinds = kinds }
 
-to_two : (n q q' : ℕ) (code : Instr) → targets code ≡ ex.at q ∷ ex.at q' ∷ [] → n < q → q < 21 → n < q' → q' < 21 → FitsKinds ex.vars ex.flow.structs defs code → PointFits ex.flow defs n (ex.point code)
+to_two : (n q q' : ℕ) (code : Instr) → targets code ≡ ex.at q ∷ ex.at q' ∷ [] → n < q → q < 23 → n < q' → q' < 23 → FitsKinds ex.vars ex.flow.structs defs code → PointFits ex.flow defs n (ex.point code)
 to_two n q q' code e lt less lt' less' kinds =
     record { follows = subst (All (GoesOn ex.flow n)) (sym e) (all_two (GoesOn ex.flow n) (ex.at q) (ex.at q') (goes n q lt less) (goes n q' lt' less')); kinds = kinds }
 
 to_none : (n : ℕ) (code : Instr) → targets code ≡ [] → FitsKinds ex.vars ex.flow.structs defs code → PointFits ex.flow defs n (ex.point code)
 to_none n code e kinds = record { follows = subst (All (GoesOn ex.flow n)) (sym e) (all_none (GoesOn ex.flow n)); kinds = kinds }
 
+from_20 : FitFrom 20 (drop 20 ex.flow.points)
+from_20 =
+    (to_none 20 _ refl tt, (to_one 21 22 _ refl (omega arith) (omega arith) (refl, (omega (arith, ints), omega (arith, ints)), (omega (arith, ints), omega (arith, ints))), (to_none 22 _ refl tt, tt)))
+
+from_16 : FitFrom 16 (drop 16 ex.flow.points)
+from_16 =
+    (to_one 16 17 _ refl (omega arith) (omega arith) tt, (to_none 17 _ refl tt, (to_one 18 19 _ refl (omega arith) (omega arith) (Int, refl, refl, refl), (to_one 19 20 _ refl (omega arith) (omega arith) (Int, refl, refl), from_20))))
+
+from_12 : FitFrom 12 (drop 12 ex.flow.points)
+from_12 =
+    (to_two 12 13 14 _ refl (omega arith) (omega arith) (omega arith) (omega arith) (Ptr, refl, refl), (to_two 13 14 15 _ refl (omega arith) (omega arith) (omega arith) (omega arith) (refl, (omega (arith, ints), omega (arith, ints))), (to_one 14 15 _ refl (omega arith) (omega arith) (refl, record { def = lenlist_def; defined = refl; args = ((omega (arith, ints), omega (arith, ints)), tt) }), (to_one 15 16 _ refl (omega arith) (omega arith) (refl, record { def = list_def; defined = refl; args = tt }), from_16))))
+
+from_8 : FitFrom 8 (drop 8 ex.flow.points)
+from_8 =
+    (to_one 8 9 _ refl (omega arith) (omega arith) (Int, refl, refl, refl), (to_one 9 10 _ refl (omega arith) (omega arith) (refl, omega arith), (to_one 10 11 _ refl (omega arith) (omega arith) refl, (to_one 11 12 _ refl (omega arith) (omega arith) refl, from_12))))
+
+from_4 : FitFrom 4 (drop 4 ex.flow.points)
+from_4 =
+    (to_one 4 5 _ refl (omega arith) (omega arith) (refl, refl, (omega (arith, ints), omega (arith, ints))), (to_one 5 6 _ refl (omega arith) (omega arith) (refl, refl, (omega (arith, ints), omega (arith, ints))), (to_one 6 7 _ refl (omega arith) (omega arith) (refl, refl, (omega (arith, ints), omega (arith, ints))), (to_one 7 8 _ refl (omega arith) (omega arith) (Ptr, refl, refl, refl), from_8))))
+
 points_fit : FitFrom 0 ex.flow.points
-points_fit = (
-  to_one 0 1 _ refl (omega arith) (omega arith) tt,
-  (
-    to_one 1 2 _ refl (omega arith) (omega arith) (Ptr, refl, refl),
-    (
-      to_one 2 3 _ refl (omega arith) (omega arith) (all_two (λ (v : VarId). v.0 < 4) ex.z ex.t (omega arith) (omega arith)),
-      (
-        to_one 3 4 _ refl (omega arith) (omega arith) refl,
-        (
-          to_one 4 5 _ refl (omega arith) (omega arith) (refl, refl, (omega (arith, ints), omega (arith, ints))),
-          (
-            to_one 5 6 _ refl (omega arith) (omega arith) (refl, refl, (omega (arith, ints), omega (arith, ints))),
-            (
-              to_one 6 7 _ refl (omega arith) (omega arith) (refl, refl, (omega (arith, ints), omega (arith, ints))),
-              (
-                to_one 7 8 _ refl (omega arith) (omega arith) (Ptr, refl, refl, refl),
-                (
-                  to_one 8 9 _ refl (omega arith) (omega arith) (Int, refl, refl, refl),
-                  (
-                    to_one 9 10 _ refl (omega arith) (omega arith) (refl, omega arith),
-                    (
-                      to_one 10 11 _ refl (omega arith) (omega arith) refl,
-                      (
-                        to_one 11 12 _ refl (omega arith) (omega arith) refl,
-                        (
-                          to_two 12 13 14 _ refl (omega arith) (omega arith) (omega arith) (omega arith) (Ptr, refl, refl),
-                          (
-                            to_two 13 14 15 _ refl (omega arith) (omega arith) (omega arith) (omega arith) (refl, (omega (arith, ints), omega (arith, ints))),
-                            (
-                              to_one 14 15 _ refl (omega arith) (omega arith) (refl, record { def = lenlist_def; defined = refl; args = ((omega (arith, ints), omega (arith, ints)), tt) }),
-                              (
-                                to_one 15 16 _ refl (omega arith) (omega arith) (refl, record { def = list_def; defined = refl; args = tt }),
-                                (
-                                  to_one 16 17 _ refl (omega arith) (omega arith) tt,
-                                  (
-                                    to_none 17 _ refl tt,
-                                    (
-                                      to_one 18 19 _ refl (omega arith) (omega arith) (Int, refl, refl, refl),
-                                      (
-                                        to_one 19 20 _ refl (omega arith) (omega arith) (Int, refl, refl),
-                                        (to_none 20 _ refl tt, tt),
-                                      ),
-                                    ),
-                                  ),
-                                ),
-                              ),
-                            ),
-                          ),
-                        ),
-                      ),
-                    ),
-                  ),
-                ),
-              ),
-            ),
-          ),
-        ),
-      ),
-    ),
-  ),
-)
+points_fit =
+    (to_one 0 1 _ refl (omega arith) (omega arith) tt, (to_one 1 2 _ refl (omega arith) (omega arith) (Ptr, refl, refl), (to_one 2 3 _ refl (omega arith) (omega arith) (all_two (λ (v : VarId). v.0 < 4) ex.z ex.t (omega arith) (omega arith)), (to_one 3 4 _ refl (omega arith) (omega arith) refl, from_4))))
 
 pub flow_is_valid : DefsFit structs defs → IsValid ex.flow defs
 flow_is_valid fit =

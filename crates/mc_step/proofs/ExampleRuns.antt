@@ -1,5 +1,5 @@
 -- Steps of the small flow graph.
-use Rattle.std.proofs.Common.{◌≡◌, [], ◌∷◌, Option, Some, None, refl, sym, ap, arith, inl, pos}
+use Rattle.std.proofs.Common.{negsuc, ◌≡◌, [], ◌∷◌, Option, Some, None, refl, sym, ap, arith, inl, pos}
 use Rattle.std.specs.FinMap as map
 use Rattle.std.specs.FinMap.{gets}
 use Rattle.std.proofs.lemmas.Bool.Decides.{nat_tests}
@@ -17,7 +17,7 @@ use Rattle.mc_flow.specs.Steps.{Step, found, put, set_to, freed_at, written}
 use Rattle.mc_step.specs.Examples as ex
 use Rattle.mc_step.proofs.ExampleStates.{block_there, empty_there}
 use Rattle.mc_step.proofs.ExampleSteps.{joins_none}
-use Rattle.mc_step.proofs.Wrapping.{wrapped_is}
+use Rattle.mc_step.proofs.Wrapping.{wrapped_is, least_is}
 
 abbrev place : Place
 place = record { line = 1; column = 1 }
@@ -36,6 +36,9 @@ input = ((omega (arith, ints), omega (arith, ints)), refl)
 
 pub sum : ex.Goes (ex.config 4 (pos 5)) [] (ex.config_with 5 ex.z (pos 6))
 sum = ap (set_to ex.z (ex.at 5) (ex.config 4 (pos 5)) []) (sym (wrapped_is (pos 6) (omega (arith, ints), omega (arith, ints))))
+
+pub wrap : ex.Goes (ex.config 21 (pos 5)) [] (ex.config_with 22 ex.z (negsuc 2147483647))
+wrap = ap (set_to ex.z (ex.at 22) (ex.config 21 (pos 5)) []) least_is
 
 pub difference : ex.Goes (ex.config 5 (pos 5)) [] (ex.config_with 6 ex.z (pos 4))
 difference = ap (set_to ex.z (ex.at 6) (ex.config 5 (pos 5)) []) (sym (wrapped_is (pos 4) (omega (arith, ints), omega (arith, ints))))

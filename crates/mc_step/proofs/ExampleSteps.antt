@@ -1,7 +1,6 @@
 -- Instances of the rules at the points of the small flow graph.
-use Rattle.std.proofs.Common.{◌≡◌, zero, suc, [], ◌∷◌, Option, Some, None, refl, sym, ap, ◌∙◌, subst, arith, inl, inr, ℤ, pos, ◌+ℤ◌, ◌-ℤ◌, ◌*ℤ◌, ◌≤ℤ◌}
+use Rattle.std.proofs.Common.{◌≡◌, zero, suc, [], ◌∷◌, Option, Some, None, refl, sym, ap, ◌∙◌, subst, arith, inl, inr, ℤ, pos}
 use Rattle.std.proofs.lemmas.Int.{ints}
-use Rattle.mc_base.specs.declared.ids.NodeId.{NodeId}
 use Rattle.mc_base.specs.declared.plain.Atom.TheVariants.{In}
 use Rattle.mc_base.specs.declared.plain.Kind.TheVariants.{Ptr}
 use Rattle.mc_base.specs.Nodes.{Valuation, null}
@@ -10,22 +9,20 @@ use Rattle.mc_heap.specs.Parts.{Joins}
 use Rattle.mc_defs.specs.Examples.{defs, cell_id, list_id, lenlist_id, blocks}
 use Rattle.mc_defs.specs.Meaning.{Sat}
 use Rattle.mc_flow.specs.declared.instr.Operand.TheVariants.{Var, Const}
-use Rattle.mc_pure.specs.Derived.{Follows, HasRange, base, itself}
+use Rattle.mc_pure.specs.Derived.{itself}
 use Rattle.mc_pure.specs.Examples.{node}
-use Rattle.mc_pure.specs.Pure.{written}
-use Rattle.mc_ranges.specs.declared.Range.{Range}
-use Rattle.mc_ranges.specs.Range.{Holds, IsOutcome, IsIntRange, IsLeastIntRange}
-use Rattle.mc_state.specs.State.{State, pure_of, with_var}
+use Rattle.mc_state.specs.State.{with_atoms, with_var}
 use Rattle.mc_state.specs.Facts.{IsFalse}
 use Rattle.mc_state.specs.Laws.{DerivedIsTrue, NoneStandsForFalse}
 use Rattle.mc_state.specs.Rules.{GoalHolds}
-use Rattle.mc_state.specs.Stands.{StandsBy}
 use Rattle.mc_step.specs.declared.next.Next.{Next}
 use Rattle.mc_step.specs.Operands.{HasBlock}
 use Rattle.mc_step.specs.Steps.{moved_to}
 use Rattle.mc_step.specs.Laws.{IsStep, SidesHold, S1, S2, S3, S4, S5, S6, S7, S8, S9, S10, S11, S12, S13, S14, S15, S16, S17, S18}
 use Rattle.mc_step.specs.Examples as ex
-use Rattle.mc_step.proofs.ExampleStates.{heap_addresses, empty_addresses, empty_there, one_cell_stands, with_one_stands, no_cell_stands, not_whole_stands}
+use Rattle.mc_step.proofs.ExampleRanges.{five_to_seven, only_one, only_greatest, six_to_eight, four_to_six, y_range, one_range, greatest_range, last_range, sums, no_sums, differences, products}
+use Rattle.mc_step.proofs.Wrapping.{least_is}
+use Rattle.mc_step.proofs.ExampleStates.{heap_addresses, empty_addresses, empty_there, one_cell_stands, no_cell_stands, not_whole_stands}
 
 -- ---- states that are not false
 pub one_cell_sound : NoneStandsForFalse → IsFalse ex.one_cell → ⊥
@@ -36,92 +33,6 @@ no_cell_sound law = law defs (ex.values (pos 5)) _ ex.no_cell empty_addresses (e
 
 pub not_whole_sound : NoneStandsForFalse → IsFalse ex.not_whole → ⊥
 not_whole_sound law = law defs (ex.values (pos 5)) _ ex.not_whole empty_addresses (ex.valuation (pos 5), not_whole_stands (pos 5) (omega (arith, ints)) (omega (arith, ints)))
-
--- ---- ranges
-abbrev five_to_seven : Range
-five_to_seven = record { lo = pos 5; hi = pos 7; low_end = (omega (arith, ints), omega (arith, ints)); high_end = (omega (arith, ints), omega (arith, ints)) }
-
-abbrev only_one : Range
-only_one = record { lo = pos 1; hi = pos 1; low_end = (omega (arith, ints), omega (arith, ints)); high_end = (omega (arith, ints), omega (arith, ints)) }
-
-abbrev six_to_eight : Range
-six_to_eight = record { lo = pos 6; hi = pos 8; low_end = (omega (arith, ints), omega (arith, ints)); high_end = (omega (arith, ints), omega (arith, ints)) }
-
-abbrev four_to_six : Range
-four_to_six = record { lo = pos 4; hi = pos 6; low_end = (omega (arith, ints), omega (arith, ints)); high_end = (omega (arith, ints), omega (arith, ints)) }
-
--- a range is the least where configurations reach both of its ends
-reached : DerivedIsTrue → (s : State) (n : NodeId) (lo hi y y' : ℤ) → StandsBy defs (ex.valuation y) (ex.values y) (region_of ex.heap) s → StandsBy defs (ex.valuation y') (ex.values y') (region_of ex.heap) s
-    → ex.valuation y n.0 ≡ lo → ex.valuation y' n.0 ≡ hi → Follows (pure_of s) (In n lo hi) → HasRange (pure_of s) n lo hi
-reached law s n lo hi y y' low high at_low at_high f =
-    record {
-      follows = f;
-      least = λ m k g.
-          let first = law defs (ex.valuation y) (ex.values y) (region_of ex.heap) s (In n m k) heap_addresses low (inl g) in
-          let second = law defs (ex.valuation y') (ex.values y') (region_of ex.heap) s (In n m k) heap_addresses high (inl g) in
-          let l : m ≤ℤ lo = subst (λ z. m ≤ℤ z) at_low first.0 in
-          let h : hi ≤ℤ k = subst (λ z. z ≤ℤ k) at_high second.1 in
-          (l, h);
-    }
-
-module _ (law : DerivedIsTrue) where
-  y_range : HasRange (pure_of ex.with_one) (node 2) (pos 5) (pos 7)
-  y_range =
-      reached law ex.with_one (node 2) (pos 5) (pos 7) (pos 5) (pos 7) (with_one_stands (pos 5) (omega (arith, ints)) (omega (arith, ints))) (with_one_stands (pos 7) (omega (arith, ints)) (omega (arith, ints))) refl refl
-      (base (written 0 refl))
-
-  one_range : HasRange (pure_of ex.with_one) (node 3) (pos 1) (pos 1)
-  one_range =
-      reached law ex.with_one (node 3) (pos 1) (pos 1) (pos 5) (pos 7) (with_one_stands (pos 5) (omega (arith, ints)) (omega (arith, ints))) (with_one_stands (pos 7) (omega (arith, ints)) (omega (arith, ints))) refl refl
-      (base (written 1 refl))
-
--- the range of results, where its ends are results
-results : (op : ℤ → ℤ → ℤ) (left right r : Range) → ((a b : ℤ) → Holds left a → Holds right b → Holds r (op a b)) → IsOutcome op left right r.lo → IsOutcome op left right r.hi → IsIntRange r → IsLeastIntRange (IsOutcome op left right) (Some r)
-results op left right r within first last fits = (
-  record {
-    all = λ number o. subst (Holds r) (sym o.4) (within o.0 o.1 o.2 o.3);
-    least = λ low high f number h.
-        let a = f r.lo first in
-        let b = f r.hi last in
-        let l = a.0 in
-        let u = b.1 in
-        let from = h.0 in
-        let upto = h.1 in
-        (omega (arith, ints), omega (arith, ints));
-  },
-  fits,
-)
-
-sums : IsLeastIntRange (IsOutcome (λ a b. a +ℤ b) five_to_seven only_one) (Some six_to_eight)
-sums =
-    results (λ a b. a +ℤ b) five_to_seven only_one six_to_eight
-    (λ a b h g. let l = h.0 in let u = h.1 in let m = g.0 in let k = g.1 in (omega (arith, ints), omega (arith, ints)))
-    (pos 5, pos 1, (omega (arith, ints), omega (arith, ints)), (omega (arith, ints), omega (arith, ints)), refl)
-    (pos 7, pos 1, (omega (arith, ints), omega (arith, ints)), (omega (arith, ints), omega (arith, ints)), refl)
-    (omega (arith, ints), (omega (arith, ints), omega (arith, ints)), (omega (arith, ints), omega (arith, ints)))
-
-differences : IsLeastIntRange (IsOutcome (λ a b. a -ℤ b) five_to_seven only_one) (Some four_to_six)
-differences =
-    results (λ a b. a -ℤ b) five_to_seven only_one four_to_six
-    (λ a b h g. let l = h.0 in let u = h.1 in let m = g.0 in let k = g.1 in (omega (arith, ints), omega (arith, ints)))
-    (pos 5, pos 1, (omega (arith, ints), omega (arith, ints)), (omega (arith, ints), omega (arith, ints)), refl)
-    (pos 7, pos 1, (omega (arith, ints), omega (arith, ints)), (omega (arith, ints), omega (arith, ints)), refl)
-    (omega (arith, ints), (omega (arith, ints), omega (arith, ints)), (omega (arith, ints), omega (arith, ints)))
-
-times_one : (a b : ℤ) → b ≡ pos 1 → a *ℤ b ≡ a
-times_one a b e = ap (λ z. a *ℤ z) e ∙ omega (arith, ints)
-
-products : IsLeastIntRange (IsOutcome (λ a b. a *ℤ b) five_to_seven only_one) (Some five_to_seven)
-products =
-    results (λ a b. a *ℤ b) five_to_seven only_one five_to_seven
-    (λ a b h g.
-    let m = g.0 in
-    let k = g.1 in
-    let one : b ≡ pos 1 = omega (arith, ints) in
-    subst (Holds five_to_seven) (sym (times_one a b one)) h)
-    (pos 5, pos 1, (omega (arith, ints), omega (arith, ints)), (omega (arith, ints), omega (arith, ints)), refl)
-    (pos 7, pos 1, (omega (arith, ints), omega (arith, ints)), (omega (arith, ints), omega (arith, ints)), refl)
-    (omega (arith, ints), (omega (arith, ints), omega (arith, ints)), (omega (arith, ints), omega (arith, ints)))
 
 -- ---- the rules
 abbrev pub here : HasBlock ex.one_cell (node 1) cell_id
@@ -167,6 +78,32 @@ module _ (sound : IsFalse ex.one_cell → ⊥) where
             before = ex.with_one;
             operands = refl;
             gives = refl;
+          };
+        })
+
+    pub wrap : IsStep ex.flow (ex.at 21) ex.one_cell ex.after_wrap
+    wrap =
+        S5 (record {
+          x = ex.z;
+          o = Const (pos 2147483647);
+          o' = Const (pos 1);
+          q = ex.at 22;
+          at = refl;
+          sound = sound;
+          computes = record {
+            a = node 3;
+            left_known = refl;
+            b = node 4;
+            right_known = refl;
+            left = only_greatest;
+            left_range = greatest_range law;
+            right = only_one;
+            right_range = last_range law;
+            results = None;
+            results_range = no_sums;
+            before = ex.with_greatest;
+            operands = refl;
+            gives = ap (λ (k : ℤ). moved_to (ex.at 22) (with_atoms (ex.with_z ex.with_greatest) (In (node 5) k k ∷ [])) ∷ []) least_is;
           };
         })
 

@@ -2,6 +2,7 @@ pub mod Blocks
 pub mod Bounded
 pub mod ExampleFlow
 pub mod ExampleGaps
+pub mod ExampleRanges
 pub mod ExampleRuns
 pub mod ExampleStates
 pub mod ExampleSteps

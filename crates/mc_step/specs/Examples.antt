@@ -58,7 +58,7 @@ vars = named (codes "x") Ptr ∷ named (codes "y") Int ∷ named (codes "z") Int
 abbrev pub point : Instr → Point
 point code = record { code = code; place = record { line = 1; column = 1 } }
 
--- an instruction of each form, and two more that are unmet
+-- an instruction of each form, two more that are unmet, and a sum that wraps
 abbrev pub code : List Instr
 code =
     instr.Skip (at 1)
@@ -82,6 +82,8 @@ code =
     ∷ instr.Load z x cell_id 0 (at 19)
     ∷ instr.Copy z (Var z) (at 20)
     ∷ instr.Fail
+    ∷ instr.Add z (Const (pos 2147483647)) (Const (pos 1)) (at 22)
+    ∷ instr.End
     ∷ []
 
 -- each at a point of its own
@@ -113,6 +115,10 @@ one_cell =
 -- node 3 is 1
 abbrev pub with_one : State
 with_one = with_number one_cell (pos 1)
+
+-- node 3 is the greatest `int`, and node 4 is 1
+abbrev pub with_greatest : State
+with_greatest = with_number (with_number one_cell (pos 2147483647)) (pos 1)
 
 -- y may be any number
 abbrev pub any_number : State
@@ -180,6 +186,10 @@ with_z s = with_var (with_nodes s (Int ∷ [])) z (Some (record { 0 = s.next }))
 -- z is y plus 1, and goes from 6 to 8
 abbrev pub after_sum : List Next
 after_sum = moved_to (at 5) (with_atoms (with_z with_one) (In (node 4) (pos 6) (pos 8) ∷ Eq (node 4) (node 2) (pos 1) ∷ [])) ∷ []
+
+-- z is the least `int`, since the sum wraps
+abbrev pub after_wrap : List Next
+after_wrap = moved_to (at 22) (with_atoms (with_z with_greatest) (In (node 5) (negsuc 2147483647) (negsuc 2147483647) ∷ [])) ∷ []
 
 -- z is y minus 1, and goes from 4 to 6
 abbrev pub after_difference : List Next

@@ -1,6 +1,6 @@
 // Worked rules: a small flow graph with an instruction of each form, and states and configurations that
 // meet the premises of the laws.
-ghost use Rattle.std.specs.Prelude.{ℤ, pos, ◌≤ℤ◌, Some, [], ◌∷◌, false};
+ghost use Rattle.std.specs.Prelude.{ℤ, pos, negsuc, ◌≤ℤ◌, Some, [], ◌∷◌, false};
 ghost use Rattle.std.specs.FinMap as map;
 ghost use Rattle.mc_base.specs.declared.ids.PointId.{PointId as Point};
 ghost use Rattle.mc_base.specs.Nodes.{null};
@@ -41,6 +41,7 @@ pub fn example_numbers()
     ensures undef { IsStep ex.flow (ex.at 2) ex.one_cell (moved_to (ex.at 3) ex.one_cell ∷ []) }
     ensures input { IsStep ex.flow (ex.at 3) ex.one_cell (moved_to (ex.at 4) (ex.with_z ex.one_cell) ∷ []) }
     ensures sum { IsStep ex.flow (ex.at 4) ex.one_cell ex.after_sum }
+    ensures wrap { IsStep ex.flow (ex.at 21) ex.one_cell ex.after_wrap }
     ensures difference { IsStep ex.flow (ex.at 5) ex.one_cell ex.after_difference }
     ensures product { IsStep ex.flow (ex.at 6) ex.one_cell ex.after_product }
     ensures equal { IsStep ex.flow (ex.at 12) ex.one_cell ex.after_equal }
@@ -73,6 +74,7 @@ pub fn example_runs()
     ensures undef { ex.Goes (ex.config 2 (pos 5)) [] (ex.config 3 (pos 5)) }
     ensures input { ex.Goes (ex.config 3 (pos 5)) (choice.input (pos 9) ∷ []) (ex.config_with 4 ex.z (pos 9)) }
     ensures sum { ex.Goes (ex.config 4 (pos 5)) [] (ex.config_with 5 ex.z (pos 6)) }
+    ensures wrap { ex.Goes (ex.config 21 (pos 5)) [] (ex.config_with 22 ex.z (negsuc 2147483647)) }
     ensures difference { ex.Goes (ex.config 5 (pos 5)) [] (ex.config_with 6 ex.z (pos 4)) }
     ensures product { ex.Goes (ex.config 6 (pos 5)) [] (ex.config_with 7 ex.z (pos 5)) }
     ensures load { ex.Goes (ex.config 7 (pos 5)) [] (ex.config_with 8 ex.t (pos 0)) }

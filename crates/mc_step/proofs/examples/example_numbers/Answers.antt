@@ -11,6 +11,7 @@ returns c =
       undef = proof.undef sound;
       input = proof.input sound;
       sum = proof.sum sound law;
+      wrap = proof.wrap sound law;
       difference = proof.difference sound law;
       product = proof.product sound law;
       equal = proof.equal sound;

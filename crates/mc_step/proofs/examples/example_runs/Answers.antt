@@ -9,6 +9,7 @@ returns c =
       undef = proof.undef;
       input = proof.input;
       sum = proof.sum;
+      wrap = proof.wrap;
       difference = proof.difference;
       product = proof.product;
       load = proof.load;
