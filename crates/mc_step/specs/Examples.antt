@@ -30,13 +30,15 @@ use Rattle.mc_step.specs.Steps.{moved_to}
 
 -- ---- the flow graph
 
+-- the variable with a number
 abbrev pub var : ℕ → VarId
 var n = record { 0 = n }
 
+-- the point with a number
 abbrev pub at : ℕ → PointId
 at n = record { 0 = n }
 
--- struct cell *x, int y, int z, struct cell *t
+-- the variables: struct cell *x, int y, int z, struct cell *t
 abbrev pub x : VarId
 x = var 0
 
@@ -49,12 +51,14 @@ z = var 2
 abbrev pub t : VarId
 t = var 3
 
+-- a variable of this name and kind
 abbrev pub named : List ℕ → Kind → VarInfo
 named name kind = record { name = name; kind = kind }
 
 abbrev pub vars : List VarInfo
 vars = named (codes "x") Ptr ∷ named (codes "y") Int ∷ named (codes "z") Int ∷ named (codes "t") Ptr ∷ []
 
+-- the instruction, at some place of a text
 abbrev pub point : Instr → Point
 point code = record { code = code; place = record { line = 1; column = 1 } }
 
@@ -86,11 +90,12 @@ code =
     ∷ instr.End
     ∷ []
 
--- each at a point of its own
+-- each instruction at a point of its own
 abbrev pub points : List Instr → List Point
 points [] = []
 points (i ∷ is) = point i ∷ points is
 
+-- the flow graph, with no loops
 abbrev pub flow : Flow
 flow = record { points = points code; vars = vars; heads = []; merges = []; thresholds = []; structs = record { list = structs } }
 
@@ -231,5 +236,6 @@ after_assume = moved_to (at 15) (with_var (with_edges (with_nodes one_cell (Ptr 
 abbrev pub null_list : Goal
 null_list = record { pred = list_id; at = null; args = [] }
 
+-- the side branch, and the state as it was
 abbrev pub after_assert : List Next
 after_assert = record { point = at 15; goal = Some null_list; state = one_cell } ∷ moved_to (at 16) one_cell ∷ []
