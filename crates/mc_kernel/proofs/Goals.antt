@@ -1,11 +1,11 @@
 -- The goals of side branches under other valuations.
-use Rattle.std.proofs.Common.{◌≡◌, ◌+◌, ◌<◌, ◌≤◌, ◌⊎◌, ℕ, suc, List, [], ◌∷◌, map, Bool, true, false, Option, Some, None, refl, sym, ap, ap₂, ◌∙◌, subst, inl, inr, arith, eqb-true, ℤ}
+use Rattle.std.proofs.Common.{◌≡◌, ◌<◌, ◌≤◌, ℕ, suc, List, [], ◌∷◌, map, Bool, true, false, Option, Some, None, refl, sym, ap, ap₂, ◌∙◌, subst, inl, inr, arith, eqb-true, ℤ}
 use Rattle.std.specs.Prelude.{◌==◌, if◌then◌else◌, option_map}
 use Rattle.std.specs.List.{AllByRecursion}
 use Rattle.mc_base.specs.declared.ids.NodeId.{NodeId}
 use Rattle.mc_base.specs.declared.ids.PredId.{PredId}
 use Rattle.mc_base.specs.declared.plain.Kind.{Kind}
-use Rattle.mc_base.specs.Nodes.{Valuation, at_node, moved, null}
+use Rattle.mc_base.specs.Nodes.{Valuation, at_node, moved}
 use Rattle.mc_heap.specs.Heap.{Region}
 use Rattle.mc_defs.specs.declared.rules.Def.{Def}
 use Rattle.mc_defs.specs.Meaning.{Sat}
@@ -13,7 +13,7 @@ use Rattle.mc_pure.specs.Pure.{Kinds, IsNode, kind_of}
 use Rattle.mc_state.specs.declared.goal.Goal.{Goal}
 use Rattle.mc_state.specs.State.{State}
 use Rattle.mc_state.specs.Facts.{instead}
-use Rattle.mc_state.specs.Fits.{AreNodes, IsBounded, NodesAscend}
+use Rattle.mc_state.specs.Fits.{IsBounded, NodesAscend}
 use Rattle.mc_state.specs.Stands.{AgreeBelow}
 use Rattle.mc_state.specs.Rules.{GoalHolds, GoalIsThere}
 use Rattle.mc_kernel.specs.Branches.{merged_goal}
@@ -95,6 +95,10 @@ merged_below n keep gone (Some goal) k below = instead_all_below n keep.0 gone.0
 
 -- where both nodes have one value, the renamed goal is the goal
 pub merged_holds : (defs : List Def) (v : Valuation) (region : Region) (keep gone : NodeId) (goal : Goal) → v gone.0 ≡ v keep.0 → GoalHolds defs v region (merged_goal keep gone goal) → GoalHolds defs v region goal
-merged_holds defs v region keep gone goal e g =
-    (g.0, g.1, g.2, same_sat defs goal.pred (v (instead keep.0 gone.0 goal.at.0)) (v goal.at.0) (map (at_node v) (map (moved (instead keep.0 gone.0)) goal.args)) (map (at_node v) goal.args) g.0
-    (instead_same v keep.0 gone.0 goal.at.0 e) (instead_all v keep.0 gone.0 goal.args e) g.3)
+merged_holds defs v region keep gone goal e g = (
+  g.0,
+  g.1,
+  g.2,
+  same_sat defs goal.pred (v (instead keep.0 gone.0 goal.at.0)) (v goal.at.0) (map (at_node v) (map (moved (instead keep.0 gone.0)) goal.args)) (map (at_node v) goal.args) g.0
+      (instead_same v keep.0 gone.0 goal.at.0 e) (instead_all v keep.0 gone.0 goal.args e) g.3,
+)

@@ -1,14 +1,12 @@
 -- Documents whose lines end every branch are sound: by induction on the number of steps, and on the lines.
-use Rattle.std.proofs.Common.{◌≡◌, ℕ, zero, suc, ◌≤◌, Option, None, List, [], ◌∷◌, ◌++◌, length, map, replicate, refl, sym, subst, arith, ℤ, pos}
-use Rattle.std.specs.Prelude.{Contains, IsSome}
+use Rattle.std.proofs.Common.{◌≡◌, ℕ, zero, suc, Option, None, List, [], ◌∷◌, ◌++◌, length, replicate, refl, subst, arith, ℤ}
+use Rattle.std.specs.Prelude.{Contains}
 use Rattle.std.specs.List.{AllByRecursion}
 use Rattle.std.specs.FinMap as map
 use Rattle.std.proofs.lemmas.List.{length-replicate}
 use Rattle.mc_base.specs.declared.ids.PointId.{PointId}
-use Rattle.mc_base.specs.declared.plain.FaultKind.{FaultKind}
-use Rattle.mc_base.specs.declared.plain.Place.{Place}
 use Rattle.mc_base.specs.Nodes.{Valuation}
-use Rattle.mc_heap.specs.Heap.{IsAddress, region_of}
+use Rattle.mc_heap.specs.Heap.{region_of}
 use Rattle.mc_heap.specs.Parts.{IsEmpty}
 use Rattle.mc_defs.specs.declared.rules.Def.{Def}
 use Rattle.mc_flow.specs.declared.graph.Flow.{Flow}
@@ -16,12 +14,11 @@ use Rattle.mc_flow.specs.Steps.{Config, start}
 use Rattle.mc_flow.specs.Valid.{IsValid}
 use Rattle.mc_state.specs.declared.line.Line.{Line}
 use Rattle.mc_state.specs.declared.line.Line.TheVariants.{C1}
-use Rattle.mc_state.specs.State.{State, unknown}
+use Rattle.mc_state.specs.State.{unknown}
 use Rattle.mc_state.specs.Fits.{IsBounded}
-use Rattle.mc_state.specs.RawStates.{IsWellFormedRaw}
 use Rattle.mc_state.specs.Stands.{Stands}
 use Rattle.mc_step.specs.Laws.{IsAt}
-use Rattle.mc_kernel.specs.Branches.{Path, Head, Setting, begins, entry_path, roots}
+use Rattle.mc_kernel.specs.Branches.{Path, Head, Setting, begins, roots}
 use Rattle.mc_kernel.specs.Instances.{Reads, stuck_by}
 use Rattle.mc_kernel.specs.Certificates.{CertificateIsSafe, LastPassFindsFaults, IsAtStuck, WrittenHead, AreHeads, states_of}
 use Rattle.mc_kernel.proofs.Lists.{all_left, all_right, all_append, all_of_map, all_map, contains_later, contains_none}

@@ -1,5 +1,5 @@
 -- What stands for a state stands for one that it jumps to.
-use Rattle.std.proofs.Common.{◌≡◌, ℕ, List, [], ◌∷◌, map, Option, Some, None, true, refl, sym, ap, ◌∙◌, subst, arith, ℤ, pos}
+use Rattle.std.proofs.Common.{◌≡◌, List, [], ◌∷◌, map, Option, Some, None, sym, ap, ◌∙◌, subst, arith, ℤ, pos}
 use Rattle.std.specs.List.{AllByRecursion}
 use Rattle.std.proofs.lemmas.Int.{ints}
 use Rattle.std.proofs.lemmas.Simd.{map-map}
@@ -14,7 +14,7 @@ use Rattle.mc_base.specs.Atoms.{IsTrueAtom, moved_atom}
 use Rattle.mc_base.specs.Kinds.{InKind}
 use Rattle.mc_base.specs.Nodes.{Valuation, at_node, moved}
 use Rattle.mc_heap.specs.Heap.{Region, IsAtAddresses}
-use Rattle.mc_heap.specs.Parts.{Star, IsCell, IsEmpty, Joins}
+use Rattle.mc_heap.specs.Parts.{Star, IsCell}
 use Rattle.mc_defs.specs.declared.rules.Def.{Def}
 use Rattle.mc_defs.specs.Meaning.{Sat, Seg as Segment}
 use Rattle.mc_graph.specs.declared.edge.Edge.{Edge}
@@ -24,7 +24,7 @@ use Rattle.mc_pure.specs.Pure.{Kinds, HasKind, low_of, high_of}
 use Rattle.mc_pure.specs.Derived.{LiesIn}
 use Rattle.mc_state.specs.State.{State, pure_of, with_only_edges}
 use Rattle.mc_state.specs.Facts.{Derives, AreEqual}
-use Rattle.mc_state.specs.Stands.{VarMeets, VarsMeet, EdgeMeets, StandsBy, Parts}
+use Rattle.mc_state.specs.Stands.{VarMeets, VarsMeet, EdgeMeets, StandsBy}
 use Rattle.mc_state.specs.Laws.{DerivedIsTrue, EqualNodesAreOne, EdgesAreTaken, WholeWithoutEdges}
 use Rattle.mc_kernel.specs.Jumps.{Jumps, image_of, IsKnownToo, AreKnownToo, AreImages, EdgeMatches, EdgesMatch}
 use Rattle.mc_kernel.specs.JumpLaws.{JumpsAreSound}

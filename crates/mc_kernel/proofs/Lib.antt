@@ -1,11 +1,17 @@
 pub mod Calculus
 pub mod Claims
+pub mod EdgesOnce
+pub mod ExampleFlows
 pub mod Goals
 pub mod Induction
 pub mod Jumping
+pub mod JumpingAtOnce
 pub mod Lines
+pub mod ListExample
 pub mod Lists
+pub mod LoopExample
 pub mod Moves
 pub mod Once
+pub mod Plain
 pub mod Soundness
 pub mod Visits

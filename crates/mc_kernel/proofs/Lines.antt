@@ -1,6 +1,6 @@
 -- Each line's rule is sound.
-use Rattle.std.proofs.Common.{◌≡◌, ℕ, suc, ◌≤◌, Bool, false, Option, Some, None, List, [], ◌∷◌, length, map, refl, sym, subst, arith}
-use Rattle.std.specs.Prelude.{Contains, flat_map}
+use Rattle.std.proofs.Common.{◌≡◌, ◌≤◌, Bool, false, Option, List, [], ◌∷◌, map, sym, subst, arith}
+use Rattle.std.specs.Prelude.{Contains}
 use Rattle.std.specs.List.{AllByRecursion}
 use Rattle.mc_base.specs.declared.ids.EdgeId.{EdgeId}
 use Rattle.mc_base.specs.declared.ids.NodeId.{NodeId}
@@ -12,7 +12,6 @@ use Rattle.mc_defs.specs.declared.rules.Def.{Def}
 use Rattle.mc_defs.specs.declared.rules.Rule.{Rule}
 use Rattle.mc_defs.specs.Instances.{node_of}
 use Rattle.mc_flow.specs.declared.graph.Flow.{Flow}
-use Rattle.mc_flow.specs.Steps.{Config}
 use Rattle.mc_flow.specs.Valid.{IsValid}
 use Rattle.mc_state.specs.declared.line.Line.{Line}
 use Rattle.mc_state.specs.declared.line.Line.TheVariants.{S1, S2, S3, S4, S5, S6, S7, S8, S9, S10, S11, S12, S13, S14, S15, S16, S17, S18, L1, L2, L3, L4, L5, L6, L7, L8, L9, L10, L11, L12, L13, L14, C1}
@@ -29,7 +28,7 @@ use Rattle.mc_step.specs.Laws as step
 use Rattle.mc_step.specs.Laws.{IsAt}
 use Rattle.mc_kernel.specs.Branches.{Path, Setting, closes_by}
 use Rattle.mc_kernel.specs.Jumps.{image_of}
-use Rattle.mc_kernel.specs.Instances.{IsInstance, ByStep, JumpsTo, EndsSide, EndsFalse, accessed, stuck_by}
+use Rattle.mc_kernel.specs.Instances.{IsInstance, ByStep, accessed, stuck_by}
 use Rattle.mc_kernel.specs.Certificates.{IsAtStuck}
 use Rattle.mc_kernel.proofs.Lists.{each_of_map, each_of_flat_map, contains_here}
 use Rattle.mc_kernel.proofs.Claims.{IsFine}
@@ -49,8 +48,11 @@ ind_grows defs start edge s states i =
 
 seg_grows : (defs : List Def) (start : Option NodeId) (edge : EdgeId) (s : State) (states : List State) → UnfoldsSeg defs start edge s states → Grows s states
 seg_grows defs start edge s states i =
-    subst (Grows s) (sym i.gives) (omega arith, each_of_flat_map (λ (t : State). s.next ≤ t.next) (λ (rule : Rule). map (unfolded_at s edge i.at i.args i.stop i.ends rule) (own_places i.pred 0 rule.calls))
-    (λ rule. each_of_map (λ (t : State). s.next ≤ t.next) (unfolded_at s edge i.at i.args i.stop i.ends rule) (λ place. omega arith) (own_places i.pred 0 rule.calls)) i.def.rules)
+    subst (Grows s) (sym i.gives) (
+      omega arith,
+      each_of_flat_map (λ (t : State). s.next ≤ t.next) (λ (rule : Rule). map (unfolded_at s edge i.at i.args i.stop i.ends rule) (own_places i.pred 0 rule.calls))
+          (λ rule. each_of_map (λ (t : State). s.next ≤ t.next) (unfolded_at s edge i.at i.args i.stop i.ends rule) (λ place. omega arith) (own_places i.pred 0 rule.calls)) i.def.rules,
+    )
 
 module _ (flow : Flow) (defs : List Def) (g : Setting) (all : List Path) (laws : CalculusLaws) (valid : IsValid flow defs) where
   abbrev S : Path → List Path → Type 0

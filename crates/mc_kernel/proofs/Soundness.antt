@@ -1,5 +1,5 @@
 -- What a line's rule means for the claims of branches.
-use Rattle.std.proofs.Common.{◌≡◌, ◌<◌, ℕ, suc, ◌≤◌, Bool, true, Option, Some, None, List, [], ◌∷◌, map, slice_get, refl, sym, ap, ◌∙◌, subst, arith}
+use Rattle.std.proofs.Common.{◌≡◌, ◌<◌, ℕ, suc, ◌≤◌, Bool, true, Option, Some, None, List, map, slice_get, sym, ap, ◌∙◌, subst, arith}
 use Rattle.std.specs.Prelude.{option_map}
 use Rattle.std.specs.List.{AllByRecursion}
 use Rattle.std.proofs.lemmas.Option.{slice_get-map}
@@ -7,11 +7,10 @@ use Rattle.mc_base.specs.declared.ids.NodeId.{NodeId}
 use Rattle.mc_base.specs.declared.ids.PointId.{PointId}
 use Rattle.mc_base.specs.Nodes.{Valuation}
 use Rattle.mc_base.specs.Runs.{Final, next, last, fault}
-use Rattle.mc_heap.specs.Choices.{Choice}
 use Rattle.mc_heap.specs.Heap.{region_of}
 use Rattle.mc_defs.specs.declared.rules.Def.{Def}
 use Rattle.mc_flow.specs.declared.graph.Flow.{Flow}
-use Rattle.mc_flow.specs.Steps.{Config, Result, Step}
+use Rattle.mc_flow.specs.Steps.{Config, Result}
 use Rattle.mc_flow.specs.Valid.{IsValid}
 use Rattle.mc_state.specs.declared.goal.Goal.{Goal}
 use Rattle.mc_state.specs.State.{State}
@@ -19,11 +18,11 @@ use Rattle.mc_state.specs.Fits.{IsBounded}
 use Rattle.mc_state.specs.Rules.{IsSound, GoalHolds, GoalIsThere}
 use Rattle.mc_fold.specs.Changed.{MergesNodes}
 use Rattle.mc_step.specs.declared.next.Next.{Next}
-use Rattle.mc_step.specs.Laws.{IsStep, IsAt, IsAtSome, LeadsOn, SidesHold}
+use Rattle.mc_step.specs.Laws.{IsStep, IsAt, LeadsOn, SidesHold}
 use Rattle.mc_kernel.specs.Branches.{Path, Setting, IsPlain, path_to, path_of, merged_goal, states_at}
 use Rattle.mc_kernel.proofs.Lists.{all_at, all_of_map, all_map, all_both}
 use Rattle.mc_kernel.proofs.Visits.{SafeUpTo, StepsSafely, safe_next, safe_here}
-use Rattle.mc_kernel.proofs.Goals.{GoalBelow, goal_below_more, goal_there_below, merged_below, node_below}
+use Rattle.mc_kernel.proofs.Goals.{goal_below_more, goal_there_below, merged_below, node_below}
 use Rattle.mc_kernel.proofs.Claims.{IsFine, Claim, Holds, claim_plain, claim_moved, claim_side, claim_agrees, claim_merged, step_plain, step_side}
 use Rattle.mc_kernel.proofs.Calculus.{CalculusLaws}
 
@@ -77,7 +76,7 @@ module _ (flow : Flow) (defs : List Def) (g : Setting) (P : Config → Type 0) w
       means = Logic (λ v c at.
           let u = sound v c.vars (region_of c.heap) at.addresses at.stands in
           let there : slice_get succs u.0 ≡ Some (kept b closing b.goal u.1) =
-              ap (λ (ps : List Path). slice_get ps u.0) gives ∙ slice_get-map (kept b closing b.goal) states u.0 ∙ ap (option_map (kept b closing b.goal)) u.3 in
+          ap (λ (ps : List Path). slice_get ps u.0) gives ∙ slice_get-map (kept b closing b.goal) states u.0 ∙ ap (option_map (kept b closing b.goal)) u.3 in
           let stands : IsAt defs u.2 c b.point u.1 = record { point = at.point; addresses = at.addresses; stands = u.5 } in
           (u.0, kept b closing b.goal u.1, u.2, there, stands, λ n claim. claim_agrees flow defs P b.goal b.moved n b.state.next c v u.2 fine.1 u.4 claim));
     }

@@ -1,5 +1,5 @@
 -- Runs that come to a kind of configuration before they fault.
-use Rattle.std.proofs.Common.{◌≡◌, ℕ, zero, suc, ◌≤◌, ◌⊎◌, List, inl, inr, arith}
+use Rattle.std.proofs.Common.{ℕ, zero, suc, ◌≤◌, List, inl, inr, arith}
 use Rattle.mc_base.specs.declared.plain.FaultKind.{FaultKind}
 use Rattle.mc_base.specs.declared.plain.Place.{Place}
 use Rattle.mc_base.specs.Runs.{Final, next, last, fault, Reaches}

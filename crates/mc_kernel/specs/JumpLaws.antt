@@ -9,8 +9,11 @@ use Rattle.mc_state.specs.State.{State}
 use Rattle.mc_state.specs.Stands.{StandsBy}
 use Rattle.mc_kernel.specs.Jumps.{Jumps, image_of}
 
--- what stands for a state stands for one that it jumps to, where each node has the value of its image
-abbrev pub JumpsAreSound : Type 0
-JumpsAreSound =
+-- what stands for a state stands for one that it jumps to by a rule, where each node has the value of its image
+abbrev pub IsLawOfJumps : (State → State → List NodeId → List EdgeId → Type 0) → Type 0
+IsLawOfJumps Rule =
     (defs : List Def) (v : Valuation) (values : List (Option ℤ)) (region : Region) (s t : State) (images : List NodeId) (edges : List EdgeId)
-    → IsAtAddresses region → Jumps s t images edges → StandsBy defs v values region s → StandsBy defs (λ n. v (image_of images n)) values region t
+    → IsAtAddresses region → Rule s t images edges → StandsBy defs v values region s → StandsBy defs (λ n. v (image_of images n)) values region t
+
+abbrev pub JumpsAreSound : Type 0
+JumpsAreSound = IsLawOfJumps Jumps

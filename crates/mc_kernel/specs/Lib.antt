@@ -7,3 +7,5 @@ pub mod Instances
 pub mod Certificates
 pub mod Straight
 pub mod JumpLaws
+pub mod Examples
+pub mod WrongJumps

@@ -11,16 +11,20 @@ ghost use Rattle.mc_kernel.specs.declared.branch.Branch.{Branch as Open};
 ghost use Rattle.mc_kernel.specs.Rules.{Instance, IsCertificate};
 
 mod branch;
+mod examples;
 mod laws;
 mod proof;
 mod rules;
 #[cfg(test)]
 mod tests;
+mod wrong_jumps;
 
 pub use branch::Branch;
+pub use examples::{list_is_certified, loop_is_certified};
 pub use laws::{certificates_are_safe, jumps_are_sound, last_pass_finds_faults};
 use mc_heap::{changes_are_local, heaps_change_one_address, parts_regroup};
 pub use proof::{ApplyFault, Complete, Proof};
+pub use wrong_jumps::{edges_are_taken_once, jumps_come_after_steps, loop_heads_are_cuts};
 
 /// A certificate of a valid flow graph means that no run of it has a fault.
 pub fn certified_is_safe()
