@@ -32,6 +32,10 @@ star_numbered M n [] region s = s
 star_numbered M n (e ∷ new) region s = (s.0, s.1, s.2, s.3, star_numbered M (suc n) new s.1 s.4)
 
 module _ (laws : PartLaws) where
+  -- a region alone, and nothing apart from it
+  pub all_of_it : (region : Region) → Split region region nowhere
+  all_of_it region = laws.commutes region nowhere region (laws.adds_empty region nowhere nowhere-IsEmpty)
+
   pub star_append : {A : Type 0} (M : A → Region → Type 0) (xs ys : List A) (region left right : Region) → Split region left right → Star M xs left → Star M ys right → Star M (xs ++ ys) region
   star_append M [] ys region left right split s t = subst (λ r. Star M ys r) (sym (laws.drops_empty region left right s split)) t
   star_append M (x ∷ xs) ys region left right split s t =

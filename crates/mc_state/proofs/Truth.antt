@@ -30,7 +30,7 @@ pub record PureLaws : Type 0 where
   pub derived : pure.DerivedIsTrue
   pub not_false : pure.TrueIsNotFalse
 
-joins_some : (x l r : Option heap.Block) (b : heap.Block) → Joins x l r → l ≡ Some b → x ≡ Some b
+pub joins_some : (x l r : Option heap.Block) (b : heap.Block) → Joins x l r → l ≡ Some b → x ≡ Some b
 joins_some x None r b j e = cc
 joins_some x (Some c) None b j e = j ∙ e
 joins_some x (Some c) (Some d) b j e = absurd j

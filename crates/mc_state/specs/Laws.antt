@@ -1,5 +1,5 @@
 -- What holds of states and of what stands for them.
-use Rattle.std.specs.Prelude.{◌≡◌, ℕ, List, [], ◌∷◌, ℤ, pos, false, Option, Some, None, length, map, slice_index_or, slice_set}
+use Rattle.std.specs.Prelude.{◌≡◌, ◌<◌, ℕ, List, [], ◌∷◌, ℤ, pos, false, Option, Some, None, length, map, slice_index_or, slice_set}
 use Rattle.std.specs.List.{AllByRecursion}
 use Rattle.mc_base.specs.declared.ids.EdgeId.{EdgeId}
 use Rattle.mc_base.specs.declared.ids.NodeId.{NodeId}
@@ -15,11 +15,11 @@ use Rattle.mc_defs.specs.Values.{InKinds}
 use Rattle.mc_graph.specs.declared.edge.Edge.{Edge}
 use Rattle.mc_graph.specs.Edges.{known_nodes, nodes_of}
 use Rattle.mc_graph.specs.Graph.{Edges, Picks, edge_with, replaced}
-use Rattle.mc_pure.specs.Pure.{Kinds, IsNode}
+use Rattle.mc_pure.specs.Pure.{Kinds, HasKind, IsNode}
 use Rattle.mc_pure.specs.Derived.{LiesIn}
 use Rattle.mc_state.specs.State.{State, unknown, pure_of, var_node, with_var, with_nodes, with_atoms, with_edges, with_only_edges, numbered_nodes, renamed}
 use Rattle.mc_state.specs.Facts.{Derives, IsFalse, AreEqual, AreAllEqual, CanMerge, IsUnnamed, kinds_without, merged}
-use Rattle.mc_state.specs.Fits.{AreNodes, IsBounded}
+use Rattle.mc_state.specs.Fits.{NodesAscend, AreNodes, HaveKinds, IsBounded}
 use Rattle.mc_state.specs.Stands.{EdgeMeets, StandsBy, Stands, AgreeBelow, extended}
 
 -- what is derived is true wherever a configuration stands for the state
@@ -179,6 +179,12 @@ NewNodesAreThere =
     (s : State) (kinds : List Kind)
     → AreNodes (with_nodes s kinds).kinds (numbered_nodes s.next (length kinds)) × ((n : NodeId) → IsNode s.kinds n → IsNode (with_nodes s kinds).kinds n)
 
+-- each with its kind, and the others keep theirs
+abbrev pub NewNodesHaveKinds : Type 0
+NewNodesHaveKinds =
+    (s : State) (kinds : List Kind) → IsBounded s
+    → HaveKinds (with_nodes s kinds).kinds kinds (numbered_nodes s.next (length kinds)) × ((kind : Kind) (n : NodeId) → HasKind s.kinds kind n → HasKind (with_nodes s kinds).kinds kind n)
+
 -- where atoms of nodes that are there are added
 abbrev pub AtomsStayBounded : Type 0
 AtomsStayBounded = (s : State) (atoms : List Atom) → IsBounded s → AllByRecursion (λ a. AreNodes s.kinds (nodes_of_atom a)) atoms → IsBounded (with_atoms s atoms)
@@ -204,6 +210,12 @@ abbrev pub PickedNodesAreThere : Type 0
 PickedNodesAreThere =
     (s : State) (ids : List EdgeId) (picked : List Edge) (left : Edges)
     → Picks ids s.graph.edges picked left → IsBounded s → AllByRecursion (λ e. AreNodes s.kinds (nodes_of e)) picked
+
+-- where nodes are renamed, and their images are there
+abbrev pub RenamedStaysBounded : Type 0
+RenamedStaysBounded =
+    (s : State) (f : ℕ → ℕ) (kinds : Kinds) (next : ℕ)
+    → IsBounded s → 0 < next → NodesAscend 1 kinds next → ((n : NodeId) → IsNode s.kinds n → IsNode kinds (moved f n)) → IsBounded (renamed f kinds next s)
 
 -- where two nodes are merged
 abbrev pub MergedStaysBounded : Type 0

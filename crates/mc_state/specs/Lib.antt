@@ -2,6 +2,7 @@ pub mod Bodies
 pub mod BodyLaws
 pub mod CoverExamples
 pub mod Covers
+pub mod Examples
 pub mod Facts
 pub mod Fits
 pub mod Guess

@@ -1,5 +1,5 @@
 // What holds of states and of what stands for them. Each law is what a function with no body ensures.
-ghost use Rattle.mc_state.specs.Laws.{DerivedIsTrue, NoneStandsForFalse, EqualNodesAreOne, StandsByAgreement, NodesAreAdded, NodesHaveValues, AtomsAreAdded, VarIsSet, VarIsForgotten, VarIsKnown, EdgesAreTaken, EdgesArePut, EdgeIsReplaced, AtomsAreDropped, EdgesAreDropped, NodeIsDropped};
+ghost use Rattle.mc_state.specs.Laws.{DerivedIsTrue, NoneStandsForFalse, EqualNodesAreOne, StandsByAgreement, NodesAreAdded, NodesHaveValues, AtomsAreAdded, VarIsSet, VarIsForgotten, VarIsKnown, EdgesAreTaken, EdgesArePut, EdgeIsReplaced, AtomsAreDropped, EdgesAreDropped, NodeIsDropped, RenamedStands, StandsRenamed, StandsMerged, MergedStands, UnknownIsBounded, VarStaysBounded, NodesStayBounded, NewNodesAreThere, NewNodesHaveKinds, AtomsStayBounded, EdgesStayBounded, FewerEdgesStayBounded, ReplacedStaysBounded, PickedNodesAreThere, RenamedStaysBounded, MergedStaysBounded, DroppedStaysBounded};
 
 /// What is derived in a state is true wherever a configuration stands for it.
 pub fn derived_is_true()
@@ -39,4 +39,41 @@ pub fn edges_come_and_go()
 pub fn less_is_known()
     ensures atoms { AtomsAreDropped }
     ensures node { NodeIsDropped }
+{}
+
+/// What stands for a renamed state stands for the state, and where no two nodes have one image, the other way too.
+pub fn renaming_is_sound()
+    ensures back { RenamedStands }
+    ensures forth { StandsRenamed }
+{
+    mc_pure::derived_is_true();
+}
+
+/// Where equal nodes are merged, the same configurations stand for the state.
+pub fn merging_is_sound()
+    ensures forth { StandsMerged }
+    ensures back { MergedStands }
+{
+    mc_pure::derived_is_true();
+}
+
+/// A state of which nothing is known has its numbers in their bounds, and changes keep them there.
+pub fn numbers_stay_bounded()
+    ensures unknown { UnknownIsBounded }
+    ensures var { VarStaysBounded }
+    ensures nodes { NodesStayBounded }
+    ensures atoms { AtomsStayBounded }
+    ensures edges { EdgesStayBounded }
+    ensures fewer_edges { FewerEdgesStayBounded }
+    ensures replaced { ReplacedStaysBounded }
+    ensures renamed { RenamedStaysBounded }
+    ensures merged { MergedStaysBounded }
+    ensures dropped { DroppedStaysBounded }
+{}
+
+/// New nodes are there with their kinds, and so are the nodes of edges that are named.
+pub fn nodes_are_there()
+    ensures new { NewNodesAreThere }
+    ensures kinds { NewNodesHaveKinds }
+    ensures picked { PickedNodesAreThere }
 {}

@@ -2,6 +2,7 @@
 #![tactic(auto)]
 
 mod covers;
+mod examples;
 mod facts;
 mod goal;
 mod laws;
@@ -17,8 +18,10 @@ pub use covers::{
     bodies_are_edges, body_premises, covers_are_sound, example_covers, example_segment_covers,
 };
 pub use goal::Goal;
+pub use examples::{example_list, example_merging, example_parts, example_renaming};
 pub use laws::{
-    derived_is_true, edges_come_and_go, less_is_known, new_nodes_are_free, variables_change,
+    derived_is_true, edges_come_and_go, less_is_known, merging_is_sound, new_nodes_are_free,
+    nodes_are_there, numbers_stay_bounded, renaming_is_sound, variables_change,
 };
 pub use line::{Form, JoinStep, Line, Side, Version};
 pub use mc_graph::Edge;
