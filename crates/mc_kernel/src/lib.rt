@@ -13,12 +13,14 @@ ghost use Rattle.mc_kernel.specs.Rules.{Instance, IsCertificate};
 mod branch;
 mod proof;
 mod rules;
+mod straight;
 #[cfg(test)]
 mod tests;
 
 pub use branch::Branch;
 use mc_heap::{changes_are_local, heaps_change_one_address, parts_regroup};
 pub use proof::{ApplyFault, Complete, Proof};
+pub use straight::straight_is_valid;
 
 /// A certificate of a valid flow graph means that no run of it has a fault.
 pub fn certified_is_safe()
