@@ -4,5 +4,8 @@ pub mod StraightBlocks
 pub mod StraightFacts
 pub mod StraightLists
 pub mod StraightMarks
+pub mod StraightPlaces
+pub mod StraightReads
 pub mod StraightSound
 pub mod StraightStates
+pub mod StraightSteps

@@ -100,8 +100,8 @@ all_above id start [] a = tt
 all_above id start (e ∷ es) a = (
   (a.0, a.1),
   (let low = a.0 in
-  let less = a.1 in
-  all_map (λ (x : EdgeId × Edge). (suc e.0.0 ≤ x.0.0) × (suc (start_of e.1).0 ≤ (start_of x.1).0)) (λ (x : EdgeId × Edge). (id ≤ x.0.0) × (start ≤ (start_of x.1).0))
+      let less = a.1 in
+      all_map (λ (x : EdgeId × Edge). (suc e.0.0 ≤ x.0.0) × (suc (start_of e.1).0 ≤ (start_of x.1).0)) (λ (x : EdgeId × Edge). (id ≤ x.0.0) × (start ≤ (start_of x.1).0))
       (λ x h. let first = h.0 in let second = h.1 in (omega arith, omega arith)) es (all_above (suc e.0.0) (suc (start_of e.1).0) es a.2)),
 )
 
@@ -141,8 +141,8 @@ freed_straight s place x there k =
     let pointer : k.numbers a.0 ≡ None = block_is_pointer k.numbers s.kinds s.next x.1 own in
     let fit = all_without (EdgeFits k.numbers s.kinds s.next s.graph.next) s.graph.edges place k.edges in
     let others = all_both (EdgeFits k.numbers s.kinds s.next s.graph.next) (λ (e : EdgeId × Edge). a.0 ≢ (start_of e.1).0) (λ (e : EdgeId × Edge). AtomFits k.numbers s.next (Ne a (start_of e.1) (pos 0)))
-        (λ e f differ. (refl, inr (record { left_below = below; right_below = start_below k.numbers s.kinds s.next e.1 f.1; left = pointer; right = block_is_pointer k.numbers s.kinds s.next e.1 f.1; differ = differ })))
-        left fit (others_differ 0 0 s.graph.edges place x k.ascend there) in
+    (λ e f differ. (refl, inr (record { left_below = below; right_below = start_below k.numbers s.kinds s.next e.1 f.1; left = pointer; right = block_is_pointer k.numbers s.kinds s.next e.1 f.1; differ = differ })))
+    left fit (others_differ 0 0 s.graph.edges place x k.ascend there) in
     record {
       numbers = k.numbers;
       not_zero = k.not_zero;

@@ -137,8 +137,8 @@ module _ (s : State) (k : IsStraight s) (sound : is_false s ≡ false) where
       let offset : int_eq c (pos 0) ≡ true = (Decides-int_eq c (pos 0)).1 fit.1 in
       let says : says_null a (Eq a b c) ≡ true = and_both (a.0 == a.0 && b.0 == 0) (int_eq c (pos 0)) (and_both (a.0 == a.0) (b.0 == 0) same origin) offset in
       plus_null (is_null s.atoms a) (is_null s.atoms b) (k.numbers a.0) (k.numbers b.0) a.0 b.0 c
-          (or_right (a.0 == 0) (list_any (says_null a) s.atoms) (any_at (says_null a) s.atoms place (Eq a b c) there says))
-          (or_left (b.0 == 0) (list_any (says_null b) s.atoms) origin) fit.1
+      (or_right (a.0 == 0) (list_any (says_null a) s.atoms) (any_at (says_null a) s.atoms place (Eq a b c) there says))
+      (or_left (b.0 == 0) (list_any (says_null b) s.atoms) origin) fit.1
   written_fits (Ne a b c) place there fit right =
       let offset : int_eq c (pos 0) ≡ true = (Decides-int_eq c (pos 0)).1 fit.0 in
       let both = not_both (int_eq c (pos 0)) (is_null s.atoms a) (is_null s.atoms b) offset right in
@@ -169,7 +169,7 @@ module _ (s : State) (k : IsStraight s) (sound : is_false s ≡ false) where
       let right = all_at (IsPointer s k.numbers) (block_starts s.graph.edges) j b f pointers in
       let no : is_null s.atoms a ≡ false = left.0 in
       differs_pointers (is_null s.atoms a) (is_null s.atoms b) (k.numbers a.0) (k.numbers b.0) a.0 b.0 (pos 0) left.1 right.1
-          (places_differ 0 (block_starts s.graph.edges) i j a b starts_up ne e f) refl (λ x y. absurd (let clash : true ≡ false = sym x ∙ no in cc))
+      (places_differ 0 (block_starts s.graph.edges) i j a b starts_up ne e f) refl (λ x y. absurd (let clash : true ≡ false = sym x ∙ no in cc))
 
   pub told_sound : IsFalse (pure_of s) → ⊥
   told_sound = nothing_false (pure_of s) (mark s k) base_fits

@@ -140,10 +140,13 @@ module _ (old new : Numbers) (n : ℕ) (same : (m : ℕ) → m < n → new m ≡
 
   pub atom_kept : (a : Atom) → AtomFits old n a → AtomFits new (n + 1) a
   atom_kept (Eq a b c) f = f
-  atom_kept (Ne a b c) f = (f.0, elim f.1 [
-    | inl e ↦ inl e
-    | inr p ↦ inr (record { left_below = omega arith; right_below = omega arith; left = same a.0 p.left_below ∙ p.left; right = same b.0 p.right_below ∙ p.right; differ = p.differ })
-  ])
+  atom_kept (Ne a b c) f = (
+    f.0,
+    elim f.1 [
+      | inl e ↦ inl e
+      | inr p ↦ inr (record { left_below = omega arith; right_below = omega arith; left = same a.0 p.left_below ∙ p.left; right = same b.0 p.right_below ∙ p.right; differ = p.differ })
+    ],
+  )
   atom_kept (In a lo hi) f = (let below = f.0 in omega arith, subst (λ (o : Option ℤ). RangeFits o lo hi) (sym (same a.0 f.0)) f.1)
 
   module _ (these those : Kinds) (nodes : (m : NodeId) → IsNode these m → IsNode those m) where
