@@ -1,3 +1,4 @@
+pub mod Freeing
 pub mod Moves
 pub mod Once
 pub mod StraightBlocks
