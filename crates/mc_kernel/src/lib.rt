@@ -15,6 +15,7 @@ mod examples;
 mod laws;
 mod proof;
 mod rules;
+mod straight;
 #[cfg(test)]
 mod tests;
 mod wrong_jumps;
@@ -25,6 +26,7 @@ pub use laws::{certificates_are_safe, jumps_are_sound, last_pass_finds_faults};
 use mc_heap::{changes_are_local, heaps_change_one_address, parts_regroup};
 pub use proof::{ApplyFault, Complete, Proof};
 pub use wrong_jumps::{edges_are_taken_once, jumps_come_after_steps, loop_heads_are_cuts};
+pub use straight::straight_is_valid;
 
 /// A certificate of a valid flow graph means that no run of it has a fault.
 pub fn certified_is_safe()
