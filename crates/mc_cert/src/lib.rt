@@ -2,7 +2,7 @@
 #![tactic(auto)]
 
 ghost use Rattle.std.specs.Prelude.{◌≡◌, ℕ, List};
-ghost use Rattle.mc_state.specs.declared.line.Line.{Line};
+ghost use Rattle.mc_state.specs.declared.straight_line.StraightLine.{StraightLine as Line};
 ghost use Rattle.mc_cert.specs.Document.{Spells};
 
 mod line;
@@ -15,5 +15,5 @@ pub use pieces::first_line;
 
 /// Bytes spell one line at most.
 pub fn line_is_spelled_once()
-    ensures { (bytes : List ℕ) (x y : Line) → Spells bytes x → Spells bytes y → x ≡ y }
+    ensures { (bytes : List ℕ) (x y : StraightLine) → Spells bytes x → Spells bytes y → x ≡ y }
 {}

@@ -2,86 +2,94 @@ use crate::rules::{Next, advance};
 use crate::{ApplyFault, Branch, Complete, Proof, certified_is_safe, successors_are_determined};
 use mc_base::{Items, Kind, NodeId, Place, PointId, StructId, VarId, VarInfo};
 use mc_flow::{Defs, FieldInfo, Flow, Instr, Operand, Point, StructInfo, Structs, valid};
-use mc_state::{Form, Line, Version};
+use mc_state::{Form, StraightLine, Version};
 use std::alloc::{AllocError, Global};
 use std::test::Fail;
 
 // Each line that there is.
-static EACH: [Line; 14] = [
-    Line::Header(Version::One, Form::Certificate),
-    Line::Header(Version::One, Form::Chain),
-    Line::S1,
-    Line::S2,
-    Line::S3,
-    Line::S8,
-    Line::S9,
-    Line::S10,
-    Line::S11,
-    Line::S12,
-    Line::S13,
-    Line::S17,
-    Line::L12,
-    Line::End,
+static EACH: [StraightLine; 14] = [
+    StraightLine::Header(Version::One, Form::Certificate),
+    StraightLine::Header(Version::One, Form::Chain),
+    StraightLine::S1,
+    StraightLine::S2,
+    StraightLine::S3,
+    StraightLine::S8,
+    StraightLine::S9,
+    StraightLine::S10,
+    StraightLine::S11,
+    StraightLine::S12,
+    StraightLine::S13,
+    StraightLine::S17,
+    StraightLine::L12,
+    StraightLine::End,
 ];
 
 // The certificate of the program below: the branch of null, which then is no other than null,
 // and the branch of the block, which then is not null.
-static CERTIFICATE: [Line; 14] = [
-    Line::S1,
-    Line::S10,
-    Line::S13,
-    Line::S2,
-    Line::S17,
-    Line::L12,
-    Line::S13,
-    Line::L12,
-    Line::S1,
-    Line::S9,
-    Line::S12,
-    Line::S2,
-    Line::S17,
-    Line::End,
+static CERTIFICATE: [StraightLine; 14] = [
+    StraightLine::S1,
+    StraightLine::S10,
+    StraightLine::S13,
+    StraightLine::S2,
+    StraightLine::S17,
+    StraightLine::L12,
+    StraightLine::S13,
+    StraightLine::L12,
+    StraightLine::S1,
+    StraightLine::S9,
+    StraightLine::S12,
+    StraightLine::S2,
+    StraightLine::S17,
+    StraightLine::End,
 ];
 
 // Lines that are no certificate of it, each with the place of the first that is refused: the branch
 // of null is left out, a false state is not closed, the block is not freed, and the end comes early.
-static WRONG: [(&[Line], usize); 4] = [
-    (&[Line::S1, Line::S10, Line::S13, Line::L12], 3),
+static WRONG: [(&[StraightLine], usize); 4] = [
     (
         &[
-            Line::S1,
-            Line::S10,
-            Line::S13,
-            Line::S2,
-            Line::S17,
-            Line::S1,
+            StraightLine::S1,
+            StraightLine::S10,
+            StraightLine::S13,
+            StraightLine::L12,
+        ],
+        3,
+    ),
+    (
+        &[
+            StraightLine::S1,
+            StraightLine::S10,
+            StraightLine::S13,
+            StraightLine::S2,
+            StraightLine::S17,
+            StraightLine::S1,
         ],
         5,
     ),
     (
         &[
-            Line::S1,
-            Line::S10,
-            Line::S13,
-            Line::S2,
-            Line::S17,
-            Line::L12,
-            Line::S13,
-            Line::L12,
-            Line::S1,
-            Line::S9,
-            Line::S2,
+            StraightLine::S1,
+            StraightLine::S10,
+            StraightLine::S13,
+            StraightLine::S2,
+            StraightLine::S17,
+            StraightLine::L12,
+            StraightLine::S13,
+            StraightLine::L12,
+            StraightLine::S1,
+            StraightLine::S9,
+            StraightLine::S2,
         ],
         10,
     ),
     (
         &[
-            Line::S1,
-            Line::S10,
-            Line::S13,
-            Line::S2,
-            Line::S17,
-            Line::End,
+            StraightLine::S1,
+            StraightLine::S10,
+            StraightLine::S13,
+            StraightLine::S2,
+            StraightLine::S17,
+            StraightLine::End,
         ],
         5,
     ),
@@ -89,16 +97,16 @@ static WRONG: [(&[Line], usize); 4] = [
 
 // Lines, and whether they fit where they are tried, of the program that reads a field. At the end
 // x is not known, so that it can't be freed.
-static READING: [(Line, bool); 9] = [
-    (Line::S2, true),
-    (Line::S12, false),
-    (Line::S11, true),
-    (Line::S10, true),
-    (Line::S9, true),
-    (Line::S8, true),
-    (Line::S3, true),
-    (Line::S11, false),
-    (Line::S12, false),
+static READING: [(StraightLine, bool); 9] = [
+    (StraightLine::S2, true),
+    (StraightLine::S12, false),
+    (StraightLine::S11, true),
+    (StraightLine::S10, true),
+    (StraightLine::S9, true),
+    (StraightLine::S8, true),
+    (StraightLine::S3, true),
+    (StraightLine::S11, false),
+    (StraightLine::S12, false),
 ];
 
 fn at(code: Instr) -> Point {
@@ -232,7 +240,7 @@ fn reading(alloc: Global) -> Result<Flow, AllocError> {
 fn follows(
     alloc: Global,
     flow: &Flow,
-    line: Line,
+    line: StraightLine,
     branch: &mut Branch,
 ) -> Result<bool, AllocError> {
     match advance(alloc, flow, line, branch)? {

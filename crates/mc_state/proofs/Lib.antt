@@ -1,7 +1,9 @@
+pub mod Beginning
 pub mod Bodies
 pub mod Bounds
 pub mod Changing
 pub mod CoversExamples
+pub mod CoversNone
 pub mod CoversPremises
 pub mod CoversSound
 pub mod CoversTerms
@@ -11,6 +13,7 @@ pub mod Lists
 pub mod Merging
 pub mod Nodes
 pub mod Nulls
+pub mod OneCell
 pub mod Parts
 pub mod Places
 pub mod Renaming
@@ -18,4 +21,5 @@ pub mod Standing
 pub mod Stars
 pub mod Truth
 pub mod Variables
+pub mod Worked
 pub mod Wrong

@@ -2,11 +2,14 @@ pub mod Bodies
 pub mod BodyLaws
 pub mod CoverExamples
 pub mod Covers
+pub mod Examples
 pub mod Facts
 pub mod Fits
+pub mod Guess
 pub mod Kept
 pub mod Laws
 pub mod Nulls
+pub mod RawStates
 pub mod Rules
 pub mod Stands
 pub mod State
