@@ -86,8 +86,8 @@ close_seg_determined first second s next other i j =
 pub join_segs_determined : JoinSegsIsDetermined
 join_segs_determined first second s next other i j =
     let both = picks_one (first ∷ second ∷ []) s.graph.edges (Seg i.at i.args i.pred i.stop i.ends ∷ Seg i.from i.from_args i.pred i.last i.last_args ∷ []) (Seg j.at j.args j.pred j.stop j.ends ∷ Seg j.from j.from_args j.pred j.last j.last_args ∷ []) i.left j.left i.picks j.picks in
-    let one : ◌≡◌ {A = Edge} (Seg i.at i.args i.pred i.stop i.ends) (Seg j.at j.args j.pred j.stop j.ends) = cc (both.0) in
-    let two : ◌≡◌ {A = Edge} (Seg i.from i.from_args i.pred i.last i.last_args) (Seg j.from j.from_args j.pred j.last j.last_args) = cc (both.0) in
+    let one : ◌≡◌ {A = Edge} (Seg i.at i.args i.pred i.stop i.ends) (Seg j.at j.args j.pred j.stop j.ends) = cc in
+    let two : ◌≡◌ {A = Edge} (Seg i.from i.from_args i.pred i.last i.last_args) (Seg j.from j.from_args j.pred j.last j.last_args) = cc in
     let at : i.at ≡ j.at = cc one in
     let args : i.args ≡ j.args = cc one in
     let pred : i.pred ≡ j.pred = cc one in

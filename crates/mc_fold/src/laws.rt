@@ -8,7 +8,8 @@ use mc_state::{
     nodes_are_there, numbers_stay_bounded,
 };
 
-/// A block and calls that match a rule are its predicate, and without a call of it a segment to that call.
+/// A block and calls that match a rule are its predicate, and without one of its own calls a segment
+/// to that call.
 pub fn folding_is_sound()
     ensures ind { LawOfFoldInd }
     ensures seg { LawOfFoldSeg }
@@ -23,7 +24,8 @@ pub fn folding_is_sound()
     nodes_are_there();
 }
 
-/// A segment with the predicate or a segment at its end is one, and from a node to itself there is an empty one.
+/// A segment and its predicate at its end are the predicate, and with another segment there they are
+/// one segment; from a node to an equal one there is an empty segment.
 pub fn segments_are_closed()
     ensures close { LawOfCloseSeg }
     ensures join { LawOfJoinSegs }
@@ -39,7 +41,8 @@ pub fn segments_are_closed()
     nodes_are_there();
 }
 
-/// Nodes may be named, merged and forgotten, and edges dropped.
+/// A number gets a node, one of two equal nodes stands for both, an edge that nothing reaches is
+/// dropped, and a node that nothing names is forgotten.
 pub fn naming_is_sound()
     ensures spare { LawOfSpare }
     ensures merge { LawOfMerge }
@@ -60,13 +63,8 @@ pub fn goals_are_met()
     ensures { LawOfGoal }
 {
     parts_regroup();
-    predicates_are_bodies();
-    segments_are_bodies();
-    segments_join();
     derived_is_true();
     edges_come_and_go();
-    numbers_stay_bounded();
-    nodes_are_there();
 }
 
 /// Folding gives one list of successors at most.
@@ -78,7 +76,8 @@ pub fn folding_is_determined()
     ensures empty { EmptySegIsDetermined }
 {}
 
-/// And so do naming, merging and dropping; what a node's forgetting gives derives the same.
+/// Naming, merging and dropping give one list of successors at most, and the states that forgetting
+/// a node may give are the same.
 pub fn naming_is_determined()
     ensures spare { SpareIsDetermined }
     ensures merge { MergeIsDetermined }

@@ -3,6 +3,7 @@ pub mod Claims
 pub mod EdgesOnce
 pub mod ExampleFlows
 pub mod FailingExample
+pub mod Freeing
 pub mod Goals
 pub mod Induction
 pub mod Jumping
@@ -15,4 +16,13 @@ pub mod Moves
 pub mod Once
 pub mod Plain
 pub mod Soundness
+pub mod StraightBlocks
+pub mod StraightFacts
+pub mod StraightLists
+pub mod StraightMarks
+pub mod StraightPlaces
+pub mod StraightReads
+pub mod StraightSound
+pub mod StraightStates
+pub mod StraightSteps
 pub mod Visits

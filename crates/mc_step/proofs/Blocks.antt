@@ -15,13 +15,13 @@ use Rattle.mc_base.specs.Runs as runs
 use Rattle.mc_heap.specs.Access.{block_field, with_field, fresh_block}
 use Rattle.mc_heap.specs.Choices.{Choice}
 use Rattle.mc_heap.specs.Choices as choice
-use Rattle.mc_heap.specs.Heap.{Block, Region, region_of, IsAddress, HasAddresses}
-use Rattle.mc_heap.specs.Parts.{Split, IsCell, Changes}
+use Rattle.mc_heap.specs.Heap.{Block, Region, region_of, IsAddress}
+use Rattle.mc_heap.specs.Parts.{Changes}
 use Rattle.mc_defs.specs.declared.rules.Def.{Def}
 use Rattle.mc_flow.specs.declared.graph.Flow.{Flow}
 use Rattle.mc_flow.specs.declared.instr.Instr.TheVariants as instr
 use Rattle.mc_flow.specs.Steps.{Config, Result, Allocates, at_point, set_to, with_heap, loaded, stored, freed, field_count}
-use Rattle.mc_flow.specs.Values.{value_in, value_of, with_value}
+use Rattle.mc_flow.specs.Values.{value_in, with_value}
 use Rattle.mc_graph.specs.declared.edge.Edge.TheVariants as edge
 use Rattle.mc_graph.specs.Edges.{nodes_of}
 use Rattle.mc_graph.specs.Graph.{Graph, edge_with, replaced, without, block_starts}

@@ -1,11 +1,10 @@
 -- Numbers of successors are in their bounds.
-use Rattle.std.proofs.Common.{◌≡◌, ◌&&◌, ℕ, zero, suc, List, [], ◌∷◌, ◌++◌, map, Bool, true, false, Option, Some, None, replicate, slice_set, refl, sym, ap, ◌∙◌, subst, inl, ℤ, pos, ◌+ℤ◌}
+use Rattle.std.proofs.Common.{◌≡◌, ◌&&◌, ℕ, zero, suc, List, [], ◌∷◌, ◌++◌, map, Bool, true, false, Option, Some, None, replicate, slice_set, refl, sym, subst, inl, ℤ, pos}
 use Rattle.std.specs.Prelude.{if◌then◌else◌}
 use Rattle.std.specs.List.{AllByRecursion}
 use Rattle.mc_base.specs.declared.ids.EdgeId.{EdgeId}
 use Rattle.mc_base.specs.declared.ids.NodeId.{NodeId}
 use Rattle.mc_base.specs.declared.ids.PointId.{PointId}
-use Rattle.mc_base.specs.declared.ids.StructId.{StructId}
 use Rattle.mc_base.specs.declared.ids.VarId.{VarId}
 use Rattle.mc_base.specs.declared.plain.Atom.{Atom}
 use Rattle.mc_base.specs.declared.plain.Atom.TheVariants.{Eq, Ne, In}
@@ -20,7 +19,7 @@ use Rattle.mc_graph.specs.declared.edge.Edge.{Edge}
 use Rattle.mc_graph.specs.declared.edge.Edge.TheVariants as edge
 use Rattle.mc_graph.specs.Edges.{known_nodes, nodes_of}
 use Rattle.mc_graph.specs.Graph.{Edges, replaced, without, block_starts}
-use Rattle.mc_pure.specs.Pure.{Kinds, IsNode, address_atom}
+use Rattle.mc_pure.specs.Pure.{Kinds, IsNode}
 use Rattle.mc_ranges.specs.declared.Range.{Range}
 use Rattle.mc_state.specs.declared.goal.Goal.{Goal}
 use Rattle.mc_state.specs.State.{State, next_node, with_var, without_vars, with_nodes, with_atoms, with_edges, with_only_edges, with_block}
@@ -29,11 +28,11 @@ use Rattle.mc_state.specs.Rules.{GoalIsThere}
 use Rattle.mc_step.specs.declared.next.Next.{Next}
 use Rattle.mc_step.specs.Operands.{with_operand, with_operands}
 use Rattle.mc_step.specs.Steps.{moved_to, is_single, stays_int, in_range, range_atoms, offset_atom, sum_offsets, difference_offsets, no_offsets, freed_atoms, le_atoms, gt_atoms, Computes}
-use Rattle.mc_step.specs.Steps.{S1Is, S2Is, S3Is, S4Is, S5Is, S6Is, S7Is, S8Is, S9Is, S10Is, S11Is, S12Is, S13Is, S14Is, S15Is, S16Is, S17Is, S18Is}
-use Rattle.mc_step.specs.Laws.{IsStep, S1, S2, S3, S4, S5, S6, S7, S8, S9, S10, S11, S12, S13, S14, S15, S16, S17, S18, StepsStayBounded}
+use Rattle.mc_step.specs.Steps.{S8Is, S9Is, S10Is, S12Is, S13Is, S14Is, S15Is, S16Is}
+use Rattle.mc_step.specs.Laws.{S1, S2, S3, S4, S5, S6, S7, S8, S9, S10, S11, S12, S13, S14, S15, S16, S17, S18, StepsStayBounded}
 use Rattle.mc_step.proofs.LowerLaws.{BoundLaws}
-use Rattle.mc_step.proofs.Lists.{all_append, all_map, known_at, known_field, known_set, edge_at}
-use Rattle.mc_step.proofs.Operands.{operand_graph, operand_there, two_there, many_there}
+use Rattle.mc_step.proofs.Lists.{all_append, all_map, known_field, known_set, edge_at}
+use Rattle.mc_step.proofs.Operands.{operand_there, two_there, many_there}
 
 -- the atom's nodes are there
 abbrev AtomIsThere : Kinds → Atom → Type 0

@@ -1,5 +1,5 @@
 -- Fields of blocks, and what steps read and write in them.
-use Rattle.std.proofs.Common.{◌≡◌, ◌<◌, ◌≤◌, ℕ, zero, suc, List, [], ◌∷◌, Bool, true, false, Option, Some, None, length, replicate, slice_get, slice_set, eq-eqb, refl, sym, ap, ◌∙◌, arith, ℤ, pos}
+use Rattle.std.proofs.Common.{◌≡◌, ◌<◌, ◌≤◌, ℕ, zero, suc, List, [], ◌∷◌, Bool, true, false, Option, Some, None, length, replicate, slice_get, slice_set, eq-eqb, refl, ap, ◌∙◌, arith, ℤ, pos}
 use Rattle.std.specs.Prelude.{◌==◌, is_some, if◌then◌else◌}
 use Rattle.std.specs.FinMap as map
 use Rattle.mc_base.specs.declared.ids.NodeId.{NodeId}
@@ -13,7 +13,7 @@ use Rattle.mc_base.specs.Runs.{next, last, fault}
 use Rattle.mc_heap.specs.Access.{block_field, field_at, with_field}
 use Rattle.mc_heap.specs.Choices.{Choice}
 use Rattle.mc_heap.specs.Heap.{Block, region_of, IsAddress}
-use Rattle.mc_flow.specs.Steps.{Config, Result, at_point, set_to, with_heap, found, loaded, written, put, stored, freed_at, freed}
+use Rattle.mc_flow.specs.Steps.{Config, at_point, set_to, with_heap, found, loaded, written, put, stored, freed_at, freed}
 use Rattle.mc_flow.specs.Values.{address}
 use Rattle.mc_state.specs.Stands.{VarsMeet}
 

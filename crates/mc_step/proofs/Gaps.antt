@@ -1,7 +1,6 @@
 -- Where an instruction is unmet, its rule has no instance.
-use Rattle.std.proofs.Common.{◌≡◌, ℕ, List, [], ◌∷◌, Bool, true, Option, Some, None, slice_get, refl, sym, ap, ◌∙◌, subst, inl, inr}
+use Rattle.std.proofs.Common.{◌≡◌, ℕ, List, [], ◌∷◌, Bool, Option, Some, None, slice_get, refl, sym, ap, ◌∙◌, subst, inl, inr}
 use Rattle.std.specs.Prelude.{slice_index_or}
-use Rattle.mc_base.specs.declared.ids.EdgeId.{EdgeId}
 use Rattle.mc_base.specs.declared.ids.NodeId.{NodeId}
 use Rattle.mc_base.specs.declared.ids.PointId.{PointId}
 use Rattle.mc_base.specs.declared.ids.PredId.{PredId}
@@ -13,17 +12,16 @@ use Rattle.mc_flow.specs.declared.instr.Operand.{Operand}
 use Rattle.mc_flow.specs.declared.instr.Operand.TheVariants.{Var, Const}
 use Rattle.mc_flow.specs.declared.instr.Instr.{Instr}
 use Rattle.mc_flow.specs.declared.instr.Instr.TheVariants as instr
-use Rattle.mc_graph.specs.declared.edge.Edge.{Edge}
 use Rattle.mc_graph.specs.Graph.{Edges}
 use Rattle.mc_pure.specs.Laws.{BlocksAtOneNode}
 use Rattle.mc_state.specs.State.{State, var_node}
-use Rattle.mc_state.specs.Facts.{IsFalse, AreEqual}
+use Rattle.mc_state.specs.Facts.{AreEqual}
 use Rattle.mc_step.specs.declared.gap.Gap.{Gap}
 use Rattle.mc_step.specs.declared.gap.Gap.TheVariants.{Uninit, NoBlock, Reached, NoShape, UninitField, NotEmpty}
 use Rattle.mc_step.specs.declared.next.Next.{Next}
 use Rattle.mc_step.specs.Operands.{code_at, operand_node, with_operand, AreNodesOf, HasBlock}
 use Rattle.mc_step.specs.Steps.{S8Is, S9Is, S11Is, S12Is, S18Is}
-use Rattle.mc_step.specs.Unmet.{taken, IsFirstUnknown, AreKnown, Lacks, LacksEmptiness, IsGap, IsUnmet}
+use Rattle.mc_step.specs.Unmet.{taken, IsFirstUnknown, AreKnown, Lacks, IsGap, IsUnmet}
 use Rattle.mc_step.specs.Laws.{IsStep, S1, S2, S3, S4, S5, S6, S7, S8, S9, S10, S11, S12, S13, S14, S15, S16, S17, S18, UnmetHasNoStep}
 use Rattle.mc_step.proofs.Operands.{operand_env}
 use Rattle.mc_step.proofs.OneBlock.{one_block}

@@ -1,5 +1,11 @@
 pub mod Blocks
 pub mod Bounded
+pub mod ExampleFlow
+pub mod ExampleGaps
+pub mod ExampleRanges
+pub mod ExampleRuns
+pub mod ExampleStates
+pub mod ExampleSteps
 pub mod Fields
 pub mod Gaps
 pub mod Lists
@@ -9,6 +15,7 @@ pub mod Numbers
 pub mod OneBlock
 pub mod Operands
 pub mod Parts
+pub mod Refuted
 pub mod Shapes
 pub mod Sound
 pub mod Tests

@@ -1,5 +1,5 @@
 -- Steps that lead on, and the rules that need little more.
-use Rattle.std.proofs.Common.{◌≡◌, ℕ, List, [], ◌∷◌, Option, Some, None, slice_get, refl, sym, ap, ◌∙◌, subst, ℤ, pos}
+use Rattle.std.proofs.Common.{◌≡◌, ℕ, List, [], ◌∷◌, Option, Some, None, slice_get, refl, sym, ap, ◌∙◌, subst, ℤ}
 use Rattle.std.specs.Prelude.{option_map}
 use Rattle.mc_base.specs.declared.ids.NodeId.{NodeId}
 use Rattle.mc_base.specs.declared.ids.PointId.{PointId}
@@ -17,7 +17,7 @@ use Rattle.mc_flow.specs.declared.instr.Instr.{Instr}
 use Rattle.mc_flow.specs.declared.instr.Instr.TheVariants as instr
 use Rattle.mc_flow.specs.Steps.{Config, Result, StepOf, StepAt, Step, at_point, set_to, copied}
 use Rattle.mc_flow.specs.Valid.{IsValid, FitsKinds}
-use Rattle.mc_flow.specs.Values.{value_of, without}
+use Rattle.mc_flow.specs.Values.{without}
 use Rattle.mc_state.specs.State.{State, with_var, without_vars}
 use Rattle.mc_state.specs.Fits.{IsBounded}
 use Rattle.mc_state.specs.Stands.{StandsBy}

@@ -1,5 +1,5 @@
 -- Inputs, sums, differences and products.
-use Rattle.std.proofs.Common.{◌≡◌, ◌<◌, ℕ, List, [], ◌∷◌, ◌++◌, Option, Some, None, refl, sym, ap, ap₂, ◌∙◌, subst, arith, ℤ, pos, ◌+ℤ◌, ◌-ℤ◌, ◌*ℤ◌}
+use Rattle.std.proofs.Common.{◌≡◌, List, [], ◌∷◌, ◌++◌, Some, refl, sym, ap, ap₂, ◌∙◌, subst, ℤ, ◌+ℤ◌, ◌-ℤ◌, ◌*ℤ◌}
 use Rattle.std.specs.List.{AllByRecursion}
 use Rattle.mc_base.specs.declared.ids.NodeId.{NodeId}
 use Rattle.mc_base.specs.declared.ids.PointId.{PointId}
@@ -8,11 +8,10 @@ use Rattle.mc_base.specs.declared.plain.Atom.{Atom}
 use Rattle.mc_base.specs.declared.plain.Kind.TheVariants.{Int}
 use Rattle.mc_base.specs.declared.plain.Place.{Place}
 use Rattle.mc_base.specs.Atoms.{IsTrueAtom}
-use Rattle.mc_base.specs.Kinds.{InKind}
 use Rattle.mc_base.specs.Nodes.{Valuation}
 use Rattle.mc_heap.specs.Choices.{Choice}
 use Rattle.mc_heap.specs.Choices as choice
-use Rattle.mc_heap.specs.Heap.{HasAddresses, region_of}
+use Rattle.mc_heap.specs.Heap.{region_of}
 use Rattle.mc_defs.specs.declared.rules.Def.{Def}
 use Rattle.mc_flow.specs.declared.graph.Flow.{Flow}
 use Rattle.mc_flow.specs.declared.instr.Operand.{Operand}
@@ -24,7 +23,6 @@ use Rattle.mc_ranges.specs.declared.Range.{Range}
 use Rattle.mc_ranges.specs.Range.{Holds}
 use Rattle.mc_state.specs.State.{State, next_node, with_nodes, with_var, with_atoms}
 use Rattle.mc_state.specs.Fits.{IsBounded}
-use Rattle.mc_state.specs.Stands.{StandsBy}
 use Rattle.mc_step.specs.declared.next.Next.{Next}
 use Rattle.mc_step.specs.Operands.{with_operand}
 use Rattle.mc_step.specs.Steps.{moved_to, range_atoms, sum_offsets, difference_offsets, no_offsets, Computes, S4Is, S5Is, S6Is, S7Is}

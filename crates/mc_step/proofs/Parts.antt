@@ -1,5 +1,5 @@
 -- The part of the heap that a block has.
-use Rattle.std.proofs.Common.{◌≡◌, ◌≢◌, ◌<◌, ◌≤◌, ◌^◌, ℕ, List, [], ◌∷◌, map, Option, Some, None, refl, sym, ap, ◌∙◌, subst, arith, inl, ℤ, pos, ◌+ℤ◌}
+use Rattle.std.proofs.Common.{◌≡◌, ◌≢◌, ◌<◌, ◌≤◌, ◌^◌, ℕ, List, [], ◌∷◌, map, Option, Some, None, refl, sym, ap, ◌∙◌, subst, arith, ℤ, pos, ◌+ℤ◌}
 use Rattle.std.specs.Prelude.{IsSome}
 use Rattle.std.specs.List.{AllByRecursion}
 use Rattle.std.proofs.lemmas.Int.{ints}
@@ -13,10 +13,8 @@ use Rattle.mc_heap.specs.Heap.{Block, Region, IsAddress, IsAtAddresses}
 use Rattle.mc_heap.specs.Instances.{nowhere}
 use Rattle.mc_heap.specs.Parts.{Joins, Split, IsEmpty, IsCell, Star}
 use Rattle.mc_defs.specs.declared.rules.Def.{Def}
-use Rattle.mc_graph.specs.declared.edge.Edge.{Edge}
 use Rattle.mc_graph.specs.declared.edge.Edge.TheVariants as edge
 use Rattle.mc_graph.specs.Graph.{Edges, edge_with, without, block_starts}
-use Rattle.mc_pure.specs.Pure.{address_atom}
 use Rattle.mc_state.specs.State.{State, with_only_edges}
 use Rattle.mc_state.specs.Facts.{AreEqual}
 use Rattle.mc_state.specs.Stands.{VarsMeet, EdgeMeets, EdgesMeet, StandsBy}
@@ -35,7 +33,7 @@ pub record BlockOut (defs : List Def) (v : Valuation) (values : List (Option ℤ
   pub meets : VarsMeet v fields contents
   pub stands : StandsBy defs v values others (with_only_edges s (without s.graph.edges id))
 
-both_free : (x l r : Option Block) → Joins x l r → x ≡ None → (l ≡ None) × (r ≡ None)
+pub both_free : (x l r : Option Block) → Joins x l r → x ≡ None → (l ≡ None) × (r ≡ None)
 both_free x None r j e = (refl, sym j ∙ e)
 both_free x (Some b) None j e = cc
 both_free x (Some b) (Some c) j e = absurd j
@@ -53,7 +51,8 @@ module _ (defs : List Def) (w : Valuation) (a : NodeId) (address : ℕ) (leads :
       let is : w a.0 ≡ w at.0 +ℤ pos 0 = same in
       let value : pos address ≡ pos m.0 = (let own : w a.0 ≡ pos address = leads in omega (arith, ints)) in
       let here : address ≡ m.0 = cc in
-      let clash : None ≡ Some (record { shape = shape.0; fields = m.2.0 }) = sym free ∙ ap part here ∙ m.2.1.here in
+      let block : Block = record { shape = shape.0; fields = m.2.0 } in
+      let clash : None ≡ Some block = sym free ∙ ap part here ∙ m.2.1.here in
       cc
 
   pub starts_differ : (es : Edges) (region : Region) → EdgesMeet defs w es region → region address ≡ None → AllByRecursion (IsTrueAtom w) (map (λ b. Ne a b (pos 0)) (block_starts es))

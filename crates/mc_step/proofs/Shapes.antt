@@ -1,6 +1,5 @@
 -- Shapes that are assumed and asserted, and the empty heap.
-use Rattle.std.proofs.Common.{◌≡◌, ℕ, zero, suc, List, [], ◌∷◌, map, take, Option, Some, None, slice_get, refl, sym, ap, ◌∙◌, subst, inl, inr, ℤ, pos}
-use Rattle.std.specs.List.{AllByRecursion}
+use Rattle.std.proofs.Common.{◌≡◌, ℕ, zero, suc, List, [], ◌∷◌, map, take, Some, slice_get, refl, sym, ap, ◌∙◌, subst, inl, inr, ℤ}
 use Rattle.mc_base.specs.declared.ids.NodeId.{NodeId}
 use Rattle.mc_base.specs.declared.ids.PointId.{PointId}
 use Rattle.mc_base.specs.declared.ids.PredId.{PredId}
@@ -8,10 +7,8 @@ use Rattle.mc_base.specs.declared.ids.VarId.{VarId}
 use Rattle.mc_base.specs.declared.plain.FaultKind.TheVariants as faults
 use Rattle.mc_base.specs.declared.plain.Kind.{Kind}
 use Rattle.mc_base.specs.declared.plain.Kind.TheVariants.{Ptr}
-use Rattle.mc_base.specs.declared.plain.Place.{Place}
 use Rattle.mc_base.specs.Kinds.{InKind}
 use Rattle.mc_base.specs.Nodes.{Valuation, at_node}
-use Rattle.mc_base.specs.Runs as runs
 use Rattle.mc_heap.specs.Adding.{part_of, with_blocks}
 use Rattle.mc_heap.specs.Choices.{Choice}
 use Rattle.mc_heap.specs.Choices as choice
@@ -25,18 +22,16 @@ use Rattle.mc_defs.specs.Values.{InKinds}
 use Rattle.mc_flow.specs.declared.graph.Flow.{Flow}
 use Rattle.mc_flow.specs.declared.instr.Instr.TheVariants as instr
 use Rattle.mc_flow.specs.Steps.{Config, Result, AddsShape, Assumes, Asserts, Demands, at_point, set_to}
-use Rattle.mc_flow.specs.Valid.{IsValid}
 use Rattle.mc_flow.specs.Values.{value_of, values_of}
 use Rattle.mc_graph.specs.declared.edge.Edge.TheVariants as edge
-use Rattle.mc_state.specs.declared.goal.Goal.{Goal}
 use Rattle.mc_state.specs.State.{State, next_node, with_nodes, with_edges, with_var}
 use Rattle.mc_state.specs.Fits.{AreNodes, IsBounded}
-use Rattle.mc_state.specs.Stands.{EdgeMeets, StandsBy}
+use Rattle.mc_state.specs.Stands.{EdgeMeets}
 use Rattle.mc_state.specs.Rules.{GoalHolds}
 use Rattle.mc_step.specs.declared.next.Next.{Next}
 use Rattle.mc_step.specs.Operands.{with_operand, with_operands}
 use Rattle.mc_step.specs.Steps.{moved_to, S15Is, S16Is, S18Is}
-use Rattle.mc_step.specs.Laws.{IsAt, LeadsOn, SidesHold}
+use Rattle.mc_step.specs.Laws.{IsAt, LeadsOn}
 use Rattle.mc_step.proofs.LowerLaws.{StepLaws}
 use Rattle.mc_step.proofs.Lists.{all_at}
 use Rattle.mc_step.proofs.Moving.{IsSoundAt, step_at, fits_at, leads, set_leads_at}

@@ -1,5 +1,5 @@
 -- Tests of two operands.
-use Rattle.std.proofs.Common.{◌≡◌, ℕ, List, [], ◌∷◌, Bool, true, false, T, Option, Some, None, slice_get, refl, sym, ap, ap₂, ◌∙◌, subst, arith, inl, ℤ, pos, ◌+ℤ◌, ◌≤ℤ◌, ◌<ℤ◌}
+use Rattle.std.proofs.Common.{◌≡◌, List, [], ◌∷◌, Bool, true, false, T, slice_get, refl, sym, ap, ap₂, ◌∙◌, subst, arith, inl, ℤ, pos, ◌+ℤ◌, ◌≤ℤ◌, ◌<ℤ◌}
 use Rattle.std.specs.Prelude.{if◌then◌else◌, int_le}
 use Rattle.std.specs.List.{AllByRecursion}
 use Rattle.std.specs.Ordering.{int_eq}
@@ -19,14 +19,12 @@ use Rattle.mc_defs.specs.declared.rules.Def.{Def}
 use Rattle.mc_flow.specs.declared.graph.Flow.{Flow}
 use Rattle.mc_flow.specs.declared.instr.Instr.TheVariants as instr
 use Rattle.mc_flow.specs.Steps.{Config, Result, at_point, tested}
-use Rattle.mc_flow.specs.Values.{value_of}
 use Rattle.mc_pure.specs.Derived.{HasRange}
 use Rattle.mc_ranges.specs.declared.Range.{Range}
 use Rattle.mc_ranges.specs.Range.{Holds}
 use Rattle.mc_state.specs.State.{State, pure_of, with_atoms}
 use Rattle.mc_state.specs.Stands.{StandsBy}
 use Rattle.mc_step.specs.declared.next.Next.{Next}
-use Rattle.mc_step.specs.Operands.{with_operand}
 use Rattle.mc_step.specs.Steps.{moved_to, le_atoms, gt_atoms, S13Is, S14Is}
 use Rattle.mc_step.specs.Laws.{LeadsOn}
 use Rattle.mc_step.proofs.LowerLaws.{StepLaws}

@@ -1,8 +1,7 @@
 -- Results that wrap, and what is written of them.
-use Rattle.std.proofs.Common.{◌≡◌, ◌&&◌, List, [], ◌∷◌, ◌++◌, Bool, true, false, Option, Some, None, FitsSigned, refl, sym, ap, ap₂, ◌∙◌, subst, arith, ℤ, pos, negsuc, ◌+ℤ◌, ◌-ℤ◌, ◌*ℤ◌, neg_ℤ, ◌≤ℤ◌}
+use Rattle.std.proofs.Common.{◌≡◌, ◌&&◌, List, [], ◌∷◌, Bool, true, false, Option, Some, None, FitsSigned, refl, ap, ap₂, ◌∙◌, arith, ℤ, pos, negsuc, ◌+ℤ◌, ◌-ℤ◌, ◌*ℤ◌, neg_ℤ, ◌≤ℤ◌}
 use Rattle.std.specs.Prelude.{if◌then◌else◌, int_le}
 use Rattle.std.specs.List.{AllByRecursion}
-use Rattle.std.specs.Ordering.{int_eq}
 use Rattle.std.specs.Int.{int_wrap, w32}
 use Rattle.std.proofs.lemmas.Bool.Decides.{Decides-int_eq}
 use Rattle.std.proofs.lemmas.Int.{ints, int_wrap_fits, SFits-int_wrap}
@@ -101,3 +100,8 @@ range_true op w n a b left right results least l r is = at (is_single left && is
         let both = both_true (is_single left) (is_single right) e in
         let value : w n.0 ≡ wrapped (op left.lo right.lo) = is ∙ ap wrapped (ap₂ op (single left (w a.0) l both.0) (single right (w b.0) r both.1)) in
         ((omega (arith, ints), omega (arith, ints)), tt)
+
+-- one more than the greatest `int` wraps to the least one
+pub least_is : negsuc 2147483647 ≡ wrapped (pos 2147483648)
+unfolding int_wrap
+least_is = refl

@@ -1,7 +1,6 @@
 -- A small flow graph, states at its points, and configurations that stand for them.
 use Rattle.std.specs.Prelude.{ℕ, ℤ, pos, negsuc, true, false, Option, Some, None, List, [], ◌∷◌, codes, get_or}
 use Rattle.std.specs.FinMap as map
-use Rattle.mc_base.specs.declared.ids.EdgeId.{EdgeId}
 use Rattle.mc_base.specs.declared.ids.PointId.{PointId}
 use Rattle.mc_base.specs.declared.ids.VarId.{VarId}
 use Rattle.mc_base.specs.declared.plain.Atom.TheVariants.{In, Eq, Ne}
@@ -9,18 +8,21 @@ use Rattle.mc_base.specs.declared.plain.Kind.{Kind}
 use Rattle.mc_base.specs.declared.plain.Kind.TheVariants.{Int, Ptr}
 use Rattle.mc_base.specs.declared.plain.VarInfo.{VarInfo}
 use Rattle.mc_base.specs.Nodes.{Valuation, null}
+use Rattle.mc_base.specs.Runs as runs
+use Rattle.mc_heap.specs.Access.{fresh_block, with_field}
+use Rattle.mc_heap.specs.Choices.{Choice}
 use Rattle.mc_heap.specs.Heap.{Block, Heap}
-use Rattle.mc_defs.specs.Examples.{structs, cell_id, list_id, lenlist_id}
+use Rattle.mc_defs.specs.Examples.{defs, structs, cell_id, list_id, lenlist_id}
 use Rattle.mc_flow.specs.declared.instr.Instr.{Instr}
 use Rattle.mc_flow.specs.declared.instr.Instr.TheVariants as instr
 use Rattle.mc_flow.specs.declared.instr.Operand.TheVariants.{Var, Const}
 use Rattle.mc_flow.specs.declared.graph.Flow.{Flow}
 use Rattle.mc_flow.specs.declared.graph.Point.{Point}
-use Rattle.mc_flow.specs.Steps.{Config}
+use Rattle.mc_flow.specs.Steps.{Config, Step}
+use Rattle.mc_flow.specs.Values.{with_value}
 use Rattle.mc_graph.specs.declared.edge.Edge.{Edge}
 use Rattle.mc_graph.specs.declared.edge.Edge.TheVariants.{Block as BlockEdge, Ind}
 use Rattle.mc_pure.specs.Examples.{node}
-use Rattle.mc_ranges.specs.declared.Range.{Range}
 use Rattle.mc_state.specs.declared.goal.Goal.{Goal}
 use Rattle.mc_state.specs.State.{State, with_var, with_nodes, with_atoms, with_edges, with_only_edges, with_number, with_block}
 use Rattle.mc_step.specs.declared.next.Next.{Next}
@@ -28,13 +30,15 @@ use Rattle.mc_step.specs.Steps.{moved_to}
 
 -- ---- the flow graph
 
+-- the variable with a number
 abbrev pub var : ℕ → VarId
 var n = record { 0 = n }
 
+-- the point with a number
 abbrev pub at : ℕ → PointId
 at n = record { 0 = n }
 
--- struct cell *x, int y, int z, struct cell *t
+-- the variables: struct cell *x, int y, int z, struct cell *t
 abbrev pub x : VarId
 x = var 0
 
@@ -47,16 +51,18 @@ z = var 2
 abbrev pub t : VarId
 t = var 3
 
+-- a variable of this name and kind
 abbrev pub named : List ℕ → Kind → VarInfo
 named name kind = record { name = name; kind = kind }
 
 abbrev pub vars : List VarInfo
 vars = named (codes "x") Ptr ∷ named (codes "y") Int ∷ named (codes "z") Int ∷ named (codes "t") Ptr ∷ []
 
+-- the instruction, at some place of a text
 abbrev pub point : Instr → Point
 point code = record { code = code; place = record { line = 1; column = 1 } }
 
--- an instruction of each form, and two more that are unmet
+-- an instruction of each form, two more that are unmet, and a sum that wraps
 abbrev pub code : List Instr
 code =
     instr.Skip (at 1)
@@ -80,13 +86,16 @@ code =
     ∷ instr.Load z x cell_id 0 (at 19)
     ∷ instr.Copy z (Var z) (at 20)
     ∷ instr.Fail
+    ∷ instr.Add z (Const (pos 2147483647)) (Const (pos 1)) (at 22)
+    ∷ instr.End
     ∷ []
 
--- each at a point of its own
+-- each instruction at a point of its own
 abbrev pub points : List Instr → List Point
 points [] = []
 points (i ∷ is) = point i ∷ points is
 
+-- the flow graph, with no loops
 abbrev pub flow : Flow
 flow = record { points = points code; vars = vars; heads = []; merges = []; thresholds = []; structs = record { list = structs } }
 
@@ -111,6 +120,10 @@ one_cell =
 -- node 3 is 1
 abbrev pub with_one : State
 with_one = with_number one_cell (pos 1)
+
+-- node 3 is the greatest `int`, and node 4 is 1
+abbrev pub with_greatest : State
+with_greatest = with_number (with_number one_cell (pos 2147483647)) (pos 1)
 
 -- y may be any number
 abbrev pub any_number : State
@@ -149,6 +162,26 @@ config p number = record { point = p; vars = values number; heap = heap }
 abbrev pub bare : ℕ → ℤ → Config
 bare p number = record { point = p; vars = values number; heap = map.empty }
 
+-- the configuration where a variable has this value
+abbrev pub config_with : ℕ → VarId → ℤ → Config
+config_with p v number = record { point = p; vars = with_value (values (pos 5)) v (Some number); heap = heap }
+
+-- and the one with this heap
+abbrev pub config_on : ℕ → Heap → Config
+config_on p other = record { point = p; vars = values (pos 5); heap = other }
+
+-- the cell's item is 5
+abbrev pub stored : Heap
+stored = map.insert heap 7 (with_field block 0 (pos 5))
+
+-- t points to a new cell at 9
+abbrev pub allocated : Config
+allocated = record { point = 10; vars = with_value (values (pos 5)) t (Some (pos 9)); heap = map.insert heap 9 (fresh_block 0 2) }
+
+-- the configuration takes a step to another, by these choices
+abbrev pub Goes : Config → List Choice → Config → Type 0
+Goes c choices d = Step flow defs c choices (runs.next d [])
+
 -- ---- successors
 
 -- z is a new node
@@ -158,6 +191,10 @@ with_z s = with_var (with_nodes s (Int ∷ [])) z (Some (record { 0 = s.next }))
 -- z is y plus 1, and goes from 6 to 8
 abbrev pub after_sum : List Next
 after_sum = moved_to (at 5) (with_atoms (with_z with_one) (In (node 4) (pos 6) (pos 8) ∷ Eq (node 4) (node 2) (pos 1) ∷ [])) ∷ []
+
+-- z is the least `int`, since the sum wraps
+abbrev pub after_wrap : List Next
+after_wrap = moved_to (at 22) (with_atoms (with_z with_greatest) (In (node 5) (negsuc 2147483647) (negsuc 2147483647) ∷ [])) ∷ []
 
 -- z is y minus 1, and goes from 4 to 6
 abbrev pub after_difference : List Next
@@ -199,5 +236,6 @@ after_assume = moved_to (at 15) (with_var (with_edges (with_nodes one_cell (Ptr 
 abbrev pub null_list : Goal
 null_list = record { pred = list_id; at = null; args = [] }
 
+-- the side branch, and the state as it was
 abbrev pub after_assert : List Next
 after_assert = record { point = at 15; goal = Some null_list; state = one_cell } ∷ moved_to (at 16) one_cell ∷ []

@@ -1,12 +1,11 @@
 -- Rules that are wrong: each is like a rule of instructions, and a configuration refutes it.
-use Rattle.std.specs.Prelude.{◌≡◌, pos, List, [], ◌∷◌, Some, None}
+use Rattle.std.specs.Prelude.{pos, List, [], ◌∷◌, Some, None}
 use Rattle.mc_base.specs.declared.ids.NodeId.{NodeId}
 use Rattle.mc_base.specs.declared.ids.PointId.{PointId}
 use Rattle.mc_base.specs.declared.ids.StructId.{StructId}
 use Rattle.mc_base.specs.declared.ids.VarId.{VarId}
 use Rattle.mc_base.specs.declared.plain.Atom.TheVariants.{Eq}
 use Rattle.mc_base.specs.declared.plain.Kind.TheVariants.{Int}
-use Rattle.mc_base.specs.Nodes.{Valuation}
 use Rattle.mc_heap.specs.Choices.{Choice}
 use Rattle.mc_defs.specs.Examples.{defs}
 use Rattle.mc_flow.specs.Steps.{Config, Result, Step}

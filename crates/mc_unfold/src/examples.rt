@@ -18,7 +18,6 @@ use mc_state::{body_premises, derived_is_true};
 pub fn example_of_ind()
     ensures bounded { IsBounded one_list }
     ensures unfolds { UnfoldsInd defs (Some (node 1)) (edge 0) one_list (no_cell ∷ cell_then_list ∷ []) }
-    ensures addresses { IsAtAddresses (blocks two_cells) }
     ensures stands { StandsBy defs at_seven [] (blocks two_cells) one_list }
 {
     parts_regroup();
