@@ -1,7 +1,5 @@
 -- A program that fails, and the last pass of its chain, which is stuck where it fails.
-use Rattle.std.proofs.Common.{◌≡◌, List, [], ◌∷◌, None, refl, subst, arith, inl, inr, pos}
-use Rattle.std.specs.Prelude.{Contains}
-use Rattle.mc_base.specs.declared.ids.PointId.{PointId}
+use Rattle.std.proofs.Common.{◌≡◌, List, [], ◌∷◌, refl, subst, arith, inl, inr, pos}
 use Rattle.mc_base.specs.declared.plain.FaultKind.TheVariants.{Assertion}
 use Rattle.mc_base.specs.Nodes.{Valuation, null}
 use Rattle.mc_base.specs.Runs.{Reaches, fault}
@@ -18,7 +16,7 @@ use Rattle.mc_state.specs.RawStates.{IsWellFormedRaw, state_of}
 use Rattle.mc_state.specs.State.{State, unknown}
 use Rattle.mc_step.specs.declared.gap.Gap.TheVariants.{Reached}
 use Rattle.mc_step.specs.Steps.{moved_to}
-use Rattle.mc_kernel.specs.Branches.{Head, Setting, path_of, roots, AreCuts}
+use Rattle.mc_kernel.specs.Branches.{Head, path_of, roots, AreCuts}
 use Rattle.mc_kernel.specs.Certificates.{IsLastPass}
 use Rattle.mc_kernel.specs.Examples as ex
 use Rattle.mc_kernel.specs.Examples.{failing_code, failing_flow, failing_state, failing_pass, failing_path}
@@ -95,9 +93,14 @@ module _ (law : TrueIsNotFalse) where
   head_sound wrong = not_false zeros [] [] refl tt tt law wrong
 
   reads : Reads failing_flow defs (record { form = Chain; cuts = ex.at 1 ∷ []; heads = failing_heads }) failing_pass (roots failing_flow failing_heads) (failing_path ∷ [])
-  reads =
-      (path_of (moved_to (ex.at 1) (unknown 0)) ∷ [], failing_path ∷ [], (record { plain = refl; open_still = refl; before_cut = inr refl }, (moved_to (ex.at 1) (unknown 0) ∷ [], record { q = ex.at 1; at = refl; sound = entry_sound; gives = refl }, refl)),
-      ([], failing_path ∷ [], record {
+  reads = (
+    path_of (moved_to (ex.at 1) (unknown 0)) ∷ [],
+    failing_path ∷ [],
+    (record { plain = refl; open_still = refl; before_cut = inr refl }, (moved_to (ex.at 1) (unknown 0) ∷ [], record { q = ex.at 1; at = refl; sound = entry_sound; gives = refl }, refl)),
+    (
+      [],
+      failing_path ∷ [],
+      record {
         may = record { plain = refl; at_cut = contains_here (ex.at 1) []; has_moved = refl };
         sound = entry_sound;
         head = state_of failing_state;
@@ -105,9 +108,23 @@ module _ (law : TrueIsNotFalse) where
         jumps = failing_jumps (unknown 0) refl;
         gives = refl;
       },
-      (failing_path ∷ [], failing_path ∷ [], (record { plain = refl; open_still = refl; before_cut = inr refl }, (moved_to (ex.at 2) (state_of failing_state) ∷ [], record { q = ex.at 2; at = refl; sound = head_sound; gives = refl }, refl)),
-      ([], [], record { chain = refl; plain = refl; open_still = refl; gap = Reached; unmet = record { sound = head_sound; code = instr.Fail; at = refl; lacks = (tt, tt) }; gives = refl },
-      (refl, refl), refl), refl), refl), refl)
+      (
+        failing_path ∷ [],
+        failing_path ∷ [],
+        (record { plain = refl; open_still = refl; before_cut = inr refl }, (moved_to (ex.at 2) (state_of failing_state) ∷ [], record { q = ex.at 2; at = refl; sound = head_sound; gives = refl }, refl)),
+        (
+          [],
+          [],
+          record { chain = refl; plain = refl; open_still = refl; gap = Reached; unmet = record { sound = head_sound; code = instr.Fail; at = refl; lacks = (tt, tt) }; gives = refl },
+          (refl, refl),
+          refl,
+        ),
+        refl,
+      ),
+      refl,
+    ),
+    refl,
+  )
 
   pub failing_is_stuck : IsLastPass failing_flow defs (ex.at 1 ∷ []) failing_heads failing_pass (failing_path ∷ [])
   failing_is_stuck = record { cuts_are = failing_cuts; at_cuts = (contains_here (ex.at 1) [], tt); bounded = (head_bounded, tt); reads = reads }
