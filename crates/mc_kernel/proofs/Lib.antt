@@ -1,6 +1,20 @@
+pub mod Calculus
+pub mod Claims
+pub mod EdgesOnce
+pub mod ExampleFlows
 pub mod Freeing
+pub mod Goals
+pub mod Induction
+pub mod Jumping
+pub mod JumpingAtOnce
+pub mod Lines
+pub mod ListExample
+pub mod Lists
+pub mod LoopExample
 pub mod Moves
 pub mod Once
+pub mod Plain
+pub mod Soundness
 pub mod StraightBlocks
 pub mod StraightFacts
 pub mod StraightLists
@@ -10,3 +24,4 @@ pub mod StraightReads
 pub mod StraightSound
 pub mod StraightStates
 pub mod StraightSteps
+pub mod Visits

@@ -20,7 +20,8 @@ use Rattle.mc_pure.specs.Pure.{Kinds, IsNode}
 use Rattle.mc_state.specs.State.{State, unknown, with_var, without_vars, with_number, with_block, with_nodes, with_atom, next_node, numbered_kinds}
 use Rattle.mc_state.specs.Straight.{apart, put_field, with_field, without_block}
 use Rattle.mc_state.specs.Laws.{NewNodesAreThere}
-use Rattle.mc_kernel.proofs.StraightLists.{all_append, all_map, all_both, all_at, all_without, all_of_map}
+use Rattle.mc_kernel.proofs.Lists.{all_append, all_map, all_both, all_at, all_of_map}
+use Rattle.mc_kernel.proofs.StraightLists.{all_without}
 use Rattle.mc_kernel.proofs.StraightStates.{Numbers, HasNumber, KindFits, RangeFits, ArePointers, AtomFits, BlockFits, EdgeFits, EdgesAscend, IsStraight, updated, updated_at, updated_below, updated_not_zero, kind_kept, atom_kept, edge_kept}
 
 pub start_below : (numbers : Numbers) (kinds : Kinds) (next : ℕ) (e : Edge) → BlockFits numbers kinds next e → (start_of e).0 < next

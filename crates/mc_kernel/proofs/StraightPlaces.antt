@@ -16,7 +16,8 @@ use Rattle.mc_pure.specs.Pure.{Kinds, IsNode}
 use Rattle.mc_state.specs.State.{State}
 use Rattle.mc_state.specs.Straight.{are_same, is_block_at, is_shaped_block_at, block_place, shaped_block_place, edge_at, put_field, apart}
 use Rattle.mc_step.specs.Operands.{HasBlock}
-use Rattle.mc_kernel.proofs.StraightLists.{and_true, at_position, all_at, all_without}
+use Rattle.mc_kernel.proofs.Lists.{all_at}
+use Rattle.mc_kernel.proofs.StraightLists.{and_true, at_position, all_without}
 use Rattle.mc_kernel.proofs.StraightStates.{Numbers, BlockFits, EdgeFits, EdgesAscend, IsStraight}
 use Rattle.mc_kernel.proofs.StraightBlocks.{all_above}
 use Rattle.mc_kernel.proofs.StraightFacts.{same_follows}

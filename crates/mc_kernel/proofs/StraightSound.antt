@@ -18,7 +18,8 @@ use Rattle.mc_pure.specs.Pure.{Kinds, Base, low_of, high_of}
 use Rattle.mc_pure.specs.Derived.{IsFalse}
 use Rattle.mc_state.specs.State.{State, pure_of}
 use Rattle.mc_state.specs.Straight.{says_null, is_null, is_wrong, is_at_null, is_false}
-use Rattle.mc_kernel.proofs.StraightLists.{or_false, and_true, or_left, or_right, and_both, not_both, passes, any_at, none_at, all_at}
+use Rattle.mc_kernel.proofs.Lists.{all_at}
+use Rattle.mc_kernel.proofs.StraightLists.{or_false, and_true, or_left, or_right, and_both, not_both, passes, any_at, none_at}
 use Rattle.mc_kernel.proofs.StraightMarks.{Mark, small, huge, LiesIn, IsPlus, Differs, Fits, nothing_false}
 use Rattle.mc_kernel.proofs.StraightStates.{Numbers, HasNumber, KindFits, RangeFits, AtomFits, EdgeFits, EdgesAscend, IsStraight}
 

@@ -20,7 +20,8 @@ use Rattle.mc_pure.specs.Pure.{Kinds, IsNode}
 use Rattle.mc_state.specs.State.{State, unknown, with_var, without_vars, with_number, with_block, with_nodes, with_atom, next_node, numbered_kinds}
 use Rattle.mc_state.specs.Straight.{apart, put_field, with_field, without_block}
 use Rattle.mc_state.specs.Laws.{NewNodesAreThere}
-use Rattle.mc_kernel.proofs.StraightLists.{all_append, all_map, all_both, all_at, all_without, all_of_map}
+use Rattle.mc_kernel.proofs.Lists.{all_append, all_map, all_both, all_at, all_of_map}
+use Rattle.mc_kernel.proofs.StraightLists.{all_without}
 
 -- the number of each node that is one; a pointer is none
 abbrev pub Numbers : Type 0

@@ -6,3 +6,6 @@ pub mod Jumps
 pub mod Instances
 pub mod Certificates
 pub mod Straight
+pub mod JumpLaws
+pub mod Examples
+pub mod WrongJumps

@@ -6,8 +6,7 @@ use Rattle.mc_base.specs.declared.ids.PredId.{PredId}
 use Rattle.mc_base.specs.declared.ids.StructId.{StructId}
 use Rattle.mc_base.specs.Nodes.{Valuation, at_node, null}
 use Rattle.mc_heap.specs.Heap.{Region}
-use Rattle.mc_heap.specs.Instances.{nowhere}
-use Rattle.mc_heap.specs.Parts.{Split, Star, StarAt}
+use Rattle.mc_heap.specs.Parts.{Star, StarAt}
 use Rattle.mc_defs.specs.declared.rules.Call.{Call}
 use Rattle.mc_defs.specs.declared.rules.Def.{Def}
 use Rattle.mc_defs.specs.Instances.{node_of}
@@ -17,10 +16,10 @@ use Rattle.mc_graph.specs.declared.edge.Edge.TheVariants.{Block}
 use Rattle.mc_state.specs.Bodies.{call_edge, block_edges, body_edges, calls_to}
 use Rattle.mc_state.specs.BodyLaws.{IsBody, BodiesAreEdges, SegBodiesAreEdges}
 use Rattle.mc_state.specs.Stands.{VarsMeet, EdgeMeets}
-use Rattle.mc_state.proofs.Parts.{PartLaws, star_append}
+use Rattle.mc_state.proofs.Parts.{SplitLaws, star_append}
 use Rattle.mc_state.proofs.Stars.{star_one, star_parts}
 
-module _ (laws : PartLaws) (defs : List Def) (v : Valuation) (nodes : List NodeId) (zero_is : v 0 ≡ pos 0) where
+module _ (laws : SplitLaws) (defs : List Def) (v : Valuation) (nodes : List NodeId) (zero_is : v 0 ≡ pos 0) where
   abbrev names : List ℤ
   names = map (at_node v) nodes
 
@@ -83,7 +82,7 @@ module _ (laws : PartLaws) (defs : List Def) (v : Valuation) (nodes : List NodeI
       let both = star_parts laws (EdgeMeets defs v) (block_edges nodes block contents) (map (call_edge nodes) calls) region s in
       (both.0, both.1, both.2, meet_block block contents both.0 both.3, meet_calls calls both.1 both.4)
 
-pub bodies_edges : PartLaws → BodiesAreEdges
+pub bodies_edges : SplitLaws → BodiesAreEdges
 bodies_edges laws defs v nodes block contents calls region zero_is = (
   λ b.
       star_append laws (EdgeMeets defs v) (block_edges nodes block contents) (map (call_edge nodes) calls) region b.0 b.1 b.2
@@ -91,7 +90,7 @@ bodies_edges laws defs v nodes block contents calls region zero_is = (
   λ s. body_parts laws defs v nodes zero_is block contents calls region s,
 )
 
-pub seg_bodies_edges : PartLaws → SegBodiesAreEdges
+pub seg_bodies_edges : SplitLaws → SegBodiesAreEdges
 seg_bodies_edges laws defs v nodes pred «end» ends place block contents calls region zero_is b =
     star_append laws (EdgeMeets defs v) (block_edges nodes block contents) (calls_to nodes end ends place calls) region b.0 b.1 b.2
     (block_meets laws defs v nodes zero_is block contents b.0 b.3) (seg_calls_meet laws defs v nodes zero_is pred end ends place calls b.1 b.4)

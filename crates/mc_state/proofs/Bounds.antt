@@ -10,9 +10,9 @@ use Rattle.mc_graph.specs.Graph.{IdsAscend, numbered}
 use Rattle.mc_pure.specs.Pure.{Kinds, IsNode}
 use Rattle.mc_state.specs.State.{State, numbered_kinds, numbered_nodes}
 use Rattle.mc_state.specs.Fits.{AreNodes}
-use Rattle.mc_state.specs.Laws.{UnknownIsBounded, VarStaysBounded, NodesStayBounded, NewNodesAreThere, NewNodesHaveKinds, AtomsStayBounded, EdgesStayBounded, FewerEdgesStayBounded, ReplacedStaysBounded, PickedNodesAreThere}
+use Rattle.mc_state.specs.Laws.{UnknownIsBounded, VarStaysBounded, NodesStayBounded, NodesAreBelow, NewNodesAreThere, NewNodesHaveKinds, AtomsStayBounded, EdgesStayBounded, FewerEdgesStayBounded, ReplacedStaysBounded, PickedNodesAreThere}
 use Rattle.mc_state.proofs.Lists.{all_append, all_map}
-use Rattle.mc_state.proofs.Nodes.{kind_left, node_left, node_right, ascend_append, numbered_ascend, numbered_there, numbered_have_kinds}
+use Rattle.mc_state.proofs.Nodes.{node_below, kind_left, node_left, node_right, ascend_append, numbered_ascend, numbered_there, numbered_have_kinds}
 use Rattle.mc_state.proofs.Ids.{AllEdges, ids_append, ids_numbered, ids_without, ids_replaced, each_numbered, each_without, each_replaced, each_picked, picks_keep}
 
 unknown_vars : (kinds : Kinds) (vars : ℕ) → AreNodes kinds (known_nodes (replicate vars None))
@@ -50,6 +50,9 @@ nodes_stay_bounded s kinds b =
       edges = all_map (λ (e : EdgeId × Edge). AreNodes s.kinds (nodes_of e.1)) (λ (e : EdgeId × Edge). AreNodes (s.kinds ++ more) (nodes_of e.1)) (λ e there. same (nodes_of e.1) there) s.graph.edges b.edges;
       atoms = all_map (λ (f : Atom). AreNodes s.kinds (nodes_of_atom f)) (λ (f : Atom). AreNodes (s.kinds ++ more) (nodes_of_atom f)) (λ f there. same (nodes_of_atom f) there) s.atoms b.atoms;
     }
+
+pub nodes_are_below : NodesAreBelow
+nodes_are_below s n b there = node_below s.kinds 1 s.next n b.positive b.kinds there
 
 pub new_nodes_are_there : NewNodesAreThere
 new_nodes_are_there s kinds =

@@ -8,9 +8,9 @@ use Rattle.mc_graph.specs.Graph.{numbered}
 use Rattle.mc_state.specs.Stands.{EdgeMeets}
 use Rattle.mc_state.specs.Laws.{EdgesAreTaken, EdgesArePut, EdgeIsReplaced, AtomsAreDropped, EdgesAreDropped, NodeIsDropped}
 use Rattle.mc_state.proofs.Nodes.{all_without_node}
-use Rattle.mc_state.proofs.Parts.{PartLaws, star_append, star_numbered, star_take, star_put, star_picks}
+use Rattle.mc_state.proofs.Parts.{SplitLaws, star_append, star_numbered, star_take, star_put, star_picks}
 
-module _ (laws : PartLaws) where
+module _ (laws : SplitLaws) where
   pub edges_are_taken : EdgesAreTaken
   edges_are_taken defs v values region s ids picked left picks st =
       let p = st.parts in

@@ -1,30 +1,22 @@
--- Covers of small states, and none.
-use Rattle.std.proofs.Common.{◌≡◌, ◌≢◌, ◌⊎◌, ℕ, zero, suc, ℤ, pos, negsuc, ◌+ℤ◌, ◌-ℤ◌, true, false, Option, Some, None, List, [], ◌∷◌, ◌++◌, map, slice_get, refl, sym, ◌∙◌, ap, subst, inl, inr, arith}
-use Rattle.std.specs.List.{AllByRecursion}
-use Rattle.std.proofs.lemmas.Int.{ints}
-use Rattle.mc_base.specs.declared.ids.EdgeId.{EdgeId}
+-- Covers of small states.
+use Rattle.std.proofs.Common.{◌≡◌, ℕ, pos, negsuc, Some, [], ◌∷◌, slice_get, refl, inl, inr}
 use Rattle.mc_base.specs.declared.ids.NodeId.{NodeId}
 use Rattle.mc_base.specs.declared.plain.Atom.{Atom}
 use Rattle.mc_base.specs.declared.plain.Atom.TheVariants as atom
 use Rattle.mc_base.specs.declared.plain.Kind.{Kind}
 use Rattle.mc_base.specs.declared.plain.Kind.TheVariants.{Int, Ptr}
-use Rattle.mc_base.specs.Atoms.{IsTrueAtom}
 use Rattle.mc_base.specs.Nodes.{null}
-use Rattle.mc_defs.specs.declared.rules.Def.{Def}
-use Rattle.mc_defs.specs.declared.rules.Rule.{Rule}
-use Rattle.mc_defs.specs.Examples.{defs, cell_id, fork_id, list_id, lenlist_id, tree_id, null_rule, list_rule, lenlist_rule, tree_rule, list_def, lenlist_def, tree_def}
+use Rattle.mc_defs.specs.Examples.{defs, cell_id, list_id, lenlist_id, tree_id, null_rule, list_rule, lenlist_rule, tree_rule, list_def, lenlist_def, tree_def}
 use Rattle.mc_graph.specs.declared.edge.Edge.TheVariants as edge
 use Rattle.mc_graph.specs.Graph.{Edges}
 use Rattle.mc_pure.specs.Derived as pure
 use Rattle.mc_pure.specs.Examples.{node}
-use Rattle.mc_pure.specs.Laws as pure_laws
 use Rattle.mc_pure.specs.Pure as known
 use Rattle.mc_pure.specs.Pure.{Base, kind_atom}
-use Rattle.mc_state.specs.declared.terms.Term.{Term}
-use Rattle.mc_state.specs.State.{State, pure_of}
+use Rattle.mc_state.specs.State.{State}
 use Rattle.mc_state.specs.Facts.{Derives}
-use Rattle.mc_state.specs.Terms.{plain, plus, AreEqualTerms, TermLiesIn, term_of, atom_on}
-use Rattle.mc_state.specs.Covers.{RuleTerms, BlockIsTaken, CallsAreFound, CoverAt, Cover, SegCover, IsByRule}
+use Rattle.mc_state.specs.Terms.{plus}
+use Rattle.mc_state.specs.Covers.{RuleTerms, BlockIsTaken, Cover, SegCover}
 use Rattle.mc_state.specs.CoverExamples.{lone_pointer, cell_and_list, rest_list, segment_and_list, cell_and_length, fork_and_tree, other_list, at, entry}
 
 -- ---- what follows at once
@@ -214,55 +206,3 @@ one_segment =
         (list_def, refl, itself segment_and_list (node 2) Ptr refl, tt, tt, refl),
       ));
     }
-
--- ---- no cover
-one_of_two : (r0 r1 rule : Rule) (place : ℕ) → slice_get (r0 ∷ r1 ∷ []) place ≡ Some rule → (r0 ≡ rule) ⊎ (r1 ≡ rule)
-one_of_two r0 r1 rule zero e = let same : r0 ≡ rule = cc in inl same
-one_of_two r0 r1 rule (suc zero) e = let same : r1 ≡ rule = cc in inr same
-one_of_two r0 r1 rule (suc (suc n)) e = cc
-
--- the pointer may be 1
-lone_true : pure_laws.IsTrue pos (pure_of lone_pointer)
-lone_true f (known.written zero e) = let is : atom.Ne (node 1) null (pos 0) ≡ f = cc in subst (IsTrueAtom pos) is (λ same. omega (arith, ints))
-lone_true f (known.written (suc place) e) = absurd (cc e)
-lone_true _ known.zero = (omega (arith, ints), omega (arith, ints))
-lone_true _ (known.kind {n} {k} zero e) =
-    let is : (node 1, Ptr) ≡ (n, k) = cc in
-    subst (λ (p : NodeId × Kind). IsTrueAtom pos (kind_atom p.0 p.1)) is (omega (arith, ints), omega (arith, ints))
-lone_true _ (known.kind (suc place) e) = absurd (cc e)
-lone_true _ (known.block place e) = absurd (cc e)
-lone_true _ (known.apart i j ne x y) = absurd (cc x)
-
-module _ (truth : pure_laws.DerivedIsTrue) where
-  not_null : Derives lone_pointer (atom.Eq (node 1) null (pos 0)) → ⊥
-  not_null d =
-      let same : pos 1 ≡ pos 0 +ℤ pos 0 = truth (pure_of lone_pointer) pos lone_true (atom.Eq (node 1) null (pos 0)) d in
-      omega (arith, ints)
-
-  not_by_rule : (by : RuleTerms defs lone_pointer list_id (at 1) []) (left : Edges) → BlockIsTaken lone_pointer by.rule.block (at 1) by.contents [] left → ⊥
-  not_by_rule by left taken =
-      let d : list_def ≡ by.def = cc (by.defined) in
-      let there : slice_get list_def.rules by.place ≡ Some by.rule = subst (λ (x : Def). slice_get x.rules by.place ≡ Some by.rule) (sym d) by.listed in
-      elim (one_of_two null_rule list_rule by.rule by.place there) [
-        | inl e ↦
-            let atoms = subst (λ (r : Rule). AllByRecursion (λ a. Derives lone_pointer (atom_on by.names a)) r.atoms) (sym e) by.atoms in
-            let this : term_of by.names 0 ≡ at 1 = ap (λ names. term_of names 0) by.front in
-            not_null (subst (λ (t : Term). Derives lone_pointer (atom.Eq t.node null ((pos 0 +ℤ pos 0) -ℤ t.add))) this atoms.0)
-        | inr e ↦
-            let cell = subst (λ (r : Rule). BlockIsTaken lone_pointer r.block (at 1) by.contents [] left) (sym e) taken in
-            absurd (cc (cell.2))
-      ]
-
-  not_at : (depth : ℕ) (left : Edges) → CoverAt defs lone_pointer depth list_id (at 1) [] [] left → ⊥
-  not_at zero left f = f
-  not_at (suc depth) left f =
-      elim f [
-        | inl i ↦ absurd (cc (i.3))
-        | inr other ↦ elim other [
-          | inl g ↦ absurd (cc (g.5))
-          | inr r ↦ not_by_rule r.0 r.1 r.2
-        ]
-      ]
-
-  pub none : (left : Edges) → ¬ Cover defs lone_pointer list_id (at 1) [] lone_pointer.graph.edges left
-  none left cover = not_at cover.depth left cover.found

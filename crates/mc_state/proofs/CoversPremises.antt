@@ -1,22 +1,21 @@
 -- A heap of two cells, the first of which points to the second: a cell and a list.
-use Rattle.std.proofs.Common.{◌≡◌, ℕ, ℤ, pos, Some, List, [], ◌∷◌, refl, ◌∙◌, arith}
+use Rattle.std.proofs.Common.{pos, Some, [], ◌∷◌, refl, ◌∙◌, arith}
 use Rattle.std.specs.FinMap as finmap
 use Rattle.std.proofs.lemmas.Int.{ints}
-use Rattle.mc_heap.specs.Heap.{Region, IsAtAddresses}
+use Rattle.mc_heap.specs.Heap.{IsAtAddresses}
 use Rattle.mc_heap.specs.Instances.{nowhere}
 use Rattle.mc_heap.specs.PartLaws.{EmptyHeapIsEmpty, InsertChanges, InsertKeepsAddresses}
 use Rattle.mc_heap.specs.Parts.{Split, IsCell}
 use Rattle.mc_defs.specs.Examples.{defs, list_id, list_rule, cell_with, blocks, two_cells, first_cell, second_cell}
 use Rattle.mc_defs.specs.Meaning.{Sat}
-use Rattle.mc_graph.specs.Graph.{Edges}
 use Rattle.mc_pure.specs.Examples.{node}
 use Rattle.mc_state.specs.BodyLaws.{IsBody, IsBodyTo}
 use Rattle.mc_state.specs.CoverExamples.{cell_and_list, at_seven}
 use Rattle.mc_state.specs.Stands.{EdgesMeet, StandsBy}
-use Rattle.mc_state.proofs.Parts.{PartLaws, nowhere-IsEmpty}
+use Rattle.mc_state.proofs.Parts.{SplitLaws, nowhere-IsEmpty}
 use Rattle.mc_state.proofs.Stars.{none_left, none_right}
 
-module _ (laws : PartLaws) (empty : EmptyHeapIsEmpty) (insert : InsertChanges) (keeps : InsertKeepsAddresses) where
+module _ (laws : SplitLaws) (empty : EmptyHeapIsEmpty) (insert : InsertChanges) (keeps : InsertKeepsAddresses) where
   cell_alone : IsCell (blocks first_cell) 7 (cell_with (pos 5) (pos 9))
   cell_alone =
       let change = insert (finmap.from_entries []) 7 (cell_with (pos 5) (pos 9)) in

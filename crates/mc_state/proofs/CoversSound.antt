@@ -1,5 +1,5 @@
 -- The edges of a cover make the predicate, and those of a segment cover the segment.
-use Rattle.std.proofs.Common.{◌≡◌, ◌⊎◌, ℕ, zero, suc, ℤ, pos, Option, Some, None, List, [], ◌∷◌, ◌++◌, map, slice_get, refl, sym, ◌∙◌, ap, ap₂, subst, inl, inr}
+use Rattle.std.proofs.Common.{◌≡◌, ℕ, zero, suc, ℤ, Option, Some, None, List, [], ◌∷◌, map, sym, ◌∙◌, ap, subst, inl, inr}
 use Rattle.std.proofs.lemmas.Simd.{map-map}
 use Rattle.mc_base.specs.declared.ids.NodeId.{NodeId}
 use Rattle.mc_base.specs.declared.ids.PredId.{PredId}
@@ -21,15 +21,15 @@ use Rattle.mc_state.specs.State.{State}
 use Rattle.mc_state.specs.Stands.{EdgeMeets, EdgesMeet, StandsBy}
 use Rattle.mc_state.specs.Laws.{DerivedIsTrue}
 use Rattle.mc_state.specs.BodyLaws.{CoverMakesPredicate, SegCoverMakesSegment}
-use Rattle.mc_state.specs.Terms.{plain, term_value, AreEqualTerms, term_of}
-use Rattle.mc_state.specs.Covers.{Finding, BlockIsTaken, CallsAreFound, CallsAreFoundAt, IsByInd, IsBySeg, IsByRule, IsByRuleAt, CoverAt, Cover, EndsThere, SegCoverAt, SegCover}
-use Rattle.mc_state.proofs.Parts.{PartLaws, nowhere-IsEmpty, star_take}
+use Rattle.mc_state.specs.Terms.{plain, term_value, term_of}
+use Rattle.mc_state.specs.Covers.{Finding, BlockIsTaken, CallsAreFound, CallsAreFoundAt, IsByInd, IsBySeg, IsByRule, IsByRuleAt, CoverAt, Cover, EndsThere, SegCoverAt}
+use Rattle.mc_state.proofs.Parts.{SplitLaws, nowhere-IsEmpty, star_take}
 use Rattle.mc_state.proofs.Stars.{none_left}
 use Rattle.mc_state.proofs.CoversTerms.{known_fields, plain_value, plain_values, name_value, name_values, one_value, same_values, rule_values, first_name, contents_are}
 
 -- what covers rest on
 pub record CoverLaws : Type 0 where
-  pub parts : PartLaws
+  pub parts : SplitLaws
   pub folds : SatFolds
   pub then_sat : SegThenSat
   pub then_seg : SegThenSeg

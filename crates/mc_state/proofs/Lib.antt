@@ -1,7 +1,9 @@
+pub mod Beginning
 pub mod Bodies
 pub mod Bounds
 pub mod Changing
 pub mod CoversExamples
+pub mod CoversNone
 pub mod CoversPremises
 pub mod CoversSound
 pub mod CoversTerms

@@ -17,7 +17,7 @@ use Rattle.mc_state.specs.Laws.{StandsRenamed, StandsMerged, MergedStands, moved
 use Rattle.mc_state.proofs.Lists.{all_map, all_of_map}
 use Rattle.mc_state.proofs.Nodes.{same_node, first_or, listed_there, listed_once, kind_at, kind_kept, all_without_node}
 use Rattle.mc_state.proofs.Images.{moved_gone, moved_other}
-use Rattle.mc_state.proofs.Renaming.{renamed_back, renamed_forth}
+use Rattle.mc_state.proofs.Renaming.{renamed_stands, renamed_forth}
 use Rattle.mc_state.proofs.Standing.{stands_agree}
 use Rattle.mc_state.proofs.Truth.{PureLaws, equal_value}
 
@@ -106,7 +106,7 @@ merged_stands defs values region s keep gone bounded merge stands =
     let zero : NodeId = null in
     let fixed : f 0 ≡ 0 = ap (λ (n : NodeId). n.0) (moved_other keep gone zero (λ e. merge.not_null (same_node gone zero (sym e)))) in (
       λ n. v (f n),
-      renamed_back defs v values region s f (kinds_without s.kinds gone) s.next fixed
+      renamed_stands defs v values region s f (kinds_without s.kinds gone) s.next fixed
           (all_map (λ (k : NodeId × Kind). kind_of s.kinds k.0 ≡ Some k.1) (λ (k : NodeId × Kind). InKind k.1 (v (f k.0.0))) (each_in_kind v s.kinds keep gone st.null merge st.kinds) s.kinds
           (listed_once 1 s.kinds s.next bounded.kinds)) st,
     )

@@ -1,9 +1,10 @@
 -- A cell with two names, and a cell as an edge.
-use Rattle.std.proofs.Common.{◌≡◌, ◌≢◌, ℕ, zero, suc, pos, Option, Some, None, [], ◌∷◌, false, refl, ◌∙◌, inl, arith}
+use Rattle.std.proofs.Common.{◌≡◌, ◌≢◌, ℕ, pos, Option, Some, None, [], ◌∷◌, false, refl, ◌∙◌, inl, arith}
 use Rattle.std.specs.Cmp.{nat_cmp_total}
 use Rattle.std.specs.FinMap as map
 use Rattle.std.specs.FinMap.{get-from_entries}
 use Rattle.std.proofs.lemmas.Int.{ints}
+use Rattle.mc_base.specs.declared.plain.Kind.TheVariants.{Ptr}
 use Rattle.mc_heap.specs.Heap.{Block}
 use Rattle.mc_heap.specs.Instances.{nowhere}
 use Rattle.mc_heap.specs.Parts.{Joins, Split, IsCell}
@@ -11,15 +12,13 @@ use Rattle.mc_heap.specs.PartLaws.{EmptyHeapIsEmpty, InsertChanges}
 use Rattle.mc_defs.specs.Meaning.{Sat}
 use Rattle.mc_defs.specs.Examples.{defs, list_id, cell_with, blocks, two_cells, first_cell, second_cell}
 use Rattle.mc_pure.specs.Examples.{node}
-use Rattle.mc_pure.specs.Pure.{written}
-use Rattle.mc_pure.specs.Derived.{base, turned, empty}
-use Rattle.mc_state.specs.State.{with_only_edges}
+use Rattle.mc_pure.specs.Pure.{kind, written}
+use Rattle.mc_pure.specs.Derived.{LiesIn, base, turned, empty}
+use Rattle.mc_state.specs.State.{pure_of, with_only_edges}
 use Rattle.mc_state.specs.Facts.{AreEqual, IsFalse}
-use Rattle.mc_state.specs.Laws.{IsInjective}
 use Rattle.mc_state.specs.Stands.{EdgeMeets, EdgesMeet, StandsBy, Stands}
-use Rattle.mc_state.specs.Examples.{edge, back, list_in_parts, at_seven, seven_and_nine, back_cell, raised, two_names, both_at_seven, sevens, no_number}
-use Rattle.mc_state.proofs.Nodes.{same_node}
-use Rattle.mc_state.proofs.Parts.{PartLaws, nowhere-IsEmpty, all_of_it}
+use Rattle.mc_state.specs.Examples.{edge, back, list_in_parts, at_seven, seven_and_nine, back_cell, two_names, both_at_seven, sevens, no_number}
+use Rattle.mc_state.proofs.Parts.{SplitLaws, nowhere-IsEmpty, all_of_it}
 use Rattle.mc_state.proofs.Worked.{no_block}
 
 joins_nothing : (whole left right : Option Block) → Joins whole left right → left ≡ None → right ≡ None → whole ≡ None
@@ -29,7 +28,7 @@ joins_nothing whole (Some b) right j e f = cc
 two_at_nine : blocks two_cells 9 ≡ Some (cell_with (pos 6) (pos 0))
 two_at_nine = get-from_entries nat_cmp_total two_cells 9
 
-module _ (laws : PartLaws) (none : EmptyHeapIsEmpty) (insert : InsertChanges) where
+module _ (laws : SplitLaws) (none : EmptyHeapIsEmpty) (insert : InsertChanges) where
   alone : (at : ℕ) (b : Block) → IsCell (blocks ((at, b) ∷ [])) at b
   alone at b =
       let change = insert map.empty at b in
@@ -99,16 +98,8 @@ two_do_not_stand stands =
 pub names_equal : AreEqual two_names (node 1) (node 2)
 names_equal = inl (turned (base (written 0 refl)))
 
+pub lies_in_kind : LiesIn (pure_of two_names) Ptr (node 1) (pos 0)
+lies_in_kind = inl (base (kind 0 refl))
+
 pub none_between : IsFalse no_number
 none_between = empty {a = node 3} {lo = pos 5} {hi = pos 4} (omega (arith, ints)) (base (written 1 refl))
-
--- ---- other nodes
-
-raised_once : (a b : ℕ) → raised a ≡ raised b → a ≡ b
-raised_once zero zero e = refl
-raised_once zero (suc b) e = absurd (omega arith)
-raised_once (suc a) zero e = absurd (omega arith)
-raised_once (suc a) (suc b) e = omega arith
-
-pub raised_injective : IsInjective raised list_in_parts.kinds
-raised_injective m n there here e = same_node m n (raised_once m.0 n.0 e)

@@ -11,7 +11,7 @@ use Rattle.mc_graph.specs.declared.edge.Edge.{Edge}
 use Rattle.mc_graph.specs.Graph.{Edges, Picks, edge_with, without, replaced, numbered}
 
 -- what holds of parts
-pub record PartLaws : Type 0 where
+pub record SplitLaws : Type 0 where
   pub commutes : SplitCommutes
   pub left : SplitRegroupsLeft
   pub right : SplitRegroupsRight
@@ -31,7 +31,7 @@ pub star_numbered : (M : Edge → Region → Type 0) (n : ℕ) (new : List Edge)
 star_numbered M n [] region s = s
 star_numbered M n (e ∷ new) region s = (s.0, s.1, s.2, s.3, star_numbered M (suc n) new s.1 s.4)
 
-module _ (laws : PartLaws) where
+module _ (laws : SplitLaws) where
   -- a region alone, and nothing apart from it
   pub all_of_it : (region : Region) → Split region region nowhere
   all_of_it region = laws.commutes region nowhere region (laws.adds_empty region nowhere nowhere-IsEmpty)

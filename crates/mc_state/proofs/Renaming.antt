@@ -1,13 +1,11 @@
 -- Other nodes in place of a state's own.
-use Rattle.std.proofs.Common.{◌≡◌, ℕ, List, [], ◌∷◌, map, Option, Some, None, refl, sym, ap, ap₂, ◌∙◌, subst, arith, ℤ, pos, ◌-ℤ◌}
+use Rattle.std.proofs.Common.{◌≡◌, ℕ, List, [], ◌∷◌, map, Option, Some, None, refl, sym, ap, ap₂, ◌∙◌, subst, ℤ, pos}
 use Rattle.std.specs.Prelude.{option_map}
 use Rattle.std.specs.List.{AllByRecursion}
-use Rattle.std.proofs.lemmas.Int.{ints}
 use mathlib.Core.Path.{fun_ext}
 use Rattle.mc_base.specs.declared.ids.EdgeId.{EdgeId}
 use Rattle.mc_base.specs.declared.ids.NodeId.{NodeId}
 use Rattle.mc_base.specs.declared.plain.Kind.{Kind}
-use Rattle.mc_base.specs.declared.plain.Kind.TheVariants.{Int, Ptr}
 use Rattle.mc_base.specs.declared.plain.Atom.{Atom}
 use Rattle.mc_base.specs.declared.plain.Atom.TheVariants.{Eq, Ne, In}
 use Rattle.mc_base.specs.Atoms.{IsTrueAtom, moved_atom}
@@ -21,13 +19,10 @@ use Rattle.mc_graph.specs.declared.edge.Edge.{Edge}
 use Rattle.mc_graph.specs.declared.edge.Edge.TheVariants.{Block, Ind, Seg}
 use Rattle.mc_graph.specs.Edges.{moved_edge}
 use Rattle.mc_graph.specs.Graph.{Edges}
-use Rattle.mc_pure.specs.Pure.{Kinds, low_of, high_of}
-use Rattle.mc_pure.specs.Derived.{LiesIn}
-use Rattle.mc_state.specs.State.{State, pure_of, renamed}
+use Rattle.mc_pure.specs.Pure.{Kinds}
+use Rattle.mc_state.specs.State.{State, renamed}
 use Rattle.mc_state.specs.Stands.{VarsMeet, EdgeMeets, EdgesMeet, StandsBy}
 use Rattle.mc_state.specs.Laws.{RenamedStands}
-use Rattle.mc_state.proofs.Lists.{all_map}
-use Rattle.mc_state.proofs.Truth.{PureLaws, derived_is_true}
 
 -- a proof of one of two equal facts
 pub along : {P Q : Type 0} → P ≡ Q → P → Q
@@ -70,14 +65,8 @@ module _ (v : Valuation) (f : ℕ → ℕ) where
   atoms_eq [] = refl
   atoms_eq (g ∷ gs) = ap₂ (λ (S T : Type 0). S × T) (atom_eq g) (atoms_eq gs)
 
-in_kind : (v : Valuation) (kind : Kind) (n : ℕ) → IsTrueAtom v (In (record { 0 = n }) (low_of kind -ℤ pos 0) (high_of kind -ℤ pos 0)) → InKind kind (v n)
-in_kind v Int n t = (omega (arith, ints, t.0), omega (arith, ints, t.1))
-in_kind v Ptr n t = (omega (arith, ints, t.0), omega (arith, ints, t.1))
-
--- what stands for the renamed state stands for the state, where the kinds are met
-pub renamed_back : (defs : List Def) (v : Valuation) (values : List (Option ℤ)) (region : Region) (s : State) (f : ℕ → ℕ) (kinds : Kinds) (next : ℕ)
-    → f 0 ≡ 0 → AllByRecursion (λ (k : NodeId × Kind). InKind k.1 (v (f k.0.0))) s.kinds → StandsBy defs v values region (renamed f kinds next s) → StandsBy defs (λ n. v (f n)) values region s
-renamed_back defs v values region s f kinds next fixed meet st =
+pub renamed_stands : RenamedStands
+renamed_stands defs v values region s f kinds next fixed meet st =
     record {
       null = ap v fixed ∙ st.null;
       kinds = meet;
@@ -97,9 +86,3 @@ renamed_forth defs v values region s f kinds next null meet st =
       vars = along (sym (vars_eq v f s.env values)) st.vars;
       parts = record { held = st.parts.held; rest = st.parts.rest; split = st.parts.split; each = along (sym (edges_eq v f defs s.graph.edges st.parts.held)) st.parts.each; alone = st.parts.alone };
     }
-
-pub renamed_stands : PureLaws → RenamedStands
-renamed_stands laws defs v values region s f kinds next addresses fixed lie st =
-    renamed_back defs v values region s f kinds next fixed
-    (all_map (λ (k : NodeId × Kind). LiesIn (pure_of (renamed f kinds next s)) k.1 (moved f k.0) (pos 0)) (λ (k : NodeId × Kind). InKind k.1 (v (f k.0.0)))
-    (λ k lies. in_kind v k.1 (f k.0.0) (derived_is_true laws defs v values region (renamed f kinds next s) (In (moved f k.0) (low_of k.1 -ℤ pos 0) (high_of k.1 -ℤ pos 0)) addresses st lies)) s.kinds lie) st

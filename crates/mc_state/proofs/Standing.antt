@@ -20,7 +20,7 @@ use Rattle.mc_pure.specs.Pure.{Kinds, IsNode}
 use Rattle.mc_state.specs.State.{State, numbered_kinds, numbered_nodes}
 use Rattle.mc_state.specs.Fits.{IsBounded}
 use Rattle.mc_state.specs.Stands.{VarsMeet, EdgeMeets, StandsBy, AgreeBelow, extended}
-use Rattle.mc_state.specs.Laws.{StandsByAgreement, NodesAreAdded, NodesHaveValues, AtomsAreAdded}
+use Rattle.mc_state.specs.Laws.{StandsByAgreement, ValuesAgree, NodesAreAdded, NodesHaveValues, AtomsAreAdded}
 use Rattle.mc_state.proofs.Lists.{all_append, all_left, all_right, all_map, all_both}
 use Rattle.mc_state.proofs.Nodes.{null_there, listed_there, node_below}
 use Rattle.mc_state.proofs.Parts.{star_map}
@@ -84,6 +84,9 @@ below_agree v w s bounded agree n there = agree n.0 (node_below s.kinds 1 s.next
 
 pub stands_by_agreement : StandsByAgreement
 stands_by_agreement defs v w values region s bounded agree st = stands_agree defs v w values region s bounded (below_agree v w s bounded agree) st
+
+pub values_agree : ValuesAgree
+values_agree s v w ns bounded agree there = nodes_agree v w ns (all_map (IsNode s.kinds) (λ (n : NodeId). w n.0 ≡ v n.0) (below_agree v w s bounded agree) ns there)
 
 -- ---- new nodes
 

@@ -3,9 +3,9 @@ use Rattle.std.proofs.Common.{List, [], ◌∷◌, ◌++◌}
 use Rattle.mc_heap.specs.Heap.{Region}
 use Rattle.mc_heap.specs.Instances.{nowhere}
 use Rattle.mc_heap.specs.Parts.{Split, Star}
-use Rattle.mc_state.proofs.Parts.{PartLaws, nowhere-IsEmpty}
+use Rattle.mc_state.proofs.Parts.{SplitLaws, nowhere-IsEmpty}
 
-module _ (laws : PartLaws) where
+module _ (laws : SplitLaws) where
   pub none_left : (region : Region) → Split region nowhere region
   none_left region = laws.adds_empty region nowhere nowhere-IsEmpty
 

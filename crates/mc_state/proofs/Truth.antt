@@ -1,12 +1,12 @@
 -- What is known of a state's nodes is true wherever a configuration stands for it, and so is what is derived.
-use Rattle.std.proofs.Common.{◌≡◌, ◌≢◌, ℕ, zero, suc, List, [], ◌∷◌, Option, Some, None, slice_get, refl, sym, ap, ap₂, ◌∙◌, subst, arith, ℤ, pos, ◌+ℤ◌}
+use Rattle.std.proofs.Common.{◌≡◌, ◌≢◌, ℕ, zero, suc, List, [], ◌∷◌, Option, Some, None, slice_get, refl, sym, ap, ap₂, ◌∙◌, subst, arith, ℤ, pos, ◌+ℤ◌, ◌-ℤ◌}
 use Rattle.std.specs.Prelude.{IsSome}
 use Rattle.std.proofs.lemmas.Int.{ints}
 use Rattle.mc_base.specs.declared.ids.NodeId.{NodeId}
 use Rattle.mc_base.specs.declared.ids.StructId.{StructId}
 use Rattle.mc_base.specs.declared.plain.Kind.{Kind}
 use Rattle.mc_base.specs.declared.plain.Kind.TheVariants.{Int, Ptr}
-use Rattle.mc_base.specs.declared.plain.Atom.TheVariants.{Eq, Ne}
+use Rattle.mc_base.specs.declared.plain.Atom.TheVariants.{Eq, Ne, In}
 use Rattle.mc_base.specs.Atoms.{IsTrueAtom}
 use Rattle.mc_base.specs.Kinds.{InKind}
 use Rattle.mc_base.specs.Nodes.{Valuation}
@@ -17,12 +17,12 @@ use Rattle.mc_defs.specs.declared.rules.Def.{Def}
 use Rattle.mc_graph.specs.declared.edge.Edge.TheVariants.{Block, Ind, Seg}
 use Rattle.mc_graph.specs.Graph.{Edges, block_starts}
 use Rattle.mc_pure.specs.Pure as known
-use Rattle.mc_pure.specs.Pure.{kind_atom, address_atom}
+use Rattle.mc_pure.specs.Pure.{kind_atom, address_atom, low_of, high_of}
 use Rattle.mc_pure.specs.Laws as pure
 use Rattle.mc_state.specs.State.{State, pure_of}
 use Rattle.mc_state.specs.Facts.{AreEqual}
 use Rattle.mc_state.specs.Stands.{EdgeMeets, EdgesMeet, StandsBy}
-use Rattle.mc_state.specs.Laws.{DerivedIsTrue, NoneStandsForFalse, EqualNodesAreOne}
+use Rattle.mc_state.specs.Laws.{DerivedIsTrue, NoneStandsForFalse, EqualNodesAreOne, LiesInItsKind}
 use Rattle.mc_state.proofs.Lists.{all_at}
 
 -- what holds of derived atoms
@@ -134,3 +134,11 @@ module _ (laws : PureLaws) where
   equal_nodes_are_one defs v values region s (x ∷ xs) [] addresses st equal = absurd equal
   equal_nodes_are_one defs v values region s (x ∷ xs) (y ∷ ys) addresses st equal =
       ap₂ (λ (z : ℤ) (zs : List ℤ). z ∷ zs) (equal_value defs v values region s x y addresses st equal.0) (equal_nodes_are_one defs v values region s xs ys addresses st equal.1)
+
+  pub lies_in_its_kind : LiesInItsKind
+  lies_in_its_kind defs v values region s kind n add addresses st lies =
+      in_kind kind (derived_is_true defs v values region s (In n (low_of kind -ℤ add) (high_of kind -ℤ add)) addresses st lies)
+    where
+      in_kind : (k : Kind) → IsTrueAtom v (In n (low_of k -ℤ add) (high_of k -ℤ add)) → InKind k (v n.0 +ℤ add)
+      in_kind Int t = (omega (arith, ints, t.0), omega (arith, ints, t.1))
+      in_kind Ptr t = (omega (arith, ints, t.0), omega (arith, ints, t.1))

@@ -14,9 +14,11 @@ use Rattle.mc_defs.specs.Values.{value_of, IsTrueAtom}
 use Rattle.mc_defs.specs.Meaning.{BlockMeets, CallMeets, Sat, Seg}
 use Rattle.mc_defs.specs.Laws.{SatUnfolds, SegThenSat}
 use Rattle.mc_defs.specs.Examples.{defs, list_id, null_rule, list_rule, list_def, cell_with, blocks, two_cells, first_cell, second_cell}
-use Rattle.mc_state.specs.Stands.{StandsBy, Stands}
-use Rattle.mc_state.specs.Examples.{list_in_parts, at_seven, seven_and_nine}
-use Rattle.mc_state.proofs.Parts.{PartLaws, nowhere-IsEmpty, all_of_it}
+use Rattle.mc_state.specs.Laws.{IsInjective}
+use Rattle.mc_state.specs.Stands.{EdgesMeet, StandsBy, Stands}
+use Rattle.mc_state.specs.Examples.{list_in_parts, at_seven, seven_and_nine, raised, raised_list, two_and_three}
+use Rattle.mc_state.proofs.Nodes.{same_node}
+use Rattle.mc_state.proofs.Parts.{SplitLaws, nowhere-IsEmpty, all_of_it}
 use Rattle.mc_state.proofs.Truth.{joins_some}
 
 -- ---- a list that is cut
@@ -48,7 +50,7 @@ list_null names others value region is atoms =
     let first : value_of names 0 ≡ value = rw is refl in
     inl (sym first ∙ atoms.0)
 
-module _ (laws : PartLaws) where
+module _ (laws : SplitLaws) where
   list_cell : (names others : List ℤ) (value : ℤ) (region block calls : Region) → names ≡ value ∷ others → Split region block calls
       → BlockMeets list_rule.block list_rule.contents names block → Star (CallMeets (Sat defs) names) list_rule.calls calls → ListCase value region
   list_cell names others value region block calls is split cell next =
@@ -122,19 +124,38 @@ module _ (laws : PartLaws) where
       let list = joins defs list_id (v 1) [] (v 2) [] p.held each.0 tail.0 (subst (λ r. Split p.held each.0 r) whole each.2) each.3 tail.3 in
       no_list unfolds p.held (split_within (blocks first_cell) p.held p.rest p.split) (subst (λ z. Sat defs list_id z [] p.held) lead list)
 
-  pub list_stands : Split (blocks two_cells) (blocks first_cell) (blocks second_cell) → Seg defs list_id (pos 7) [] (pos 9) [] (blocks first_cell) → Sat defs list_id (pos 9) [] (blocks second_cell)
-      → StandsBy defs seven_and_nine at_seven (blocks two_cells) list_in_parts
-  list_stands split front back =
-      record {
-        null = refl;
-        kinds = ((omega (arith, ints), omega (arith, ints)), ((omega (arith, ints), omega (arith, ints)), tt));
-        atoms = tt;
-        vars = (refl, tt);
-        parts = record {
-          held = blocks two_cells;
-          rest = nowhere;
-          split = all_of_it laws (blocks two_cells);
-          each = (blocks first_cell, blocks second_cell, split, front, (blocks second_cell, nowhere, all_of_it laws (blocks second_cell), back, nowhere-IsEmpty));
-          alone = λ whole. nowhere-IsEmpty;
-        };
-      }
+  -- the two cells have the two parts
+  module _ (split : Split (blocks two_cells) (blocks first_cell) (blocks second_cell)) (front : Seg defs list_id (pos 7) [] (pos 9) [] (blocks first_cell)) (back : Sat defs list_id (pos 9) [] (blocks second_cell)) where
+    parts_meet : EdgesMeet defs seven_and_nine list_in_parts.graph.edges (blocks two_cells)
+    parts_meet = (blocks first_cell, blocks second_cell, split, front, (blocks second_cell, nowhere, all_of_it laws (blocks second_cell), back, nowhere-IsEmpty))
+
+    pub list_stands : StandsBy defs seven_and_nine at_seven (blocks two_cells) list_in_parts
+    list_stands =
+        record {
+          null = refl;
+          kinds = ((omega (arith, ints), omega (arith, ints)), ((omega (arith, ints), omega (arith, ints)), tt));
+          atoms = tt;
+          vars = (refl, tt);
+          parts = record { held = blocks two_cells; rest = nowhere; split = all_of_it laws (blocks two_cells); each = parts_meet; alone = λ whole. nowhere-IsEmpty };
+        }
+
+    pub raised_stands : StandsBy defs two_and_three at_seven (blocks two_cells) raised_list
+    raised_stands =
+        record {
+          null = refl;
+          kinds = ((omega (arith, ints), omega (arith, ints)), ((omega (arith, ints), omega (arith, ints)), tt));
+          atoms = tt;
+          vars = (refl, tt);
+          parts = record { held = blocks two_cells; rest = nowhere; split = all_of_it laws (blocks two_cells); each = parts_meet; alone = λ whole. nowhere-IsEmpty };
+        }
+
+-- ---- other nodes
+
+raised_once : (a b : ℕ) → raised a ≡ raised b → a ≡ b
+raised_once zero zero e = refl
+raised_once zero (suc b) e = absurd (omega arith)
+raised_once (suc a) zero e = absurd (omega arith)
+raised_once (suc a) (suc b) e = omega arith
+
+pub raised_injective : IsInjective raised list_in_parts.kinds
+raised_injective m n there here e = same_node m n (raised_once m.0 n.0 e)

@@ -8,7 +8,7 @@ use Rattle.mc_base.specs.Nodes.{Valuation, null}
 use Rattle.mc_defs.specs.Examples.{cell_id, fork_id, list_id, lenlist_id, tree_id}
 use Rattle.mc_graph.specs.declared.edge.Edge.{Edge}
 use Rattle.mc_graph.specs.declared.edge.Edge.TheVariants.{Block, Ind, Seg}
-use Rattle.mc_graph.specs.Graph.{Edges, numbered}
+use Rattle.mc_graph.specs.Graph.{numbered}
 use Rattle.mc_pure.specs.Examples.{node}
 use Rattle.mc_pure.specs.Pure.{Kinds}
 use Rattle.mc_state.specs.declared.terms.Term.{Term}
@@ -59,6 +59,11 @@ fork_and_tree =
     state_of ((node 1, Ptr) ∷ (node 2, Ptr) ∷ (node 3, Ptr) ∷ (node 4, Ptr) ∷ [])
     (other_list ∷ Block (node 1) fork_id (Some (node 2) ∷ Some (node 3) ∷ []) ∷ Ind (node 2) tree_id [] ∷ [])
     (Eq (node 3) null (pos 0) ∷ [])
+
+-- a fork both of whose pointers point to one tree, which is not null
+abbrev pub shared_tree : State
+shared_tree =
+    state_of ((node 1, Ptr) ∷ (node 2, Ptr) ∷ []) (Block (node 1) fork_id (Some (node 2) ∷ Some (node 2) ∷ []) ∷ Ind (node 2) tree_id [] ∷ []) (Ne (node 2) null (pos 0) ∷ [])
 
 -- the cell at 7 points to 9
 abbrev pub at_seven : Valuation

@@ -54,6 +54,10 @@ raised_kinds = moved_kinds raised list_in_parts.kinds
 abbrev pub raised_list : State
 raised_list = renamed raised raised_kinds 4 list_in_parts
 
+-- nodes 2 and 3 are 7 and 9
+abbrev pub two_and_three : Valuation
+two_and_three n = get_or (pos 0 ∷ pos 0 ∷ pos 7 ∷ pos 9 ∷ []) n (pos 0)
+
 -- ---- a block with two names
 
 -- a cell at node 1, of which nothing is known

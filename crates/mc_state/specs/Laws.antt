@@ -1,5 +1,5 @@
 -- What holds of states and of what stands for them.
-use Rattle.std.specs.Prelude.{◌≡◌, ◌<◌, ℕ, List, [], ◌∷◌, ℤ, pos, false, Option, Some, None, length, map, slice_index_or, slice_set}
+use Rattle.std.specs.Prelude.{◌≡◌, ◌<◌, ℕ, List, [], ◌∷◌, ℤ, ◌+ℤ◌, true, false, Option, Some, None, length, map, slice_index_or, slice_set}
 use Rattle.std.specs.List.{AllByRecursion}
 use Rattle.mc_base.specs.declared.ids.EdgeId.{EdgeId}
 use Rattle.mc_base.specs.declared.ids.NodeId.{NodeId}
@@ -7,9 +7,10 @@ use Rattle.mc_base.specs.declared.ids.VarId.{VarId}
 use Rattle.mc_base.specs.declared.plain.Kind.{Kind}
 use Rattle.mc_base.specs.declared.plain.Atom.{Atom}
 use Rattle.mc_base.specs.Atoms.{IsTrueAtom, nodes_of_atom}
+use Rattle.mc_base.specs.Kinds.{InKind}
 use Rattle.mc_base.specs.Nodes.{Valuation, at_node, moved}
 use Rattle.mc_heap.specs.Heap.{Region, IsAtAddresses}
-use Rattle.mc_heap.specs.Parts.{Split, Star}
+use Rattle.mc_heap.specs.Parts.{Split, IsEmpty, Star}
 use Rattle.mc_defs.specs.declared.rules.Def.{Def}
 use Rattle.mc_defs.specs.Values.{InKinds}
 use Rattle.mc_graph.specs.declared.edge.Edge.{Edge}
@@ -40,6 +41,22 @@ EqualNodesAreOne =
     (defs : List Def) (v : Valuation) (values : List (Option ℤ)) (region : Region) (s : State) (xs ys : List NodeId)
     → IsAtAddresses region → StandsBy defs v values region s → AreAllEqual s xs ys → map (at_node v) xs ≡ map (at_node v) ys
 
+-- a node that, a number more, lies in the range of a kind has such a value
+abbrev pub LiesInItsKind : Type 0
+LiesInItsKind =
+    (defs : List Def) (v : Valuation) (values : List (Option ℤ)) (region : Region) (s : State) (kind : Kind) (n : NodeId) (add : ℤ)
+    → IsAtAddresses region → StandsBy defs v values region s → LiesIn (pure_of s) kind n add → InKind kind (v n.0 +ℤ add)
+
+-- where nothing is allocated, any values stand for the state of which nothing is known
+abbrev pub UnknownStands : Type 0
+UnknownStands = (defs : List Def) (values : List (Option ℤ)) (region : Region) → IsEmpty region → Stands defs values region (unknown (length values))
+
+-- a whole state without edges stands for nothing else
+abbrev pub WholeWithoutEdges : Type 0
+WholeWithoutEdges =
+    (defs : List Def) (values : List (Option ℤ)) (region : Region) (s : State)
+    → s.whole ≡ true → s.graph.edges ≡ [] → Stands defs values region s → IsEmpty region
+
 -- only the values of numbers below the next one count
 abbrev pub StandsByAgreement : Type 0
 StandsByAgreement =
@@ -57,6 +74,12 @@ abbrev pub NodesHaveValues : Type 0
 NodesHaveValues =
     (v : Valuation) (n : ℕ) (numbers : List ℤ)
     → (map (at_node (extended v n numbers)) (numbered_nodes n (length numbers)) ≡ numbers) × AgreeBelow n v (extended v n numbers)
+
+-- nodes that are there have the same values by such a valuation
+abbrev pub ValuesAgree : Type 0
+ValuesAgree =
+    (s : State) (v w : Valuation) (ns : List NodeId)
+    → IsBounded s → AgreeBelow s.next v w → AreNodes s.kinds ns → map (at_node w) ns ≡ map (at_node v) ns
 
 -- true atoms are added
 abbrev pub AtomsAreAdded : Type 0
@@ -123,12 +146,11 @@ NodeIsDropped =
     (defs : List Def) (v : Valuation) (values : List (Option ℤ)) (region : Region) (s : State) (n : NodeId)
     → StandsBy defs v values region s → StandsBy defs v values region (record s { kinds = kinds_without s.kinds n })
 
--- what stands for a renamed state stands for the state, where 0 goes to 0 and each image lies in the range of the node's kind
+-- what stands for a renamed state stands for the state, where 0 goes to 0 and each image has a value of the node's kind
 abbrev pub RenamedStands : Type 0
 RenamedStands =
     (defs : List Def) (v : Valuation) (values : List (Option ℤ)) (region : Region) (s : State) (f : ℕ → ℕ) (kinds : Kinds) (next : ℕ)
-    → IsAtAddresses region → f 0 ≡ 0
-    → AllByRecursion (λ k. LiesIn (pure_of (renamed f kinds next s)) k.1 (moved f k.0) (pos 0)) s.kinds
+    → f 0 ≡ 0 → AllByRecursion (λ k. InKind k.1 (v (f k.0.0))) s.kinds
     → StandsBy defs v values region (renamed f kinds next s) → StandsBy defs (λ n. v (f n)) values region s
 
 -- the kinds of the images
@@ -173,7 +195,11 @@ VarStaysBounded = (s : State) (x : VarId) (n : Option NodeId) → IsBounded s �
 abbrev pub NodesStayBounded : Type 0
 NodesStayBounded = (s : State) (kinds : List Kind) → IsBounded s → IsBounded (with_nodes s kinds)
 
--- and those are there
+-- nodes that are there are below the next number
+abbrev pub NodesAreBelow : Type 0
+NodesAreBelow = (s : State) (n : NodeId) → IsBounded s → IsNode s.kinds n → n.0 < s.next
+
+-- new nodes are there
 abbrev pub NewNodesAreThere : Type 0
 NewNodesAreThere =
     (s : State) (kinds : List Kind)

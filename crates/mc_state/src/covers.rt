@@ -7,7 +7,7 @@ ghost use Rattle.mc_graph.specs.declared.edge.Edge.TheVariants.{Ind};
 ghost use Rattle.mc_graph.specs.Graph.{Edges};
 ghost use Rattle.mc_pure.specs.Examples.{node};
 ghost use Rattle.mc_state.specs.BodyLaws.{IsBody, IsBodyTo, BodiesAreEdges, SegBodiesAreEdges, CoverMakesPredicate, SegCoverMakesSegment};
-ghost use Rattle.mc_state.specs.CoverExamples.{lone_pointer, cell_and_list, rest_list, segment_and_list, cell_and_length, fork_and_tree, other_list, at, entry, at_seven};
+ghost use Rattle.mc_state.specs.CoverExamples.{lone_pointer, cell_and_list, rest_list, segment_and_list, cell_and_length, fork_and_tree, other_list, shared_tree, at, entry, at_seven};
 ghost use Rattle.mc_state.specs.Covers.{Cover, SegCover};
 ghost use Rattle.mc_state.specs.Stands.{EdgesMeet, StandsBy};
 
@@ -35,13 +35,15 @@ pub fn covers_are_sound()
 }
 
 /// Covers of a list by a rule and by a segment, of a list of a length, and of a tree with two
-/// calls, which leaves an edge; and no cover of a list at a pointer that is not null, without edges.
+/// calls, which leaves an edge; and no cover of a list at a pointer that is not null, without edges,
+/// nor of a tree at a fork both of whose pointers point to one tree.
 pub fn example_covers()
     ensures by_rule { Cover defs cell_and_list list_id (at 1) [] cell_and_list.graph.edges [] }
     ensures by_segment { Cover defs segment_and_list list_id (at 1) [] segment_and_list.graph.edges [] }
     ensures with_length { Cover defs cell_and_length lenlist_id (at 1) (at 5 ∷ []) cell_and_length.graph.edges [] }
     ensures two_calls { Cover defs fork_and_tree tree_id (at 1) [] fork_and_tree.graph.edges (entry 0 other_list ∷ []) }
     ensures none { (left : Edges) → ¬ Cover defs lone_pointer list_id (at 1) [] lone_pointer.graph.edges left }
+    ensures shared { (left : Edges) → ¬ Cover defs shared_tree tree_id (at 1) [] shared_tree.graph.edges left }
 {
     mc_pure::derived_is_true();
 }

@@ -2,9 +2,10 @@
 ghost use Rattle.std.specs.Prelude.{◌≡◌, pos, false, Some, [], ◌∷◌};
 ghost use Rattle.std.specs.List.{AllByRecursion};
 ghost use Rattle.mc_base.specs.declared.ids.NodeId.{NodeId as Node};
-ghost use Rattle.mc_base.specs.declared.plain.Kind.TheVariants.{Int};
+ghost use Rattle.mc_base.specs.declared.plain.Kind.TheVariants.{Int, Ptr};
 ghost use Rattle.mc_base.specs.declared.plain.Atom.TheVariants.{In};
-ghost use Rattle.mc_base.specs.Atoms.{IsTrueAtom};
+ghost use Rattle.mc_base.specs.Atoms.{IsTrueAtom, nodes_of_atom};
+ghost use Rattle.mc_base.specs.Kinds.{InKind};
 ghost use Rattle.mc_base.specs.Nodes.{moved};
 ghost use Rattle.mc_heap.specs.Heap.{IsAtAddresses};
 ghost use Rattle.mc_heap.specs.Parts.{Star};
@@ -15,8 +16,8 @@ ghost use Rattle.mc_graph.specs.Graph.{Picks, edge_with};
 ghost use Rattle.mc_pure.specs.Derived.{LiesIn};
 ghost use Rattle.mc_pure.specs.Examples.{node};
 ghost use Rattle.mc_pure.specs.Pure.{IsNode};
-ghost use Rattle.mc_state.specs.Examples.{edge, front, back, list_in_parts, at_seven, seven_and_nine, back_cell, raised, raised_kinds, raised_list, two_names, one_name, both_at_seven, sevens, no_number};
-ghost use Rattle.mc_state.specs.Facts.{IsFalse, AreEqual, CanMerge, IsUnnamed, merged};
+ghost use Rattle.mc_state.specs.Examples.{edge, front, back, list_in_parts, at_seven, seven_and_nine, back_cell, raised, raised_kinds, raised_list, two_and_three, two_names, one_name, both_at_seven, sevens, no_number};
+ghost use Rattle.mc_state.specs.Facts.{IsFalse, AreEqual, CanMerge, IsUnnamed, kinds_without, merged};
 ghost use Rattle.mc_state.specs.Fits.{NodesAscend, AreNodes, IsBounded};
 ghost use Rattle.mc_state.specs.Laws.{IsInjective};
 ghost use Rattle.mc_state.specs.Stands.{EdgeMeets, StandsBy, Stands};
@@ -59,13 +60,14 @@ pub fn example_parts()
 pub fn example_renaming()
     ensures fixed { raised 0 ≡ 0 }
     ensures injective { IsInjective raised list_in_parts.kinds }
-    ensures lie { AllByRecursion (λ k. LiesIn (pure_of raised_list) k.1 (moved raised k.0) (pos 0)) list_in_parts.kinds }
+    ensures kinds { AllByRecursion (λ k. InKind k.1 (two_and_three (raised k.0.0))) list_in_parts.kinds }
     ensures ascend { NodesAscend 1 raised_kinds 4 }
     ensures there { (n : Node) → IsNode list_in_parts.kinds n → IsNode raised_kinds (moved raised n) }
-    ensures stands { Stands defs at_seven (blocks two_cells) raised_list }
+    ensures stands { StandsBy defs two_and_three at_seven (blocks two_cells) raised_list }
 {
-    example_list();
-    crate::laws::renaming_is_sound();
+    mc_heap::parts_regroup();
+    mc_defs::example_premises();
+    mc_defs::example_segments();
 }
 
 /// A cell with two names. Since nothing else is allocated, a heap of two cells does not stand for it.
@@ -79,6 +81,8 @@ pub fn example_merging()
     ensures can_merge { CanMerge two_names.kinds (node 1) (node 2) }
     ensures merged { merged (node 1) (node 2) two_names ≡ one_name }
     ensures unnamed { IsUnnamed (node 3) two_names }
+    ensures others_there { AllByRecursion (λ a. AreNodes (kinds_without two_names.kinds (node 3)) (nodes_of_atom a)) two_names.atoms }
+    ensures lies { LiesIn (pure_of two_names) Ptr (node 1) (pos 0) }
     ensures wrong { IsFalse no_number }
 {
     mc_heap::parts_regroup();

@@ -1,18 +1,28 @@
 // What holds of states and of what stands for them. Each law is what a function with no body ensures.
-ghost use Rattle.mc_state.specs.Laws.{DerivedIsTrue, NoneStandsForFalse, EqualNodesAreOne, StandsByAgreement, NodesAreAdded, NodesHaveValues, AtomsAreAdded, VarIsSet, VarIsForgotten, VarIsKnown, EdgesAreTaken, EdgesArePut, EdgeIsReplaced, AtomsAreDropped, EdgesAreDropped, NodeIsDropped, RenamedStands, StandsRenamed, StandsMerged, MergedStands, UnknownIsBounded, VarStaysBounded, NodesStayBounded, NewNodesAreThere, NewNodesHaveKinds, AtomsStayBounded, EdgesStayBounded, FewerEdgesStayBounded, ReplacedStaysBounded, PickedNodesAreThere, RenamedStaysBounded, MergedStaysBounded, DroppedStaysBounded};
+ghost use Rattle.mc_state.specs.Laws.{DerivedIsTrue, NoneStandsForFalse, EqualNodesAreOne, LiesInItsKind, UnknownStands, WholeWithoutEdges, StandsByAgreement, ValuesAgree, NodesAreAdded, NodesHaveValues, AtomsAreAdded, VarIsSet, VarIsForgotten, VarIsKnown, EdgesAreTaken, EdgesArePut, EdgeIsReplaced, AtomsAreDropped, EdgesAreDropped, NodeIsDropped, RenamedStands, StandsRenamed, StandsMerged, MergedStands, UnknownIsBounded, VarStaysBounded, NodesStayBounded, NodesAreBelow, NewNodesAreThere, NewNodesHaveKinds, AtomsStayBounded, EdgesStayBounded, FewerEdgesStayBounded, ReplacedStaysBounded, PickedNodesAreThere, RenamedStaysBounded, MergedStaysBounded, DroppedStaysBounded};
 
 /// What is derived in a state is true wherever a configuration stands for it.
 pub fn derived_is_true()
     ensures derived { DerivedIsTrue }
     ensures not_false { NoneStandsForFalse }
     ensures equal { EqualNodesAreOne }
+    ensures kind { LiesInItsKind }
 {
     mc_pure::derived_is_true();
+}
+
+/// Where nothing is allocated, a state of which nothing is known stands, and where a whole state without edges stands, nothing is allocated.
+pub fn nothing_is_allocated()
+    ensures unknown { UnknownStands }
+    ensures whole { WholeWithoutEdges }
+{
+    mc_heap::parts_regroup();
 }
 
 /// Nodes that are new may have any values of their kinds, and true atoms may be written.
 pub fn new_nodes_are_free()
     ensures agreement { StandsByAgreement }
+    ensures values_agree { ValuesAgree }
     ensures nodes { NodesAreAdded }
     ensures values { NodesHaveValues }
     ensures atoms { AtomsAreAdded }
@@ -45,9 +55,7 @@ pub fn less_is_known()
 pub fn renaming_is_sound()
     ensures back { RenamedStands }
     ensures forth { StandsRenamed }
-{
-    mc_pure::derived_is_true();
-}
+{}
 
 /// Where equal nodes are merged, the same configurations stand for the state.
 pub fn merging_is_sound()
@@ -71,8 +79,9 @@ pub fn numbers_stay_bounded()
     ensures dropped { DroppedStaysBounded }
 {}
 
-/// New nodes are there with their kinds, and so are the nodes of edges that are named.
+/// Nodes that are there are below the next number, new nodes are there with their kinds, and so are the nodes of edges that are named.
 pub fn nodes_are_there()
+    ensures below { NodesAreBelow }
     ensures new { NewNodesAreThere }
     ensures kinds { NewNodesHaveKinds }
     ensures picked { PickedNodesAreThere }

@@ -1,0 +1,15 @@
+pub mod Blocks
+pub mod Bounded
+pub mod Fields
+pub mod Gaps
+pub mod Lists
+pub mod LowerLaws
+pub mod Moving
+pub mod Numbers
+pub mod OneBlock
+pub mod Operands
+pub mod Parts
+pub mod Shapes
+pub mod Sound
+pub mod Tests
+pub mod Wrapping

@@ -1,6 +1,11 @@
 //! The rules of logic that unfold an edge.
 #![tactic(auto)]
 
+mod examples;
+mod laws;
+
+pub use examples::{example_of_ind, example_of_seg, wrong_segments};
+pub use laws::{unfolding_is_determined, unfolding_is_sound};
 use mc_base::EdgeId;
 
 /// L1: takes an Ind for the body of one of its rules.

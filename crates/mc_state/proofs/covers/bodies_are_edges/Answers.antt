@@ -1,10 +1,10 @@
 use Rattle.mc_state.proofs.Bodies.{bodies_edges, seg_bodies_edges}
-use Rattle.mc_state.proofs.Parts.{PartLaws}
+use Rattle.mc_state.proofs.Parts.{SplitLaws}
 use Rattle.mc_state.proofs.covers.bodies_are_edges.Goals as goal
 
 pub returns : goal.returns
 returns c =
-    let laws : PartLaws = record {
+    let laws : SplitLaws = record {
       commutes = c.parts_regroup.ensures.commutes;
       left = c.parts_regroup.ensures.left;
       right = c.parts_regroup.ensures.right;

@@ -1,11 +1,11 @@
 use Rattle.mc_defs.specs.Examples.{structs}
 use Rattle.mc_state.proofs.CoversPremises as proof
-use Rattle.mc_state.proofs.Parts.{PartLaws}
+use Rattle.mc_state.proofs.Parts.{SplitLaws}
 use Rattle.mc_state.proofs.covers.body_premises.Goals as goal
 
 pub returns : goal.returns
 returns c =
-    let laws : PartLaws = record {
+    let laws : SplitLaws = record {
       commutes = c.parts_regroup.ensures.commutes;
       left = c.parts_regroup.ensures.left;
       right = c.parts_regroup.ensures.right;

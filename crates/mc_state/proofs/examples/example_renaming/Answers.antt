@@ -1,18 +1,12 @@
-use Rattle.std.proofs.Common.{inl, refl}
-use Rattle.mc_pure.specs.Pure.{kind}
-use Rattle.mc_pure.specs.Derived.{base}
-use Rattle.mc_defs.specs.Examples.{defs, blocks, two_cells}
-use Rattle.mc_state.specs.Examples.{list_in_parts, at_seven, seven_and_nine, raised}
-use Rattle.mc_state.proofs.OneCell.{raised_injective}
+use Rattle.mc_state.proofs.Parts.{SplitLaws}
+use Rattle.mc_state.proofs.Worked.{raised_injective, raised_stands}
 use Rattle.mc_state.proofs.examples.example_renaming.Goals as goal
 
 pub returns-clause-injective : goal.returns-clause-injective
 returns-clause-injective c = raised_injective
 
-pub returns-clause-lie : goal.returns-clause-lie
-returns-clause-lie c = (inl (base (kind 0 refl)), (inl (base (kind 1 refl)), tt))
-
 pub returns-clause-stands : goal.returns-clause-stands
 returns-clause-stands c =
-    let list = c.example_list.ensures in
-    c.renaming_is_sound.ensures.forth defs at_seven (blocks two_cells) list_in_parts raised 4 list.bounded refl raised_injective (seven_and_nine, list.stands)
+    let p = c.parts_regroup.ensures in
+    let laws : SplitLaws = record { commutes = p.commutes; left = p.left; right = p.right; drops_empty = p.drops_empty; adds_empty = p.adds_empty } in
+    raised_stands laws c.example_premises.ensures.split c.example_segments.ensures.one_cell c.example_premises.ensures.at_end

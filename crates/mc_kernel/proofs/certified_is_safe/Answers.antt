@@ -1,0 +1,6 @@
+use Rattle.std.proofs.Common.{map}
+use Rattle.mc_kernel.specs.Straight.{wide}
+use Rattle.mc_kernel.proofs.certified_is_safe.Goals as goal
+
+pub returns : goal.returns
+returns c = λ flow defs lines valid certificate. c.certificates_are_safe.ensures flow defs (map wide lines) valid (c.straight_is_valid.ensures flow defs lines valid certificate)
