@@ -15,10 +15,6 @@ module _ {X : Type 0} where
   all_append P [] ys a b = b
   all_append P (x ∷ xs) ys a b = (a.0, all_append P xs ys a.1 b)
 
-  pub all_map : (P Q : X → Type 0) → ((x : X) → P x → Q x) → (xs : List X) → AllByRecursion P xs → AllByRecursion Q xs
-  all_map P Q f [] a = tt
-  all_map P Q f (x ∷ xs) a = (f x a.0, all_map P Q f xs a.1)
-
   -- what holds of each that stands at a place holds of all
   pub all_places : (P : X → Type 0) (xs : List X) → ((place : ℕ) (x : X) → slice_get xs place ≡ Some x → P x) → AllByRecursion P xs
   all_places P [] f = tt

@@ -29,7 +29,8 @@ use Rattle.mc_fold.specs.Folded.{FieldsMatch, BlocksMatch, CallsMatch, Matches}
 use Rattle.mc_fold.specs.Laws.{LawOfFoldInd, LawOfFoldSeg}
 use Rattle.mc_fold.proofs.Lists.{all_left, all_append}
 use Rattle.mc_fold.proofs.Names.{name_value, name_values, atom_true, in_kinds, kinds_there, name_there, names_there}
-use Rattle.mc_fold.proofs.Standing.{FoldLaws, star_parts, one_star, one_value, folded_lawful}
+use Rattle.mc_fold.proofs.Parts.{star_parts, one_star}
+use Rattle.mc_fold.proofs.Standing.{FoldLaws, one_value, folded_lawful}
 
 module _ (laws : FoldLaws) (defs : List Def) (v : Valuation) (values : List (Option ℤ)) (region : Region) (s : State) (addresses : IsAtAddresses region) (st : StandsBy defs v values region s) (nodes : List NodeId) where
   abbrev names : List ℤ
@@ -43,7 +44,7 @@ module _ (laws : FoldLaws) (defs : List Def) (v : Valuation) (values : List (Opt
   fields_are (name ∷ contents) (None ∷ fields) zs m t = absurd m
   fields_are (name ∷ contents) (Some n ∷ fields) [] m t = absurd t
   fields_are (name ∷ contents) (Some n ∷ fields) (z ∷ zs) m t =
-      let same = one_value laws defs v values region s (node_of nodes name) n addresses st m.0 in
+      let same = one_value laws.equal defs v values region s (node_of nodes name) n addresses st m.0 in
       ap₂ (λ x xs. x ∷ xs) (t.0 ∙ ap Some (sym (name_value v nodes st.null name ∙ same))) (fields_are contents fields zs m.1 t.1)
 
   pub blocks_are : (block : Option StructId) (contents : List ℕ) (es : List Edge) (part : Region) → BlocksMatch s nodes block contents es → Star (EdgeMeets defs v) es part → BlockMeets block contents names part
@@ -54,8 +55,8 @@ module _ (laws : FoldLaws) (defs : List Def) (v : Valuation) (values : List (Opt
   blocks_are (Some shape) contents (Seg at args pred «end» ends ∷ []) part m t = absurd m
   blocks_are (Some shape) contents (e ∷ f ∷ es) part m t = absurd m
   blocks_are (Some shape) contents (Block at own fields ∷ []) part m t =
-      let block = one_star laws (EdgeMeets defs v) (Block at own fields) part t in
-      let first = name_value v nodes st.null 0 ∙ one_value laws defs v values region s (node_of nodes 0) at addresses st m.1 ∙ block.1 in
+      let block = one_star laws.parts (EdgeMeets defs v) (Block at own fields) part t in
+      let first = name_value v nodes st.null 0 ∙ one_value laws.equal defs v values region s (node_of nodes 0) at addresses st m.1 ∙ block.1 in
       (block.0, first, rw (sym m.0, ← (fields_are contents fields block.2.0 m.2 block.2.2)) block.2.1)
 
   pub calls_are : (calls : List Call) (es : List Edge) (part : Region) → CallsMatch s nodes calls es → Star (EdgeMeets defs v) es part → Star (CallMeets (Sat defs) names) calls part
@@ -65,7 +66,7 @@ module _ (laws : FoldLaws) (defs : List Def) (v : Valuation) (values : List (Opt
   calls_are (call ∷ calls) (Block at own fields ∷ es) part m t = absurd m.0
   calls_are (call ∷ calls) (Seg at args pred «end» ends ∷ es) part m t = absurd m.0
   calls_are (call ∷ calls) (Ind at pred args ∷ es) part m t =
-      let first = name_value v nodes st.null call.at ∙ one_value laws defs v values region s (node_of nodes call.at) at addresses st m.0.1 in
+      let first = name_value v nodes st.null call.at ∙ one_value laws.equal defs v values region s (node_of nodes call.at) at addresses st m.0.1 in
       let more = name_values v nodes st.null call.args ∙ laws.equal defs v values region s (map (node_of nodes) call.args) args addresses st m.0.2 in
       (t.0, t.1, t.2, rw (sym m.0.0, first, more) t.3, calls_are calls es t.1 m.1 t.4)
 
@@ -106,7 +107,7 @@ module _ (laws : FoldLaws) (defs : List Def) (s : State) (pred : PredId) (rule :
     pub body_is : (part : Region) → Star (EdgeMeets defs v) (body.blocks ++ body.inds) part
         → (held : Region) × (rest : Region) × Split part held rest × BlockMeets body.by.block body.by.contents (map (at_node v) nodes) held × Star (CallMeets (Sat defs) (map (at_node v) nodes)) (calls body.by) rest
     body_is part each =
-        let both = star_parts laws (EdgeMeets defs v) body.blocks body.inds part each in (
+        let both = star_parts laws.parts (EdgeMeets defs v) body.blocks body.inds part each in (
           both.0,
           both.1,
           both.2,

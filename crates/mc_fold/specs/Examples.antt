@@ -1,8 +1,7 @@
 -- States whose edges are folded and whose nodes are named, merged and forgotten, and what they become.
-use Rattle.std.specs.Prelude.{ℕ, ℤ, pos, Bool, true, false, Some, List, [], ◌∷◌, get_or}
+use Rattle.std.specs.Prelude.{ℕ, ℤ, pos, true, false, Some, List, [], ◌∷◌, get_or}
 use Rattle.mc_base.specs.declared.ids.EdgeId.{EdgeId}
-use Rattle.mc_base.specs.declared.plain.Atom.{Atom}
-use Rattle.mc_base.specs.declared.plain.Atom.TheVariants.{Eq, Ne, In}
+use Rattle.mc_base.specs.declared.plain.Atom.TheVariants.{Eq, In}
 use Rattle.mc_base.specs.declared.plain.Kind.TheVariants.{Int, Ptr}
 use Rattle.mc_base.specs.Nodes.{Valuation, null}
 use Rattle.mc_heap.specs.Heap.{Block}
@@ -11,7 +10,7 @@ use Rattle.mc_graph.specs.declared.edge.Edge.TheVariants.{Block as Fork, Ind, Se
 use Rattle.mc_graph.specs.Graph.{Edges}
 use Rattle.mc_pure.specs.Examples.{node}
 use Rattle.mc_pure.specs.Pure.{Kinds}
-use Rattle.mc_state.specs.CoverExamples.{state_of, entry, rest_list}
+use Rattle.mc_state.specs.CoverExamples.{state_of, entry, rest_list, other_list}
 use Rattle.mc_state.specs.declared.goal.Goal.{Goal}
 use Rattle.mc_state.specs.State.{State}
 
@@ -35,6 +34,30 @@ cell_folded = left_with ((node 1, Ptr) ∷ (node 2, Int) ∷ (node 3, Ptr) ∷ [
 -- the cell alone is a segment to the list behind it
 abbrev pub cell_as_segment : State
 cell_as_segment = left_with ((node 1, Ptr) ∷ (node 2, Int) ∷ (node 3, Ptr) ∷ []) (entry 1 rest_list ∷ entry 2 (Seg (node 1) [] list_id (node 3) []) ∷ []) 3 4
+
+-- a cell and a list of a length are a list of one more, node 5
+abbrev pub length_folded : State
+length_folded =
+    record {
+      env = [];
+      kinds = (node 1, Ptr) ∷ (node 2, Int) ∷ (node 3, Ptr) ∷ (node 4, Int) ∷ (node 5, Int) ∷ [];
+      graph = record { edges = entry 2 (Ind (node 1) lenlist_id (node 5 ∷ [])) ∷ []; next = 3 };
+      atoms = Eq (node 5) (node 4) (pos 1) ∷ [];
+      next = 6;
+      whole = true;
+    }
+
+-- a fork and the tree to its left are a segment to its right, beside a list
+abbrev pub fork_as_segment : State
+fork_as_segment =
+    record {
+      env = [];
+      kinds = (node 1, Ptr) ∷ (node 2, Ptr) ∷ (node 3, Ptr) ∷ (node 4, Ptr) ∷ [];
+      graph = record { edges = entry 0 other_list ∷ entry 3 (Seg (node 1) [] tree_id (node 3) []) ∷ []; next = 4 };
+      atoms = Eq (node 3) null (pos 0) ∷ [];
+      next = 5;
+      whole = true;
+    }
 
 -- a segment and the list at its end are a list
 abbrev pub segment_closed : State

@@ -2,19 +2,19 @@
 ghost use Rattle.std.specs.Prelude.{pos, Some, None, List, [], ◌∷◌};
 ghost use Rattle.mc_base.specs.declared.plain.Kind.TheVariants.{Int};
 ghost use Rattle.mc_heap.specs.Heap.{IsAtAddresses};
-ghost use Rattle.mc_defs.specs.Examples.{defs, list_id, tree_id, blocks, two_cells};
+ghost use Rattle.mc_defs.specs.Examples.{defs, list_id, lenlist_id, tree_id, blocks, two_cells, two_forks};
 ghost use Rattle.mc_pure.specs.Examples.{node};
-ghost use Rattle.mc_state.specs.CoverExamples.{cell_and_list, segment_and_list};
+ghost use Rattle.mc_state.specs.CoverExamples.{cell_and_list, segment_and_list, cell_and_length, fork_and_tree};
 ghost use Rattle.mc_state.specs.Fits.{IsBounded};
 ghost use Rattle.mc_state.specs.Stands.{StandsBy};
 ghost use Rattle.mc_state.specs.State.{State as Symbolic};
 ghost use Rattle.mc_fold.specs.Folded.{FoldsInd, FoldsSeg, ClosesSeg, JoinsSegs, MakesEmptySeg};
 ghost use Rattle.mc_fold.specs.Changed.{NamesSpare, MergesNodes, DropsEdge, ForgetsNode};
 ghost use Rattle.mc_fold.specs.Goals.{MeetsGoal};
-ghost use Rattle.mc_fold.specs.Examples.{edge, valued, cell_folded, cell_as_segment, segment_closed, two_segments, segments_joined, pointer, with_segment, small_number, with_spare, named_twice, named_once, lost_list, list_dropped, no_pointer, list_goal, shared_tree, other_length};
+ghost use Rattle.mc_fold.specs.Examples.{edge, valued, cell_folded, cell_as_segment, length_folded, fork_as_segment, segment_closed, two_segments, segments_joined, pointer, with_segment, small_number, with_spare, named_twice, named_once, lost_list, list_dropped, no_pointer, list_goal, shared_tree, other_length};
 
 use mc_defs::{example_predicates, example_premises, example_segments};
-use mc_heap::parts_regroup;
+use mc_heap::{changes_are_local, heaps_change_one_address, parts_regroup};
 use mc_state::{body_premises, derived_is_true};
 
 /// A cell and a list behind it are folded, and the cell alone as a segment; a fork with one tree
@@ -27,6 +27,33 @@ pub fn example_folds()
 {
     example_predicates();
     body_premises();
+    derived_is_true();
+}
+
+/// A cell and a list of a length behind it are folded: the arguments and an atom of the rule match.
+pub fn example_of_length()
+    ensures bounded { IsBounded cell_and_length }
+    ensures ind { FoldsInd defs lenlist_id 1 (node 1 ∷ node 5 ∷ node 2 ∷ node 3 ∷ node 4 ∷ []) (Some (edge 0)) (edge 1 ∷ []) cell_and_length (length_folded ∷ []) }
+    ensures stands { StandsBy defs (valued (pos 7 ∷ pos 5 ∷ pos 9 ∷ pos 1 ∷ pos 2 ∷ [])) [] (blocks two_cells) cell_and_length }
+{
+    parts_regroup();
+    heaps_change_one_address();
+    example_premises();
+    body_premises();
+    derived_is_true();
+}
+
+/// A fork and the tree to its left are folded as a segment to its right, the second call.
+pub fn example_of_second_call()
+    ensures bounded { IsBounded fork_and_tree }
+    ensures seg { FoldsSeg defs tree_id 1 (node 1 ∷ node 2 ∷ node 3 ∷ []) (edge 1) (edge 2 ∷ []) 1 fork_and_tree (fork_as_segment ∷ []) }
+    ensures addresses { IsAtAddresses (blocks two_forks) }
+    ensures stands { StandsBy defs (valued (pos 7 ∷ pos 9 ∷ [])) [] (blocks two_forks) fork_and_tree }
+{
+    parts_regroup();
+    heaps_change_one_address();
+    changes_are_local();
+    example_premises();
     derived_is_true();
 }
 
@@ -64,8 +91,9 @@ pub fn examples_of_pointers()
     ensures addresses { IsAtAddresses (blocks []) }
     ensures stands { StandsBy defs (valued []) [] (blocks []) pointer }
 {
+    mc_pure::derived_grows();
     parts_regroup();
-    mc_heap::heaps_change_one_address();
+    heaps_change_one_address();
     example_premises();
     derived_is_true();
 }
@@ -77,7 +105,7 @@ pub fn example_of_spare()
     ensures stands { StandsBy defs (valued (pos 6 ∷ [])) [] (blocks []) small_number }
 {
     parts_regroup();
-    mc_heap::heaps_change_one_address();
+    heaps_change_one_address();
     example_premises();
     derived_is_true();
 }

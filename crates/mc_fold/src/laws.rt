@@ -60,13 +60,8 @@ pub fn goals_are_met()
     ensures { LawOfGoal }
 {
     parts_regroup();
-    predicates_are_bodies();
-    segments_are_bodies();
-    segments_join();
     derived_is_true();
     edges_come_and_go();
-    numbers_stay_bounded();
-    nodes_are_there();
 }
 
 /// Folding gives one list of successors at most.

@@ -7,8 +7,9 @@ mod rules;
 mod wrong;
 
 pub use examples::{
-    example_folds, example_of_closing, example_of_joining, example_of_lengths, example_of_merging,
-    example_of_spare, examples_of_lists, examples_of_pointers,
+    example_folds, example_of_closing, example_of_joining, example_of_length, example_of_lengths,
+    example_of_merging, example_of_second_call, example_of_spare, examples_of_lists,
+    examples_of_pointers,
 };
 pub use laws::{
     folding_is_determined, folding_is_sound, goals_are_met, naming_is_determined, naming_is_sound,

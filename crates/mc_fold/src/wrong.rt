@@ -2,7 +2,7 @@
 ghost use Rattle.mc_fold.specs.WrongRules.{SharedFoldIsSound, ClosingAnyArgsIsSound, DroppingKeepsWhole};
 
 use mc_defs::{example_predicates, example_premises};
-use mc_heap::{heaps_change_one_address, parts_regroup};
+use mc_heap::{changes_are_local, heaps_change_one_address, parts_regroup};
 use mc_state::{body_premises, derived_is_true};
 
 /// One edge is not two calls.
@@ -11,6 +11,7 @@ pub fn wrong_fold()
 {
     parts_regroup();
     heaps_change_one_address();
+    changes_are_local();
     example_predicates();
     example_premises();
     derived_is_true();

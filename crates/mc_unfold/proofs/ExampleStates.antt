@@ -5,7 +5,7 @@ use Rattle.mc_base.specs.declared.plain.Kind.TheVariants.{Ptr}
 use Rattle.mc_base.specs.Kinds.{InKind}
 use Rattle.mc_heap.specs.Heap.{Region, IsAtAddresses}
 use Rattle.mc_heap.specs.Instances.{nowhere}
-use Rattle.mc_heap.specs.Parts.{Split, IsEmpty, Star}
+use Rattle.mc_heap.specs.Parts.{Split, IsEmpty}
 use Rattle.mc_heap.specs.PartLaws.{SplitCommutes, SplitAddsEmpty}
 use Rattle.mc_defs.specs.Examples.{defs, list_id, list_def, blocks, two_cells}
 use Rattle.mc_defs.specs.Meaning as meaning
@@ -26,10 +26,6 @@ module _ (commutes : SplitCommutes) (adds_empty : SplitAddsEmpty) where
 
   pub none_right : (region : Region) → Split region region nowhere
   none_right region = commutes region nowhere region (none_left region)
-
-  -- one thing alone has the whole region
-  pub star_one : {A : Type 0} (M : A → Region → Type 0) (x : A) (region : Region) → M x region → Star M (x ∷ []) region
-  star_one M x region m = (region, nowhere, none_right region, m, nowhere-IsEmpty)
 
   pub list_stands : meaning.Sat defs list_id (pos 7) [] (blocks two_cells) → StandsBy defs at_seven [] (blocks two_cells) one_list
   list_stands sat =

@@ -5,10 +5,12 @@ use Rattle.mc_fold.proofs.laws.segments_are_closed.Goals as goal
 pub returns : goal.returns
 returns c =
     let laws : FoldLaws = record {
-      commutes = c.parts_regroup.ensures.commutes;
-      left = c.parts_regroup.ensures.left;
-      drops_empty = c.parts_regroup.ensures.drops_empty;
-      adds_empty = c.parts_regroup.ensures.adds_empty;
+      parts = record {
+        commutes = c.parts_regroup.ensures.commutes;
+        left = c.parts_regroup.ensures.left;
+        drops_empty = c.parts_regroup.ensures.drops_empty;
+        adds_empty = c.parts_regroup.ensures.adds_empty;
+      };
       folds = c.predicates_are_bodies.ensures.folds;
       of_body = c.segments_are_bodies.ensures.of_body;
       then_sat = c.segments_join.ensures.predicate;
