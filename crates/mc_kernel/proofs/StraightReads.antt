@@ -1,7 +1,6 @@
 -- A certificate of a straight program is a valid certificate.
-use Rattle.std.proofs.Common.{◌≡◌, inl, ◌<◌, List, [], ◌∷◌, ◌++◌, length, Bool, true, false, None, map, refl, ap, ◌∙◌, subst, arith}
+use Rattle.std.proofs.Common.{◌≡◌, inl, List, [], ◌∷◌, ◌++◌, length, Bool, true, false, None, map, refl, ap, ◌∙◌, subst}
 use Rattle.std.specs.Prelude.{Contains}
-use Rattle.std.specs.List.{AllByRecursion}
 use Rattle.std.proofs.lemmas.List.{map-append}
 use Rattle.mc_base.specs.declared.ids.PointId.{PointId}
 use Rattle.mc_defs.specs.declared.rules.Def.{Def}
