@@ -1,27 +1,22 @@
 -- Blocks of states of straight programs, as they are made, written and freed.
-use Rattle.std.proofs.Common.{◌≡◌, ◌≢◌, ◌⊎◌, inl, inr, ◌+◌, ◌<◌, ◌≤◌, ℕ, zero, suc, List, [], ◌∷◌, ◌++◌, Bool, true, false, Option, Some, None, slice_get, replicate, remove, refl, sym, ◌∙◌, subst, arith, ℤ, pos}
-use Rattle.std.specs.Prelude.{◌==◌, if◌then◌else◌}
+use Rattle.std.proofs.Common.{◌≡◌, ◌≢◌, inr, ◌+◌, ◌<◌, ◌≤◌, ℕ, zero, suc, [], ◌∷◌, ◌++◌, Option, Some, None, slice_get, replicate, remove, refl, sym, subst, arith, ℤ, pos}
 use Rattle.std.specs.List.{AllByRecursion}
-use Rattle.std.proofs.lemmas.Bool.Decides.{nat_tests}
 use Rattle.mc_base.specs.declared.ids.EdgeId.{EdgeId}
 use Rattle.mc_base.specs.declared.ids.NodeId.{NodeId}
 use Rattle.mc_base.specs.declared.ids.StructId.{StructId}
-use Rattle.mc_base.specs.declared.ids.VarId.{VarId}
-use Rattle.mc_base.specs.declared.plain.Kind.{Kind}
-use Rattle.mc_base.specs.declared.plain.Kind.TheVariants.{Int, Ptr}
-use Rattle.mc_base.specs.declared.plain.Atom.{Atom}
-use Rattle.mc_base.specs.declared.plain.Atom.TheVariants.{Eq, Ne, In}
-use Rattle.mc_base.specs.Kinds.{InKind}
+use Rattle.mc_base.specs.declared.plain.Kind.TheVariants.{Ptr}
+use Rattle.mc_base.specs.declared.plain.Atom.TheVariants.{Ne, In}
 use Rattle.mc_graph.specs.declared.edge.Edge.{Edge}
 use Rattle.mc_graph.specs.declared.edge.Edge.TheVariants.{Block, Ind, Seg}
 use Rattle.mc_graph.specs.Edges.{start_of, with_field_node}
 use Rattle.mc_graph.specs.Graph.{Edges, numbered}
-use Rattle.mc_pure.specs.Pure.{Kinds, IsNode}
-use Rattle.mc_state.specs.State.{State, unknown, with_var, without_vars, with_number, with_block, with_nodes, with_atom, next_node, numbered_kinds}
+use Rattle.mc_pure.specs.Pure.{Kinds}
+use Rattle.mc_state.specs.State.{State, with_block, next_node, numbered_kinds}
 use Rattle.mc_state.specs.Straight.{apart, put_field, with_field, without_block}
 use Rattle.mc_state.specs.Laws.{NewNodesAreThere}
-use Rattle.mc_kernel.proofs.StraightLists.{all_append, all_map, all_both, all_at, all_without, all_of_map}
-use Rattle.mc_kernel.proofs.StraightStates.{Numbers, HasNumber, KindFits, RangeFits, ArePointers, AtomFits, BlockFits, EdgeFits, EdgesAscend, IsStraight, updated, updated_at, updated_below, updated_not_zero, kind_kept, atom_kept, edge_kept}
+use Rattle.mc_kernel.proofs.Lists.{all_append, all_map, all_both, all_at, all_of_map}
+use Rattle.mc_kernel.proofs.StraightLists.{all_without}
+use Rattle.mc_kernel.proofs.StraightStates.{Numbers, HasNumber, KindFits, RangeFits, AtomFits, BlockFits, EdgeFits, EdgesAscend, IsStraight, updated, updated_at, updated_below, updated_not_zero, kind_kept, atom_kept, edge_kept}
 
 pub start_below : (numbers : Numbers) (kinds : Kinds) (next : ℕ) (e : Edge) → BlockFits numbers kinds next e → (start_of e).0 < next
 start_below numbers kinds next (Block at shape fields) f = f.0

@@ -1,6 +1,6 @@
 -- What the tests of nodes tell is derived: which nodes are null, or the same, and which states are false.
-use Rattle.std.proofs.Common.{◌≡◌, inl, inr, ◌&&◌, ◌||◌, ℕ, zero, suc, List, [], ◌∷◌, Bool, true, false, Some, slice_get, refl, sym, ap, ◌∙◌, subst, arith, ℤ, pos}
-use Rattle.std.specs.Prelude.{◌==◌, ◌<ℤ◌, ◌≤ℤ◌, ◌⊎◌, not, int_le}
+use Rattle.std.proofs.Common.{◌≡◌, inl, inr, ◌&&◌, ℕ, zero, suc, [], ◌∷◌, Bool, true, false, Some, slice_get, refl, sym, ap, subst, arith, ℤ, pos}
+use Rattle.std.specs.Prelude.{◌==◌, ◌<ℤ◌, ◌⊎◌, not, int_le}
 use Rattle.std.specs.Int.{int_max, int_min}
 use Rattle.std.specs.List.{AllByRecursion, list_any}
 use Rattle.std.specs.Ordering.{int_eq}

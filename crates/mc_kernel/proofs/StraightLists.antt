@@ -1,5 +1,5 @@
 -- Tests and places of lists.
-use Rattle.std.proofs.Common.{◌≡◌, ◌⊎◌, inl, inr, ◌&&◌, ◌||◌, ℕ, zero, suc, List, [], ◌∷◌, ◌++◌, Bool, true, false, Some, slice_get, get_or, remove, map, refl, sym, ◌∙◌, subst}
+use Rattle.std.proofs.Common.{◌≡◌, ◌⊎◌, inl, inr, ◌&&◌, ◌||◌, ℕ, zero, suc, List, [], ◌∷◌, Bool, true, false, Some, slice_get, get_or, remove, refl, sym, ◌∙◌, subst}
 use Rattle.std.specs.Prelude.{not, position}
 use Rattle.std.specs.List.{AllByRecursion, list_any}
 use Rattle.std.proofs.lemmas.List.Quantifiers.{position-Some}
@@ -70,31 +70,9 @@ module _ {X : Type 0} where
       let same : get_or xs place x ≡ x = cc in
       subst (λ y. p y ≡ true) same first.1
 
-  -- ---- what holds of each
-
-  pub all_append : (P : X → Type 0) (xs ys : List X) → AllByRecursion P xs → AllByRecursion P ys → AllByRecursion P (xs ++ ys)
-  all_append P [] ys a b = b
-  all_append P (x ∷ xs) ys a b = (a.0, all_append P xs ys a.1 b)
-
-  pub all_map : (P Q : X → Type 0) → ((x : X) → P x → Q x) → (xs : List X) → AllByRecursion P xs → AllByRecursion Q xs
-  all_map P Q f [] a = tt
-  all_map P Q f (x ∷ xs) a = (f x a.0, all_map P Q f xs a.1)
-
-  pub all_both : (P Q R : X → Type 0) → ((x : X) → P x → Q x → R x) → (xs : List X) → AllByRecursion P xs → AllByRecursion Q xs → AllByRecursion R xs
-  all_both P Q R f [] a b = tt
-  all_both P Q R f (x ∷ xs) a b = (f x a.0 b.0, all_both P Q R f xs a.1 b.1)
-
-  pub all_at : (P : X → Type 0) (xs : List X) (place : ℕ) (x : X) → slice_get xs place ≡ Some x → AllByRecursion P xs → P x
-  all_at P [] place x e a = cc
-  all_at P (y ∷ ys) zero x e a = let same : y ≡ x = cc in subst P same a.0
-  all_at P (y ∷ ys) (suc place) x e a = all_at P ys place x e a.1
-
+  -- what holds of each holds of those that are left
   pub all_without : (P : X → Type 0) (xs : List X) (place : ℕ) → AllByRecursion P xs → AllByRecursion P (remove xs place)
   all_without P [] zero a = a
   all_without P [] (suc place) a = a
   all_without P (y ∷ ys) zero a = a.1
   all_without P (y ∷ ys) (suc place) a = (a.0, all_without P ys place a.1)
-
-pub all_of_map : {X Y : Type 0} (P : Y → Type 0) (f : X → Y) (xs : List X) → AllByRecursion (λ x. P (f x)) xs → AllByRecursion P (map f xs)
-all_of_map P f [] a = tt
-all_of_map P f (x ∷ xs) a = (a.0, all_of_map P f xs a.1)

@@ -1,6 +1,6 @@
 -- Blocks by place and by id, and the node at which a block is found.
-use Rattle.std.proofs.Common.{◌≡◌, inl, ◌&&◌, ◌<◌, ◌≤◌, ℕ, zero, suc, List, [], ◌∷◌, Bool, true, false, Option, Some, None, slice_get, slice_set, remove, map, option_map, refl, sym, ap, ◌∙◌, subst, arith, pos}
-use Rattle.std.specs.Prelude.{◌==◌, if◌then◌else◌, position}
+use Rattle.std.proofs.Common.{◌≡◌, inl, ◌≤◌, ℕ, zero, suc, List, [], ◌∷◌, Bool, true, false, Option, Some, None, slice_get, remove, map, option_map, refl, sym, ap, ◌∙◌, arith, pos}
+use Rattle.std.specs.Prelude.{◌==◌, if◌then◌else◌}
 use Rattle.std.specs.List.{AllByRecursion}
 use Rattle.std.proofs.lemmas.Bool.Decides.{Decides-eqb, nat_tests}
 use Rattle.mc_base.specs.declared.ids.EdgeId.{EdgeId}
@@ -16,7 +16,8 @@ use Rattle.mc_pure.specs.Pure.{Kinds, IsNode}
 use Rattle.mc_state.specs.State.{State}
 use Rattle.mc_state.specs.Straight.{are_same, is_block_at, is_shaped_block_at, block_place, shaped_block_place, edge_at, put_field, apart}
 use Rattle.mc_step.specs.Operands.{HasBlock}
-use Rattle.mc_kernel.proofs.StraightLists.{and_true, at_position, all_at, all_without}
+use Rattle.mc_kernel.proofs.Lists.{all_at}
+use Rattle.mc_kernel.proofs.StraightLists.{and_true, at_position}
 use Rattle.mc_kernel.proofs.StraightStates.{Numbers, BlockFits, EdgeFits, EdgesAscend, IsStraight}
 use Rattle.mc_kernel.proofs.StraightBlocks.{all_above}
 use Rattle.mc_kernel.proofs.StraightFacts.{same_follows}

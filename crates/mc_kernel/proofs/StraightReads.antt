@@ -1,7 +1,6 @@
 -- A certificate of a straight program is a valid certificate.
-use Rattle.std.proofs.Common.{◌≡◌, inl, ◌<◌, List, [], ◌∷◌, ◌++◌, length, Bool, true, false, None, map, refl, ap, ◌∙◌, subst, arith}
+use Rattle.std.proofs.Common.{◌≡◌, inl, List, [], ◌∷◌, ◌++◌, length, Bool, true, false, None, map, refl, ap, ◌∙◌, subst}
 use Rattle.std.specs.Prelude.{Contains}
-use Rattle.std.specs.List.{AllByRecursion}
 use Rattle.std.proofs.lemmas.List.{map-append}
 use Rattle.mc_base.specs.declared.ids.PointId.{PointId}
 use Rattle.mc_defs.specs.declared.rules.Def.{Def}
@@ -23,7 +22,7 @@ use Rattle.mc_kernel.specs.Branches.{Path, Setting, path_of}
 use Rattle.mc_kernel.specs.Instances.{ByStep, IsInstance, Reads, stuck_by}
 use Rattle.mc_kernel.specs.Rules.{entry, Instance, Proves}
 use Rattle.mc_kernel.specs.Straight.{wide, StraightIsValid}
-use Rattle.mc_kernel.proofs.StraightLists.{all_append}
+use Rattle.mc_kernel.proofs.Lists.{all_append, contains_none}
 use Rattle.mc_kernel.proofs.StraightStates.{IsStraight, unknown_straight}
 use Rattle.mc_kernel.proofs.StraightFacts.{told_false}
 use Rattle.mc_kernel.proofs.StraightSteps.{point_of, step_of, AllStraight, s1, s2, s3, s8, s9, s10, s11, s12, s13, s17, stay_straight}
@@ -36,16 +35,13 @@ setting = record { form = Certificate; cuts = []; heads = [] }
 abbrev path : Bool → Branch → Path
 path moved b = record { point = point_of b; state = b.state; goal = None; moved = moved; closing = false }
 
-no_point : (p : PointId) → Contains [] p → ⊥
-no_point p c = let below = c.1 in omega arith
-
 paths_of_steps : (next : List Branch) → map (path true) next ≡ map path_of (map step_of next)
 paths_of_steps [] = refl
 paths_of_steps (b ∷ next) = ap (λ (ps : List Path). path true b ∷ ps) (paths_of_steps next)
 
 by_step : (Rule : Flow → PointId → State → List Next → Type 0) (flow : Flow) (moved : Bool) (b : Branch) (next : List Branch)
     → Rule flow (point_of b) b.state (map step_of next) → ByStep Rule flow setting (path moved b) (map (path true) next)
-by_step Rule flow moved b next i = (record { plain = refl; open_still = refl; before_cut = inl (no_point (point_of b)) }, (map step_of next, i, paths_of_steps next))
+by_step Rule flow moved b next i = (record { plain = refl; open_still = refl; before_cut = inl (contains_none (point_of b)) }, (map step_of next, i, paths_of_steps next))
 
 none_stuck : (l : StraightLine) (b : Path) → [] ≡ stuck_by (wide l) b []
 none_stuck (Header version form) b = refl
@@ -107,7 +103,7 @@ straight_is_valid at_null nodes flow defs (l ∷ m ∷ lines) valid c =
       heads = [];
       rules = read.0;
       spelled = ap (λ (k : StraightLine). wide k ∷ map wide (m ∷ lines)) c.0 ∙ ap (λ (ls : List Line). line.Header One Certificate ∷ ls) read.1;
-      cuts_are = record { ascend = tt; skips = λ p h. absurd (no_point p h); all_heads = λ p h. absurd (no_point p (subst (λ (ps : List PointId). Contains ps p) c.1 h)) };
+      cuts_are = record { ascend = tt; skips = λ p h. absurd (contains_none p h); all_heads = λ p h. absurd (contains_none p (subst (λ (ps : List PointId). Contains ps p) c.1 h)) };
       ordered = tt;
       heads_are = tt;
       reads = read.2;

@@ -1,5 +1,5 @@
 -- A state of a straight program that is not told to be false is not: no derivation makes it so.
-use Rattle.std.proofs.Common.{◌≡◌, ◌≢◌, ◌⊎◌, inl, inr, ◌&&◌, ◌||◌, ℕ, zero, suc, ◌≤◌, List, [], ◌∷◌, Bool, true, false, Option, Some, None, slice_get, refl, sym, ap, ◌∙◌, subst, arith, ℤ, pos}
+use Rattle.std.proofs.Common.{◌≡◌, ◌≢◌, inl, inr, ◌&&◌, ℕ, zero, suc, ◌≤◌, List, [], ◌∷◌, Bool, true, false, Option, Some, None, slice_get, refl, sym, ap, ◌∙◌, subst, arith, ℤ, pos}
 use Rattle.std.specs.Prelude.{◌==◌, ◌≤ℤ◌, not, int_le}
 use Rattle.std.specs.List.{AllByRecursion, list_any}
 use Rattle.std.specs.Ordering.{int_eq}
@@ -10,7 +10,6 @@ use Rattle.mc_base.specs.declared.plain.Kind.{Kind}
 use Rattle.mc_base.specs.declared.plain.Kind.TheVariants.{Int, Ptr}
 use Rattle.mc_base.specs.declared.plain.Atom.{Atom}
 use Rattle.mc_base.specs.declared.plain.Atom.TheVariants.{Eq, Ne, In}
-use Rattle.mc_base.specs.Nodes.{null}
 use Rattle.mc_graph.specs.declared.edge.Edge.TheVariants.{Block, Ind, Seg}
 use Rattle.mc_graph.specs.Graph.{Edges, block_starts}
 use Rattle.mc_pure.specs.Pure as known
@@ -18,7 +17,8 @@ use Rattle.mc_pure.specs.Pure.{Kinds, Base, low_of, high_of}
 use Rattle.mc_pure.specs.Derived.{IsFalse}
 use Rattle.mc_state.specs.State.{State, pure_of}
 use Rattle.mc_state.specs.Straight.{says_null, is_null, is_wrong, is_at_null, is_false}
-use Rattle.mc_kernel.proofs.StraightLists.{or_false, and_true, or_left, or_right, and_both, not_both, passes, any_at, none_at, all_at}
+use Rattle.mc_kernel.proofs.Lists.{all_at}
+use Rattle.mc_kernel.proofs.StraightLists.{or_false, and_true, or_left, or_right, and_both, not_both, passes, any_at, none_at}
 use Rattle.mc_kernel.proofs.StraightMarks.{Mark, small, huge, LiesIn, IsPlus, Differs, Fits, nothing_false}
 use Rattle.mc_kernel.proofs.StraightStates.{Numbers, HasNumber, KindFits, RangeFits, AtomFits, EdgeFits, EdgesAscend, IsStraight}
 

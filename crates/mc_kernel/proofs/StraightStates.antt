@@ -1,11 +1,10 @@
 -- States of straight programs: blocks alone, nodes that are single numbers or pointers, and atoms of few forms.
-use Rattle.std.proofs.Common.{◌≡◌, ◌≢◌, ◌⊎◌, inl, inr, ◌+◌, ◌<◌, ◌≤◌, ℕ, zero, suc, List, [], ◌∷◌, ◌++◌, Bool, true, false, Option, Some, None, slice_get, replicate, remove, refl, sym, ◌∙◌, subst, arith, ℤ, pos}
+use Rattle.std.proofs.Common.{◌≡◌, ◌≢◌, ◌⊎◌, inl, inr, ◌+◌, ◌<◌, ◌≤◌, ℕ, suc, List, [], ◌∷◌, ◌++◌, Bool, true, false, Option, Some, None, refl, sym, ◌∙◌, subst, arith, ℤ, pos}
 use Rattle.std.specs.Prelude.{◌==◌, if◌then◌else◌}
 use Rattle.std.specs.List.{AllByRecursion}
 use Rattle.std.proofs.lemmas.Bool.Decides.{nat_tests}
 use Rattle.mc_base.specs.declared.ids.EdgeId.{EdgeId}
 use Rattle.mc_base.specs.declared.ids.NodeId.{NodeId}
-use Rattle.mc_base.specs.declared.ids.StructId.{StructId}
 use Rattle.mc_base.specs.declared.ids.VarId.{VarId}
 use Rattle.mc_base.specs.declared.plain.Kind.{Kind}
 use Rattle.mc_base.specs.declared.plain.Kind.TheVariants.{Int, Ptr}
@@ -14,13 +13,12 @@ use Rattle.mc_base.specs.declared.plain.Atom.TheVariants.{Eq, Ne, In}
 use Rattle.mc_base.specs.Kinds.{InKind}
 use Rattle.mc_graph.specs.declared.edge.Edge.{Edge}
 use Rattle.mc_graph.specs.declared.edge.Edge.TheVariants.{Block, Ind, Seg}
-use Rattle.mc_graph.specs.Edges.{start_of, with_field_node}
-use Rattle.mc_graph.specs.Graph.{Edges, numbered}
+use Rattle.mc_graph.specs.Edges.{start_of}
+use Rattle.mc_graph.specs.Graph.{Edges}
 use Rattle.mc_pure.specs.Pure.{Kinds, IsNode}
-use Rattle.mc_state.specs.State.{State, unknown, with_var, without_vars, with_number, with_block, with_nodes, with_atom, next_node, numbered_kinds}
-use Rattle.mc_state.specs.Straight.{apart, put_field, with_field, without_block}
+use Rattle.mc_state.specs.State.{State, unknown, with_var, without_vars, with_number, with_atom, next_node, numbered_kinds}
 use Rattle.mc_state.specs.Laws.{NewNodesAreThere}
-use Rattle.mc_kernel.proofs.StraightLists.{all_append, all_map, all_both, all_at, all_without, all_of_map}
+use Rattle.mc_kernel.proofs.Lists.{all_append, all_map}
 
 -- the number of each node that is one; a pointer is none
 abbrev pub Numbers : Type 0

@@ -25,10 +25,10 @@ use Rattle.mc_graph.specs.declared.edge.Edge.TheVariants.{Block}
 use Rattle.mc_graph.specs.Edges.{start_of, fields_of, with_field_node}
 use Rattle.mc_graph.specs.Graph.{Graph, Edges, replaced, without, block_starts}
 use Rattle.mc_pure.specs.Pure.{address_atom}
-use Rattle.mc_state.specs.State.{State, next_node, with_var, with_number, with_atoms, with_only_edges, with_block}
-use Rattle.mc_state.specs.Facts.{IsFalse, AreEqual}
+use Rattle.mc_state.specs.State.{State, next_node, with_number, with_atoms, with_only_edges, with_block}
+use Rattle.mc_state.specs.Facts.{AreEqual}
 use Rattle.mc_state.specs.Laws.{NewNodesAreThere}
-use Rattle.mc_state.specs.Straight.{put_field, apart}
+use Rattle.mc_state.specs.Straight.{put_field}
 use Rattle.mc_state.specs.declared.straight_line.StraightLine.{StraightLine}
 use Rattle.mc_state.specs.declared.straight_line.StraightLine.TheVariants.{Header, S1, S2, S3, S8, S9, S10, S11, S12, S13, S17, L12, End}
 use Rattle.mc_step.specs.declared.next.Next.{Next}

@@ -1,6 +1,5 @@
 -- Which lines are instances of the rules, and which documents are certificates.
-use Rattle.std.specs.Prelude.{◌≡◌, ◌<◌, ℕ, List, [], ◌∷◌, ◌++◌, pos, true, false, Option, Some, length, slice_get, option_map, if◌then◌else◌}
-use Rattle.std.specs.Ordering.{int_eq}
+use Rattle.std.specs.Prelude.{◌≡◌, ◌<◌, ℕ, List, [], ◌∷◌, ◌++◌, pos, true, false, Option, Some, length, slice_get, option_map}
 use Rattle.mc_base.specs.declared.ids.NodeId.{NodeId}
 use Rattle.mc_base.specs.declared.ids.PointId.{PointId}
 use Rattle.mc_base.specs.declared.ids.VarId.{VarId}
@@ -20,7 +19,7 @@ use Rattle.mc_flow.specs.Steps.{field_count}
 use Rattle.mc_graph.specs.declared.edge.Edge.{Edge}
 use Rattle.mc_base.specs.Nodes.{null}
 use Rattle.mc_graph.specs.Edges.{fields_of, start_of}
-use Rattle.mc_state.specs.State.{State, unknown, var_node, with_var, without_vars, with_number, next_node, with_atom, with_block}
+use Rattle.mc_state.specs.State.{State, unknown, var_node, with_var, without_vars, next_node, with_atom, with_block}
 use Rattle.mc_state.specs.Straight.{is_null, is_false, block_place, shaped_block_place, edge_at, with_field, without_block}
 use Rattle.mc_step.specs.Operands.{operand_node, with_operand}
 use Rattle.mc_kernel.specs.declared.branch.Branch.{Branch}

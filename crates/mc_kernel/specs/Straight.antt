@@ -1,5 +1,5 @@
 -- Certificates of straight programs as valid certificates.
-use Rattle.std.specs.Prelude.{List, [], map, Bool, true, false, None}
+use Rattle.std.specs.Prelude.{List, map}
 use Rattle.mc_defs.specs.declared.rules.Def.{Def}
 use Rattle.mc_flow.specs.declared.graph.Flow.{Flow}
 use Rattle.mc_flow.specs.Valid.{IsValid}

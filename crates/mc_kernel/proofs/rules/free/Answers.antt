@@ -1,9 +1,8 @@
-use Rattle.std.proofs.Common.{◌≡◌, ◌∷◌, [], List, rules, ap, sym, ◌∙◌, Some, option_map}
+use Rattle.std.proofs.Common.{◌≡◌, ◌∷◌, [], rules, ap, ◌∙◌, Some, option_map}
 use Rattle.mc_graph.specs.Edges.{start_of}
 use Rattle.mc_base.specs.declared.ids.NodeId.{NodeId}
 use Rattle.mc_state.specs.State.{State}
 use Rattle.mc_state.specs.Straight.{edge_at, without_block}
-use Rattle.mc_kernel.specs.declared.branch.Branch.{Branch}
 use Rattle.mc_kernel.specs.Rules.{moved_to}
 use Rattle.mc_kernel.proofs.Freeing.{with_start}
 use Rattle.mc_kernel.proofs.rules.free.Goals as goal
