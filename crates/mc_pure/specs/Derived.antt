@@ -10,27 +10,27 @@ use Rattle.mc_pure.specs.Pure.{Pure, IsNode, Base, low_of, high_of}
 -- the least set that has the base atoms and is closed under these rules
 pub data Follows (p : Pure) : Atom → Type 0 where
   base : {f : Atom} → Base p f → Follows p f
-  -- A1
+  -- a node is itself
   itself : {a : NodeId} → IsNode p.kinds a → Follows p (Eq a a (pos 0))
-  -- A2
+  -- an equality turned round
   turned : {a b : NodeId} {c : ℤ} → Follows p (Eq a b c) → Follows p (Eq b a (neg_ℤ c))
-  -- A3
+  -- one equality behind another
   chained : {a b d : NodeId} {c e : ℤ} → Follows p (Eq a b c) → Follows p (Eq b d e) → Follows p (Eq a d (c +ℤ e))
-  -- A4
+  -- a range moved along an equality
   shifted : {a b : NodeId} {c lo hi : ℤ} → Follows p (Eq a b c) → Follows p (In b lo hi) → Follows p (In a (lo +ℤ c) (hi +ℤ c))
-  -- A5
+  -- two ranges of one node, together
   met : {a : NodeId} {lo hi m k : ℤ} → Follows p (In a lo hi) → Follows p (In a m k) → Follows p (In a (int_max lo m) (int_min hi k))
-  -- A6
+  -- a range that holds another
   widened : {a : NodeId} {lo hi m k : ℤ} → Follows p (In a lo hi) → m ≤ℤ lo → hi ≤ℤ k → Follows p (In a m k)
-  -- A7
+  -- nodes that are single numbers
   fixed : {a b : NodeId} {k m : ℤ} → Follows p (In a k k) → Follows p (In b m m) → Follows p (Eq a b (k -ℤ m))
-  -- A8
+  -- a disequality turned round, and moved along an equality
   differs : {a b : NodeId} {c : ℤ} → Follows p (Ne a b c) → Follows p (Ne b a (neg_ℤ c))
   differs_along : {a b d : NodeId} {c e : ℤ} → Follows p (Ne a b c) → Follows p (Eq b d e) → Follows p (Ne a d (c +ℤ e))
-  -- A9
+  -- an end of a range that the node is not
   raised : {a b : NodeId} {c k hi : ℤ} → Follows p (Ne a b c) → Follows p (In b k k) → Follows p (In a (k +ℤ c) hi) → Follows p (In a ((k +ℤ c) +ℤ pos 1) hi)
   lowered : {a b : NodeId} {c k lo : ℤ} → Follows p (Ne a b c) → Follows p (In b k k) → Follows p (In a lo (k +ℤ c)) → Follows p (In a lo ((k +ℤ c) -ℤ pos 1))
-  -- A10
+  -- ranges that do not meet
   disjoint : {a b : NodeId} {c lo hi m k : ℤ} → Follows p (In a lo hi) → Follows p (In b m k) → ((hi <ℤ (m +ℤ c)) ⊎ ((k +ℤ c) <ℤ lo)) → Follows p (Ne a b c)
 
 -- what can't be true follows: an empty range, a node that differs from itself, or one that is itself and more
