@@ -14,6 +14,7 @@ use Rattle.mc_flow.specs.declared.instr.Operand.TheVariants.{Const}
 use Rattle.mc_flow.specs.declared.graph.Flow.{Flow}
 use Rattle.mc_flow.specs.Steps.{Config, Result, Step}
 
+-- a place of a text
 abbrev pub somewhere : Place
 somewhere = record { line = 3; column = 5 }
 

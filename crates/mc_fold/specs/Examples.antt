@@ -14,6 +14,7 @@ use Rattle.mc_state.specs.CoverExamples.{state_of, entry, rest_list, other_list}
 use Rattle.mc_state.specs.declared.goal.Goal.{Goal}
 use Rattle.mc_state.specs.State.{State}
 
+-- the edge with a number
 abbrev pub edge : ℕ → EdgeId
 edge n = record { 0 = n }
 
@@ -67,6 +68,7 @@ segment_closed = left_with ((node 1, Ptr) ∷ (node 2, Ptr) ∷ []) (entry 2 (In
 abbrev pub two_segments : State
 two_segments = state_of ((node 1, Ptr) ∷ (node 2, Ptr) ∷ (node 3, Ptr) ∷ []) (Seg (node 1) [] list_id (node 2) [] ∷ Seg (node 2) [] list_id (node 3) [] ∷ []) []
 
+-- the two as one
 abbrev pub segments_joined : State
 segments_joined = left_with ((node 1, Ptr) ∷ (node 2, Ptr) ∷ (node 3, Ptr) ∷ []) (entry 2 (Seg (node 1) [] list_id (node 3) []) ∷ []) 3 4
 
@@ -74,6 +76,7 @@ segments_joined = left_with ((node 1, Ptr) ∷ (node 2, Ptr) ∷ (node 3, Ptr) �
 abbrev pub pointer : State
 pointer = state_of ((node 1, Ptr) ∷ []) [] []
 
+-- an empty segment from a pointer to itself
 abbrev pub with_segment : State
 with_segment = left_with ((node 1, Ptr) ∷ []) (entry 0 (Seg (node 1) [] list_id (node 1) []) ∷ []) 1 2
 
@@ -83,6 +86,7 @@ with_segment = left_with ((node 1, Ptr) ∷ []) (entry 0 (Seg (node 1) [] list_i
 abbrev pub small_number : State
 small_number = state_of ((node 1, Int) ∷ []) [] (In (node 1) (pos 5) (pos 7) ∷ [])
 
+-- a number from 5 to 7, and one that is one more
 abbrev pub with_spare : State
 with_spare =
     record {
@@ -98,6 +102,7 @@ with_spare =
 abbrev pub named_twice : State
 named_twice = state_of ((node 1, Ptr) ∷ (node 2, Ptr) ∷ []) (Ind (node 2) list_id [] ∷ []) (Eq (node 2) (node 1) (pos 0) ∷ [])
 
+-- the list at the other one
 abbrev pub named_once : State
 named_once =
     record {
@@ -113,6 +118,7 @@ named_once =
 abbrev pub lost_list : State
 lost_list = state_of ((node 1, Ptr) ∷ []) (Ind (node 1) list_id [] ∷ []) []
 
+-- what is left when it is dropped
 abbrev pub list_dropped : State
 list_dropped = record { env = []; kinds = (node 1, Ptr) ∷ []; graph = record { edges = []; next = 1 }; atoms = []; next = 2; whole = false }
 
@@ -130,6 +136,7 @@ list_goal = record { pred = list_id; at = node 1; args = [] }
 abbrev pub shared_tree : State
 shared_tree = state_of ((node 1, Ptr) ∷ (node 2, Ptr) ∷ []) (Fork (node 1) fork_id (Some (node 2) ∷ Some (node 2) ∷ []) ∷ Ind (node 2) tree_id [] ∷ []) []
 
+-- the fork and its shared tree as one tree
 abbrev pub shared_folded : State
 shared_folded = left_with ((node 1, Ptr) ∷ (node 2, Ptr) ∷ []) (entry 2 (Ind (node 1) tree_id []) ∷ []) 3 3
 
@@ -140,6 +147,7 @@ other_length =
     (Seg (node 1) (node 2 ∷ []) lenlist_id (node 1) (node 2 ∷ []) ∷ Ind (node 1) lenlist_id (node 3 ∷ []) ∷ [])
     []
 
+-- the segment and the list of another length as one list
 abbrev pub length_closed : State
 length_closed =
     left_with ((node 1, Ptr) ∷ (node 2, Int) ∷ (node 3, Int) ∷ []) (entry 2 (Ind (node 1) lenlist_id (node 2 ∷ [])) ∷ []) 3 4

@@ -51,6 +51,7 @@ pub record FoldsShared (defs : List Def) (pred : PredId) (rule : ℕ) (names : L
   pub atoms : AllByRecursion (λ a. Derives s (atom_of names a)) by.atoms
   pub gives : next ≡ folded s (without_all s.graph.edges (option_to_list block ++ edges)) (Ind this pred args) ∷ []
 
+-- what the law of L3 would say of it
 abbrev pub SharedFoldIsSound : Type 0
 SharedFoldIsSound =
     (defs : List Def) (pred : PredId) (rule : ℕ) (names : List NodeId) (block : Option EdgeId) (edges : List EdgeId) (s : State) (next : List State)
@@ -71,6 +72,7 @@ pub record ClosesAnyArgs (first second : EdgeId) (s : State) (next : List State)
   pub meet : AreEqual s stop from
   pub gives : next ≡ folded s left (Ind at pred args) ∷ []
 
+-- what the law of L5 would say of it
 abbrev pub ClosingAnyArgsIsSound : Type 0
 ClosingAnyArgsIsSound = (defs : List Def) (first second : EdgeId) (s : State) (next : List State) → IsBounded s → ClosesAnyArgs first second s next → IsSound defs s next
 
@@ -78,5 +80,6 @@ ClosingAnyArgsIsSound = (defs : List Def) (first second : EdgeId) (s : State) (n
 abbrev pub DropsAndKeepsWhole : EdgeId → State → List State → Type 0
 DropsAndKeepsWhole edge s next = (after : State) × DropsEdge edge s (after ∷ []) × (next ≡ record after { whole = s.whole } ∷ [])
 
+-- what the law of L10 would say of it
 abbrev pub DroppingKeepsWhole : Type 0
 DroppingKeepsWhole = (defs : List Def) (edge : EdgeId) (s : State) (next : List State) → IsBounded s → DropsAndKeepsWhole edge s next → IsSound defs s next

@@ -15,6 +15,7 @@ pub record Graph : Type 0 where
   pub edges : Edges
   pub next : ℕ
 
+-- the graph without an edge
 abbrev pub no_edges : Graph
 no_edges = record { edges = []; next = 0 }
 

@@ -95,6 +95,7 @@ abbrev pub path_to : PointId → State → Option Goal → Path
 path_to p s None = record { point = p; state = s; goal = None; moved = true; closing = false }
 path_to p s (Some goal) = record { point = p; state = s; goal = Some goal; moved = false; closing = false }
 
+-- the branch that comes of an instruction
 abbrev pub path_of : Next → Path
 path_of n = path_to n.point n.state n.goal
 

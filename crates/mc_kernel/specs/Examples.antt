@@ -21,15 +21,19 @@ use Rattle.mc_state.specs.declared.raw_state.RawState.{RawState}
 use Rattle.mc_state.specs.RawStates.{state_of}
 use Rattle.mc_kernel.specs.Branches.{Path, path_to}
 
+-- the point with a number
 abbrev pub at : ℕ → PointId
 at n = record { 0 = n }
 
+-- the variable with a number
 abbrev pub var : ℕ → VarId
 var n = record { 0 = n }
 
+-- the edge with a number
 abbrev pub edge : ℕ → EdgeId
 edge n = record { 0 = n }
 
+-- an instruction at a place
 abbrev pub point : Instr → Point
 point code = record { code = code; place = record { line = 1; column = 1 } }
 
@@ -49,6 +53,7 @@ flow_of vars heads code =
 abbrev pub loop_vars : List VarInfo
 loop_vars = record { name = []; kind = Int } ∷ record { name = []; kind = Int } ∷ []
 
+-- the instructions of `int main(){while(input()!=0){} return 0;}`
 abbrev pub loop_code : List Instr
 loop_code =
     instr.Skip (at 1)
@@ -62,6 +67,7 @@ loop_code =
     ∷ instr.End
     ∷ []
 
+-- its flow graph
 abbrev pub loop_flow : Flow
 loop_flow = flow_of loop_vars (at 1 ∷ []) loop_code
 
@@ -73,6 +79,7 @@ loop_state = record { vars = None ∷ None ∷ []; kinds = Zero ∷ []; edges = 
 abbrev pub loop_rules : List Line
 loop_rules = S1 ∷ L13 0 (null ∷ []) [] ∷ S1 ∷ S4 ∷ S13 ∷ S3 ∷ S1 ∷ S2 ∷ S17 ∷ S3 ∷ L13 0 (null ∷ []) [] ∷ []
 
+-- its certificate
 abbrev pub loop_document : List Line
 loop_document = Header One Certificate ∷ Cut (at 1) ∷ Head (at 1) loop_state ∷ (loop_rules ++ End ∷ [])
 
@@ -82,6 +89,7 @@ loop_document = Header One Certificate ∷ Cut (at 1) ∷ Head (at 1) loop_state
 abbrev pub list_vars : List VarInfo
 list_vars = record { name = []; kind = Int } ∷ record { name = codes "l"; kind = Ptr } ∷ []
 
+-- the instructions of a program that assumes and asserts a list
 abbrev pub list_code : List Instr
 list_code =
     instr.Skip (at 1)
@@ -92,6 +100,7 @@ list_code =
     ∷ instr.End
     ∷ []
 
+-- its flow graph
 abbrev pub list_flow : Flow
 list_flow = flow_of list_vars [] list_code
 
@@ -99,6 +108,7 @@ list_flow = flow_of list_vars [] list_code
 abbrev pub list_rules : List Line
 list_rules = S1 ∷ S3 ∷ S15 ∷ S16 ∷ L14 (edge 0) ∷ S2 ∷ S17 ∷ []
 
+-- its certificate
 abbrev pub list_document : List Line
 list_document = Header One Certificate ∷ (list_rules ++ End ∷ [])
 
@@ -108,6 +118,7 @@ list_document = Header One Certificate ∷ (list_rules ++ End ∷ [])
 abbrev pub failing_code : List Instr
 failing_code = instr.Skip (at 1) ∷ instr.Skip (at 2) ∷ instr.Fail ∷ []
 
+-- a flow graph that fails behind a loop head
 abbrev pub failing_flow : Flow
 failing_flow = flow_of [] (at 1 ∷ []) failing_code
 

@@ -32,10 +32,12 @@ accessed_by s (Some (instr.Store y shape f o q)) = var_node s y
 accessed_by s (Some (instr.Free o q)) = operand_node s o
 accessed_by s (Some code) = None
 
+-- none on a side branch
 abbrev pub accessed_outside : Option Goal → Option NodeId → Option NodeId
 accessed_outside None n = n
 accessed_outside (Some goal) n = None
 
+-- the node that is accessed at a branch's point
 abbrev pub accessed : Flow → Path → Option NodeId
 accessed flow b = accessed_outside b.goal (accessed_by b.state (code_at flow b.point))
 

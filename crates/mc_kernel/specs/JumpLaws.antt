@@ -15,5 +15,6 @@ IsLawOfJumps Rule =
     (defs : List Def) (v : Valuation) (values : List (Option ℤ)) (region : Region) (s t : State) (images : List NodeId) (edges : List EdgeId)
     → IsAtAddresses region → Rule s t images edges → StandsBy defs v values region s → StandsBy defs (λ n. v (image_of images n)) values region t
 
+-- what stands for a state with a legal jump stands for the state jumped to
 abbrev pub JumpsAreSound : Type 0
 JumpsAreSound = IsLawOfJumps Jumps

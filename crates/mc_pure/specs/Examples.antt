@@ -7,6 +7,7 @@ use Rattle.mc_base.specs.declared.plain.Atom.TheVariants.{Eq, In}
 use Rattle.mc_base.specs.Nodes.{Valuation, null}
 use Rattle.mc_pure.specs.Pure.{Pure}
 
+-- the node with a number
 abbrev pub node : ℕ → NodeId
 node n = record { 0 = n }
 

@@ -53,6 +53,7 @@ abbrev pub low_of : Kind → ℤ
 low_of Int = negsuc 2147483647
 low_of Ptr = pos 0
 
+-- the greatest number of a kind
 abbrev pub high_of : Kind → ℤ
 high_of Int = pos 2147483647
 high_of Ptr = pos 4611686018427387903

@@ -36,6 +36,7 @@ lone_pointer = state_of ((node 1, Ptr) ∷ []) [] (Ne (node 1) null (pos 0) ∷ 
 abbrev pub rest_list : Edge
 rest_list = Ind (node 3) list_id []
 
+-- a cell that points to a list
 abbrev pub cell_and_list : State
 cell_and_list = state_of ((node 1, Ptr) ∷ (node 2, Int) ∷ (node 3, Ptr) ∷ []) (Block (node 1) cell_id (Some (node 2) ∷ Some (node 3) ∷ []) ∷ rest_list ∷ []) []
 
@@ -54,6 +55,7 @@ cell_and_length =
 abbrev pub other_list : Edge
 other_list = Ind (node 4) list_id []
 
+-- a list, and a fork with a tree to its left and null to its right
 abbrev pub fork_and_tree : State
 fork_and_tree =
     state_of ((node 1, Ptr) ∷ (node 2, Ptr) ∷ (node 3, Ptr) ∷ (node 4, Ptr) ∷ [])

@@ -94,6 +94,7 @@ CoverAt defs s zero pred at args es left = ⊥
 CoverAt defs s (suc k) pred at args es left =
     IsByInd s pred at args es left ⊎ (IsBySeg (CoverAt defs s k) s pred at args es left ⊎ IsByRule (CoverAt defs s k) defs s pred at args es left)
 
+-- a cover of any depth
 pub record Cover (defs : List Def) (s : State) (pred : PredId) (at : Term) (args : List Term) (es left : Edges) : Type 0 where
   pub depth : ℕ
   pub found : CoverAt defs s depth pred at args es left
@@ -110,6 +111,7 @@ SegCoverAt defs s «end» ends (suc k) pred at args es left =
     EndsThere defs s end ends pred at args es left
     ⊎ (IsBySeg (SegCoverAt defs s end ends k) s pred at args es left ⊎ IsByRuleAt (Cover defs s) (SegCoverAt defs s end ends k) defs s pred at args es left)
 
+-- a segment cover of any depth
 pub record SegCover (defs : List Def) (s : State) (pred : PredId) (at : Term) (args : List Term) («end» : Term) (ends : List Term) (es left : Edges) : Type 0 where
   pub depth : ℕ
   pub found : SegCoverAt defs s end ends depth pred at args es left

@@ -13,6 +13,7 @@ use Rattle.mc_pure.specs.Pure.{Kinds}
 use Rattle.mc_state.specs.State.{State, with_atom, renamed}
 use Rattle.mc_state.specs.Laws.{moved_kinds}
 
+-- the edge with a number
 abbrev pub edge : ℕ → EdgeId
 edge n = record { 0 = n }
 
@@ -22,9 +23,11 @@ edge n = record { 0 = n }
 abbrev pub front : Edge
 front = Seg (node 1) [] list_id (node 2) []
 
+-- a list at node 2
 abbrev pub back : Edge
 back = Ind (node 2) list_id []
 
+-- the segment, and the list at its end
 abbrev pub front_and_back : Graph
 front_and_back = record { edges = (edge 0, front) ∷ (edge 1, back) ∷ []; next = 2 }
 
@@ -36,6 +39,7 @@ list_in_parts = record { env = Some (node 1) ∷ []; kinds = (node 1, Ptr) ∷ (
 abbrev pub at_seven : List (Option ℤ)
 at_seven = Some (pos 7) ∷ []
 
+-- node 1 is 7 and node 2 is 9
 abbrev pub seven_and_nine : Valuation
 seven_and_nine n = get_or (pos 0 ∷ pos 7 ∷ pos 9 ∷ []) n (pos 0)
 
@@ -48,9 +52,11 @@ abbrev pub raised : ℕ → ℕ
 raised zero = zero
 raised (suc n) = suc (suc n)
 
+-- the kinds of the raised nodes
 abbrev pub raised_kinds : Kinds
 raised_kinds = moved_kinds raised list_in_parts.kinds
 
+-- the list in two parts, with raised nodes
 abbrev pub raised_list : State
 raised_list = renamed raised raised_kinds 4 list_in_parts
 
@@ -92,6 +98,7 @@ one_name =
 abbrev pub both_at_seven : List (Option ℤ)
 both_at_seven = Some (pos 7) ∷ Some (pos 7) ∷ []
 
+-- nodes 1 and 2 are 7, and node 3 is 5
 abbrev pub sevens : Valuation
 sevens n = get_or (pos 0 ∷ pos 7 ∷ pos 7 ∷ pos 5 ∷ []) n (pos 0)
 

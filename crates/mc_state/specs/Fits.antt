@@ -47,6 +47,7 @@ abbrev pub MayHaveKind : Kinds → Kind → Option NodeId → Type 0
 MayHaveKind kinds kind None = Unit {0}
 MayHaveKind kinds kind (Some n) = HasKind kinds kind n
 
+-- one entry for each kind, unknown or of that kind
 abbrev pub MayHaveKinds : Kinds → List Kind → List (Option NodeId) → Type 0
 MayHaveKinds kinds [] [] = Unit {0}
 MayHaveKinds kinds (kind ∷ ks) (n ∷ ns) = MayHaveKind kinds kind n × MayHaveKinds kinds ks ns
@@ -66,6 +67,7 @@ EdgeFitsDefs defs kinds (Ind at pred args) = HasKind kinds Ptr at × ArgsFit def
 EdgeFitsDefs defs kinds (Seg at args pred «end» ends) =
     HasKind kinds Ptr at × ArgsFit defs kinds pred args × HasKind kinds Ptr end × ArgsFit defs kinds pred ends
 
+-- every edge of the state fits the definitions
 abbrev pub FitsDefs : List Def → State → Type 0
 FitsDefs defs s = AllByRecursion (λ e. EdgeFitsDefs defs s.kinds e.1) s.graph.edges
 

@@ -25,11 +25,13 @@ abbrev pub first_kept : Option Term → Option Term → Option Term
 first_kept None new = new
 first_kept (Some t) new = Some t
 
+-- the term of a name, if it has one
 abbrev pub given : Partial → ℕ → Option Term
 given [] name = None
 given (t ∷ ts) zero = t
 given (t ∷ ts) (suc name) = given ts name
 
+-- a name gets a term, if it has none yet
 abbrev pub give : Partial → ℕ → Option Term → Partial
 give [] name new = []
 give (t ∷ ts) zero new = first_kept t new ∷ ts
@@ -44,10 +46,12 @@ abbrev pub moved_by : ℤ → Option Term → Option Term
 moved_by c None = None
 moved_by c (Some t) = bounded (plus t c)
 
+-- the term of a base: that of a name if it has one, or zero
 abbrev pub base_given : Partial → Option ℕ → Option Term
 base_given names None = Some zero_term
 base_given names (Some name) = given names name
 
+-- the name of a base gets a term
 abbrev pub give_base : Partial → Option ℕ → Option Term → Partial
 give_base names None new = names
 give_base names (Some name) new = give names name new
@@ -83,6 +87,7 @@ give_all names [] ts = names
 give_all names (arg ∷ args) [] = names
 give_all names (arg ∷ args) (t ∷ ts) = give_all (give names arg (bounded t)) args ts
 
+-- where the call stands at a term, its arguments take what is guessed there
 abbrev pub ByCall : Guessing → PredId → Edges → Call → Option Term → Partial → Partial → Type 0
 ByCall M pred es call None before after = after ≡ before
 ByCall M pred es call (Some at) before after = (ts : List Term) × M pred at es ts × (after ≡ give_all before call.args ts)
@@ -105,6 +110,7 @@ abbrev pub or_zero : Option Term → Term
 or_zero None = zero_term
 or_zero (Some t) = t
 
+-- the parameters' terms, zero where there is none
 abbrev pub parameters_of : Partial → ℕ → ℕ → List Term
 parameters_of names first zero = []
 parameters_of names first (suc count) = or_zero (given names first) ∷ parameters_of names (suc first) count

@@ -45,6 +45,7 @@ abbrev pub without_vars : State → List VarId → State
 without_vars s [] = s
 without_vars s (x ∷ xs) = without_vars (with_var s x None) xs
 
+-- the node with the least number that was none yet
 abbrev pub next_node : State → NodeId
 next_node s = record { 0 = s.next }
 

@@ -47,6 +47,7 @@ is_false s = list_any (is_wrong s.atoms) s.atoms || list_any (is_at_null s.atoms
 abbrev pub is_block_at : List Atom → NodeId → EdgeId × Edge → Bool
 is_block_at atoms n e = are_same atoms n (start_of e.1)
 
+-- the edge is a block of this struct and starts at the same node
 abbrev pub is_shaped_block_at : List Atom → NodeId → StructId → EdgeId × Edge → Bool
 is_shaped_block_at atoms n shape e = has_shape shape e.1 && is_block_at atoms n e
 
@@ -54,6 +55,7 @@ is_shaped_block_at atoms n shape e = has_shape shape e.1 && is_block_at atoms n 
 abbrev pub block_place : State → NodeId → Option ℕ
 block_place s n = position (is_block_at s.atoms n) s.graph.edges
 
+-- the place of the first block of this struct at the node
 abbrev pub shaped_block_place : State → NodeId → StructId → Option ℕ
 shaped_block_place s n shape = position (is_shaped_block_at s.atoms n shape) s.graph.edges
 
@@ -67,6 +69,7 @@ put_field [] place f n = []
 put_field (e ∷ es) zero f n = (e.0, with_field_node f n e.1) ∷ es
 put_field (e ∷ es) (suc place) f n = e ∷ put_field es place f n
 
+-- the state with a node in a field of the block at a place
 abbrev pub with_field : State → ℕ → ℕ → NodeId → State
 with_field s place f n = with_only_edges s (put_field s.graph.edges place f n)
 
@@ -86,6 +89,7 @@ abbrev pub IsBelow : ℕ → Option NodeId → Type 0
 IsBelow n None = Unit {0}
 IsBelow n (Some m) = m.0 < n
 
+-- the nodes of an atom are below a number
 abbrev pub AtomIsBelow : ℕ → Atom → Type 0
 AtomIsBelow n (Eq a b c) = (a.0 < n) × (b.0 < n)
 AtomIsBelow n (Ne a b c) = (a.0 < n) × (b.0 < n)

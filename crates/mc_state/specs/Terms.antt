@@ -16,6 +16,7 @@ use Rattle.mc_state.specs.Facts.{Derives}
 abbrev pub plain : NodeId → Term
 plain n = record { node = n; add = pos 0 }
 
+-- the term of zero
 abbrev pub zero_term : Term
 zero_term = plain null
 
@@ -53,6 +54,7 @@ TermsLieIn s (kind ∷ kinds) [] = ⊥
 abbrev pub term_of : List Term → ℕ → Term
 term_of names name = get_or names name zero_term
 
+-- the term of the base of a sum: that of a name, or of zero
 abbrev pub base_term : List Term → Option ℕ → Term
 base_term names None = zero_term
 base_term names (Some name) = term_of names name

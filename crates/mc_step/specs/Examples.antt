@@ -42,12 +42,15 @@ at n = record { 0 = n }
 abbrev pub x : VarId
 x = var 0
 
+-- the variable `int y`
 abbrev pub y : VarId
 y = var 1
 
+-- the variable `int z`
 abbrev pub z : VarId
 z = var 2
 
+-- the variable `struct cell *t`
 abbrev pub t : VarId
 t = var 3
 
@@ -55,6 +58,7 @@ t = var 3
 abbrev pub named : List ℕ → Kind → VarInfo
 named name kind = record { name = name; kind = kind }
 
+-- the four variables
 abbrev pub vars : List VarInfo
 vars = named (codes "x") Ptr ∷ named (codes "y") Int ∷ named (codes "z") Int ∷ named (codes "t") Ptr ∷ []
 
@@ -151,6 +155,7 @@ valuation number n = get_or (pos 0 ∷ pos 7 ∷ number ∷ pos 1 ∷ []) n (pos
 abbrev pub block : Block
 block = record { shape = 0; fields = None ∷ Some (pos 0) ∷ [] }
 
+-- a cell at 7
 abbrev pub heap : Heap
 heap = map.insert map.empty 7 block
 

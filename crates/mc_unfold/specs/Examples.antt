@@ -12,6 +12,7 @@ use Rattle.mc_pure.specs.Examples.{node}
 use Rattle.mc_state.specs.CoverExamples.{state_of, entry}
 use Rattle.mc_state.specs.State.{State}
 
+-- the edge with a number
 abbrev pub edge : ℕ → EdgeId
 edge n = record { 0 = n }
 
@@ -83,9 +84,11 @@ fork_then left right =
       whole = true;
     }
 
+-- a fork whose left tree is the segment
 abbrev pub goes_left : State
 goes_left = fork_then (Seg (node 3) [] tree_id (node 2) []) (Ind (node 4) tree_id [])
 
+-- a fork whose right tree is the segment
 abbrev pub goes_right : State
 goes_right = fork_then (Ind (node 3) tree_id []) (Seg (node 4) [] tree_id (node 2) [])
 

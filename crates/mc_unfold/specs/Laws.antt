@@ -15,16 +15,19 @@ LawOfInd =
     (defs : List Def) (accessed : Option NodeId) (edge : EdgeId) (s : State) (next : List State)
     → IsBounded s → UnfoldsInd defs accessed edge s next → IsSound defs s next × AllByRecursion IsBounded next
 
+-- an instance of L2 is sound, and its successors are bounded
 abbrev pub LawOfSeg : Type 0
 LawOfSeg =
     (defs : List Def) (accessed : Option NodeId) (edge : EdgeId) (s : State) (next : List State)
     → IsBounded s → UnfoldsSeg defs accessed edge s next → IsSound defs s next × AllByRecursion IsBounded next
 
+-- L1 gives one list of successors at most
 abbrev pub IndIsDetermined : Type 0
 IndIsDetermined =
     (defs : List Def) (accessed : Option NodeId) (edge : EdgeId) (s : State) (next other : List State)
     → UnfoldsInd defs accessed edge s next → UnfoldsInd defs accessed edge s other → next ≡ other
 
+-- L2 gives one list of successors at most
 abbrev pub SegIsDetermined : Type 0
 SegIsDetermined =
     (defs : List Def) (accessed : Option NodeId) (edge : EdgeId) (s : State) (next other : List State)
