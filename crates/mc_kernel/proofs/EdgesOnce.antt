@@ -1,7 +1,9 @@
 -- A jump, and jumps that take one edge for two, or leave an edge of a whole state, which are not sound.
-use Rattle.std.proofs.Common.{◌≡◌, [], ◌∷◌, Option, Some, None, refl, sym, ap, ◌∙◌, inl, inr, pos}
+use Rattle.std.proofs.Common.{◌≡◌, ◌↔◌, List, [], ◌∷◌, Option, Some, None, refl, sym, ap, ◌∙◌, inl, inr, pos}
 use Rattle.std.specs.Cmp.{nat_cmp_total}
 use Rattle.std.specs.FinMap.{get-from_entries}
+use Rattle.mc_base.specs.declared.ids.EdgeId.{EdgeId}
+use Rattle.mc_base.specs.declared.ids.NodeId.{NodeId}
 use Rattle.mc_base.specs.declared.plain.Kind.TheVariants.{Ptr}
 use Rattle.mc_base.specs.Nodes.{null}
 use Rattle.mc_heap.specs.Heap.{Block, IsAtAddresses}
@@ -15,7 +17,7 @@ use Rattle.mc_pure.specs.Pure as known
 use Rattle.mc_state.specs.Examples.{two_names, both_at_seven, sevens}
 use Rattle.mc_state.specs.Laws.{WholeWithoutEdges}
 use Rattle.mc_state.specs.Stands.{StandsBy}
-use Rattle.mc_state.specs.State.{unknown}
+use Rattle.mc_state.specs.State.{State, unknown}
 use Rattle.mc_kernel.specs.Examples as ex
 use Rattle.mc_kernel.specs.JumpLaws.{IsLawOfJumps}
 use Rattle.mc_kernel.specs.Jumps.{Jumps}
@@ -38,6 +40,35 @@ two_names_jump =
       atoms = (inl (base (known.block 0 refl)), tt);
       whole = λ e. (refl, refl);
     }
+
+-- with the right premises on edges it is a jump
+pub right_premises : (s t : State) (images : List NodeId) (edges : List EdgeId) → JumpsBy Picks LeavesNone s t images edges ↔ Jumps s t images edges
+right_premises s t images edges = (
+  λ j. record {
+    count = j.count;
+    null_image = j.null_image;
+    kinds = j.kinds;
+    vars = j.vars;
+    picked = j.picked;
+    left = j.left;
+    picks = j.picks;
+    match = j.match;
+    atoms = j.atoms;
+    whole = j.whole;
+  },
+  λ j. record {
+    count = j.count;
+    null_image = j.null_image;
+    kinds = j.kinds;
+    vars = j.vars;
+    picked = j.picked;
+    left = j.left;
+    picks = j.picks;
+    match = j.match;
+    atoms = j.atoms;
+    whole = j.whole;
+  },
+)
 
 -- ---- one edge for two
 
