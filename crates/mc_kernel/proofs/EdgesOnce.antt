@@ -1,7 +1,9 @@
--- Jumps that take one edge for two, or leave an edge of a whole state, are not sound.
-use Rattle.std.proofs.Common.{◌≡◌, [], ◌∷◌, Option, Some, None, refl, sym, ap, ◌∙◌, inl, inr, pos}
+-- A jump, and jumps that take one edge for two, or leave an edge of a whole state, which are not sound.
+use Rattle.std.proofs.Common.{◌≡◌, ◌↔◌, List, [], ◌∷◌, Option, Some, None, refl, sym, ap, ◌∙◌, inl, inr, pos}
 use Rattle.std.specs.Cmp.{nat_cmp_total}
 use Rattle.std.specs.FinMap.{get-from_entries}
+use Rattle.mc_base.specs.declared.ids.EdgeId.{EdgeId}
+use Rattle.mc_base.specs.declared.ids.NodeId.{NodeId}
 use Rattle.mc_base.specs.declared.plain.Kind.TheVariants.{Ptr}
 use Rattle.mc_base.specs.Nodes.{null}
 use Rattle.mc_heap.specs.Heap.{Block, IsAtAddresses}
@@ -9,16 +11,64 @@ use Rattle.mc_heap.specs.Parts.{Joins}
 use Rattle.mc_defs.specs.Examples.{defs, blocks, first_cell, cell_with, cell_id}
 use Rattle.mc_graph.specs.declared.edge.Edge.TheVariants as edge
 use Rattle.mc_graph.specs.Graph.{Picks}
-use Rattle.mc_pure.specs.Derived.{base, itself}
+use Rattle.mc_pure.specs.Derived.{base, itself, turned}
 use Rattle.mc_pure.specs.Examples.{node}
 use Rattle.mc_pure.specs.Pure as known
 use Rattle.mc_state.specs.Examples.{two_names, both_at_seven, sevens}
 use Rattle.mc_state.specs.Laws.{WholeWithoutEdges}
 use Rattle.mc_state.specs.Stands.{StandsBy}
-use Rattle.mc_state.specs.State.{unknown}
+use Rattle.mc_state.specs.State.{State, unknown}
 use Rattle.mc_kernel.specs.Examples as ex
 use Rattle.mc_kernel.specs.JumpLaws.{IsLawOfJumps}
+use Rattle.mc_kernel.specs.Jumps.{Jumps}
 use Rattle.mc_kernel.specs.WrongJumps.{JumpsBy, AreThere, LeavesNone, LeavesSome, two_cells_apart}
+
+-- ---- a jump
+
+-- the cell with two names is a cell with one
+pub two_names_jump : Jumps two_names ex.one_name_head (null ∷ node 1 ∷ []) (ex.edge 0 ∷ [])
+two_names_jump =
+    record {
+      count = refl;
+      null_image = refl;
+      kinds = ((inr refl, inl (base (known.kind 0 refl))), tt);
+      vars = (inl (itself (Ptr, inr refl)), (inl (turned (base (known.written 0 refl))), tt));
+      picked = edge.Block (node 1) cell_id (None ∷ None ∷ []) ∷ [];
+      left = [];
+      picks = (refl, (refl, refl));
+      match = ((refl, inl (itself (Ptr, inr refl)), (tt, (tt, tt))), tt);
+      atoms = (inl (base (known.block 0 refl)), tt);
+      whole = λ e. (refl, refl);
+    }
+
+-- with the right premises on edges it is a jump
+pub right_premises : (s t : State) (images : List NodeId) (edges : List EdgeId) → JumpsBy Picks LeavesNone s t images edges ↔ Jumps s t images edges
+right_premises s t images edges = (
+  λ j. record {
+    count = j.count;
+    null_image = j.null_image;
+    kinds = j.kinds;
+    vars = j.vars;
+    picked = j.picked;
+    left = j.left;
+    picks = j.picks;
+    match = j.match;
+    atoms = j.atoms;
+    whole = j.whole;
+  },
+  λ j. record {
+    count = j.count;
+    null_image = j.null_image;
+    kinds = j.kinds;
+    vars = j.vars;
+    picked = j.picked;
+    left = j.left;
+    picks = j.picks;
+    match = j.match;
+    atoms = j.atoms;
+    whole = j.whole;
+  },
+)
 
 -- ---- one edge for two
 

@@ -1,9 +1,10 @@
 -- Small flow graphs, and documents over them.
-use Rattle.std.specs.Prelude.{ℕ, pos, false, None, List, [], ◌∷◌, ◌++◌, codes}
+use Rattle.std.specs.Prelude.{ℕ, pos, true, false, Some, None, List, [], ◌∷◌, ◌++◌, codes}
 use Rattle.mc_base.specs.declared.ids.EdgeId.{EdgeId}
 use Rattle.mc_base.specs.declared.ids.PointId.{PointId}
 use Rattle.mc_base.specs.declared.ids.VarId.{VarId}
 use Rattle.mc_base.specs.declared.plain.Kind.TheVariants.{Int, Ptr}
+use Rattle.mc_base.specs.declared.plain.Atom.TheVariants.{In}
 use Rattle.mc_base.specs.declared.plain.VarInfo.{VarInfo}
 use Rattle.mc_base.specs.Nodes.{null}
 use Rattle.mc_defs.specs.Examples.{structs, list_id}
@@ -12,13 +13,16 @@ use Rattle.mc_flow.specs.declared.graph.Point.{Point}
 use Rattle.mc_flow.specs.declared.instr.Instr.{Instr}
 use Rattle.mc_flow.specs.declared.instr.Instr.TheVariants as instr
 use Rattle.mc_flow.specs.declared.instr.Operand.TheVariants.{Var, Const}
+use Rattle.mc_pure.specs.Examples.{node}
 use Rattle.mc_state.specs.declared.line.Form.TheVariants.{Certificate}
 use Rattle.mc_state.specs.declared.line.Line.{Line}
 use Rattle.mc_state.specs.declared.line.Line.TheVariants.{Header, Cut, Head, End, S1, S2, S3, S4, S13, S15, S16, S17, L13, L14, C1}
 use Rattle.mc_state.specs.declared.line.Version.TheVariants.{One}
 use Rattle.mc_state.specs.declared.raw_state.NodeKind.TheVariants.{Zero}
 use Rattle.mc_state.specs.declared.raw_state.RawState.{RawState}
+use Rattle.mc_state.specs.Examples.{one_cell}
 use Rattle.mc_state.specs.RawStates.{state_of}
+use Rattle.mc_state.specs.State.{State}
 use Rattle.mc_kernel.specs.Branches.{Path, path_to}
 
 -- the point with a number
@@ -133,3 +137,17 @@ failing_pass = S1 ∷ L13 0 (null ∷ []) [] ∷ S1 ∷ C1 ∷ []
 -- where it is stuck: at the fault, with the state of the head
 abbrev pub failing_path : Path
 failing_path = path_to (at 2) (state_of failing_state) None
+
+-- ---- a jump with an edge
+
+-- both variables are one node, an address where a cell lies, and nothing else is allocated
+abbrev pub one_name_head : State
+one_name_head =
+    record {
+      env = Some (node 1) ∷ Some (node 1) ∷ [];
+      kinds = (node 1, Ptr) ∷ [];
+      graph = one_cell;
+      atoms = In (node 1) (pos 1) (pos 4611686018427387903) ∷ [];
+      next = 2;
+      whole = true;
+    }

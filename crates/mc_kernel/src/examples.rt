@@ -2,12 +2,16 @@
 ghost use Rattle.std.specs.Prelude.{[], ◌∷◌};
 ghost use Rattle.mc_base.specs.declared.plain.FaultKind.TheVariants.{Assertion};
 ghost use Rattle.mc_base.specs.Runs.{Reaches, fault};
+ghost use Rattle.mc_base.specs.Nodes.{null};
 ghost use Rattle.mc_defs.specs.Examples.{defs};
 ghost use Rattle.mc_flow.specs.Steps.{Step, start};
 ghost use Rattle.mc_flow.specs.Valid.{IsValid};
+ghost use Rattle.mc_pure.specs.Examples.{node};
+ghost use Rattle.mc_state.specs.Examples.{two_names};
 ghost use Rattle.mc_state.specs.RawStates.{state_of};
 ghost use Rattle.mc_kernel.specs.Certificates.{IsValidCertificate, IsLastPass};
-ghost use Rattle.mc_kernel.specs.Examples.{at, loop_flow, loop_document, list_flow, list_document, failing_flow, failing_state, failing_pass, failing_path};
+ghost use Rattle.mc_kernel.specs.Jumps.{Jumps};
+ghost use Rattle.mc_kernel.specs.Examples.{at, edge, loop_flow, loop_document, list_flow, list_document, failing_flow, failing_state, failing_pass, failing_path, one_name_head};
 
 /// A loop over inputs, with its certificate.
 pub fn loop_is_certified()
@@ -36,3 +40,8 @@ pub fn failing_is_stuck()
     mc_defs::examples_fit();
     mc_pure::derived_is_true();
 }
+
+/// A jump with an edge, to a state that is whole.
+pub fn example_of_jump()
+    ensures { Jumps two_names one_name_head (null ∷ node 1 ∷ []) (edge 0 ∷ []) }
+{}

@@ -21,7 +21,7 @@ mod tests;
 mod wrong_jumps;
 
 pub use branch::Branch;
-pub use examples::{failing_is_stuck, list_is_certified, loop_is_certified};
+pub use examples::{example_of_jump, failing_is_stuck, list_is_certified, loop_is_certified};
 pub use laws::{certificates_are_safe, jumps_are_sound, last_pass_finds_faults};
 pub use proof::{ApplyFault, Complete, Proof};
 pub use straight::straight_is_valid;

@@ -1,13 +1,20 @@
 // Jumps that are wrong, and what they would prove.
+ghost use Rattle.std.specs.Prelude.{◌↔◌, List};
+ghost use Rattle.mc_base.specs.declared.ids.EdgeId.{EdgeId as Edge};
+ghost use Rattle.mc_base.specs.declared.ids.NodeId.{NodeId as Node};
 ghost use Rattle.mc_defs.specs.Examples.{defs};
 ghost use Rattle.mc_graph.specs.Graph.{Picks};
+ghost use Rattle.mc_kernel.specs.Jumps.{Jumps};
+ghost use Rattle.mc_state.specs.State.{State};
 ghost use Rattle.mc_kernel.specs.Certificates.{IsValidCertificate};
 ghost use Rattle.mc_kernel.specs.Examples.{loop_flow, failing_flow};
 ghost use Rattle.mc_kernel.specs.JumpLaws.{IsLawOfJumps};
 ghost use Rattle.mc_kernel.specs.WrongJumps.{JumpsBy, AreThere, LeavesNone, LeavesSome, IsCertificateAtOnce, failing_document, uncut_document};
 
-/// A jump that takes one edge for two, or leaves an edge where the state is whole, is not sound.
+/// A jump names each edge once, and all of them where the state is whole; one that takes one edge for two,
+/// or leaves an edge there, is not sound.
 pub fn edges_are_taken_once()
+    ensures right { (s t : State) (images : List Node) (edges : List Edge) → JumpsBy Picks LeavesNone s t images edges ↔ Jumps s t images edges }
     ensures distinct { ¬ IsLawOfJumps (JumpsBy AreThere LeavesNone) }
     ensures each { ¬ IsLawOfJumps (JumpsBy Picks LeavesSome) }
 {
