@@ -15,5 +15,5 @@ pub use pieces::first_line;
 
 /// Bytes spell one line at most.
 pub fn line_is_spelled_once()
-    ensures { (bytes : List ℕ) (x y : StraightLine) → Spells bytes x → Spells bytes y → x ≡ y }
+    ensures { (bytes : List ℕ) (x y : Line) → Spells bytes x → Spells bytes y → x ≡ y }
 {}
