@@ -11,7 +11,8 @@ pub fn derived_is_true()
     mc_pure::derived_is_true();
 }
 
-/// Where nothing is allocated, a state of which nothing is known stands, and where a whole state without edges stands, nothing is allocated.
+/// Where nothing is allocated, any values stand for the state of which nothing is known, and what
+/// stands for a whole state without edges has nothing allocated.
 pub fn nothing_is_allocated()
     ensures unknown { UnknownStands }
     ensures whole { WholeWithoutEdges }
@@ -51,7 +52,8 @@ pub fn less_is_known()
     ensures node { NodeIsDropped }
 {}
 
-/// What stands for a renamed state stands for the state, and where no two nodes have one image, the other way too.
+/// What stands for a renamed state stands for the state, and where no two nodes have one image, the
+/// other way too.
 pub fn renaming_is_sound()
     ensures back { RenamedStands }
     ensures forth { StandsRenamed }
@@ -79,7 +81,8 @@ pub fn numbers_stay_bounded()
     ensures dropped { DroppedStaysBounded }
 {}
 
-/// Nodes that are there are below the next number, new nodes are there with their kinds, and so are the nodes of edges that are named.
+/// Nodes that are there are below the next number; new nodes are there with their kinds, and the nodes
+/// of edges that are named are there.
 pub fn nodes_are_there()
     ensures below { NodesAreBelow }
     ensures new { NewNodesAreThere }
