@@ -47,7 +47,7 @@ fn has_no_definitions<F: Files>(alloc: Global, files: &mut F, name: &str) -> Res
     }
 }
 
-// Whether a document is valid for the program, which is safe then.
+// Whether a document is valid for the program without definitions, which is safe then.
 fn certifies(alloc: Global, tree: &Program, document: &[u8]) -> Result<bool, AllocError>
     requires { IsTyped tree.now }
     ensures valid { IfOk result (λ b. IsTrue b ↔ IsValidDocument (flow_of tree.now) document.now) }
@@ -56,7 +56,7 @@ fn certifies(alloc: Global, tree: &Program, document: &[u8]) -> Result<bool, All
     certified_is_safe();
     runs_match();
     let flow = lower(alloc, tree)?;
-    let yes = mc_check::check(alloc, &flow, &Defs {}, document)?;
+    let yes = mc_check::check(alloc, &flow, &Defs::new(alloc), document)?;
     Ok(yes)
 }
 

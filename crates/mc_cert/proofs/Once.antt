@@ -5,8 +5,8 @@ use Rattle.std.specs.Str.{bytes_eq}
 use Rattle.serde_json.specs.Data.{Data, string, array, Items, no_items, item}
 use Rattle.mc_state.specs.declared.line.Version.TheVariants.{One}
 use Rattle.mc_state.specs.declared.line.Form.TheVariants.{Certificate, Chain}
-use Rattle.mc_state.specs.declared.line.Line.{Line}
-use Rattle.mc_state.specs.declared.line.Line.TheVariants.{Header, S1, S2, S3, S8, S9, S10, S11, S12, S13, S17, L12, End}
+use Rattle.mc_state.specs.declared.straight_line.StraightLine.{StraightLine as Line}
+use Rattle.mc_state.specs.declared.straight_line.StraightLine.TheVariants.{Header, S1, S2, S3, S8, S9, S10, S11, S12, S13, S17, L12, End}
 use Rattle.mc_cert.specs.Document.{Spells, data_of}
 
 -- the line of a name alone

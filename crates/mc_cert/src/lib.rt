@@ -2,7 +2,7 @@
 #![tactic(auto)]
 
 ghost use Rattle.std.specs.Prelude.{◌≡◌, ℕ, List};
-ghost use Rattle.mc_state.specs.declared.line.Line.{Line};
+ghost use Rattle.mc_state.specs.declared.straight_line.StraightLine.{StraightLine as Line};
 ghost use Rattle.mc_cert.specs.Document.{Spells};
 
 mod line;

@@ -3,10 +3,10 @@ ghost use Rattle.std.specs.Prelude.{◌≡◌, ◌↔◌, IfErr, IsTrue, MatchOp
 ghost use Rattle.serde_json.specs.View.{view, items_view};
 ghost use Rattle.serde_json.specs.Data.{array, item, no_items, string};
 ghost use Rattle.mc_state.specs.declared.line.Form.{Form};
-ghost use Rattle.mc_state.specs.declared.line.Line.{Line};
+ghost use Rattle.mc_state.specs.declared.straight_line.StraightLine.{StraightLine as Line};
 ghost use Rattle.mc_cert.specs.Document.{DataReadsAs, IsWholeNumber, ReadsAs, SpellsNone, data_of, form_name};
 
-use mc_state::{Form, Line, Version};
+use mc_state::{Form, StraightLine, Version};
 use serde_json::Value;
 use std::alloc::{AllocError, Global};
 use thiserror::Error;
@@ -40,22 +40,22 @@ fn is_whole(value: &Value) -> bool
 }
 
 // The line of a name alone.
-fn named(name: &str) -> Option<Line>
-    ensures { MatchOption result ((line : Line) → array (item (string name.now) no_items) ≡ data_of line → ⊥) (λ line. array (item (string name.now) no_items) ≡ data_of line) }
+fn named(name: &str) -> Option<StraightLine>
+    ensures { MatchOption result ((line : StraightLine) → array (item (string name.now) no_items) ≡ data_of line → ⊥) (λ line. array (item (string name.now) no_items) ≡ data_of line) }
 {
     match name {
-        "S1" => Some(Line::S1),
-        "S2" => Some(Line::S2),
-        "S3" => Some(Line::S3),
-        "S8" => Some(Line::S8),
-        "S9" => Some(Line::S9),
-        "S10" => Some(Line::S10),
-        "S11" => Some(Line::S11),
-        "S12" => Some(Line::S12),
-        "S13" => Some(Line::S13),
-        "S17" => Some(Line::S17),
-        "L12" => Some(Line::L12),
-        "end" => Some(Line::End),
+        "S1" => Some(StraightLine::S1),
+        "S2" => Some(StraightLine::S2),
+        "S3" => Some(StraightLine::S3),
+        "S8" => Some(StraightLine::S8),
+        "S9" => Some(StraightLine::S9),
+        "S10" => Some(StraightLine::S10),
+        "S11" => Some(StraightLine::S11),
+        "S12" => Some(StraightLine::S12),
+        "S13" => Some(StraightLine::S13),
+        "S17" => Some(StraightLine::S17),
+        "L12" => Some(StraightLine::L12),
+        "end" => Some(StraightLine::End),
         _ => None,
     }
 }
@@ -73,7 +73,7 @@ fn form_of(value: &Value) -> Option<Form>
 }
 
 // The line of one entry.
-fn alone(entry: &Value) -> Result<Line, LineFault>
+fn alone(entry: &Value) -> Result<StraightLine, LineFault>
     ensures { DataReadsAs (array (item (view entry.now) no_items)) result }
 {
     match entry.as_str() {
@@ -83,7 +83,7 @@ fn alone(entry: &Value) -> Result<Line, LineFault>
 }
 
 // The line of three entries.
-fn header(name: &Value, version: &Value, form: &Value) -> Result<Line, LineFault>
+fn header(name: &Value, version: &Value, form: &Value) -> Result<StraightLine, LineFault>
     ensures { DataReadsAs (array (item (view name.now) (item (view version.now) (item (view form.now) no_items)))) result }
 {
     if !is_text(name, "memcad") {
@@ -93,7 +93,7 @@ fn header(name: &Value, version: &Value, form: &Value) -> Result<Line, LineFault
         return Err(LineFault::Form);
     };
     if version.as_u64() == Some(1) {
-        Ok(Line::Header(Version::One, form))
+        Ok(StraightLine::Header(Version::One, form))
     } else if is_whole(version) {
         Err(LineFault::Version)
     } else {
@@ -101,7 +101,7 @@ fn header(name: &Value, version: &Value, form: &Value) -> Result<Line, LineFault
     }
 }
 
-fn line_in(entries: &[Value]) -> Result<Line, LineFault>
+fn line_in(entries: &[Value]) -> Result<StraightLine, LineFault>
     ensures { DataReadsAs (array (items_view entries.now)) result }
 {
     if entries.len() == 1 {
@@ -114,7 +114,7 @@ fn line_in(entries: &[Value]) -> Result<Line, LineFault>
 }
 
 /// The line that bytes spell, or why they are none.
-pub fn line_of(alloc: Global, bytes: &[u8]) -> Result<Line, LineFault>
+pub fn line_of(alloc: Global, bytes: &[u8]) -> Result<StraightLine, LineFault>
     ensures reads { ReadsAs bytes.now result }
     ensures none { IfErr result (SpellsNone bytes.now) }
 {

@@ -1,25 +1,25 @@
 use crate::{LineFault, first_line, line_is_spelled_once, line_of};
-use mc_state::{Form, Line, Version};
+use mc_state::{Form, StraightLine, Version};
 use std::test::Fail;
 
-const CERTIFICATE: Line = Line::Header(Version::One, Form::Certificate);
+const CERTIFICATE: StraightLine = StraightLine::Header(Version::One, Form::Certificate);
 
 // Texts that spell lines.
-static LINES: [(&str, Line); 11] = [
+static LINES: [(&str, StraightLine); 11] = [
     (r#"["memcad",1,"certificate"]"#, CERTIFICATE),
     (
         r#"["memcad",1,"chain"]"#,
-        Line::Header(Version::One, Form::Chain),
+        StraightLine::Header(Version::One, Form::Chain),
     ),
     ("[ \"memcad\" , 1 ,\t\"certificate\" ]\r", CERTIFICATE),
-    (r#"["S1"]"#, Line::S1),
-    (r#" [ "S1" ] "#, Line::S1),
-    (r#"["\u0053\u0031"]"#, Line::S1),
-    (r#"["S2"]"#, Line::S2),
-    (r#"["S17"]"#, Line::S17),
-    (r#"[ "S17"]"#, Line::S17),
-    (r#"["end"]"#, Line::End),
-    ("[\n\"end\"\n]", Line::End),
+    (r#"["S1"]"#, StraightLine::S1),
+    (r#" [ "S1" ] "#, StraightLine::S1),
+    (r#"["\u0053\u0031"]"#, StraightLine::S1),
+    (r#"["S2"]"#, StraightLine::S2),
+    (r#"["S17"]"#, StraightLine::S17),
+    (r#"[ "S17"]"#, StraightLine::S17),
+    (r#"["end"]"#, StraightLine::End),
+    ("[\n\"end\"\n]", StraightLine::End),
 ];
 
 // Texts that spell none, and why.

@@ -1,7 +1,7 @@
 -- Which texts are valid certificates.
 use Rattle.std.specs.Prelude.{ℕ, List, [], ◌∷◌}
 use Rattle.mc_flow.specs.declared.graph.Flow.{Flow}
-use Rattle.mc_state.specs.declared.line.Line.{Line}
+use Rattle.mc_state.specs.declared.straight_line.StraightLine.{StraightLine as Line}
 use Rattle.mc_cert.specs.Lines.{lines_of}
 use Rattle.mc_cert.specs.Document.{Spells}
 use Rattle.mc_kernel.specs.Rules.{IsCertificate}

@@ -1,6 +1,6 @@
 -- What judging says of a document that is being read.
 use Rattle.std.specs.Prelude.{◌≡◌, ℕ, List, [], ◌∷◌, Bool, true, false}
-use Rattle.mc_state.specs.declared.line.Line.{Line}
+use Rattle.mc_state.specs.declared.straight_line.StraightLine.{StraightLine as Line}
 use Rattle.mc_state.specs.declared.line.Form.TheVariants.{Certificate}
 use Rattle.mc_cert.specs.Document.{Spells}
 use Rattle.mc_kernel.specs.Rules.{Proves}

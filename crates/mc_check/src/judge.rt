@@ -1,7 +1,7 @@
 // Judges certificates line by line.
 ghost use Rattle.std.specs.Prelude.{◌≡◌, ◌↔◌, IfOk, IsTrue, MatchBool};
 ghost use Rattle.mc_flow.specs.Valid.{IsValid};
-ghost use Rattle.mc_state.specs.declared.line.Line.TheVariants.{Header};
+ghost use Rattle.mc_state.specs.declared.straight_line.StraightLine.TheVariants.{Header};
 ghost use Rattle.mc_state.specs.declared.line.Version.TheVariants.{One};
 ghost use Rattle.mc_state.specs.declared.line.Form.TheVariants.{Certificate};
 ghost use Rattle.mc_cert.specs.Lines.{lines_of};
@@ -12,7 +12,7 @@ ghost use Rattle.mc_check.specs.Judged.{Closes, IsTaken, IsNotTaken};
 use mc_cert::{LineFault, first_line, line_is_spelled_once, line_of};
 use mc_flow::{Defs, Flow};
 use mc_kernel::{ApplyFault, Proof, successors_are_determined};
-use mc_state::{Form, Line, Version};
+use mc_state::{Form, StraightLine, Version};
 use std::alloc::{AllocError, Global};
 
 // Applies the line that bytes spell, and says whether it could.
@@ -53,7 +53,7 @@ fn is_header(alloc: Global, bytes: &[u8]) -> Result<bool, AllocError>
 {
     line_is_spelled_once();
     match line_of(alloc, bytes) {
-        Ok(line) => Ok(line == Line::Header(Version::One, Form::Certificate)),
+        Ok(line) => Ok(line == StraightLine::Header(Version::One, Form::Certificate)),
         Err(LineFault::NotJson) => Ok(false),
         Err(LineFault::Form) => Ok(false),
         Err(LineFault::Version) => Ok(false),

@@ -1,10 +1,6 @@
-ghost use Rattle.std.specs.Prelude.{IfOk};
-ghost use Rattle.mc_flow.specs.declared.graph.Defs.{Defs as Definitions};
-ghost use Rattle.mc_flow.specs.Valid.{IsValid};
-
 use crate::check;
 use mc_base::{Items, Place};
-use mc_flow::{Defs, Flow, Instr, Point, Structs};
+use mc_flow::{Defs, Flow, Instr, Point, Structs, valid};
 use std::alloc::{AllocError, Global};
 use std::test::Fail;
 
@@ -46,9 +42,7 @@ static DOCUMENTS: [(&str, bool); 12] = [
 ];
 
 // The flow graph that ends at once.
-fn flow(alloc: Global) -> Result<Flow, AllocError>
-    ensures { IfOk result (λ f. (defs : Definitions) → IsValid f defs) }
-{
+fn flow(alloc: Global) -> Result<Flow, AllocError> {
     let end = Point {
         code: Instr::End,
         place: Place { line: 1, column: 1 },
@@ -68,11 +62,12 @@ fn flow(alloc: Global) -> Result<Flow, AllocError>
 #[test]
 fn documents_are_judged(rt: HostRuntime) -> Result<(), Fail> {
     let alloc = rt.alloc();
-    let flow = flow(alloc)?;
-    for (document, valid) in &DOCUMENTS {
+    let (flow, defs) = (flow(alloc)?, Defs::new(alloc));
+    assert!(rt; valid(&flow, &defs));
+    for (document, certifies) in &DOCUMENTS {
         assert_eq!(rt;
-            check(alloc, &flow, &Defs {}, document.as_bytes()),
-            Ok(*valid),
+            check(alloc, &flow, &defs, document.as_bytes()),
+            Ok(*certifies),
             "{document}"
         );
     }

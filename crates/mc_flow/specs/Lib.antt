@@ -1,2 +1,4 @@
-pub mod Valid
+pub mod Values
 pub mod Steps
+pub mod Valid
+pub mod Examples

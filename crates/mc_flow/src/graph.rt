@@ -1,30 +1,7 @@
 // Flow graphs.
 use crate::Instr;
-use mc_base::{Items, Kind, Place, PointId, VarInfo};
-
-/// A field of a struct: its name, and the kind of its values.
-#[derive(Drop)]
-pub struct FieldInfo {
-    pub name: Items<u8>,
-    pub kind: Kind,
-}
-
-/// A struct of a program: its name, and its fields in the order of the text.
-#[derive(Drop)]
-pub struct StructInfo {
-    pub name: Items<u8>,
-    pub fields: Items<FieldInfo>,
-}
-
-/// The structs of a program, by their numbers.
-#[derive(Drop)]
-pub struct Structs {
-    pub list: Items<StructInfo>,
-}
-
-/// Inductive definitions, of which there are none yet.
-#[derive(Clone, Copy, Debug, PartialEq, Eq)]
-pub struct Defs {}
+use mc_base::{Items, Place, PointId, VarInfo};
+use mc_defs::Structs;
 
 /// A point of a flow graph: its instruction, and the place of the text that it comes from.
 #[derive(Drop)]

@@ -2,7 +2,7 @@
 use Rattle.std.proofs.Common.{◌≡◌, List, [], ◌∷◌, ◌++◌, reverse, refl, sym, subst, Option, Some}
 use Rattle.std.proofs.lemmas.List.{reverse-append}
 use Rattle.std.specs.Prelude.{option_to_list}
-use Rattle.mc_state.specs.declared.line.Line.{Line}
+use Rattle.mc_state.specs.declared.straight_line.StraightLine.{StraightLine as Line}
 use Rattle.mc_kernel.specs.declared.branch.Branch.{Branch}
 use Rattle.mc_kernel.specs.Rules.{Instance}
 use Rattle.mc_kernel.specs.Applied.{Opened, IsReady, Advances, Applies}

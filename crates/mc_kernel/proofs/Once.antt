@@ -1,8 +1,8 @@
 -- A line gives a branch one list of successors at most.
 use Rattle.std.proofs.Common.{◌≡◌, List, sym, ◌∙◌}
 use Rattle.mc_flow.specs.declared.graph.Flow.{Flow}
-use Rattle.mc_state.specs.declared.line.Line.{Line}
-use Rattle.mc_state.specs.declared.line.Line.TheVariants.{Header, S1, S2, S3, S8, S9, S10, S11, S12, S13, S17, L12, End}
+use Rattle.mc_state.specs.declared.straight_line.StraightLine.{StraightLine as Line}
+use Rattle.mc_state.specs.declared.straight_line.StraightLine.TheVariants.{Header, S1, S2, S3, S8, S9, S10, S11, S12, S13, S17, L12, End}
 use Rattle.mc_kernel.specs.declared.branch.Branch.{Branch}
 use Rattle.mc_kernel.specs.Rules.{Instance}
 

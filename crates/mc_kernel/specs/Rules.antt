@@ -1,6 +1,5 @@
 -- Which lines are instances of the rules, and which documents are certificates.
-use Rattle.std.specs.Prelude.{◌≡◌, ◌<◌, ℕ, List, [], ◌∷◌, ◌++◌, pos, true, false, Option, Some, length, slice_get, option_map, if◌then◌else◌}
-use Rattle.std.specs.Ordering.{int_eq}
+use Rattle.std.specs.Prelude.{◌≡◌, ◌<◌, ℕ, List, [], ◌∷◌, ◌++◌, pos, true, false, Option, Some, length, slice_get, option_map}
 use Rattle.mc_base.specs.declared.ids.NodeId.{NodeId}
 use Rattle.mc_base.specs.declared.ids.PointId.{PointId}
 use Rattle.mc_base.specs.declared.ids.VarId.{VarId}
@@ -12,13 +11,17 @@ use Rattle.mc_flow.specs.declared.instr.Instr.TheVariants as instr
 use Rattle.mc_flow.specs.declared.graph.Flow.{Flow}
 use Rattle.mc_state.specs.declared.line.Version.TheVariants.{One}
 use Rattle.mc_state.specs.declared.line.Form.TheVariants.{Certificate}
-use Rattle.mc_state.specs.declared.line.Line.{Line}
-use Rattle.mc_state.specs.declared.line.Line.TheVariants.{Header, S1, S2, S3, S8, S9, S10, S11, S12, S13, S17, L12, End}
+use Rattle.mc_state.specs.declared.straight_line.StraightLine.{StraightLine as Line}
+use Rattle.mc_state.specs.declared.straight_line.StraightLine.TheVariants.{Header, S1, S2, S3, S8, S9, S10, S11, S12, S13, S17, L12, End}
 use Rattle.mc_base.specs.declared.ids.StructId.{StructId}
 use Rattle.mc_base.specs.declared.plain.Atom.TheVariants.{Eq, Ne}
 use Rattle.mc_flow.specs.Steps.{field_count}
-use Rattle.mc_state.specs.declared.edge.Edge.{Edge}
-use Rattle.mc_state.specs.State.{State, null, unknown, var_node, with_var, without_vars, with_number, next_node, with_atom, with_block, is_null, is_false, block_place, shaped_block_place, edge_at, fields_of, start_of, with_field, without_block}
+use Rattle.mc_graph.specs.declared.edge.Edge.{Edge}
+use Rattle.mc_base.specs.Nodes.{null}
+use Rattle.mc_graph.specs.Edges.{fields_of, start_of}
+use Rattle.mc_state.specs.State.{State, unknown, var_node, with_var, without_vars, next_node, with_atom, with_block}
+use Rattle.mc_state.specs.Straight.{is_null, is_false, block_place, shaped_block_place, edge_at, with_field, without_block}
+use Rattle.mc_step.specs.Operands.{operand_node, with_operand}
 use Rattle.mc_kernel.specs.declared.branch.Branch.{Branch}
 
 -- the branch that begins at the entry: no variable is known, and nothing is allocated
@@ -28,16 +31,6 @@ entry flow = record { point = 0; state = unknown (length flow.vars) }
 -- the instruction at a point
 abbrev pub instr_at : Flow → ℕ → Option Instr
 instr_at flow p = option_map (λ point. point.code) (slice_get flow.points p)
-
--- the operand's node, where it is known: node 0 for the constant 0, and the next node for another constant
-abbrev pub operand_node : State → Operand → Option NodeId
-operand_node s (Var x) = var_node s x
-operand_node s (Const c) = Some (if int_eq c (pos 0) then null else next_node s)
-
--- the state in which that node stands
-abbrev pub with_operand : State → Operand → State
-with_operand s (Var x) = s
-with_operand s (Const c) = if int_eq c (pos 0) then s else with_number s c
 
 -- the branch has come to a point with this state
 abbrev pub moved_to : PointId → State → Branch

@@ -7,7 +7,7 @@ ghost use Rattle.mc_kernel.specs.declared.proof.ApplyFault.TheVariants.{NoMemory
 use crate::Branch;
 use crate::rules::{Next, advance};
 use mc_flow::{Defs, Flow};
-use mc_state::{Form, Line};
+use mc_state::{Form, StraightLine};
 use std::alloc::{AllocError, Global};
 use std::marker::Model;
 
@@ -87,7 +87,7 @@ impl<'f> Proof<'f> {
     }
 
     /// Applies a line. An `Err` changes nothing.
-    pub fn apply(&mut self, line: &Line) -> Result<(), ApplyFault>
+    pub fn apply(&mut self, line: &StraightLine) -> Result<(), ApplyFault>
         ensures ok { OnOk result (Applies line.now self.old self.new) }
         ensures refused { IsErrOf result ApplyFault.Refused → IsRefused line.now self.old }
         ensures err { OnErr result (self.new ≡ self.old) }
@@ -96,7 +96,7 @@ impl<'f> Proof<'f> {
             return Err(ApplyFault::Refused);
         }
         let Some(branch) = &mut self.current else {
-            if *line != Line::End {
+            if *line != StraightLine::End {
                 return Err(ApplyFault::Refused);
             }
             self.ended = true;

@@ -2,15 +2,17 @@
 ghost use Rattle.std.specs.Prelude.{◌≡◌, ◌<◌, ◌↔◌, IfOk, IsTrue, MatchOption, OnOk, OnErr, Some, length, option_map, slice_get};
 ghost use Rattle.mc_base.specs.declared.ids.NodeId.{NodeId};
 ghost use Rattle.mc_flow.specs.Steps.{field_count};
-ghost use Rattle.mc_state.specs.declared.edge.Edge.{Edge as Block};
-ghost use Rattle.mc_state.specs.State.{edge_at, fields_of, start_of};
-ghost use Rattle.mc_kernel.specs.Rules.{instr_at, operand_node, with_operand, S1Is, S2Is, S3Is, S8Is, S9Is, S10Is, S11Is, S12Is, S13Is, S17Is, L12Is, Instance};
+ghost use Rattle.mc_graph.specs.declared.edge.Edge.{Edge as Block};
+ghost use Rattle.mc_graph.specs.Edges.{fields_of, start_of};
+ghost use Rattle.mc_state.specs.Straight.{edge_at};
+ghost use Rattle.mc_step.specs.Operands.{operand_node, with_operand};
+ghost use Rattle.mc_kernel.specs.Rules.{instr_at, S1Is, S2Is, S3Is, S8Is, S9Is, S10Is, S11Is, S12Is, S13Is, S17Is, L12Is, Instance};
 ghost use Rattle.mc_kernel.specs.Next.{branches, Becomes};
 
 use crate::Branch;
 use mc_base::{NodeId, StructId};
 use mc_flow::{Flow, Instr, Operand, Structs};
-use mc_state::{Line, State};
+use mc_state::{State, StraightLine};
 use std::alloc::{AllocError, Global};
 
 /// What became of a branch.
@@ -300,25 +302,25 @@ fn unsound(branch: &mut Branch) -> Option<Next>
 pub fn advance(
     alloc: Global,
     flow: &Flow,
-    line: Line,
+    line: StraightLine,
     branch: &mut Branch,
 ) -> Result<Option<Next>, AllocError>
     ensures ok { IfOk result (Becomes (Instance flow.now line) branch.old branch.new) }
     ensures err { OnErr result (branch.new ≡ branch.old) }
 {
     match line {
-        Line::S1 => Ok(skip(flow, branch)),
-        Line::S2 => copy(flow, branch),
-        Line::S3 => Ok(undef(flow, branch)),
-        Line::S8 => Ok(load(flow, branch)),
-        Line::S9 => store(flow, branch),
-        Line::S10 => malloc(alloc, flow, branch),
-        Line::S11 => Ok(free_null(flow, branch)),
-        Line::S12 => free(alloc, flow, branch),
-        Line::S13 => test(alloc, flow, branch),
-        Line::S17 => Ok(end(flow, branch)),
-        Line::L12 => Ok(unsound(branch)),
-        Line::Header(_, _) => Ok(None),
-        Line::End => Ok(None),
+        StraightLine::S1 => Ok(skip(flow, branch)),
+        StraightLine::S2 => copy(flow, branch),
+        StraightLine::S3 => Ok(undef(flow, branch)),
+        StraightLine::S8 => Ok(load(flow, branch)),
+        StraightLine::S9 => store(flow, branch),
+        StraightLine::S10 => malloc(alloc, flow, branch),
+        StraightLine::S11 => Ok(free_null(flow, branch)),
+        StraightLine::S12 => free(alloc, flow, branch),
+        StraightLine::S13 => test(alloc, flow, branch),
+        StraightLine::S17 => Ok(end(flow, branch)),
+        StraightLine::L12 => Ok(unsound(branch)),
+        StraightLine::Header(_, _) => Ok(None),
+        StraightLine::End => Ok(None),
     }
 }

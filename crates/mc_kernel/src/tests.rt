@@ -1,91 +1,95 @@
-ghost use Rattle.std.specs.Prelude.{◌≡◌, IfOk};
-ghost use Rattle.mc_flow.specs.declared.graph.Defs.{Defs as Definitions};
-ghost use Rattle.mc_flow.specs.Valid.{IsValid};
-
 use crate::rules::{Next, advance};
 use crate::{ApplyFault, Branch, Complete, Proof, certified_is_safe, successors_are_determined};
 use mc_base::{Items, Kind, NodeId, Place, PointId, StructId, VarId, VarInfo};
-use mc_flow::{Defs, FieldInfo, Flow, Instr, Operand, Point, StructInfo, Structs};
-use mc_state::{Form, Line, Version};
+use mc_flow::{Defs, FieldInfo, Flow, Instr, Operand, Point, StructInfo, Structs, valid};
+use mc_state::{Form, StraightLine, Version};
 use std::alloc::{AllocError, Global};
 use std::test::Fail;
 
 // Each line that there is.
-static EACH: [Line; 14] = [
-    Line::Header(Version::One, Form::Certificate),
-    Line::Header(Version::One, Form::Chain),
-    Line::S1,
-    Line::S2,
-    Line::S3,
-    Line::S8,
-    Line::S9,
-    Line::S10,
-    Line::S11,
-    Line::S12,
-    Line::S13,
-    Line::S17,
-    Line::L12,
-    Line::End,
+static EACH: [StraightLine; 14] = [
+    StraightLine::Header(Version::One, Form::Certificate),
+    StraightLine::Header(Version::One, Form::Chain),
+    StraightLine::S1,
+    StraightLine::S2,
+    StraightLine::S3,
+    StraightLine::S8,
+    StraightLine::S9,
+    StraightLine::S10,
+    StraightLine::S11,
+    StraightLine::S12,
+    StraightLine::S13,
+    StraightLine::S17,
+    StraightLine::L12,
+    StraightLine::End,
 ];
 
 // The certificate of the program below: the branch of null, which then is no other than null,
 // and the branch of the block, which then is not null.
-static CERTIFICATE: [Line; 14] = [
-    Line::S1,
-    Line::S10,
-    Line::S13,
-    Line::S2,
-    Line::S17,
-    Line::L12,
-    Line::S13,
-    Line::L12,
-    Line::S1,
-    Line::S9,
-    Line::S12,
-    Line::S2,
-    Line::S17,
-    Line::End,
+static CERTIFICATE: [StraightLine; 14] = [
+    StraightLine::S1,
+    StraightLine::S10,
+    StraightLine::S13,
+    StraightLine::S2,
+    StraightLine::S17,
+    StraightLine::L12,
+    StraightLine::S13,
+    StraightLine::L12,
+    StraightLine::S1,
+    StraightLine::S9,
+    StraightLine::S12,
+    StraightLine::S2,
+    StraightLine::S17,
+    StraightLine::End,
 ];
 
 // Lines that are no certificate of it, each with the place of the first that is refused: the branch
 // of null is left out, a false state is not closed, the block is not freed, and the end comes early.
-static WRONG: [(&[Line], usize); 4] = [
-    (&[Line::S1, Line::S10, Line::S13, Line::L12], 3),
+static WRONG: [(&[StraightLine], usize); 4] = [
     (
         &[
-            Line::S1,
-            Line::S10,
-            Line::S13,
-            Line::S2,
-            Line::S17,
-            Line::S1,
+            StraightLine::S1,
+            StraightLine::S10,
+            StraightLine::S13,
+            StraightLine::L12,
+        ],
+        3,
+    ),
+    (
+        &[
+            StraightLine::S1,
+            StraightLine::S10,
+            StraightLine::S13,
+            StraightLine::S2,
+            StraightLine::S17,
+            StraightLine::S1,
         ],
         5,
     ),
     (
         &[
-            Line::S1,
-            Line::S10,
-            Line::S13,
-            Line::S2,
-            Line::S17,
-            Line::L12,
-            Line::S13,
-            Line::L12,
-            Line::S1,
-            Line::S9,
-            Line::S2,
+            StraightLine::S1,
+            StraightLine::S10,
+            StraightLine::S13,
+            StraightLine::S2,
+            StraightLine::S17,
+            StraightLine::L12,
+            StraightLine::S13,
+            StraightLine::L12,
+            StraightLine::S1,
+            StraightLine::S9,
+            StraightLine::S2,
         ],
         10,
     ),
     (
         &[
-            Line::S1,
-            Line::S10,
-            Line::S13,
-            Line::S2,
-            Line::S17,
-            Line::End,
+            StraightLine::S1,
+            StraightLine::S10,
+            StraightLine::S13,
+            StraightLine::S2,
+            StraightLine::S17,
+            StraightLine::End,
         ],
         5,
     ),
@@ -93,21 +97,19 @@ static WRONG: [(&[Line], usize); 4] = [
 
 // Lines, and whether they fit where they are tried, of the program that reads a field. At the end
 // x is not known, so that it can't be freed.
-static READING: [(Line, bool); 9] = [
-    (Line::S2, true),
-    (Line::S12, false),
-    (Line::S11, true),
-    (Line::S10, true),
-    (Line::S9, true),
-    (Line::S8, true),
-    (Line::S3, true),
-    (Line::S11, false),
-    (Line::S12, false),
+static READING: [(StraightLine, bool); 9] = [
+    (StraightLine::S2, true),
+    (StraightLine::S12, false),
+    (StraightLine::S11, true),
+    (StraightLine::S10, true),
+    (StraightLine::S9, true),
+    (StraightLine::S8, true),
+    (StraightLine::S3, true),
+    (StraightLine::S11, false),
+    (StraightLine::S12, false),
 ];
 
-fn at(code: Instr) -> Point
-    ensures { result ≡ record { code = code; place = record { line = 1; column = 1 } } }
-{
+fn at(code: Instr) -> Point {
     Point {
         code,
         place: Place { line: 1, column: 1 },
@@ -115,9 +117,7 @@ fn at(code: Instr) -> Point
 }
 
 // `x = malloc(..); if (x == NULL) return 0; x->f = 7; free(x); return 0;`
-fn program(alloc: Global) -> Result<Flow, AllocError>
-    ensures { IfOk result (λ f. (defs : Definitions) → IsValid f defs) }
-{
+fn program(alloc: Global) -> Result<Flow, AllocError> {
     let x = VarId(0);
     let returned = VarId(1);
     let cell = StructId(0);
@@ -163,8 +163,9 @@ fn program(alloc: Global) -> Result<Flow, AllocError>
 #[test]
 fn a_certificate_is_followed_line_by_line(rt: HostRuntime) -> Result<(), Fail> {
     let alloc = rt.alloc();
-    let flow = program(alloc)?;
-    let mut proof = Proof::start(alloc, &flow, &Defs {}, Form::Certificate)?;
+    let (flow, defs) = (program(alloc)?, Defs::new(alloc));
+    assert!(rt; valid(&flow, &defs));
+    let mut proof = Proof::start(alloc, &flow, &defs, Form::Certificate)?;
     for line in &CERTIFICATE {
         assert_eq!(rt; proof.apply(line), Ok(()), "{line:?}");
     }
@@ -182,8 +183,9 @@ fn a_certificate_is_followed_line_by_line(rt: HostRuntime) -> Result<(), Fail> {
 #[test]
 fn every_other_line_is_refused_and_changes_nothing(rt: HostRuntime) -> Result<(), Fail> {
     let alloc = rt.alloc();
-    let flow = program(alloc)?;
-    let mut proof = Proof::start(alloc, &flow, &Defs {}, Form::Certificate)?;
+    let (flow, defs) = (program(alloc)?, Defs::new(alloc));
+    assert!(rt; valid(&flow, &defs));
+    let mut proof = Proof::start(alloc, &flow, &defs, Form::Certificate)?;
     for line in &CERTIFICATE {
         for other in &EACH {
             if *other != *line {
@@ -202,9 +204,10 @@ fn every_other_line_is_refused_and_changes_nothing(rt: HostRuntime) -> Result<()
 #[test]
 fn documents_with_an_open_branch_are_refused(rt: HostRuntime) -> Result<(), Fail> {
     let alloc = rt.alloc();
-    let flow = program(alloc)?;
+    let (flow, defs) = (program(alloc)?, Defs::new(alloc));
+    assert!(rt; valid(&flow, &defs));
     for (lines, refused) in &WRONG {
-        let mut proof = Proof::start(alloc, &flow, &Defs {}, Form::Certificate)?;
+        let mut proof = Proof::start(alloc, &flow, &defs, Form::Certificate)?;
         for (place, line) in lines.iter().enumerate() {
             assert_eq!(rt;
                 proof.apply(line).is_err(),
@@ -237,7 +240,7 @@ fn reading(alloc: Global) -> Result<Flow, AllocError> {
 fn follows(
     alloc: Global,
     flow: &Flow,
-    line: Line,
+    line: StraightLine,
     branch: &mut Branch,
 ) -> Result<bool, AllocError> {
     match advance(alloc, flow, line, branch)? {
@@ -273,8 +276,9 @@ fn null_is_freed_and_a_field_is_read(rt: HostRuntime) -> Result<(), Fail> {
 #[test]
 fn chains_and_laws_stand(rt: HostRuntime) -> Result<(), Fail> {
     let alloc = rt.alloc();
-    let flow = program(alloc)?;
-    let mut chain = Proof::start(alloc, &flow, &Defs {}, Form::Chain)?;
+    let (flow, defs) = (program(alloc)?, Defs::new(alloc));
+    assert!(rt; valid(&flow, &defs));
+    let mut chain = Proof::start(alloc, &flow, &defs, Form::Chain)?;
     for line in &EACH {
         assert_eq!(rt; chain.apply(line), Err(ApplyFault::Refused), "{line:?}");
     }

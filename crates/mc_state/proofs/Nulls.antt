@@ -5,7 +5,7 @@ use Rattle.std.proofs.lemmas.List.Folds.{list_any-append}
 use Rattle.mc_base.specs.declared.ids.NodeId.{NodeId}
 use Rattle.mc_base.specs.declared.plain.Atom.{Atom}
 use Rattle.mc_state.specs.Nulls.{AreTheNulls, TellsNoNull}
-use Rattle.mc_state.specs.State.{says_null}
+use Rattle.mc_state.specs.Straight.{says_null}
 
 pub or_false : (b : Bool) → (b || false) ≡ b
 or_false true = refl

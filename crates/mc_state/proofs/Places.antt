@@ -3,8 +3,9 @@ use Rattle.std.proofs.Common.{◌≡◌, ◌+◌, ◌<◌, ◌≤◌, ℕ, zero,
 use Rattle.std.specs.Prelude.{position}
 use Rattle.mc_base.specs.declared.ids.EdgeId.{EdgeId}
 use Rattle.mc_base.specs.declared.ids.NodeId.{NodeId}
-use Rattle.mc_state.specs.declared.edge.Edge.{Edge}
-use Rattle.mc_state.specs.State.{put_field, with_field_node}
+use Rattle.mc_graph.specs.declared.edge.Edge.{Edge}
+use Rattle.mc_graph.specs.Edges.{with_field_node}
+use Rattle.mc_state.specs.Straight.{put_field}
 use Rattle.std.specs.List.{position_from}
 use Rattle.std.proofs.Math.Seq.{drop-cons}
 use Rattle.std.proofs.lemmas.Iterator.Adapters.{position_from-zero}

@@ -6,10 +6,11 @@ use Rattle.mc_base.specs.declared.ids.EdgeId.{EdgeId}
 use Rattle.mc_base.specs.declared.ids.NodeId.{NodeId}
 use Rattle.mc_base.specs.declared.plain.Atom.{Atom}
 use Rattle.mc_base.specs.declared.plain.Atom.TheVariants.{Eq, Ne, In}
-use Rattle.mc_state.specs.declared.edge.Edge.{Edge}
-use Rattle.mc_state.specs.declared.edge.Edge.TheVariants.{Block}
+use Rattle.mc_graph.specs.declared.edge.Edge.{Edge}
+use Rattle.mc_graph.specs.declared.edge.Edge.TheVariants.{Block, Ind, Seg}
 use Rattle.mc_state.specs.Nulls.{TellsNoNull}
-use Rattle.mc_state.specs.State.{apart, is_null, is_wrong, is_at_null, put_field, start_of, with_field_node}
+use Rattle.mc_graph.specs.Edges.{start_of, with_field_node}
+use Rattle.mc_state.specs.Straight.{apart, is_null, is_wrong, is_at_null, put_field}
 use Rattle.mc_state.proofs.Nulls.{told_alike}
 
 -- tests that agree are passed by the same lists
@@ -56,6 +57,8 @@ module _ (atoms : List Atom) (edges : List (EdgeId × Edge)) (a : Atom) (none : 
 -- an edge starts where it did
 start_alike : (f : ℕ) (n : NodeId) (e : Edge) → start_of (with_field_node f n e) ≡ start_of e
 start_alike f n (Block at shape fields) = refl
+start_alike f n (Ind at pred args) = refl
+start_alike f n (Seg at args pred «end» ends) = refl
 
 pub field_alike : (atoms : List Atom) (edges : List (EdgeId × Edge)) (place f : ℕ) (n : NodeId) → list_any (is_at_null atoms) edges ≡ list_any (is_at_null atoms) (put_field edges place f n)
 field_alike atoms [] place f n = refl

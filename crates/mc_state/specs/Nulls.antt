@@ -3,7 +3,7 @@ use Rattle.std.specs.Prelude.{◌≡◌, List, Bool, false, slice_index_or}
 use Rattle.std.specs.List.{list_any}
 use Rattle.mc_base.specs.declared.ids.NodeId.{NodeId}
 use Rattle.mc_base.specs.declared.plain.Atom.{Atom}
-use Rattle.mc_state.specs.State.{says_null}
+use Rattle.mc_state.specs.Straight.{says_null}
 
 -- for each node the list tells whether an atom says that it is null; what lies past its end is not
 abbrev pub AreTheNulls : List Bool → List Atom → Type 0

@@ -2,7 +2,8 @@
 ghost use Rattle.std.specs.Prelude.{◌≡◌, ◌<◌, ℕ, ◌++◌, ◌∷◌, [], false, IfOk, OnErr, OnOk, pos, slice_index_or, vec_len};
 ghost use Rattle.std.specs.List.{list_any};
 ghost use Rattle.mc_base.specs.declared.plain.Atom.TheVariants.{Eq};
-ghost use Rattle.mc_state.specs.State.{null, is_null, are_same, is_wrong};
+ghost use Rattle.mc_base.specs.Nodes.{null};
+ghost use Rattle.mc_state.specs.Straight.{is_null, are_same, is_wrong};
 ghost use Rattle.mc_state.specs.Nulls.{TellsNoNull};
 
 use mc_base::{Atom, NodeId};

@@ -2,11 +2,13 @@
 ghost use Rattle.std.specs.Prelude.{◌≡◌, ◌<◌, ◌+◌, ◌++◌, ◌∷◌, ◌||◌, IfOk, OnErr, OnOk, pos, option_map, remove, take, drop};
 ghost use Rattle.std.specs.List.{list_any, position_from};
 ghost use Rattle.mc_base.specs.declared.plain.Atom.TheVariants.{Eq, Ne, In};
-ghost use Rattle.mc_state.specs.State.{unknown, null, var_node, with_var, without_vars, with_number, with_atom, with_block, with_field, without_block, is_null, is_wrong, is_at_null, is_false, is_block_at, is_shaped_block_at, block_place, shaped_block_place, edge_at, apart, put_field, next_node};
+ghost use Rattle.mc_base.specs.Nodes.{null};
+ghost use Rattle.mc_state.specs.State.{unknown, var_node, with_var, without_vars, with_number, with_atom, with_block, next_node};
+ghost use Rattle.mc_state.specs.Straight.{with_field, without_block, is_null, is_wrong, is_at_null, is_false, is_block_at, is_shaped_block_at, block_place, shaped_block_place, edge_at, apart, put_field};
 
-use crate::Edge;
 use crate::facts::Facts;
 use mc_base::{Atom, EdgeId, Items, Kind, NodeId, StructId, VarId};
+use mc_graph::Edge;
 use std::alloc::{AllocError, Global};
 use std::marker::Model;
 
@@ -262,7 +264,14 @@ impl State {
         let id = EdgeId(self.next_edge);
         self.kinds.push((node, Kind::Ptr)).unwrap();
         self.edges
-            .push((id, Edge::Block(node, shape, Items::of(unknown))))
+            .push((
+                id,
+                Edge::Block {
+                    at: node,
+                    shape,
+                    fields: Items::of(unknown),
+                },
+            ))
             .unwrap();
         self.next += 1;
         self.next_edge += 1;

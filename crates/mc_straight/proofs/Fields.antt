@@ -8,8 +8,8 @@ use Rattle.mc_base.specs.declared.plain.Kind.{Kind}
 use Rattle.mc_base.specs.declared.plain.Kind.TheVariants.{Int, Ptr}
 use Rattle.mc_base.specs.declared.plain.Place.{Place}
 use Rattle.mc_lex.specs.declared.token.Token.{Token}
-use Rattle.mc_flow.specs.declared.graph.FieldInfo.{FieldInfo}
-use Rattle.mc_flow.specs.declared.graph.StructInfo.{StructInfo}
+use Rattle.mc_defs.specs.declared.shapes.FieldInfo.{FieldInfo}
+use Rattle.mc_defs.specs.declared.shapes.StructInfo.{StructInfo}
 use Rattle.mc_straight.specs.Spelling.{Spelling, word, words, Begins, type_at, type_of, spelled_field, spelled_structure}
 use Rattle.mc_straight.specs.Typing.{IsName, IsNew, AreNew}
 use Rattle.mc_straight.specs.Reading.{◌>>=◌, next_of, expect_of, is_name, declarator_of, field_of_tokens, struct_name_of}

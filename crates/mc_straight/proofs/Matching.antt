@@ -13,7 +13,7 @@ use Rattle.mc_flow.specs.declared.instr.Operand.TheVariants.{Var, Const}
 use Rattle.mc_flow.specs.declared.instr.Instr.TheVariants.{Skip, Malloc as Allocate, TestEq}
 use Rattle.mc_flow.specs.declared.graph.Point.{Point}
 use Rattle.mc_flow.specs.Steps as flow
-use Rattle.mc_flow.specs.Steps.{value_in, value_of}
+use Rattle.mc_flow.specs.Values.{value_in}
 use Rattle.mc_straight.specs.declared.tree.Program.{Program}
 use Rattle.mc_straight.specs.declared.tree.IfPlaces.{IfPlaces}
 use Rattle.mc_straight.specs.declared.tree.Stmt.{Stmt}
@@ -31,7 +31,7 @@ use Rattle.mc_straight.proofs.Statements.{declare_one, load_one, store_one, free
 declare_forth : (p : Program) (final : Final) (n : ℕ) → Forth p final n → (x : VarId) (place : Place) (left : List Stmt) (at : ℕ) (r : Option ℤ) (vars : List (Option ℤ)) (heap : Heap) (choices : List Choice)
     → Placed (points_of p.body) (end p) at (DeclareMalloc x place ∷ left) → IsTypedBody p.structure p.vars (length vars) (DeclareMalloc x place ∷ left)
     → Reaches (tree.Step p) (suc n) (conf (DeclareMalloc x place ∷ left) vars heap) choices final
-    → (m : ℕ) × Reaches (flow.Step (flow_of p)) m (seen at r (spare (DeclareMalloc x place ∷ left)) (conf (DeclareMalloc x place ∷ left) vars heap)) choices final
+    → (m : ℕ) × Reaches (flow.Step (flow_of p) []) m (seen at r (spare (DeclareMalloc x place ∷ left)) (conf (DeclareMalloc x place ∷ left) vars heap)) choices final
 declare_forth p final n ih x place left at r vars heap [] placed typed run = absurd (elim run [ inl s ↦ s | inr h ↦ h.2 ])
 declare_forth p final n ih x place left at r vars heap (input v ∷ choices) placed typed run = absurd (elim run [ inl s ↦ s | inr h ↦ h.2 ])
 declare_forth p final n ih x place left at r vars heap (shape v part ∷ choices) placed typed run = absurd (elim run [ inl s ↦ s | inr h ↦ h.2 ])
@@ -44,7 +44,7 @@ declare_forth p final n ih x place left at r vars heap (malloc (suc k) ∷ choic
 malloc_forth : (p : Program) (final : Final) (n : ℕ) → Forth p final n → (x : VarId) (place : Place) (left : List Stmt) (at : ℕ) (r : Option ℤ) (vars : List (Option ℤ)) (heap : Heap) (choices : List Choice)
     → Placed (points_of p.body) (end p) at (Malloc x place ∷ left) → IsTypedBody p.structure p.vars (length vars) (Malloc x place ∷ left)
     → Reaches (tree.Step p) (suc n) (conf (Malloc x place ∷ left) vars heap) choices final
-    → (m : ℕ) × Reaches (flow.Step (flow_of p)) m (seen at r (spare (Malloc x place ∷ left)) (conf (Malloc x place ∷ left) vars heap)) choices final
+    → (m : ℕ) × Reaches (flow.Step (flow_of p) []) m (seen at r (spare (Malloc x place ∷ left)) (conf (Malloc x place ∷ left) vars heap)) choices final
 malloc_forth p final n ih x place left at r vars heap [] placed typed run = absurd (elim run [ inl s ↦ s | inr h ↦ h.2 ])
 malloc_forth p final n ih x place left at r vars heap (input v ∷ choices) placed typed run = absurd (elim run [ inl s ↦ s | inr h ↦ h.2 ])
 malloc_forth p final n ih x place left at r vars heap (shape v part ∷ choices) placed typed run = absurd (elim run [ inl s ↦ s | inr h ↦ h.2 ])
@@ -59,7 +59,7 @@ allocating x place at = record { code = Allocate (flow_var x) the_struct (point_
 
 declare_back : (p : Program) (final : Final) (m : ℕ) → Back p final m → (x : VarId) (place : Place) (left : List Stmt) (at : ℕ) (r : Option ℤ) (vars : List (Option ℤ)) (heap : Heap) (choices : List Choice)
     → Placed (points_of p.body) (end p) at (DeclareMalloc x place ∷ left) → IsTypedBody p.structure p.vars (length vars) (DeclareMalloc x place ∷ left)
-    → Reaches (flow.Step (flow_of p)) (suc m) (seen at r (spare (DeclareMalloc x place ∷ left)) (conf (DeclareMalloc x place ∷ left) vars heap)) choices final
+    → Reaches (flow.Step (flow_of p) []) (suc m) (seen at r (spare (DeclareMalloc x place ∷ left)) (conf (DeclareMalloc x place ∷ left) vars heap)) choices final
     → (n : ℕ) × Reaches (tree.Step p) n (conf (DeclareMalloc x place ∷ left) vars heap) choices final
 declare_back p final m ih x place left at r vars heap [] placed typed run = absurd (elim run [ inl s ↦ (step_from p (seen at r (spare (DeclareMalloc x place ∷ left)) (conf (DeclareMalloc x place ∷ left) vars heap)) [] (last final) (allocating x place at) (placed_first (points_of p.body) (end p) at (DeclareMalloc x place ∷ left) (allocating x place at) placed refl) s) | inr h ↦ (step_from p (seen at r (spare (DeclareMalloc x place ∷ left)) (conf (DeclareMalloc x place ∷ left) vars heap)) [] (next h.0 h.1) (allocating x place at) (placed_first (points_of p.body) (end p) at (DeclareMalloc x place ∷ left) (allocating x place at) placed refl) h.2) ])
 declare_back p final m ih x place left at r vars heap (input v ∷ choices) placed typed run = absurd (elim run [ inl s ↦ (step_from p (seen at r (spare (DeclareMalloc x place ∷ left)) (conf (DeclareMalloc x place ∷ left) vars heap)) (input v ∷ choices) (last final) (allocating x place at) (placed_first (points_of p.body) (end p) at (DeclareMalloc x place ∷ left) (allocating x place at) placed refl) s) | inr h ↦ (step_from p (seen at r (spare (DeclareMalloc x place ∷ left)) (conf (DeclareMalloc x place ∷ left) vars heap)) (input v ∷ choices) (next h.0 h.1) (allocating x place at) (placed_first (points_of p.body) (end p) at (DeclareMalloc x place ∷ left) (allocating x place at) placed refl) h.2) ])
@@ -75,7 +75,7 @@ declare_back p final m ih x place left at r vars heap (malloc (suc k) ∷ choice
 
 malloc_back : (p : Program) (final : Final) (m : ℕ) → Back p final m → (x : VarId) (place : Place) (left : List Stmt) (at : ℕ) (r : Option ℤ) (vars : List (Option ℤ)) (heap : Heap) (choices : List Choice)
     → Placed (points_of p.body) (end p) at (Malloc x place ∷ left) → IsTypedBody p.structure p.vars (length vars) (Malloc x place ∷ left)
-    → Reaches (flow.Step (flow_of p)) (suc m) (seen at r (spare (Malloc x place ∷ left)) (conf (Malloc x place ∷ left) vars heap)) choices final
+    → Reaches (flow.Step (flow_of p) []) (suc m) (seen at r (spare (Malloc x place ∷ left)) (conf (Malloc x place ∷ left) vars heap)) choices final
     → (n : ℕ) × Reaches (tree.Step p) n (conf (Malloc x place ∷ left) vars heap) choices final
 malloc_back p final m ih x place left at r vars heap [] placed typed run = absurd (elim run [ inl s ↦ (step_from p (seen at r (spare (Malloc x place ∷ left)) (conf (Malloc x place ∷ left) vars heap)) [] (last final) (allocating x place at) (placed_first (points_of p.body) (end p) at (Malloc x place ∷ left) (allocating x place at) placed refl) s) | inr h ↦ (step_from p (seen at r (spare (Malloc x place ∷ left)) (conf (Malloc x place ∷ left) vars heap)) [] (next h.0 h.1) (allocating x place at) (placed_first (points_of p.body) (end p) at (Malloc x place ∷ left) (allocating x place at) placed refl) h.2) ])
 malloc_back p final m ih x place left at r vars heap (input v ∷ choices) placed typed run = absurd (elim run [ inl s ↦ (step_from p (seen at r (spare (Malloc x place ∷ left)) (conf (Malloc x place ∷ left) vars heap)) (input v ∷ choices) (last final) (allocating x place at) (placed_first (points_of p.body) (end p) at (Malloc x place ∷ left) (allocating x place at) placed refl) s) | inr h ↦ (step_from p (seen at r (spare (Malloc x place ∷ left)) (conf (Malloc x place ∷ left) vars heap)) (input v ∷ choices) (next h.0 h.1) (allocating x place at) (placed_first (points_of p.body) (end p) at (Malloc x place ∷ left) (allocating x place at) placed refl) h.2) ])
@@ -93,13 +93,13 @@ malloc_back p final m ih x place left at r vars heap (malloc (suc k) ∷ choices
 
 return_forth : (p : Program) (final : Final) (n : ℕ) (c : tree.Config) (d : flow.Config) (choices : List Choice) (place : Place)
     → ((x : tree.Result) → tree.Step p c choices x → x ≡ last ended) → slice_get (points_of p.body) d.point ≡ Some (returned (end p) place) → HasEnd p
-    → Reaches (tree.Step p) n c choices final → (m : ℕ) × Reaches (flow.Step (flow_of p)) m d choices final
+    → Reaches (tree.Step p) n c choices final → (m : ℕ) × Reaches (flow.Step (flow_of p) []) m d choices final
 return_forth p final n c d choices place only here h run =
-    (2, subst (λ f. Reaches (flow.Step (flow_of p)) 2 d choices f) (sym (tree_ends p n c choices final only run)) (returns p d choices place here h))
+    (2, subst (λ f. Reaches (flow.Step (flow_of p) []) 2 d choices f) (sym (tree_ends p n c choices final only run)) (returns p d choices place here h))
 
 return_back : (p : Program) (final : Final) (m : ℕ) (c : tree.Config) (d : flow.Config) (choices : List Choice) (place : Place)
     → tree.Step p c choices (last ended) → slice_get (points_of p.body) d.point ≡ Some (returned (end p) place) → HasEnd p
-    → Reaches (flow.Step (flow_of p)) m d choices final → (n : ℕ) × Reaches (tree.Step p) n c choices final
+    → Reaches (flow.Step (flow_of p) []) m d choices final → (n : ℕ) × Reaches (tree.Step p) n c choices final
 return_back p final m c d choices place step here h run =
     let e : final ≡ ended = returned_ends p m d choices final place here h run in
     (1, inl (subst (λ f. tree.Step p c choices (last f)) (sym e) step))
@@ -121,9 +121,9 @@ flow_if at d choices b = if b then next (flow.at_point (point_id (at + 1)) d) ch
 
 if_forth_by : (p : Program) (final : Final) (n : ℕ) → Forth p final n → (b : Bool) (y : VarId) (places : IfPlaces) (left : List Stmt) (at : ℕ) (r : Option ℤ) (vars : List (Option ℤ)) (heap : Heap) (choices : List Choice)
     → HasEnd p → Placed (points_of p.body) (end p) at (ReturnIfNull y places ∷ left) → IsTypedBody p.structure p.vars (length vars) left
-    → ((x : flow.Result) → x ≡ flow_if at (seen at r (spare left) (conf left vars heap)) choices b → flow.Step (flow_of p) (seen at r (spare left) (conf left vars heap)) choices x)
+    → ((x : flow.Result) → x ≡ flow_if at (seen at r (spare left) (conf left vars heap)) choices b → flow.Step (flow_of p) [] (seen at r (spare left) (conf left vars heap)) choices x)
     → ((last final ≡ tree_if places (conf left vars heap) choices b) ⊎ ((e : tree.Config) × (rest : List Choice) × (next e rest ≡ tree_if places (conf left vars heap) choices b) × Reaches (tree.Step p) n e rest final))
-    → (m : ℕ) × Reaches (flow.Step (flow_of p)) m (seen at r (spare left) (conf left vars heap)) choices final
+    → (m : ℕ) × Reaches (flow.Step (flow_of p) []) m (seen at r (spare left) (conf left vars heap)) choices final
 if_forth_by p final n ih true y places left at r vars heap choices has_end placed typed step run =
     forth p (seen at r (spare left) (conf left vars heap)) choices final n (next (conf (ReturnZero places.returned ∷ left) vars heap) choices) (seen (at + 1) r (spare left)) step
     (λ e rest eq tail.
@@ -141,16 +141,16 @@ if_forth_by p final n ih false y places left at r vars heap choices has_end plac
     let d : flow.Config = seen (at + 2) r (spare left) (conf left vars heap) in
     let on : flow.Config = seen (at + 3) r (spare left) (conf left vars heap) in (
       suc more.0,
-      subst (λ (c : tree.Config). Reaches (flow.Step (flow_of p)) (suc more.0) (seen (at + 2) r (spare left) c) rest final) (sym there)
+      subst (λ (c : tree.Config). Reaches (flow.Step (flow_of p) []) (suc more.0) (seen (at + 2) r (spare left) c) rest final) (sym there)
           (inr (on, rest, step_at p d rest (next on rest) (skipping places at) here refl, more.1)),
     ))
     run
 
 if_forth : (p : Program) (final : Final) (n : ℕ) → Forth p final n → (v : Option ℤ) (y : VarId) (places : IfPlaces) (left : List Stmt) (at : ℕ) (r : Option ℤ) (vars : List (Option ℤ)) (heap : Heap) (choices : List Choice)
     → HasEnd p → Placed (points_of p.body) (end p) at (ReturnIfNull y places ∷ left) → IsTypedBody p.structure p.vars (length vars) left
-    → ((x : flow.Result) → x ≡ flow.tested (point_id (at + 1)) (point_id (at + 2)) places.condition (seen at r (spare left) (conf left vars heap)) choices v (Some (pos 0)) → flow.Step (flow_of p) (seen at r (spare left) (conf left vars heap)) choices x)
+    → ((x : flow.Result) → x ≡ flow.tested int_eq (point_id (at + 1)) (point_id (at + 2)) places.condition (seen at r (spare left) (conf left vars heap)) choices v (Some (pos 0)) → flow.Step (flow_of p) [] (seen at r (spare left) (conf left vars heap)) choices x)
     → ((last final ≡ tree.tested (ReturnZero places.returned) places.condition (conf left vars heap) choices v) ⊎ ((e : tree.Config) × (rest : List Choice) × (next e rest ≡ tree.tested (ReturnZero places.returned) places.condition (conf left vars heap) choices v) × Reaches (tree.Step p) n e rest final))
-    → (m : ℕ) × Reaches (flow.Step (flow_of p)) m (seen at r (spare left) (conf left vars heap)) choices final
+    → (m : ℕ) × Reaches (flow.Step (flow_of p) []) m (seen at r (spare left) (conf left vars heap)) choices final
 if_forth p final n ih None y places left at r vars heap choices has_end placed typed step run =
     forth p (seen at r (spare left) (conf left vars heap)) choices final n (last (fault Uninit places.condition)) (seen at r (spare left)) step (λ e rest eq tail. cc) run
 if_forth p final n ih (Some a) y places left at r vars heap choices has_end placed typed step run =
@@ -159,7 +159,7 @@ if_forth p final n ih (Some a) y places left at r vars heap choices has_end plac
 if_back_by : (p : Program) (final : Final) (m : ℕ) → Back p final m → (b : Bool) (y : VarId) (places : IfPlaces) (left : List Stmt) (at : ℕ) (r : Option ℤ) (vars : List (Option ℤ)) (heap : Heap) (choices : List Choice)
     → HasEnd p → Placed (points_of p.body) (end p) at (ReturnIfNull y places ∷ left) → IsTypedBody p.structure p.vars (length vars) left
     → ((x : tree.Result) → x ≡ tree_if places (conf left vars heap) choices b → tree.Step p (conf (ReturnIfNull y places ∷ left) vars heap) choices x)
-    → ((last final ≡ flow_if at (seen at r (spare left) (conf left vars heap)) choices b) ⊎ ((e : flow.Config) × (rest : List Choice) × (next e rest ≡ flow_if at (seen at r (spare left) (conf left vars heap)) choices b) × Reaches (flow.Step (flow_of p)) m e rest final))
+    → ((last final ≡ flow_if at (seen at r (spare left) (conf left vars heap)) choices b) ⊎ ((e : flow.Config) × (rest : List Choice) × (next e rest ≡ flow_if at (seen at r (spare left) (conf left vars heap)) choices b) × Reaches (flow.Step (flow_of p) []) m e rest final))
     → (n : ℕ) × Reaches (tree.Step p) n (conf (ReturnIfNull y places ∷ left) vars heap) choices final
 if_back_by p final m ih true y places left at r vars heap choices has_end placed typed step run =
     back p (conf (ReturnIfNull y places ∷ left) vars heap) choices final m (next (conf (ReturnZero places.returned ∷ left) vars heap) choices) (seen (at + 1) r (spare left)) step
@@ -178,16 +178,16 @@ if_back_by p final (suc m) ih false y places left at r vars heap choices has_end
     let d : flow.Config = seen (at + 2) r (spare left) e in
     let on : flow.Config = seen (at + 3) r (spare left) e in
     let here : slice_get (points_of p.body) (at + 2) ≡ Some (skipping places at) = placed_point (points_of p.body) (end p) at 2 (ReturnIfNull y places ∷ left) (skipping places at) placed refl in
-    let skipped : Reaches (flow.Step (flow_of p)) m on rest final = elim tail [
+    let skipped : Reaches (flow.Step (flow_of p) []) m on rest final = elim tail [
       | inl s ↦ (let wrong : last final ≡ next on rest = step_from p d rest (last final) (skipping places at) here s in cc)
       | inr h ↦
           let same : next h.0 h.1 ≡ next on rest = step_from p d rest (next h.0 h.1) (skipping places at) here h.2 in
           let goes : h.0 ≡ on = cc in
           let given : h.1 ≡ rest = cc in
-          subst (λ x. Reaches (flow.Step (flow_of p)) m x rest final) goes (subst (λ cs. Reaches (flow.Step (flow_of p)) m h.0 cs final) given h.3)
+          subst (λ x. Reaches (flow.Step (flow_of p) []) m x rest final) goes (subst (λ cs. Reaches (flow.Step (flow_of p) []) m h.0 cs final) given h.3)
     ] in
-    let moved_there : Reaches (flow.Step (flow_of p)) (suc m) (seen (at + 3) r (spare left) (conf left vars heap)) rest final =
-    subst (λ (c : tree.Config). Reaches (flow.Step (flow_of p)) (suc m) (seen (at + 3) r (spare left) c) rest final) there (longer p m on rest final skipped) in
+    let moved_there : Reaches (flow.Step (flow_of p) []) (suc m) (seen (at + 3) r (spare left) (conf left vars heap)) rest final =
+    subst (λ (c : tree.Config). Reaches (flow.Step (flow_of p) []) (suc m) (seen (at + 3) r (spare left) c) rest final) there (longer p m on rest final skipped) in
     let more = ih left (at + 3) r vars heap rest (placed_behind (points_of p.body) (end p) at (ReturnIfNull y places) left placed) typed moved_there in
     (more.0, subst (λ c. Reaches (tree.Step p) more.0 c rest final) (sym there) more.1))
     run
@@ -195,7 +195,7 @@ if_back_by p final (suc m) ih false y places left at r vars heap choices has_end
 if_back : (p : Program) (final : Final) (m : ℕ) → Back p final m → (v : Option ℤ) (y : VarId) (places : IfPlaces) (left : List Stmt) (at : ℕ) (r : Option ℤ) (vars : List (Option ℤ)) (heap : Heap) (choices : List Choice)
     → HasEnd p → Placed (points_of p.body) (end p) at (ReturnIfNull y places ∷ left) → IsTypedBody p.structure p.vars (length vars) left
     → ((x : tree.Result) → x ≡ tree.tested (ReturnZero places.returned) places.condition (conf left vars heap) choices v → tree.Step p (conf (ReturnIfNull y places ∷ left) vars heap) choices x)
-    → ((last final ≡ flow.tested (point_id (at + 1)) (point_id (at + 2)) places.condition (seen at r (spare left) (conf left vars heap)) choices v (Some (pos 0))) ⊎ ((e : flow.Config) × (rest : List Choice) × (next e rest ≡ flow.tested (point_id (at + 1)) (point_id (at + 2)) places.condition (seen at r (spare left) (conf left vars heap)) choices v (Some (pos 0))) × Reaches (flow.Step (flow_of p)) m e rest final))
+    → ((last final ≡ flow.tested int_eq (point_id (at + 1)) (point_id (at + 2)) places.condition (seen at r (spare left) (conf left vars heap)) choices v (Some (pos 0))) ⊎ ((e : flow.Config) × (rest : List Choice) × (next e rest ≡ flow.tested int_eq (point_id (at + 1)) (point_id (at + 2)) places.condition (seen at r (spare left) (conf left vars heap)) choices v (Some (pos 0))) × Reaches (flow.Step (flow_of p) []) m e rest final))
     → (n : ℕ) × Reaches (tree.Step p) n (conf (ReturnIfNull y places ∷ left) vars heap) choices final
 if_back p final m ih None y places left at r vars heap choices has_end placed typed step run =
     back p (conf (ReturnIfNull y places ∷ left) vars heap) choices final m (last (fault Uninit places.condition)) (seen at r (spare left)) step (λ e rest eq tail. cc) run
@@ -205,9 +205,9 @@ if_back p final m ih (Some a) y places left at r vars heap choices has_end place
 -- ---- all statements
 
 tested_alike : (y : VarId) (places : IfPlaces) (left : List Stmt) (at : ℕ) (r : Option ℤ) (vars : List (Option ℤ)) (heap : Heap) (choices : List Choice)
-    → flow.tested (point_id (at + 1)) (point_id (at + 2)) places.condition (seen at r (spare left) (conf left vars heap)) choices (value_in (r ∷ (vars ++ spare left)) (flow_var y)) (Some (pos 0))
-    ≡ flow.tested (point_id (at + 1)) (point_id (at + 2)) places.condition (seen at r (spare left) (conf left vars heap)) choices (value_in vars y) (Some (pos 0))
-tested_alike y places left at r vars heap choices = ap (λ v. flow.tested (point_id (at + 1)) (point_id (at + 2)) places.condition (seen at r (spare left) (conf left vars heap)) choices v (Some (pos 0))) (read_var r vars left y)
+    → flow.tested int_eq (point_id (at + 1)) (point_id (at + 2)) places.condition (seen at r (spare left) (conf left vars heap)) choices (value_in (r ∷ (vars ++ spare left)) (flow_var y)) (Some (pos 0))
+    ≡ flow.tested int_eq (point_id (at + 1)) (point_id (at + 2)) places.condition (seen at r (spare left) (conf left vars heap)) choices (value_in vars y) (Some (pos 0))
+tested_alike y places left at r vars heap choices = ap (λ v. flow.tested int_eq (point_id (at + 1)) (point_id (at + 2)) places.condition (seen at r (spare left) (conf left vars heap)) choices v (Some (pos 0))) (read_var r vars left y)
 
 forth_all : (p : Program) (final : Final) → HasEnd p → (n : ℕ) → Forth p final n
 forth_all p final has_end zero left at r vars heap choices placed typed run = absurd run
@@ -301,7 +301,7 @@ begun p = flow.at_point (point_id 1) (flow.start (flow_of p))
 begun_is : (p : Program) → IsTyped p → seen 1 None (spare p.body) (tree.start p) ≡ begun p
 begun_is p typed = ap (λ vs. record { point = 1; vars = None ∷ vs; heap = map.empty }) (all_spare p typed)
 
-skipped : (p : Program) (final : Final) (choices : List Choice) (m : ℕ) → Reaches (flow.Step (flow_of p)) m (flow.start (flow_of p)) choices final → Reaches (flow.Step (flow_of p)) m (begun p) choices final
+skipped : (p : Program) (final : Final) (choices : List Choice) (m : ℕ) → Reaches (flow.Step (flow_of p) []) m (flow.start (flow_of p)) choices final → Reaches (flow.Step (flow_of p) []) m (begun p) choices final
 skipped p final choices zero run = absurd run
 skipped p final choices (suc m) run = longer p m (begun p) choices final (elim run [
   | inl s ↦ (let wrong : last final ≡ next (begun p) choices = s in cc)
@@ -309,7 +309,7 @@ skipped p final choices (suc m) run = longer p m (begun p) choices final (elim r
       let same : next h.0 h.1 ≡ next (begun p) choices = h.2 in
       let there : h.0 ≡ begun p = cc in
       let rest : h.1 ≡ choices = cc in
-      subst (λ x. Reaches (flow.Step (flow_of p)) m x choices final) there (subst (λ cs. Reaches (flow.Step (flow_of p)) m h.0 cs final) rest h.3)
+      subst (λ x. Reaches (flow.Step (flow_of p) []) m x choices final) there (subst (λ cs. Reaches (flow.Step (flow_of p) []) m h.0 cs final) rest h.3)
 ])
 
 pub matched : (p : Program) → IsTyped p → RunsMatch p (flow_of p)
@@ -317,7 +317,7 @@ matched p typed choices final =
     let has_end : HasEnd p = placed_end (points_of p.body) (end p) 1 p.body (placed_body p) in (
       λ r.
           let there = forth_all p final has_end r.0 p.body 1 None [] map.empty choices (placed_body p) typed.body r.1 in
-          (suc there.0, inr (begun p, choices, refl, subst (λ d. Reaches (flow.Step (flow_of p)) there.0 d choices final) (begun_is p typed) there.1)),
+          (suc there.0, inr (begun p, choices, refl, subst (λ d. Reaches (flow.Step (flow_of p) []) there.0 d choices final) (begun_is p typed) there.1)),
       λ r. back_all p final has_end r.0 p.body 1 None [] map.empty choices (placed_body p) typed.body
-          (subst (λ d. Reaches (flow.Step (flow_of p)) r.0 d choices final) (sym (begun_is p typed)) (skipped p final choices r.0 r.1)),
+          (subst (λ d. Reaches (flow.Step (flow_of p) []) r.0 d choices final) (sym (begun_is p typed)) (skipped p final choices r.0 r.1)),
     )

@@ -15,7 +15,7 @@ use Rattle.mc_lex.specs.Numbers.{Spells, max_number}
 use Rattle.mc_lex.specs.declared.token.Token.{Token}
 use Rattle.mc_flow.specs.declared.instr.Operand.{Operand}
 use Rattle.mc_flow.specs.declared.instr.Operand.TheVariants.{Var, Const}
-use Rattle.mc_flow.specs.Valid.{IsInt}
+use Rattle.mc_base.specs.Kinds.{InKind}
 use Rattle.mc_straight.specs.Spelling.{IsSpelled, name_of, stored_as, freed_as}
 use Rattle.mc_straight.specs.Typing.{reserved, IsName, AreNew, IsVisible, IsVisibleOperand}
 use Rattle.mc_straight.specs.Reading.{numeral_of, spelled_number, number_of, null_operand, number_operand, number_or_var, operand_of, freed_of, var_of}
@@ -70,7 +70,7 @@ operand_to vars later k (Var x) t new h e =
     let named : IsName t.text = subst IsName (sym e) (visible_name vars later k x new h) in
     rw (unequal t.text (codes "NULL") (not_null t.text named), no_number t.text named.begins) (var_to vars later k x t.text new h e)
 operand_to vars later Int (Const c) t new h e =
-    let le : e.0 ≤ max_number = (let same : c ≡ pos e.0 = e.2 in let top : IsInt (pos e.0) = subst IsInt same h in omega (arith, ints, top.1)) in
+    let le : e.0 ≤ max_number = (let same : c ≡ pos e.0 = e.2 in let top : InKind Int (pos e.0) = subst (InKind Int) same h in omega (arith, ints, top.1)) in
     rw (unequal t.text (codes "NULL") (null_no_number t.text e.0 e.1), number_to t.text e.0 e.1 le) (ap (λ z. Some (Const z)) (sym e.2))
 operand_to vars later Ptr (Const c) t new h (inl e) = rw (equal t.text (codes "NULL") e) (ap (λ z. Some (Const z)) (sym h))
 operand_to vars later Ptr (Const c) t new h (inr s) =
@@ -85,7 +85,7 @@ number_from w n e =
     let le : s.0 ≤ max_number = grind (arith, nat_tests, two.0) in
     (subst (Spells w) same (spelled_from w s.0 s.1), subst (λ k. k ≤ max_number) same le)
 
-in_int : (n : ℕ) → n ≤ max_number → IsInt (pos n)
+in_int : (n : ℕ) → n ≤ max_number → InKind Int (pos n)
 in_int n le = (omega (arith, ints), omega (arith, ints))
 
 operand_var : (vars later : List VarInfo) (k : Kind) (o : Operand) (t : Token) → option_map Var (var_of vars k t.text) ≡ Some o → IsVisibleOperand (vars ++ later) (length vars) k o × IsSpelled (stored_as (vars ++ later) k o) t

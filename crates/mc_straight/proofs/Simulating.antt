@@ -9,8 +9,10 @@ use Rattle.mc_heap.specs.Access.{field_at}
 use Rattle.mc_heap.specs.Choices.{Choice}
 use Rattle.mc_flow.specs.declared.instr.Instr.TheVariants.{End}
 use Rattle.mc_flow.specs.declared.graph.Point.{Point}
+use Rattle.mc_flow.specs.Values as values
 use Rattle.mc_flow.specs.Steps as flow
-use Rattle.mc_flow.specs.Steps.{field_count, address, written}
+use Rattle.mc_flow.specs.Values.{address}
+use Rattle.mc_flow.specs.Steps.{field_count, written}
 use Rattle.mc_straight.specs.declared.tree.Program.{Program}
 use Rattle.mc_straight.specs.declared.tree.Stmt.{Stmt}
 use Rattle.mc_straight.specs.Typing.{IsTypedBody, declared_behind}
@@ -25,14 +27,14 @@ conf left vars heap = record { left = left; vars = vars; heap = heap }
 abbrev pub end : Program → ℕ
 end p = end_of 1 p.body
 
-pub step_at : (p : Program) (d : flow.Config) (choices : List Choice) (x : flow.Result) (q : Point) → slice_get (points_of p.body) d.point ≡ Some q → flow.StepOf (flow_of p).structs q.place q.code d choices x → flow.Step (flow_of p) d choices x
-step_at p d choices x q e s = subst (λ o. flow.StepAt (flow_of p).structs o d choices x) (sym e) s
+pub step_at : (p : Program) (d : flow.Config) (choices : List Choice) (x : flow.Result) (q : Point) → slice_get (points_of p.body) d.point ≡ Some q → flow.StepOf (flow_of p).structs [] q.place q.code d choices x → flow.Step (flow_of p) [] d choices x
+step_at p d choices x q e s = subst (λ o. flow.StepAt (flow_of p).structs [] o d choices x) (sym e) s
 
-pub step_from : (p : Program) (d : flow.Config) (choices : List Choice) (x : flow.Result) (q : Point) → slice_get (points_of p.body) d.point ≡ Some q → flow.Step (flow_of p) d choices x → flow.StepOf (flow_of p).structs q.place q.code d choices x
-step_from p d choices x q e s = subst (λ o. flow.StepAt (flow_of p).structs o d choices x) e s
+pub step_from : (p : Program) (d : flow.Config) (choices : List Choice) (x : flow.Result) (q : Point) → slice_get (points_of p.body) d.point ≡ Some q → flow.Step (flow_of p) [] d choices x → flow.StepOf (flow_of p).structs [] q.place q.code d choices x
+step_from p d choices x q e s = subst (λ o. flow.StepAt (flow_of p).structs [] o d choices x) e s
 
 -- more steps do no harm
-pub longer : (p : Program) (m : ℕ) (d : flow.Config) (choices : List Choice) (final : Final) → Reaches (flow.Step (flow_of p)) m d choices final → Reaches (flow.Step (flow_of p)) (suc m) d choices final
+pub longer : (p : Program) (m : ℕ) (d : flow.Config) (choices : List Choice) (final : Final) → Reaches (flow.Step (flow_of p) []) m d choices final → Reaches (flow.Step (flow_of p) []) (suc m) d choices final
 longer p zero d choices final run = absurd run
 longer p (suc m) d choices final run = elim run [ inl s ↦ inl s | inr h ↦ inr (h.0, h.1, h.2, longer p m h.0 h.1 final h.3) ]
 
@@ -42,19 +44,19 @@ abbrev pub HasEnd : Program → Type 0
 HasEnd p = slice_get (points_of p.body) (end p) ≡ Some (record { code = End; place = nowhere })
 
 abbrev pub at_end : Program → flow.Config → flow.Config
-at_end p d = record { point = end p; vars = flow.with_value d.vars (record { 0 = 0 }) (Some (pos 0)); heap = d.heap }
+at_end p d = record { point = end p; vars = values.with_value d.vars (record { 0 = 0 }) (Some (pos 0)); heap = d.heap }
 
-pub returns : (p : Program) (d : flow.Config) (choices : List Choice) (place : Place) → slice_get (points_of p.body) d.point ≡ Some (returned (end p) place) → HasEnd p → Reaches (flow.Step (flow_of p)) 2 d choices ended
+pub returns : (p : Program) (d : flow.Config) (choices : List Choice) (place : Place) → slice_get (points_of p.body) d.point ≡ Some (returned (end p) place) → HasEnd p → Reaches (flow.Step (flow_of p) []) 2 d choices ended
 returns p d choices place e h = inr (at_end p d, choices, step_at p d choices (next (at_end p d) choices) (returned (end p) place) e refl, inl (step_at p (at_end p d) choices (last ended) (record { code = End; place = nowhere }) h refl))
 
-pub ends : (p : Program) (m : ℕ) (d : flow.Config) (choices : List Choice) (final : Final) → HasEnd p → Reaches (flow.Step (flow_of p)) m (at_end p d) choices final → final ≡ ended
+pub ends : (p : Program) (m : ℕ) (d : flow.Config) (choices : List Choice) (final : Final) → HasEnd p → Reaches (flow.Step (flow_of p) []) m (at_end p d) choices final → final ≡ ended
 ends p zero d choices final h run = absurd run
 ends p (suc m) d choices final h run = elim run [
   | inl s ↦ (let e : last final ≡ last ended = step_from p (at_end p d) choices (last final) (record { code = End; place = nowhere }) h s in cc)
   | inr g ↦ (let e : next g.0 g.1 ≡ last ended = step_from p (at_end p d) choices (next g.0 g.1) (record { code = End; place = nowhere }) h g.2 in cc)
 ]
 
-pub returned_ends : (p : Program) (m : ℕ) (d : flow.Config) (choices : List Choice) (final : Final) (place : Place) → slice_get (points_of p.body) d.point ≡ Some (returned (end p) place) → HasEnd p → Reaches (flow.Step (flow_of p)) m d choices final → final ≡ ended
+pub returned_ends : (p : Program) (m : ℕ) (d : flow.Config) (choices : List Choice) (final : Final) (place : Place) → slice_get (points_of p.body) d.point ≡ Some (returned (end p) place) → HasEnd p → Reaches (flow.Step (flow_of p) []) m d choices final → final ≡ ended
 returned_ends p zero d choices final place e h run = absurd run
 returned_ends p (suc m) d choices final place e h run = elim run [
   | inl s ↦ (let no_last : last final ≡ next (at_end p d) choices = step_from p d choices (last final) (returned (end p) place) e s in cc)
@@ -62,7 +64,7 @@ returned_ends p (suc m) d choices final place e h run = elim run [
       let same : next g.0 g.1 ≡ next (at_end p d) choices = step_from p d choices (next g.0 g.1) (returned (end p) place) e g.2 in
       let there : g.0 ≡ at_end p d = cc in
       let rest : g.1 ≡ choices = cc in
-      ends p m d choices final h (subst (λ x. Reaches (flow.Step (flow_of p)) m x choices final) there (subst (λ cs. Reaches (flow.Step (flow_of p)) m g.0 cs final) rest g.3))
+      ends p m d choices final h (subst (λ x. Reaches (flow.Step (flow_of p) []) m x choices final) there (subst (λ cs. Reaches (flow.Step (flow_of p) []) m g.0 cs final) rest g.3))
 ]
 
 pub tree_ends : (p : Program) (n : ℕ) (c : tree.Config) (choices : List Choice) (final : Final) → ((x : tree.Result) → tree.Step p c choices x → x ≡ last ended) → Reaches (tree.Step p) n c choices final → final ≡ ended
@@ -89,7 +91,7 @@ keep_found place c choices (Some (Some v)) = (refl, declared_count c.vars (Some 
 
 pub keep_load : (f : ℕ) (place : Place) (c : tree.Config) (choices : List Choice) (o : Option ℤ) → Keeps c.left (suc (length c.vars)) (tree.loaded f place c choices o)
 keep_load f place c choices None = tt
-keep_load f place c choices (Some p) = elim (flow.address p == 0) as (λ b. Keeps c.left (suc (length c.vars)) (if b then last (fault Null place) else tree.found place c choices (field_at (region_of c.heap (address p)) 0 f))) [
+keep_load f place c choices (Some p) = elim (values.address p == 0) as (λ b. Keeps c.left (suc (length c.vars)) (if b then last (fault Null place) else tree.found place c choices (field_at (region_of c.heap (address p)) 0 f))) [
   | true ↦ tt
   | false ↦ keep_found place c choices (field_at (region_of c.heap (address p)) 0 f)
 ]
@@ -120,10 +122,10 @@ keep_free place c choices (Some p) = elim (address p == 0) as (λ b. Keeps c.lef
 -- ---- one step, both ways
 
 pub forth : (p : Program) (d : flow.Config) (choices : List Choice) (final : Final) (n : ℕ) (o : tree.Result) (g : tree.Config → flow.Config)
-    → ((r : flow.Result) → r ≡ moved g o → flow.Step (flow_of p) d choices r)
-    → ((e : tree.Config) (rest : List Choice) → o ≡ next e rest → Reaches (tree.Step p) n e rest final → (m : ℕ) × Reaches (flow.Step (flow_of p)) m (g e) rest final)
+    → ((r : flow.Result) → r ≡ moved g o → flow.Step (flow_of p) [] d choices r)
+    → ((e : tree.Config) (rest : List Choice) → o ≡ next e rest → Reaches (tree.Step p) n e rest final → (m : ℕ) × Reaches (flow.Step (flow_of p) []) m (g e) rest final)
     → ((last final ≡ o) ⊎ ((e : tree.Config) × (rest : List Choice) × (next e rest ≡ o) × Reaches (tree.Step p) n e rest final))
-    → (m : ℕ) × Reaches (flow.Step (flow_of p)) m d choices final
+    → (m : ℕ) × Reaches (flow.Step (flow_of p) []) m d choices final
 forth p d choices final n o g step on r = elim r [
   | inl e ↦ (1, inl (step (last final) (ap (moved g) e)))
   | inr h ↦ (let there = on h.0 h.1 (sym h.2) h.3 in (suc there.0, inr (g h.0, h.1, step (next (g h.0) h.1) (ap (moved g) h.2), there.1)))
@@ -131,8 +133,8 @@ forth p d choices final n o g step on r = elim r [
 
 pub back : (p : Program) (c : tree.Config) (choices : List Choice) (final : Final) (m : ℕ) (o : tree.Result) (g : tree.Config → flow.Config)
     → ((r : tree.Result) → r ≡ o → tree.Step p c choices r)
-    → ((e : tree.Config) (rest : List Choice) → o ≡ next e rest → Reaches (flow.Step (flow_of p)) m (g e) rest final → (n : ℕ) × Reaches (tree.Step p) n e rest final)
-    → ((last final ≡ moved g o) ⊎ ((e : flow.Config) × (rest : List Choice) × (next e rest ≡ moved g o) × Reaches (flow.Step (flow_of p)) m e rest final))
+    → ((e : tree.Config) (rest : List Choice) → o ≡ next e rest → Reaches (flow.Step (flow_of p) []) m (g e) rest final → (n : ℕ) × Reaches (tree.Step p) n e rest final)
+    → ((last final ≡ moved g o) ⊎ ((e : flow.Config) × (rest : List Choice) × (next e rest ≡ moved g o) × Reaches (flow.Step (flow_of p) []) m e rest final))
     → (n : ℕ) × Reaches (tree.Step p) n c choices final
 back p c choices final m (last f) g step on r = elim r [
   | inl e ↦ (1, inl (step (last final) (let same : final ≡ f = cc in ap (λ x. last x) same)))
@@ -143,15 +145,15 @@ back p c choices final m (next e rest) g step on r = elim r [
   | inr h ↦
       let there : h.0 ≡ g e = (let s : next h.0 h.1 ≡ next (g e) rest = h.2 in cc) in
       let same : h.1 ≡ rest = (let s : next h.0 h.1 ≡ next (g e) rest = h.2 in cc) in
-      let run : Reaches (flow.Step (flow_of p)) m (g e) rest final = subst (λ x. Reaches (flow.Step (flow_of p)) m x rest final) there (subst (λ cs. Reaches (flow.Step (flow_of p)) m h.0 cs final) same h.3) in
+      let run : Reaches (flow.Step (flow_of p) []) m (g e) rest final = subst (λ x. Reaches (flow.Step (flow_of p) []) m x rest final) there (subst (λ cs. Reaches (flow.Step (flow_of p) []) m h.0 cs final) same h.3) in
       let left = on e rest refl run in
       (suc left.0, inr (e, rest, step (next e rest) refl, left.1))
 ]
 
 -- a statement and its point come to the same, and the run goes on behind both
 pub record One (p : Program) (s : Stmt) (left : List Stmt) (at : ℕ) (r : Option ℤ) (vars : List (Option ℤ)) (heap : Heap) (choices : List Choice) (o : tree.Result) : Type 0 where
-  pub flow_to : (x : flow.Result) → x ≡ moved (seen (at + size_of s) r (spare left)) o → flow.Step (flow_of p) (seen at r (spare (s ∷ left)) (conf (s ∷ left) vars heap)) choices x
-  pub flow_from : (x : flow.Result) → flow.Step (flow_of p) (seen at r (spare (s ∷ left)) (conf (s ∷ left) vars heap)) choices x → x ≡ moved (seen (at + size_of s) r (spare left)) o
+  pub flow_to : (x : flow.Result) → x ≡ moved (seen (at + size_of s) r (spare left)) o → flow.Step (flow_of p) [] (seen at r (spare (s ∷ left)) (conf (s ∷ left) vars heap)) choices x
+  pub flow_from : (x : flow.Result) → flow.Step (flow_of p) [] (seen at r (spare (s ∷ left)) (conf (s ∷ left) vars heap)) choices x → x ≡ moved (seen (at + size_of s) r (spare left)) o
   pub tree_to : (x : tree.Result) → x ≡ o → tree.Step p (conf (s ∷ left) vars heap) choices x
   pub tree_from : (x : tree.Result) → tree.Step p (conf (s ∷ left) vars heap) choices x → x ≡ o
   pub keeps : Keeps left (declared_behind (length vars) s) o
@@ -161,13 +163,13 @@ Forth p final n =
     (left : List Stmt) (at : ℕ) (r : Option ℤ) (vars : List (Option ℤ)) (heap : Heap) (choices : List Choice)
     → Placed (points_of p.body) (end p) at left → IsTypedBody p.structure p.vars (length vars) left
     → Reaches (tree.Step p) n (conf left vars heap) choices final
-    → (m : ℕ) × Reaches (flow.Step (flow_of p)) m (seen at r (spare left) (conf left vars heap)) choices final
+    → (m : ℕ) × Reaches (flow.Step (flow_of p) []) m (seen at r (spare left) (conf left vars heap)) choices final
 
 abbrev pub Back : Program → Final → ℕ → Type 0
 Back p final m =
     (left : List Stmt) (at : ℕ) (r : Option ℤ) (vars : List (Option ℤ)) (heap : Heap) (choices : List Choice)
     → Placed (points_of p.body) (end p) at left → IsTypedBody p.structure p.vars (length vars) left
-    → Reaches (flow.Step (flow_of p)) m (seen at r (spare left) (conf left vars heap)) choices final
+    → Reaches (flow.Step (flow_of p) []) m (seen at r (spare left) (conf left vars heap)) choices final
     → (n : ℕ) × Reaches (tree.Step p) n (conf left vars heap) choices final
 
 pub forth_one : (p : Program) (final : Final) (n : ℕ) → Forth p final n
@@ -175,7 +177,7 @@ pub forth_one : (p : Program) (final : Final) (n : ℕ) → Forth p final n
     → Placed (points_of p.body) (end p) at (s ∷ left) → IsTypedBody p.structure p.vars (length vars) (s ∷ left)
     → One p s left at r vars heap choices o
     → Reaches (tree.Step p) (suc n) (conf (s ∷ left) vars heap) choices final
-    → (m : ℕ) × Reaches (flow.Step (flow_of p)) m (seen at r (spare (s ∷ left)) (conf (s ∷ left) vars heap)) choices final
+    → (m : ℕ) × Reaches (flow.Step (flow_of p) []) m (seen at r (spare (s ∷ left)) (conf (s ∷ left) vars heap)) choices final
 forth_one p final n ih s left at r vars heap choices o placed typed one run =
     forth p (seen at r (spare (s ∷ left)) (conf (s ∷ left) vars heap)) choices final n o (seen (at + size_of s) r (spare left)) one.flow_to
     (λ e rest eq tail.
@@ -189,7 +191,7 @@ pub back_one : (p : Program) (final : Final) (m : ℕ) → Back p final m
     → (s : Stmt) (left : List Stmt) (at : ℕ) (r : Option ℤ) (vars : List (Option ℤ)) (heap : Heap) (choices : List Choice) (o : tree.Result)
     → Placed (points_of p.body) (end p) at (s ∷ left) → IsTypedBody p.structure p.vars (length vars) (s ∷ left)
     → One p s left at r vars heap choices o
-    → Reaches (flow.Step (flow_of p)) (suc m) (seen at r (spare (s ∷ left)) (conf (s ∷ left) vars heap)) choices final
+    → Reaches (flow.Step (flow_of p) []) (suc m) (seen at r (spare (s ∷ left)) (conf (s ∷ left) vars heap)) choices final
     → (n : ℕ) × Reaches (tree.Step p) n (conf (s ∷ left) vars heap) choices final
 back_one p final m ih s left at r vars heap choices o placed typed one run =
     back p (conf (s ∷ left) vars heap) choices final m o (seen (at + size_of s) r (spare left)) one.tree_to

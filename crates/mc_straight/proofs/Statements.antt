@@ -11,8 +11,10 @@ use Rattle.mc_heap.specs.Choices.{Choice, malloc}
 use Rattle.mc_flow.specs.declared.instr.Operand.{Operand}
 use Rattle.mc_flow.specs.declared.instr.Instr.TheVariants.{Undef, Load as LoadField, Store as StoreField, Malloc as Allocate, Free as FreeBlock}
 use Rattle.mc_flow.specs.declared.graph.Point.{Point}
+use Rattle.mc_flow.specs.Values as values
 use Rattle.mc_flow.specs.Steps as flow
-use Rattle.mc_flow.specs.Steps.{value_in, value_of, field_count}
+use Rattle.mc_flow.specs.Values.{value_in, value_of}
+use Rattle.mc_flow.specs.Steps.{field_count}
 use Rattle.mc_straight.specs.declared.tree.Program.{Program}
 use Rattle.mc_straight.specs.declared.tree.Stmt.{Stmt}
 use Rattle.mc_straight.specs.declared.tree.Stmt.TheVariants.{Declare, DeclareMalloc, Malloc, Load, Store, Free}
@@ -34,7 +36,7 @@ declare_one p x place left at r vars heap choices placed e =
     let d : flow.Config = seen at r (spare (Declare x place ∷ left)) (conf (Declare x place ∷ left) vars heap) in
     let q : Point = record { code = Undef (flow_var x ∷ []) (point_id (at + 1)); place = place } in
     let here : slice_get (points_of p.body) at ≡ Some q = placed_first (points_of p.body) (end p) at (Declare x place ∷ left) q placed refl in
-    let same : next (record { point = at + 1; vars = flow.with_value (r ∷ (vars ++ None ∷ spare left)) (flow_var x) None; heap = heap }) choices ≡ moved (seen (at + 1) r (spare left)) (next (tree.declared None (conf left vars heap)) choices) =
+    let same : next (record { point = at + 1; vars = values.with_value (r ∷ (vars ++ None ∷ spare left)) (flow_var x) None; heap = heap }) choices ≡ moved (seen (at + 1) r (spare left)) (next (tree.declared None (conf left vars heap)) choices) =
     ap (λ vs. next (record { point = at + 1; vars = vs; heap = heap }) choices) (declare_var r None vars (spare left) x e) in
     record {
       flow_to = λ y s. step_at p d choices y q here (s ∙ sym same);
@@ -119,7 +121,7 @@ declare_null p x place left at r vars heap choices placed e =
     let d : flow.Config = seen at r (None ∷ spare left) (conf left vars heap) in
     let q : Point = record { code = Allocate (flow_var x) the_struct (point_id (at + 1)); place = place } in
     let here : slice_get (points_of p.body) at ≡ Some q = placed_first (points_of p.body) (end p) at (DeclareMalloc x place ∷ left) q placed refl in
-    let same : next (record { point = at + 1; vars = flow.with_value (r ∷ (vars ++ None ∷ spare left)) (flow_var x) (Some (pos 0)); heap = heap }) choices ≡ moved (seen (at + 1) r (spare left)) (next (tree.declared (Some (pos 0)) (conf left vars heap)) choices) =
+    let same : next (record { point = at + 1; vars = values.with_value (r ∷ (vars ++ None ∷ spare left)) (flow_var x) (Some (pos 0)); heap = heap }) choices ≡ moved (seen (at + 1) r (spare left)) (next (tree.declared (Some (pos 0)) (conf left vars heap)) choices) =
     ap (λ vs. next (record { point = at + 1; vars = vs; heap = heap }) choices) (declare_var r (Some (pos 0)) vars (spare left) x e) in
     record {
       flow_to = λ z s. step_at p d (malloc 0 ∷ choices) z q here (s ∙ sym same);
@@ -136,7 +138,7 @@ declare_block p x place left at r vars heap n choices placed e may =
     let d : flow.Config = seen at r (None ∷ spare left) (conf left vars heap) in
     let q : Point = record { code = Allocate (flow_var x) the_struct (point_id (at + 1)); place = place } in
     let here : slice_get (points_of p.body) at ≡ Some q = placed_first (points_of p.body) (end p) at (DeclareMalloc x place ∷ left) q placed refl in
-    let same : next (record { point = at + 1; vars = flow.with_value (r ∷ (vars ++ None ∷ spare left)) (flow_var x) (Some (pos (suc n))); heap = map.insert heap (suc n) (fresh_block 0 (field_count (flow_of p).structs the_struct)) }) choices
+    let same : next (record { point = at + 1; vars = values.with_value (r ∷ (vars ++ None ∷ spare left)) (flow_var x) (Some (pos (suc n))); heap = map.insert heap (suc n) (fresh_block 0 (field_count (flow_of p).structs the_struct)) }) choices
     ≡ moved (seen (at + 1) r (spare left)) (next (tree.declared (Some (pos (suc n))) (conf left vars (allocated p heap n))) choices) =
     ap (λ vs. next (record { point = at + 1; vars = vs; heap = map.insert heap (suc n) (fresh_block 0 (field_count (flow_of p).structs the_struct)) }) choices) (declare_var r (Some (pos (suc n))) vars (spare left) x e)
     ∙ ap (λ h. next (record { point = at + 1; vars = r ∷ ((vars ++ Some (pos (suc n)) ∷ []) ++ spare left); heap = h }) choices) (counted p heap n) in
@@ -155,7 +157,7 @@ assign_null p x place left at r vars heap choices placed lt =
     let d : flow.Config = seen at r (spare left) (conf left vars heap) in
     let q : Point = record { code = Allocate (flow_var x) the_struct (point_id (at + 1)); place = place } in
     let here : slice_get (points_of p.body) at ≡ Some q = placed_first (points_of p.body) (end p) at (Malloc x place ∷ left) q placed refl in
-    let same : next (record { point = at + 1; vars = flow.with_value (r ∷ (vars ++ spare left)) (flow_var x) (Some (pos 0)); heap = heap }) choices ≡ moved (seen (at + 1) r (spare left)) (next (tree.assigned x (pos 0) (conf left vars heap)) choices) =
+    let same : next (record { point = at + 1; vars = values.with_value (r ∷ (vars ++ spare left)) (flow_var x) (Some (pos 0)); heap = heap }) choices ≡ moved (seen (at + 1) r (spare left)) (next (tree.assigned x (pos 0) (conf left vars heap)) choices) =
     ap (λ vs. next (record { point = at + 1; vars = vs; heap = heap }) choices) (assign_var r (Some (pos 0)) vars (spare left) x lt) in
     record {
       flow_to = λ z s. step_at p d (malloc 0 ∷ choices) z q here (s ∙ sym same);
@@ -172,10 +174,10 @@ assign_block p x place left at r vars heap n choices placed lt may =
     let d : flow.Config = seen at r (spare left) (conf left vars heap) in
     let q : Point = record { code = Allocate (flow_var x) the_struct (point_id (at + 1)); place = place } in
     let here : slice_get (points_of p.body) at ≡ Some q = placed_first (points_of p.body) (end p) at (Malloc x place ∷ left) q placed refl in
-    let same : next (record { point = at + 1; vars = flow.with_value (r ∷ (vars ++ spare left)) (flow_var x) (Some (pos (suc n))); heap = map.insert heap (suc n) (fresh_block 0 (field_count (flow_of p).structs the_struct)) }) choices
+    let same : next (record { point = at + 1; vars = values.with_value (r ∷ (vars ++ spare left)) (flow_var x) (Some (pos (suc n))); heap = map.insert heap (suc n) (fresh_block 0 (field_count (flow_of p).structs the_struct)) }) choices
     ≡ moved (seen (at + 1) r (spare left)) (next (tree.assigned x (pos (suc n)) (conf left vars (allocated p heap n))) choices) =
     ap (λ vs. next (record { point = at + 1; vars = vs; heap = map.insert heap (suc n) (fresh_block 0 (field_count (flow_of p).structs the_struct)) }) choices) (assign_var r (Some (pos (suc n))) vars (spare left) x lt)
-    ∙ ap (λ h. next (record { point = at + 1; vars = r ∷ (flow.with_value vars x (Some (pos (suc n))) ++ spare left); heap = h }) choices) (counted p heap n) in
+    ∙ ap (λ h. next (record { point = at + 1; vars = r ∷ (values.with_value vars x (Some (pos (suc n))) ++ spare left); heap = h }) choices) (counted p heap n) in
     record {
       flow_to = λ z s. step_at p d (malloc (suc n) ∷ choices) z q here (may.0, may.1, s ∙ sym same);
       flow_from = λ z s. (step_from p d (malloc (suc n) ∷ choices) z q here s).2 ∙ same;

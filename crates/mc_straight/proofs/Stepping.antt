@@ -11,9 +11,11 @@ use Rattle.mc_heap.specs.Access.{field_at}
 use Rattle.mc_heap.specs.Choices.{Choice}
 use Rattle.mc_flow.specs.declared.instr.Operand.{Operand}
 use Rattle.mc_flow.specs.declared.instr.Operand.TheVariants.{Var, Const}
-use Rattle.mc_flow.specs.declared.graph.StructInfo.{StructInfo}
+use Rattle.mc_defs.specs.declared.shapes.StructInfo.{StructInfo}
+use Rattle.mc_flow.specs.Values as values
 use Rattle.mc_flow.specs.Steps as flow
-use Rattle.mc_flow.specs.Steps.{address, written, field_count}
+use Rattle.mc_flow.specs.Values.{address}
+use Rattle.mc_flow.specs.Steps.{written, field_count}
 use Rattle.mc_straight.specs.declared.tree.Stmt.{Stmt}
 use Rattle.mc_straight.specs.declared.tree.Stmt.TheVariants.{Declare, DeclareMalloc, Malloc, Load, Store, Free, ReturnIfNull, ReturnZero}
 use Rattle.mc_straight.specs.Spelling.{fields_of}
@@ -59,19 +61,19 @@ read_before [] later y h = h y
 read_before (v ∷ vars) later zero h = refl
 read_before (v ∷ vars) later (suc y) h = read_before vars later y h
 
-pub read_var : (r : Option ℤ) (vars : List (Option ℤ)) (left : List Stmt) (y : VarId) → flow.value_in (r ∷ (vars ++ spare left)) (flow_var y) ≡ flow.value_in vars y
+pub read_var : (r : Option ℤ) (vars : List (Option ℤ)) (left : List Stmt) (y : VarId) → values.value_in (r ∷ (vars ++ spare left)) (flow_var y) ≡ values.value_in vars y
 read_var r vars left y = let e : y.0 + 1 ≡ suc y.0 = omega arith in ap (λ k. get_or (r ∷ (vars ++ spare left)) k None) e ∙ read_before vars (spare left) y.0 (none_later left)
 
-pub read_operand : (r : Option ℤ) (vars : List (Option ℤ)) (left : List Stmt) (o : Operand) → flow.value_of (r ∷ (vars ++ spare left)) (flow_operand o) ≡ flow.value_of vars o
+pub read_operand : (r : Option ℤ) (vars : List (Option ℤ)) (left : List Stmt) (o : Operand) → values.value_of (r ∷ (vars ++ spare left)) (flow_operand o) ≡ values.value_of vars o
 read_operand r vars left (Var x) = read_var r vars left x
 read_operand r vars left (Const c) = refl
 
-pub declare_var : (r v : Option ℤ) (vars later : List (Option ℤ)) (x : VarId) → x.0 ≡ length vars → flow.with_value (r ∷ (vars ++ None ∷ later)) (flow_var x) v ≡ r ∷ ((vars ++ v ∷ []) ++ later)
+pub declare_var : (r v : Option ℤ) (vars later : List (Option ℤ)) (x : VarId) → x.0 ≡ length vars → values.with_value (r ∷ (vars ++ None ∷ later)) (flow_var x) v ≡ r ∷ ((vars ++ v ∷ []) ++ later)
 declare_var r v vars later x e =
     let k : x.0 + 1 ≡ suc (length vars) = omega arith in
     ap (λ n. set (r ∷ (vars ++ None ∷ later)) n v) k ∙ ap (λ l. r ∷ l) (set-append_seam vars None later v ∙ sym (append_assoc vars (v ∷ []) later))
 
-pub assign_var : (r v : Option ℤ) (vars later : List (Option ℤ)) (x : VarId) → x.0 < length vars → flow.with_value (r ∷ (vars ++ later)) (flow_var x) v ≡ r ∷ (flow.with_value vars x v ++ later)
+pub assign_var : (r v : Option ℤ) (vars later : List (Option ℤ)) (x : VarId) → x.0 < length vars → values.with_value (r ∷ (vars ++ later)) (flow_var x) v ≡ r ∷ (values.with_value vars x v ++ later)
 assign_var r v vars later x lt =
     let k : x.0 + 1 ≡ suc x.0 = omega arith in
     ap (λ n. set (r ∷ (vars ++ later)) n v) k ∙ ap (λ l. r ∷ l) (set-append_left vars later x.0 v lt)

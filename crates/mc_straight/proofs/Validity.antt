@@ -1,6 +1,6 @@
 -- The flow graph of a well typed program is valid.
 use Rattle.std.proofs.Common.{◌≡◌, ◌+◌, ◌<◌, ◌≤◌, inl, ℕ, zero, suc, List, [], ◌∷◌, ◌++◌, length, get_or, Option, Some, None, true, false, refl, sym, ap, ◌∙◌, subst, arith, ℤ, pos, length-append}
-use Rattle.std.specs.Prelude.{slice_get, All, Contains, IsSome, int_lt, fold, if◌then◌else◌}
+use Rattle.std.specs.Prelude.{slice_get, All, IsSome, int_lt, fold, if◌then◌else◌}
 use Rattle.std.specs.Option.{option_map}
 use Rattle.std.specs.Ordering.{int_eq}
 use Rattle.std.proofs.lemmas.Int.{ints}
@@ -9,13 +9,15 @@ use Rattle.mc_base.specs.declared.ids.VarId.{VarId}
 use Rattle.mc_base.specs.declared.plain.Kind.{Kind}
 use Rattle.mc_base.specs.declared.plain.Kind.TheVariants.{Int, Ptr}
 use Rattle.mc_base.specs.declared.plain.Place.{Place}
+use Rattle.mc_base.specs.Kinds.{InKind}
+use Rattle.mc_defs.specs.Conditions.{DefFits}
 use Rattle.mc_flow.specs.declared.instr.Operand.{Operand}
 use Rattle.mc_flow.specs.declared.instr.Operand.TheVariants.{Var, Const}
 use Rattle.mc_flow.specs.declared.instr.Instr.TheVariants.{Skip}
-use Rattle.mc_flow.specs.declared.graph.Defs.{Defs}
+use Rattle.mc_flow.specs.declared.instr.Instr.{Instr}
 use Rattle.mc_flow.specs.declared.graph.Point.{Point}
-use Rattle.mc_flow.specs.declared.graph.StructInfo.{StructInfo}
-use Rattle.mc_flow.specs.Valid.{IsInt, IsVar, IsOperand, IsStruct, IsField, IsSkip, IsValid, FitsKinds, targets}
+use Rattle.mc_defs.specs.declared.shapes.StructInfo.{StructInfo}
+use Rattle.mc_flow.specs.Valid.{IsVar, IsOperand, IsStruct, IsField, IsSkip, GoesOn, PointFits, IsValid, FitsKinds, targets}
 use Rattle.mc_straight.specs.declared.tree.Program.{Program}
 use Rattle.mc_straight.specs.declared.tree.Stmt.{Stmt}
 use Rattle.mc_straight.specs.declared.tree.Stmt.TheVariants.{Declare, DeclareMalloc, Malloc, Load, Store, Free, ReturnIfNull, ReturnZero}
@@ -39,21 +41,6 @@ all_cons P x xs h all = at_cons P x xs h all
 all_one : {X : Type 0} (P : X → Type 0) (x : X) → P x → All P (x ∷ [])
 all_one P x h = all_cons P x [] h (all_none P)
 
-target_at : (t u : PointId) (i : ℕ) → i < length (t ∷ []) → get_or (t ∷ []) i u ≡ u → t ≡ u
-target_at t u zero lt e = e
-target_at t u (suc i) lt e = absurd (let one : length (t ∷ []) ≡ 1 = refl in omega arith)
-
-one_target : (t u : PointId) (k : ℕ) → k < t.0 → Contains (t ∷ []) u → k < u.0
-one_target t u k lt h = subst (λ (x : PointId). k < x.0) (target_at t u h.0 h.1 h.2) lt
-
-two_at : (t s u : PointId) (k i : ℕ) → k < t.0 → k < s.0 → i < length (t ∷ s ∷ []) → get_or (t ∷ s ∷ []) i u ≡ u → k < u.0
-two_at t s u k zero lt more within e = subst (λ (x : PointId). k < x.0) e lt
-two_at t s u k (suc zero) lt more within e = subst (λ (x : PointId). k < x.0) e more
-two_at t s u k (suc (suc i)) lt more within e = absurd (let two : length (t ∷ s ∷ []) ≡ 2 = refl in omega arith)
-
-no_target : (u : PointId) → Contains [] u → ⊥
-no_target u h = let lt : h.0 < length {A = PointId} [] = h.1 in let none : length {A = PointId} [] ≡ 0 = refl in omega arith
-
 within : {X Y : Type 0} (f : X → Y) (xs : List X) (k : ℕ) (y : Y) → option_map f (slice_get xs k) ≡ Some y → k < length xs
 within f [] k y e = cc
 within f (x ∷ xs) zero y e = omega arith
@@ -75,15 +62,13 @@ struct_fits (Some s) h = omega arith
 
 field_fits : (structure : Option StructInfo) (f : ℕ) (k : Kind) → HasField structure f k → IsField (record { list = structs_of structure }) the_struct f k
 field_fits None f k h = cc
-field_fits (Some s) f k h = (s, refl, h)
+field_fits (Some s) f k h = h
 
 -- ---- points
 
 -- a point is as a valid flow graph wants it
-record Good (p : Program) (defs : Defs) (k : ℕ) (q : Point) : Type 0 where
-  goes : All (λ t. t.0 < length (points_of p.body)) (targets q.code)
-  fits : FitsKinds (result_var ∷ p.vars) (record { list = structs_of p.structure }) defs q.code
-  forward : (t : PointId) → Contains (targets q.code) t → k < t.0
+abbrev Good : Program → ℕ → Point → Type 0
+Good p k q = PointFits (flow_of p) [] k q
 
 abbrev AllFrom : (ℕ → Point → Type 0) → ℕ → List Point → Type 0
 AllFrom P at [] = Unit {0}
@@ -103,45 +88,45 @@ all_at P at (x ∷ xs) (suc k) q h e =
     let n : at + suc k ≡ at + 1 + k = omega arith in
     subst (λ i. P i q) (sym n) (all_at P (at + 1) xs k q h.1 e)
 
--- a point of one target
-good_one : (p : Program) (defs : Defs) (k : ℕ) (q : Point) (t : PointId) → targets q.code ≡ t ∷ [] → t.0 < length (points_of p.body) → k < t.0 → FitsKinds (result_var ∷ p.vars) (record { list = structs_of p.structure }) defs q.code → Good p defs k q
-good_one p defs k q t e lt more fits = record {
-  goes = subst (All (λ u. u.0 < length (points_of p.body))) (sym e) (all_one (λ (u : PointId). u.0 < length (points_of p.body)) t lt);
-  fits = fits;
-  forward = λ u h. one_target t u k more (subst (λ ts. Contains ts u) e h);
-}
+-- what an instruction names is there
+abbrev Fits : Program → Instr → Type 0
+Fits p code = FitsKinds (result_var ∷ p.vars) (record { list = structs_of p.structure }) [] code
 
-int_zero : IsInt (pos 0)
+-- a point of one target
+good_one : (p : Program) (k : ℕ) (q : Point) (t : PointId) → targets q.code ≡ t ∷ [] → t.0 < length (points_of p.body) → k < t.0 → Fits p q.code → Good p k q
+good_one p k q t e lt more fits = record { follows = subst (All (GoesOn (flow_of p) k)) (sym e) (all_one (GoesOn (flow_of p) k) t (lt, inl more)); kinds = fits }
+
+int_zero : InKind Int (pos 0)
 int_zero = (omega (arith, ints), omega (arith, ints))
 
-good_return : (p : Program) (defs : Defs) (k end : ℕ) (place : Place) → end < length (points_of p.body) → k < end → Good p defs k (returned end place)
-good_return p defs k end place lt more = good_one p defs k (returned end place) (point_id end) refl lt more (Int, refl, int_zero)
+good_return : (p : Program) (k end : ℕ) (place : Place) → end < length (points_of p.body) → k < end → Good p k (returned end place)
+good_return p k end place lt more = good_one p k (returned end place) (point_id end) refl lt more (Int, refl, int_zero)
 
-good_next : (p : Program) (defs : Defs) (at : ℕ) (q : Point) → targets q.code ≡ point_id (at + 1) ∷ [] → at + 1 < length (points_of p.body) → FitsKinds (result_var ∷ p.vars) (record { list = structs_of p.structure }) defs q.code → Good p defs at q
-good_next p defs at q e lt fits = good_one p defs at q (point_id (at + 1)) e lt (let more : at < at + 1 = omega arith in more) fits
+good_next : (p : Program) (at : ℕ) (q : Point) → targets q.code ≡ point_id (at + 1) ∷ [] → at + 1 < length (points_of p.body) → Fits p q.code → Good p at q
+good_next p at q e lt fits = good_one p at q (point_id (at + 1)) e lt (let more : at < at + 1 = omega arith in more) fits
 
-good_stmt : (p : Program) (defs : Defs) (n end at : ℕ) (s : Stmt) → IsTypedStmt p.structure p.vars n s → end < length (points_of p.body) → at + size_of s ≤ end → AllFrom (Good p defs) at (lowered end at s)
-good_stmt p defs n end at (Declare x place) typed lt le = (good_next p defs at _ refl (omega arith) (all_one (λ (y : VarId). y.0 < length (result_var ∷ p.vars)) (flow_var x) (let in_vars : x.0 < length p.vars = within (λ v. v.kind) p.vars x.0 Ptr typed.1.1 in omega arith)), tt)
-good_stmt p defs n end at (DeclareMalloc x place) typed lt le = (good_next p defs at _ refl (omega arith) (var_fits p Ptr x typed.1.1, struct_fits p.structure typed.0), tt)
-good_stmt p defs n end at (Malloc x place) typed lt le = (good_next p defs at _ refl (omega arith) (var_fits p Ptr x typed.1.1, struct_fits p.structure typed.0), tt)
-good_stmt p defs n end at (Load x y f place) typed lt le = (good_next p defs at _ refl (omega arith) (typed.0, var_fits p typed.0 x typed.1.1, var_fits p Ptr y typed.2.1, field_fits p.structure f typed.0 typed.3), tt)
-good_stmt p defs n end at (Store y f value place) typed lt le = (good_next p defs at _ refl (omega arith) (typed.0, var_fits p Ptr y typed.1.1, field_fits p.structure f typed.0 typed.2, operand_fits p n typed.0 value typed.3), tt)
-good_stmt p defs n end at (Free value place) typed lt le = (good_next p defs at _ refl (omega arith) (operand_fits p n Ptr value typed), tt)
-good_stmt p defs n end at (ReturnIfNull y places) typed lt le = (
+good_stmt : (p : Program) (n end at : ℕ) (s : Stmt) → IsTypedStmt p.structure p.vars n s → end < length (points_of p.body) → at + size_of s ≤ end → AllFrom (Good p) at (lowered end at s)
+good_stmt p n end at (Declare x place) typed lt le = (good_next p at _ refl (omega arith) (all_one (λ (y : VarId). y.0 < length (result_var ∷ p.vars)) (flow_var x) (let in_vars : x.0 < length p.vars = within (λ v. v.kind) p.vars x.0 Ptr typed.1.1 in omega arith)), tt)
+good_stmt p n end at (DeclareMalloc x place) typed lt le = (good_next p at _ refl (omega arith) (var_fits p Ptr x typed.1.1, struct_fits p.structure typed.0), tt)
+good_stmt p n end at (Malloc x place) typed lt le = (good_next p at _ refl (omega arith) (var_fits p Ptr x typed.1.1, struct_fits p.structure typed.0), tt)
+good_stmt p n end at (Load x y f place) typed lt le = (good_next p at _ refl (omega arith) (typed.0, var_fits p typed.0 x typed.1.1, var_fits p Ptr y typed.2.1, field_fits p.structure f typed.0 typed.3), tt)
+good_stmt p n end at (Store y f value place) typed lt le = (good_next p at _ refl (omega arith) (typed.0, var_fits p Ptr y typed.1.1, field_fits p.structure f typed.0 typed.2, operand_fits p n typed.0 value typed.3), tt)
+good_stmt p n end at (Free value place) typed lt le = (good_next p at _ refl (omega arith) (operand_fits p n Ptr value typed), tt)
+good_stmt p n end at (ReturnIfNull y places) typed lt le = (
   record {
-    goes = all_cons (λ (t : PointId). t.0 < length (points_of p.body)) (point_id (at + 1)) (point_id (at + 2) ∷ []) (omega arith) (all_one (λ (t : PointId). t.0 < length (points_of p.body)) (point_id (at + 2)) (omega arith));
-    fits = (Ptr, var_fits p Ptr y typed.1, refl);
-    forward = λ u h. two_at (point_id (at + 1)) (point_id (at + 2)) u at h.0 (let a : at < at + 1 = omega arith in a) (let b : at < at + 2 = omega arith in b) h.1 h.2;
+    follows = all_cons (GoesOn (flow_of p) at) (point_id (at + 1)) (point_id (at + 2) ∷ []) (omega arith, inl (let a : at < at + 1 = omega arith in a))
+        (all_one (GoesOn (flow_of p) at) (point_id (at + 2)) (omega arith, inl (let b : at < at + 2 = omega arith in b)));
+    kinds = (Ptr, var_fits p Ptr y typed.1, refl);
   },
   (
-    good_return p defs (at + 1) end places.returned lt (omega arith),
+    good_return p (at + 1) end places.returned lt (omega arith),
     (
-      good_one p defs (at + 1 + 1) _ (point_id (at + 3)) refl (let a : at + 3 < length (points_of p.body) = omega arith in a) (let b : at + 1 + 1 < at + 3 = omega arith in b) tt,
+      good_one p (at + 1 + 1) _ (point_id (at + 3)) refl (let a : at + 3 < length (points_of p.body) = omega arith in a) (let b : at + 1 + 1 < at + 3 = omega arith in b) tt,
       tt,
     ),
   ),
 )
-good_stmt p defs n end at (ReturnZero place) typed lt le = (good_return p defs at end place lt (omega arith), tt)
+good_stmt p n end at (ReturnZero place) typed lt le = (good_return p at end place lt (omega arith), tt)
 
 -- ---- all points
 
@@ -159,30 +144,30 @@ body_length end at (s ∷ left) =
 points_length : (p : Program) → length (points_of p.body) ≡ end_of 1 p.body + 1
 points_length p = (let e : 1 + length (lowered_body (end_of 1 p.body) 1 p.body) ≡ end_of 1 p.body + 1 = body_length (end_of 1 p.body) 1 p.body in omega arith)
 
-good_body : (p : Program) (defs : Defs) (n end at : ℕ) (left : List Stmt) → IsTypedBody p.structure p.vars n left → end < length (points_of p.body) → end ≡ end_of at left → AllFrom (Good p defs) at (lowered_body end at left)
-good_body p defs n end at [] typed lt e = (
-  good_return p defs at end nowhere lt (omega arith),
+good_body : (p : Program) (n end at : ℕ) (left : List Stmt) → IsTypedBody p.structure p.vars n left → end < length (points_of p.body) → end ≡ end_of at left → AllFrom (Good p) at (lowered_body end at left)
+good_body p n end at [] typed lt e = (
+  good_return p at end nowhere lt (omega arith),
   (
-    record { goes = all_none (λ (t : PointId). t.0 < length (points_of p.body)); fits = tt; forward = λ u h. absurd (no_target u h) },
+    record { follows = all_none (GoesOn (flow_of p) (at + 1)); kinds = tt },
     tt,
   ),
 )
-good_body p defs n end at (s ∷ left) typed lt e =
+good_body p n end at (s ∷ left) typed lt e =
     let above : at + size_of s + 1 ≤ end_of (at + size_of s) left = end_above (at + size_of s) left in
-    all_join (Good p defs) at (lowered end at s) (lowered_body end (at + size_of s) left)
-    (good_stmt p defs n end at s typed.0 lt (let le : at + size_of s ≤ end = omega arith in le))
-    (subst (λ k. AllFrom (Good p defs) (at + k) (lowered_body end (at + size_of s) left)) (sym (size_is end at s)) (good_body p defs (declared_behind n s) end (at + size_of s) left typed.1 lt e))
+    all_join (Good p) at (lowered end at s) (lowered_body end (at + size_of s) left)
+    (good_stmt p n end at s typed.0 lt (let le : at + size_of s ≤ end = omega arith in le))
+    (subst (λ k. AllFrom (Good p) (at + k) (lowered_body end (at + size_of s) left)) (sym (size_is end at s)) (good_body p (declared_behind n s) end (at + size_of s) left typed.1 lt e))
 
-good_points : (p : Program) (defs : Defs) → IsTyped p → AllFrom (Good p defs) 0 (points_of p.body)
-good_points p defs typed =
+good_points : (p : Program) → IsTyped p → AllFrom (Good p) 0 (points_of p.body)
+good_points p typed =
     let total : length (points_of p.body) ≡ end_of 1 p.body + 1 = points_length p in
     let above : 1 + 1 ≤ end_of 1 p.body = end_above 1 p.body in (
-      good_one p defs 0 (record { code = Skip (point_id 1); place = nowhere }) (point_id 1) refl (let a : 1 < length (points_of p.body) = omega arith in a) (let b : 0 < 1 = omega arith in b) tt,
-      good_body p defs 0 (end_of 1 p.body) 1 p.body typed.body (let lt : end_of 1 p.body < length (points_of p.body) = omega arith in lt) refl,
+      good_one p 0 (record { code = Skip (point_id 1); place = nowhere }) (point_id 1) refl (let a : 1 < length (points_of p.body) = omega arith in a) (let b : 0 < 1 = omega arith in b) tt,
+      good_body p 0 (end_of 1 p.body) 1 p.body typed.body (let lt : end_of 1 p.body < length (points_of p.body) = omega arith in lt) refl,
     )
 
-good_at : (p : Program) (defs : Defs) → IsTyped p → (k : ℕ) (q : Point) → slice_get (points_of p.body) k ≡ Some q → Good p defs k q
-good_at p defs typed k q e = (let n : 0 + k ≡ k = omega arith in subst (λ i. Good p defs i q) n (all_at (Good p defs) 0 (points_of p.body) k q (good_points p defs typed) e))
+good_at : (p : Program) → IsTyped p → (k : ℕ) (q : Point) → slice_get (points_of p.body) k ≡ Some q → Good p k q
+good_at p typed k q e = (let n : 0 + k ≡ k = omega arith in subst (λ i. Good p i q) n (all_at (Good p) 0 (points_of p.body) k q (good_points p typed) e))
 
 -- ---- where ways meet
 
@@ -197,7 +182,7 @@ merges_good p at (Free value place ∷ left) placed = merges_good p (at + 1) lef
 merges_good p at (ReturnIfNull y places ∷ left) placed =
     let q : Point = record { code = Skip (point_id (at + 3)); place = places.keyword } in
     all_cons (IsSkip (points_of p.body)) (point_id (at + 2)) (merges_of (at + 3) left)
-    (q, point_id (at + 3), placed_point (points_of p.body) (end_of 1 p.body) at 2 (ReturnIfNull y places ∷ left) q placed refl, refl)
+    (record { next = point_id (at + 3); skips = ap (option_map (λ (r : Point). r.code)) (placed_point (points_of p.body) (end_of 1 p.body) at 2 (ReturnIfNull y places ∷ left) q placed refl) })
     (merges_good p (at + 3) left (placed_behind (points_of p.body) (end_of 1 p.body) at (ReturnIfNull y places) left placed))
 merges_good p at (ReturnZero place ∷ left) placed = merges_good p (at + 1) left (placed_behind (points_of p.body) (end_of 1 p.body) at (ReturnZero place) left placed)
 
@@ -205,13 +190,13 @@ merges_good p at (ReturnZero place ∷ left) placed = merges_good p (at + 1) lef
 
 abbrev Each : List ℤ → Type 0
 Each [] = Unit {0}
-Each (c ∷ cs) = IsInt c × Each cs
+Each (c ∷ cs) = InKind Int c × Each cs
 
-each_all : (cs : List ℤ) → Each cs → All IsInt cs
-each_all [] h = all_none IsInt
-each_all (c ∷ cs) h = all_cons IsInt c cs h.0 (each_all cs h.1)
+each_all : (cs : List ℤ) → Each cs → All (InKind Int) cs
+each_all [] h = all_none (InKind Int)
+each_all (c ∷ cs) h = all_cons (InKind Int) c cs h.0 (each_all cs h.1)
 
-each_number : (cs : List ℤ) (c : ℤ) → IsInt c → Each cs → Each (with_number cs c)
+each_number : (cs : List ℤ) (c : ℤ) → InKind Int c → Each cs → Each (with_number cs c)
 each_number [] c int h = (int, tt)
 each_number (d ∷ ds) c int h =
     let more : Each (with_number ds c) = each_number ds c int h.1 in
@@ -223,7 +208,7 @@ each_number (d ∷ ds) c int h =
 each_operand : (p : Program) (n : ℕ) (k : Kind) (cs : List ℤ) (o : Operand) → IsVisibleOperand p.vars n k o → Each cs → Each (with_operand cs o)
 each_operand p n k cs (Var x) typed h = h
 each_operand p n Int cs (Const c) typed h = each_number cs c typed h
-each_operand p n Ptr cs (Const c) typed h = each_number cs c (subst IsInt (sym typed) int_zero) h
+each_operand p n Ptr cs (Const c) typed h = each_number cs c (subst (InKind Int) (sym typed) int_zero) h
 
 each_stmt : (p : Program) (n : ℕ) (cs : List ℤ) (s : Stmt) → IsTypedStmt p.structure p.vars n s → Each cs → Each (with_constants cs s)
 each_stmt p n cs (Declare x place) typed h = h
@@ -239,13 +224,12 @@ each_body : (p : Program) (n : ℕ) (cs : List ℤ) (left : List Stmt) → IsTyp
 each_body p n cs [] typed h = h
 each_body p n cs (s ∷ left) typed h = each_body p (declared_behind n s) (with_constants cs s) left typed.1 (each_stmt p n cs s typed.0 h)
 
-pub valid : (p : Program) → IsTyped p → (defs : Defs) → IsValid (flow_of p) defs
-valid p typed defs = record {
+pub valid : (p : Program) → IsTyped p → IsValid (flow_of p) []
+valid p typed = record {
   begins = (let total : length (points_of p.body) ≡ end_of 1 p.body + 1 = points_length p in omega arith);
-  in_range = λ k q e. (good_at p defs typed k q e).goes;
-  kinds = λ k q e. (good_at p defs typed k q e).fits;
-  thresholds = each_all (thresholds_of p.body) (each_body p 0 (pos 0 ∷ []) p.body typed.body (int_zero, tt));
+  points = good_at p typed;
   heads = all_none (IsSkip (points_of p.body));
   merges = merges_good p 1 p.body (placed_body p);
-  back = λ k q t e h. inl ((good_at p defs typed k q e).forward t h);
+  thresholds = each_all (thresholds_of p.body) (each_body p 0 (pos 0 ∷ []) p.body typed.body (int_zero, tt));
+  definitions = all_none (DefFits (structs_of p.structure) []);
 }

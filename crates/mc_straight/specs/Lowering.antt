@@ -14,7 +14,7 @@ use Rattle.mc_flow.specs.declared.instr.Operand.{Operand}
 use Rattle.mc_flow.specs.declared.instr.Operand.TheVariants.{Var, Const}
 use Rattle.mc_flow.specs.declared.instr.Instr.TheVariants.{Skip, Copy, Undef, Load as LoadField, Store as StoreField, Malloc as Allocate, Free as FreeBlock, TestEq, End}
 use Rattle.mc_flow.specs.declared.graph.Point.{Point}
-use Rattle.mc_flow.specs.declared.graph.StructInfo.{StructInfo}
+use Rattle.mc_defs.specs.declared.shapes.StructInfo.{StructInfo}
 use Rattle.mc_flow.specs.declared.graph.Flow.{Flow}
 use Rattle.mc_flow.specs.Steps as flow
 use Rattle.mc_straight.specs.declared.tree.Program.{Program}
@@ -142,8 +142,8 @@ flow_of p =
       structs = record { list = structs_of p.structure };
     }
 
--- with the same choices the one run comes to an end or to a fault exactly where the other comes to the same one
+-- with the same choices the one run comes to an end or to a fault exactly where the other, without definitions, comes to the same one
 abbrev pub RunsMatch : Program → Flow → Type 0
 RunsMatch p f =
     (choices : List Choice) (final : Final)
-    → ((n : ℕ) × Reaches (tree.Step p) n (tree.start p) choices final) ↔ ((n : ℕ) × Reaches (flow.Step f) n (flow.start f) choices final)
+    → ((n : ℕ) × Reaches (tree.Step p) n (tree.start p) choices final) ↔ ((n : ℕ) × Reaches (flow.Step f []) n (flow.start f) choices final)

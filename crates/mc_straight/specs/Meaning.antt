@@ -9,8 +9,9 @@ use Rattle.mc_base.specs.Runs.{Outcome, next, last, ended, fault, IsSafeFrom}
 use Rattle.mc_heap.specs.Heap.{Block, Heap, IsAddress, region_of}
 use Rattle.mc_heap.specs.Access.{field_at, fresh_block}
 use Rattle.mc_heap.specs.Choices.{Choice, input, malloc, shape}
-use Rattle.mc_flow.specs.declared.graph.StructInfo.{StructInfo}
-use Rattle.mc_flow.specs.Steps.{address, value_in, value_of, with_value, written}
+use Rattle.mc_defs.specs.declared.shapes.StructInfo.{StructInfo}
+use Rattle.mc_flow.specs.Values.{address, value_in, value_of, with_value}
+use Rattle.mc_flow.specs.Steps.{written}
 use Rattle.mc_straight.specs.declared.tree.Program.{Program}
 use Rattle.mc_straight.specs.declared.tree.Stmt.{Stmt}
 use Rattle.mc_straight.specs.declared.tree.Stmt.TheVariants.{Declare, DeclareMalloc, Malloc, Load, Store, Free, ReturnIfNull, ReturnZero}

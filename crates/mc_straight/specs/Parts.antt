@@ -2,8 +2,8 @@
 use Rattle.std.specs.Prelude.{ℕ, List, [], ◌∷◌, ◌++◌, Option, codes, map, flat_map}
 use Rattle.mc_base.specs.declared.plain.VarInfo.{VarInfo}
 use Rattle.mc_lex.specs.declared.token.Token.{Token}
-use Rattle.mc_flow.specs.declared.graph.FieldInfo.{FieldInfo}
-use Rattle.mc_flow.specs.declared.graph.StructInfo.{StructInfo}
+use Rattle.mc_defs.specs.declared.shapes.FieldInfo.{FieldInfo}
+use Rattle.mc_defs.specs.declared.shapes.StructInfo.{StructInfo}
 use Rattle.mc_straight.specs.declared.tree.Stmt.{Stmt}
 use Rattle.mc_straight.specs.declared.tree.Program.{Program}
 use Rattle.mc_straight.specs.Spelling.{Begins, words, spelled_field, spelled_structure, spelled_body, spelled_program}

@@ -15,8 +15,8 @@ use Rattle.mc_lex.specs.Numbers.{max_number}
 use Rattle.mc_lex.specs.declared.token.Token.{Token}
 use Rattle.mc_flow.specs.declared.instr.Operand.{Operand}
 use Rattle.mc_flow.specs.declared.instr.Operand.TheVariants.{Var, Const}
-use Rattle.mc_flow.specs.declared.graph.FieldInfo.{FieldInfo}
-use Rattle.mc_flow.specs.declared.graph.StructInfo.{StructInfo}
+use Rattle.mc_defs.specs.declared.shapes.FieldInfo.{FieldInfo}
+use Rattle.mc_defs.specs.declared.shapes.StructInfo.{StructInfo}
 use Rattle.mc_straight.specs.declared.tree.Stmt.{Stmt}
 use Rattle.mc_straight.specs.declared.tree.Stmt.TheVariants.{Declare, DeclareMalloc, Malloc, Load, Store, Free, ReturnIfNull, ReturnZero}
 use Rattle.mc_straight.specs.Spelling.{tag_of, fields_of, field_kind, kind_of, malloc_of}

@@ -10,8 +10,8 @@ use Rattle.mc_lex.specs.declared.token.Token.{Token}
 use Rattle.mc_lex.specs.Numbers.{Spells}
 use Rattle.mc_flow.specs.declared.instr.Operand.{Operand}
 use Rattle.mc_flow.specs.declared.instr.Operand.TheVariants.{Var, Const}
-use Rattle.mc_flow.specs.declared.graph.FieldInfo.{FieldInfo}
-use Rattle.mc_flow.specs.declared.graph.StructInfo.{StructInfo}
+use Rattle.mc_defs.specs.declared.shapes.FieldInfo.{FieldInfo}
+use Rattle.mc_defs.specs.declared.shapes.StructInfo.{StructInfo}
 use Rattle.mc_straight.specs.declared.tree.Program.{Program}
 use Rattle.mc_straight.specs.declared.tree.Stmt.{Stmt}
 use Rattle.mc_straight.specs.declared.tree.Stmt.TheVariants.{Declare, DeclareMalloc, Malloc, Load, Store, Free, ReturnIfNull, ReturnZero}

@@ -8,8 +8,8 @@ use Rattle.mc_base.specs.declared.plain.VarInfo.{VarInfo}
 use Rattle.mc_lex.specs.Bytes.{is_letter}
 use Rattle.mc_flow.specs.declared.instr.Operand.{Operand}
 use Rattle.mc_flow.specs.declared.instr.Operand.TheVariants.{Var, Const}
-use Rattle.mc_flow.specs.declared.graph.StructInfo.{StructInfo}
-use Rattle.mc_flow.specs.Valid.{IsInt}
+use Rattle.mc_defs.specs.declared.shapes.StructInfo.{StructInfo}
+use Rattle.mc_base.specs.Kinds.{InKind}
 use Rattle.mc_straight.specs.declared.tree.Program.{Program}
 use Rattle.mc_straight.specs.declared.tree.Stmt.{Stmt}
 use Rattle.mc_straight.specs.declared.tree.Stmt.TheVariants.{Declare, DeclareMalloc, Malloc, Load, Store, Free, ReturnIfNull, ReturnZero}
@@ -68,7 +68,7 @@ HasField structure f kind = option_map (λ i. i.kind) (slice_get (fields_of stru
 -- the operand is of this kind, for which 0 is the one constant pointer
 abbrev pub IsVisibleOperand : List VarInfo → ℕ → Kind → Operand → Type 0
 IsVisibleOperand vars n kind (Var x) = IsVisible vars n kind x
-IsVisibleOperand vars n Int (Const c) = IsInt c
+IsVisibleOperand vars n Int (Const c) = InKind Int c
 IsVisibleOperand vars n Ptr (Const c) = c ≡ pos 0
 
 -- the statement is well typed where the first n variables are declared; a declared one is visible from its declarator on

@@ -1,6 +1,5 @@
 // The flow graph of a program.
 ghost use Rattle.std.specs.Prelude.{◌≡◌, ◌++◌, ◌∷◌, [], length, IfOk, OnOk, ℕ};
-ghost use Rattle.mc_flow.specs.declared.graph.Defs.{Defs};
 ghost use Rattle.mc_flow.specs.Valid.{IsValid};
 ghost use Rattle.mc_straight.specs.Typing.{IsTyped};
 ghost use Rattle.mc_straight.specs.Lowering.{nowhere, flow_var, flow_operand, returned, lowered, size_of, end_of, points_of, merges_at, merges_of, with_number, with_operand, with_constants, thresholds_of, structs_of, result_var, flow_of};
@@ -307,10 +306,10 @@ fn structs(alloc: Global, structure: &Option<StructInfo>) -> Result<Items<Struct
     }
 }
 
-/// The flow graph of a program, which is valid where the program is well typed.
+/// The flow graph of a program, which is valid without definitions where the program is well typed.
 pub fn lower(alloc: Global, program: &Program) -> Result<Flow, AllocError>
     ensures flow { IfOk result (λ f. f ≡ flow_of program.now) }
-    ensures valid { IfOk result (λ f. IsTyped program.now → (defs : Defs) → IsValid f defs) }
+    ensures valid { IfOk result (λ f. IsTyped program.now → IsValid f []) }
 {
     let body = program.body.as_slice();
     let made = all_points(alloc, body)?;

@@ -6,8 +6,8 @@ ghost use Rattle.mc_straight.specs.declared.tree.Stmt.{Stmt as Statement};
 ghost use Rattle.mc_straight.specs.Spelling.{Begins, words};
 ghost use Rattle.mc_straight.specs.Typing.{IsTypedStructure};
 ghost use Rattle.mc_straight.specs.Reading.{declared_of, statement_of};
-ghost use Rattle.mc_flow.specs.declared.graph.FieldInfo.{FieldInfo as Field};
-ghost use Rattle.mc_flow.specs.declared.graph.StructInfo.{StructInfo as Info};
+ghost use Rattle.mc_defs.specs.declared.shapes.FieldInfo.{FieldInfo as Field};
+ghost use Rattle.mc_defs.specs.declared.shapes.StructInfo.{StructInfo as Info};
 ghost use Rattle.mc_straight.specs.Parts.{BodyReads};
 
 use crate::Stmt;

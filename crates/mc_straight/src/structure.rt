@@ -1,8 +1,8 @@
 // The struct of a program and the head of `main`, read from tokens.
 ghost use Rattle.std.specs.Prelude.{◌≡◌, ◌<◌, ◌↔◌, [], List, ℕ, Option, length, IfOk, MatchOption, codes};
 ghost use Rattle.mc_lex.specs.declared.token.Token.{Token as Word};
-ghost use Rattle.mc_flow.specs.declared.graph.FieldInfo.{FieldInfo as Field};
-ghost use Rattle.mc_flow.specs.declared.graph.StructInfo.{StructInfo as Info};
+ghost use Rattle.mc_defs.specs.declared.shapes.FieldInfo.{FieldInfo as Field};
+ghost use Rattle.mc_defs.specs.declared.shapes.StructInfo.{StructInfo as Info};
 ghost use Rattle.mc_straight.specs.Spelling.{Begins, words};
 ghost use Rattle.mc_straight.specs.Reading.{field_of_tokens, struct_name_of};
 ghost use Rattle.mc_straight.specs.Parts.{FieldsRead, HeadReads, main_words};

@@ -1,7 +1,7 @@
 //! Reads the words of the command line, and ends with the status of what they ask for.
 #![tactic(auto)]
 
-use mc_app::memcad;
+use mc_app::{Status, memcad};
 use mc_base::{HostFiles, HostSink};
 use std::process::ExitCode;
 use std::{env, io};
@@ -15,14 +15,22 @@ fn words(rt: &HostRuntime) -> io::Result<Vec<String>> {
     Ok(words)
 }
 
+// The status where there are no words: want of memory, or 9 where the system does not hand them over.
+fn without_words(error: &io::Error) -> u8 {
+    match error.kind() {
+        io::ErrorKind::OutOfMemory => Status::Memory.code(),
+        _ => 9,
+    }
+}
+
 fn main(rt: HostRuntime) -> ExitCode {
     match words(&rt) {
-        Err(_) => ExitCode::from(9),
+        Err(error) => ExitCode::from(without_words(&error)),
         Ok(words) => {
             let alloc = rt.alloc();
             let first: Result<_, _> = rt.clone();
             let Ok(first) = first else {
-                return ExitCode::from(8);
+                return ExitCode::from(Status::Memory.code());
             };
             let mut files = HostFiles::new(first);
             let mut out = HostSink::new(rt);

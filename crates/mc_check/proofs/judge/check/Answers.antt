@@ -1,6 +1,6 @@
 use Rattle.std.proofs.Common.{◌≡◌, ◌↔◌, ◌∷◌, true, refl, subst}
 use Rattle.std.specs.Prelude.{IsTrue}
-use Rattle.mc_state.specs.declared.line.Line.TheVariants.{Header}
+use Rattle.mc_state.specs.declared.straight_line.StraightLine.TheVariants.{Header}
 use Rattle.mc_state.specs.declared.line.Version.TheVariants.{One}
 use Rattle.mc_state.specs.declared.line.Form.TheVariants.{Certificate}
 use Rattle.mc_cert.specs.Lines.{lines_of}

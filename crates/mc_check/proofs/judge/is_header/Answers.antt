@@ -1,4 +1,4 @@
-use Rattle.mc_state.specs.declared.line.Line.TheVariants.{Header}
+use Rattle.mc_state.specs.declared.straight_line.StraightLine.TheVariants.{Header}
 use Rattle.mc_state.specs.declared.line.Version.TheVariants.{One}
 use Rattle.mc_state.specs.declared.line.Form.TheVariants.{Certificate}
 use Rattle.mc_check.proofs.Closing.{never}

@@ -1,5 +1,5 @@
 use Rattle.std.proofs.Common.{◌∙◌, ap}
-use Rattle.mc_state.specs.State.{are_same}
+use Rattle.mc_state.specs.Straight.{are_same}
 use Rattle.mc_state.proofs.state.is_block_at.Goals as goal
 
 pub returns : goal.returns

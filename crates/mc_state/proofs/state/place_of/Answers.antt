@@ -1,5 +1,5 @@
 use Rattle.std.proofs.Common.{◌≡◌, ◌∙◌, sym, true, false}
-use Rattle.mc_state.specs.State.{is_block_at}
+use Rattle.mc_state.specs.Straight.{is_block_at}
 use Rattle.mc_state.proofs.Places.{found_here, not_here}
 use Rattle.mc_state.proofs.state.place_of.Goals as goal
 

@@ -1,5 +1,5 @@
 use Rattle.std.proofs.Common.{◌≡◌, ◌++◌, take}
-use Rattle.mc_state.specs.State.{apart}
+use Rattle.mc_state.specs.Straight.{apart}
 use Rattle.mc_state.proofs.state.push_apart.Given as goal
 
 abbrev pub invariant-loop-e : goal.invariant-loop-e

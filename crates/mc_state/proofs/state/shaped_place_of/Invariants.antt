@@ -1,6 +1,6 @@
 use Rattle.std.proofs.Common.{◌≡◌, drop}
 use Rattle.std.specs.List.{position_from}
-use Rattle.mc_state.specs.State.{is_shaped_block_at}
+use Rattle.mc_state.specs.Straight.{is_shaped_block_at}
 use Rattle.mc_state.proofs.state.shaped_place_of.Given as goal
 
 abbrev pub invariant-loop-place : goal.invariant-loop-place

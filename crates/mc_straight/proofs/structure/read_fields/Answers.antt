@@ -1,7 +1,7 @@
 use Rattle.std.proofs.Common.{◌≡◌, ◌∙◌, ◌++◌, ◌∷◌, [], Some, None, Option, List, ℕ, ap, subst}
 use Rattle.mc_base.specs.declared.plain.Kind.{Kind}
 use Rattle.mc_lex.specs.declared.token.Token.{Token}
-use Rattle.mc_flow.specs.declared.graph.FieldInfo.{FieldInfo}
+use Rattle.mc_defs.specs.declared.shapes.FieldInfo.{FieldInfo}
 use Rattle.mc_straight.specs.Reading.{field_of_tokens}
 use Rattle.mc_straight.proofs.Fields.{fields_kept, fields_done, fields_none}
 use Rattle.mc_straight.proofs.structure.read_fields.Goals as goal

@@ -1,7 +1,7 @@
 use Rattle.std.proofs.Common.{◌≡◌, ◌<◌, ◌↔◌, ◌∙◌, Some, List, ℕ, length, sym, ap, subst, arith}
 use Rattle.std.proofs.lemmas.Option.{MatchOption-at_some, MatchOption-at_none}
 use Rattle.std.proofs.lemmas.Bool.Decides.{nat_tests}
-use Rattle.mc_flow.specs.declared.graph.StructInfo.{StructInfo}
+use Rattle.mc_defs.specs.declared.shapes.StructInfo.{StructInfo}
 use Rattle.mc_straight.specs.Spelling.{Begins, words}
 use Rattle.mc_straight.specs.Parts.{HeadReads, main_words}
 use Rattle.mc_straight.proofs.Fields.{plain_head, struct_refused, struct_empty, struct_head}

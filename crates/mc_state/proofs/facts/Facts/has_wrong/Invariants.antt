@@ -1,6 +1,6 @@
 use Rattle.std.proofs.Common.{◌≡◌, drop}
 use Rattle.std.specs.List.{list_any}
-use Rattle.mc_state.specs.State.{is_wrong}
+use Rattle.mc_state.specs.Straight.{is_wrong}
 use Rattle.mc_state.proofs.facts.Facts.has_wrong.Given as goal
 
 abbrev pub invariant-loop-atom : goal.invariant-loop-atom

@@ -1,7 +1,7 @@
 use Rattle.mc_base.specs.declared.plain.Atom.TheVariants.{Ne}
 use Rattle.std.proofs.Common.{refl}
 use Rattle.std.specs.Prelude.{pos}
-use Rattle.mc_state.specs.State.{null}
+use Rattle.mc_base.specs.Nodes.{null}
 use Rattle.mc_state.proofs.Wrong.{false_beside}
 use Rattle.mc_state.proofs.state.State.assume_not_null.Goals as goal
 

@@ -1,5 +1,5 @@
 use Rattle.std.proofs.Common.{◌∙◌}
-use Rattle.mc_state.specs.State.{is_block_at}
+use Rattle.mc_state.specs.Straight.{is_block_at}
 use Rattle.mc_state.proofs.Places.{position_is}
 use Rattle.mc_state.proofs.state.State.block.Goals as goal
 

@@ -1,7 +1,7 @@
 use Rattle.std.proofs.Common.{◌≡◌, ◌∙◌, ap, ◌||◌, length, arith}
 use Rattle.std.proofs.lemmas.List.{with_items_is}
 use Rattle.std.specs.List.{list_any}
-use Rattle.mc_state.specs.State.{is_wrong}
+use Rattle.mc_state.specs.Straight.{is_wrong}
 use Rattle.mc_state.proofs.Wrong.{field_alike}
 use Rattle.mc_state.proofs.state.State.set_field.Goals as goal
 

@@ -1,0 +1,16 @@
+pub mod Determined
+pub mod ExampleFolds
+pub mod ExampleForgets
+pub mod ExampleNames
+pub mod ExampleRules
+pub mod Forgetting
+pub mod Lists
+pub mod Matching
+pub mod Meeting
+pub mod Names
+pub mod Naming
+pub mod Parts
+pub mod Segments
+pub mod SmallHeaps
+pub mod Standing
+pub mod WrongFolds

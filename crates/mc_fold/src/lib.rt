@@ -1,0 +1,21 @@
+//! The rules of logic that fold edges, and those that name, merge and drop.
+#![tactic(auto)]
+
+mod examples;
+mod laws;
+mod rules;
+mod wrong;
+
+pub use examples::{
+    example_folds, example_of_arguments, example_of_closing, example_of_joining,
+    example_of_merging, example_of_other_length, example_of_second_call, example_of_spare,
+    examples_of_lists, examples_of_pointers,
+};
+pub use laws::{
+    folding_is_determined, folding_is_sound, goals_are_met, naming_is_determined, naming_is_sound,
+    segments_are_closed,
+};
+pub use rules::{
+    CloseSeg, DropEdge, EmptySeg, FoldInd, FoldSeg, ForgetNode, JoinSegs, MergeNodes, SpareNode,
+};
+pub use wrong::{wrong_closing, wrong_drop, wrong_fold};

@@ -1,0 +1,41 @@
+//! What is known of the numbers that nodes stand for, and what follows from it.
+#![tactic(auto)]
+
+ghost use Rattle.std.specs.Prelude.{pos};
+ghost use Rattle.mc_base.specs.declared.plain.Atom.TheVariants.{Ne, In};
+ghost use Rattle.mc_base.specs.declared.plain.Atom.{Atom as Fact};
+ghost use Rattle.mc_pure.specs.Pure.{Base};
+ghost use Rattle.mc_pure.specs.Derived.{Follows, IsFalse};
+ghost use Rattle.mc_pure.specs.Laws.{IsTrue, DerivedIsTrue, TrueIsNotFalse, FollowsFromMore, FalseFromMore, BlocksAtOneNode, BlockAtNull, EmptyRange};
+ghost use Rattle.mc_pure.specs.Examples.{node, known, values, at_one, at_null, between};
+
+/// What is derived is true where what is known is, and then nothing false follows.
+pub fn derived_is_true()
+    ensures derived { DerivedIsTrue }
+    ensures not_false { TrueIsNotFalse }
+{}
+
+/// More follows from more.
+pub fn derived_grows()
+    ensures atoms { FollowsFromMore }
+    ensures false_stays { FalseFromMore }
+{}
+
+/// What no number can meet: blocks at one node, a block at null, an empty range.
+pub fn contradictions_are_false()
+    ensures one_node { BlocksAtOneNode }
+    ensures at_null { BlockAtNull }
+    ensures empty { EmptyRange }
+{}
+
+/// What is known of four nodes is true by some numbers, and some of what follows from it; and three
+/// cases that are false.
+pub fn four_nodes()
+    ensures premises { IsTrue values known }
+    ensures more { (f : Fact) → Base known f → Follows at_one f }
+    ensures shifted { Follows known (In (node 4) (pos 6) (pos 8)) }
+    ensures apart { Follows known (Ne (node 1) (node 2) (pos 0)) }
+    ensures at_one_node { IsFalse at_one }
+    ensures at_null { IsFalse at_null }
+    ensures nothing_between { IsFalse between }
+{}

@@ -1,0 +1,16 @@
+//! The rules of instructions, and why an instruction is unmet.
+#![tactic(auto)]
+
+mod examples;
+mod gap;
+mod laws;
+mod next;
+mod wrong_rules;
+
+pub use examples::{example_blocks, example_gaps, example_numbers, example_premises, example_runs};
+pub use gap::Gap;
+pub use laws::{steps_are_sound, steps_stay_bounded, unmet_has_no_step};
+pub use next::Next;
+pub use wrong_rules::{
+    kept_block_is_wrong, sure_malloc_is_wrong, unchecked_sum_is_wrong, unknown_load_is_wrong,
+};

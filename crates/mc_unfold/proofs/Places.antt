@@ -1,0 +1,55 @@
+-- Where the successors stand in their list.
+use Rattle.std.proofs.Common.{◌≡◌, ℕ, zero, suc, ◌+◌, List, [], ◌∷◌, ◌++◌, Bool, true, false, Some, slice_get, map, refl, ap, ◌∙◌, eq-eqb, arith}
+use Rattle.std.specs.Prelude.{◌==◌, if◌then◌else◌}
+use Rattle.std.specs.List.{flat_map, AllByRecursion}
+use Rattle.mc_base.specs.declared.ids.PredId.{PredId}
+use Rattle.mc_heap.specs.Heap.{Region}
+use Rattle.mc_heap.specs.Parts.{StarAt}
+use Rattle.mc_defs.specs.declared.rules.Call.{Call}
+use Rattle.mc_unfold.specs.Unfolded.{own_places}
+use Rattle.mc_unfold.proofs.Lists.{all_append}
+
+in_front : {Y : Type 0} (xs ys : List Y) (place : ℕ) (y : Y) → slice_get xs place ≡ Some y → slice_get (xs ++ ys) place ≡ Some y
+in_front [] ys place y e = cc
+in_front (x ∷ xs) ys zero y e = e
+in_front (x ∷ xs) ys (suc place) y e = in_front xs ys place y e
+
+behind : {Y : Type 0} (xs ys : List Y) (place : ℕ) (y : Y) → slice_get ys place ≡ Some y → (further : ℕ) × (slice_get (xs ++ ys) further ≡ Some y)
+behind [] ys place y e = (place, e)
+behind (x ∷ xs) ys place y e = let more = behind xs ys place y e in (suc more.0, more.1)
+
+module _ {X Y : Type 0} where
+  pub image_at : (f : X → Y) (xs : List X) (place : ℕ) (x : X) → slice_get xs place ≡ Some x → slice_get (map f xs) place ≡ Some (f x)
+  image_at f [] place x e = cc
+  image_at f (y ∷ xs) zero x e = let same : y ≡ x = cc in ap (λ z. Some (f z)) same
+  image_at f (y ∷ xs) (suc place) x e = image_at f xs place x e
+
+  -- what one piece has, all the pieces have
+  pub in_pieces : (f : X → List Y) (xs : List X) (place : ℕ) (x : X) (inner : ℕ) (y : Y) → slice_get xs place ≡ Some x → slice_get (f x) inner ≡ Some y → (all : ℕ) × (slice_get (flat_map f xs) all ≡ Some y)
+  in_pieces f [] place x inner y e h = cc
+  in_pieces f (z ∷ xs) zero x inner y e h =
+      let same : z ≡ x = cc in (inner, in_front (f z) (flat_map f xs) inner y (rw same h))
+  in_pieces f (z ∷ xs) (suc place) x inner y e h =
+      let more = in_pieces f xs place x inner y e h in behind (f z) (flat_map f xs) more.0 y more.1
+
+  pub all_pieces : (P : Y → Type 0) (f : X → List Y) → ((x : X) → AllByRecursion P (f x)) → (xs : List X) → AllByRecursion P (flat_map f xs)
+  all_pieces P f h [] = tt
+  all_pieces P f h (x ∷ xs) = all_append P (f x) (flat_map f xs) (h x) (all_pieces P f h xs)
+
+-- the place of a call of the predicate is listed
+pub own_place : (M : Call → Region → Type 0) (S : Call → Region → Type 0) (pred : PredId) → ((call : Call) (part : Region) → S call part → call.pred ≡ pred)
+    → (from place : ℕ) (calls : List Call) (region : Region) → StarAt M S place calls region → (index : ℕ) × (slice_get (own_places pred from calls) index ≡ Some (from + place))
+own_place M S pred own from place [] region s = absurd s
+own_place M S pred own from zero (call ∷ calls) region s =
+    let same : (call.pred.0 == pred.0) ≡ true = eq-eqb call.pred.0 pred.0 (ap (λ p. p.0) (own call s.0 s.3)) in
+    let here : from + 0 ≡ from = omega arith in
+    (0, rw (same, here) refl)
+own_place M S pred own from (suc place) (call ∷ calls) region s =
+    let there : suc from + place ≡ from + suc place = omega arith in
+    let more = own_place M S pred own (suc from) place calls s.1 s.4 in
+    at (call.pred.0 == pred.0) (more.0, more.1 ∙ ap Some there)
+  where
+    at : (here : Bool) → (index : ℕ) × (slice_get (own_places pred (suc from) calls) index ≡ Some (from + suc place))
+        → (index : ℕ) × (slice_get (if here then from ∷ own_places pred (suc from) calls else own_places pred (suc from) calls) index ≡ Some (from + suc place))
+    at true more = (suc more.0, more.1)
+    at false more = more

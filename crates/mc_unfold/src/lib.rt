@@ -1,0 +1,21 @@
+//! The rules of logic that unfold an edge.
+#![tactic(auto)]
+
+mod examples;
+mod laws;
+
+pub use examples::{example_of_ind, example_of_seg, wrong_segments};
+pub use laws::{unfolding_is_determined, unfolding_is_sound};
+use mc_base::EdgeId;
+
+/// L1: takes an Ind for the body of one of its rules.
+#[derive(Clone, Copy, Debug, PartialEq, Eq)]
+pub struct UnfoldInd {
+    pub edge: EdgeId,
+}
+
+/// L2: takes a Seg to be empty, or for the body of a rule of which one call goes on as the segment.
+#[derive(Clone, Copy, Debug, PartialEq, Eq)]
+pub struct UnfoldSeg {
+    pub edge: EdgeId,
+}
