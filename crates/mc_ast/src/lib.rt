@@ -1,0 +1,13 @@
+//! The trees of programs, how they are spelled, and how they are printed.
+#![tactic(auto)]
+
+mod class;
+mod trees;
+
+pub use class::{Class, name_at};
+pub use trees::{
+    Aliased, Argument, AssertShape, AssumeShape, Base, Body, Call, Cast, Comparison, Condition,
+    Declaration, Declarator, Expression, Field, ForHead, ForStart, Function, Initial, Item,
+    LeftValue, Malloc, Name, Parameter, Parameters, Returned, RightSide, Simple, Size, Statement,
+    Struct, Typedef, Unit,
+};

@@ -1,0 +1,285 @@
+// The trees of programs: one type for each line of the grammar, with the places of their tokens.
+use mc_base::Place;
+use mc_lex::Text;
+
+/// A name, at its place.
+#[derive(Drop)]
+pub struct Name {
+    pub text: Text,
+    pub place: Place,
+}
+
+/// A variable, or a field behind it: `x`, `x->f`, `x->f->g`.
+#[derive(Drop)]
+pub struct LeftValue {
+    pub name: Name,
+    pub fields: Vec<Name>,
+}
+
+/// An expression. What stands in parentheses is a form of its own.
+#[derive(Drop)]
+pub enum Expression {
+    Number(u32, Place),
+    Null(Place),
+    /// `input()`
+    Input(Place),
+    Value(LeftValue),
+    /// `-e`, at the `-`.
+    Minus(Place, Box<Expression>),
+    /// `(e)`, at the `(`.
+    Parens(Place, Box<Expression>),
+    Times(Box<Expression>, Box<Expression>),
+    Plus(Box<Expression>, Box<Expression>),
+    Less(Box<Expression>, Box<Expression>),
+}
+
+#[derive(Clone, Copy, Debug, PartialEq, Eq)]
+pub enum Comparison {
+    Equal,
+    Unequal,
+    Below,
+    AtMost,
+    Above,
+    AtLeast,
+}
+
+/// A condition.
+#[derive(Drop)]
+pub enum Condition {
+    /// An expression that is not 0 or null.
+    Plain(Expression),
+    Compare(Comparison, Expression, Expression),
+    /// `!c`, at the `!`: c is a `!` again, a variable or field, `input()` or a condition in parentheses.
+    Not(Place, Box<Condition>),
+    /// `(c)`, at the `(`. Only behind a `!` may c be a plain expression.
+    Parens(Place, Box<Condition>),
+    Both(Box<Condition>, Box<Condition>),
+    Either(Box<Condition>, Box<Condition>),
+}
+
+#[derive(Drop)]
+pub struct Call {
+    pub function: Name,
+    pub arguments: Vec<Expression>,
+}
+
+/// `int`, `struct S`, or a name that a typedef introduced.
+#[derive(Drop)]
+pub enum Base {
+    Int(Place),
+    Struct(Place, Name),
+    Alias(Name),
+}
+
+/// `x`, or `*x` with the place of the `*`.
+#[derive(Drop)]
+pub struct Declarator {
+    pub pointer: Option<Place>,
+    pub name: Name,
+}
+
+/// What `malloc` allocates, at the `sizeof`: `sizeof(struct S)`, `sizeof(*p)`, `sizeof *p`.
+#[derive(Drop)]
+pub enum Size {
+    OfType(Place, Base),
+    OfParens(Place, Name),
+    OfValue(Place, Name),
+}
+
+/// `(struct S *)`, at its `(`.
+#[derive(Drop)]
+pub struct Cast {
+    pub place: Place,
+    pub base: Base,
+    pub pointer: Option<Place>,
+}
+
+/// `malloc(..)`, at the word `malloc`, perhaps behind a cast.
+#[derive(Drop)]
+pub struct Malloc {
+    pub cast: Option<Cast>,
+    pub place: Place,
+    pub size: Size,
+}
+
+#[derive(Drop)]
+pub enum RightSide {
+    Expression(Expression),
+    Call(Call),
+    Malloc(Malloc),
+}
+
+/// A declarator, perhaps with a value.
+#[derive(Drop)]
+pub struct Initial {
+    pub declarator: Declarator,
+    pub value: Option<RightSide>,
+}
+
+#[derive(Drop)]
+pub struct Declaration {
+    pub base: Base,
+    pub items: Vec<Initial>,
+}
+
+#[derive(Drop)]
+pub enum Simple {
+    Assign(LeftValue, RightSide),
+    Add(LeftValue, Expression),
+    Subtract(LeftValue, Expression),
+    /// `x++`
+    Increment(LeftValue),
+    /// `x--`
+    Decrement(LeftValue),
+    /// `++x`, at the `++`.
+    IncrementFirst(Place, LeftValue),
+    /// `--x`, at the `--`.
+    DecrementFirst(Place, LeftValue),
+    Call(Call),
+}
+
+/// An argument of a shape command; a number may be negative, and is at its first token.
+#[derive(Drop)]
+pub enum Argument {
+    Name(Name),
+    Null(Place),
+    Number(u32, Place),
+    Negative(u32, Place),
+}
+
+/// `assume_shape(predicate, variable, ..);`
+#[derive(Drop)]
+pub struct AssumeShape {
+    pub place: Place,
+    pub predicate: Name,
+    pub variable: Name,
+    pub arguments: Vec<Argument>,
+}
+
+/// `assert_shape(predicate, start, ..);`
+#[derive(Drop)]
+pub struct AssertShape {
+    pub place: Place,
+    pub predicate: Name,
+    pub start: Argument,
+    pub arguments: Vec<Argument>,
+}
+
+/// A statement, at its first token.
+#[derive(Drop)]
+pub enum Statement {
+    Declaration(Declaration),
+    Block(Place, Vec<Statement>),
+    /// `;`
+    Empty(Place),
+    Simple(Simple),
+    Free(Place, Expression),
+    Assert(Place, Condition),
+    Assume(Place, Condition),
+    AssumeShape(AssumeShape),
+    AssertShape(AssertShape),
+    AssertEmpty(Place),
+    If(Place, Condition, Box<Statement>),
+    IfElse(Place, Condition, Box<Statement>, Box<Statement>),
+    While(Place, Condition, Box<Statement>),
+    Do(Place, Box<Statement>, Condition),
+    For(ForHead, Box<Statement>),
+    Break(Place),
+    Continue(Place),
+    Return(Place, Option<RightSide>),
+}
+
+/// What stands in the parentheses of a `for`.
+#[derive(Drop)]
+pub struct ForHead {
+    pub place: Place,
+    pub start: ForStart,
+    pub condition: Option<Condition>,
+    pub last: Option<Simple>,
+}
+
+#[derive(Drop)]
+pub enum ForStart {
+    Nothing,
+    Declaration(Declaration),
+    Simple(Simple),
+}
+
+/// Fields of one base.
+#[derive(Drop)]
+pub struct Field {
+    pub base: Base,
+    pub declarators: Vec<Declarator>,
+}
+
+/// `struct S { .. }`, at the word `struct`.
+#[derive(Drop)]
+pub struct Struct {
+    pub place: Place,
+    pub name: Name,
+    pub fields: Vec<Field>,
+}
+
+#[derive(Drop)]
+pub enum Aliased {
+    Base(Base),
+    Struct(Struct),
+}
+
+#[derive(Drop)]
+pub struct Typedef {
+    pub place: Place,
+    pub aliased: Aliased,
+    pub declarators: Vec<Declarator>,
+}
+
+/// What a function gives: nothing, or a value, with the place of the `*` where there is one.
+#[derive(Drop)]
+pub enum Returned {
+    Void(Place),
+    Value(Base, Option<Place>),
+}
+
+#[derive(Drop)]
+pub struct Parameter {
+    pub base: Base,
+    pub declarator: Declarator,
+}
+
+/// `()`, `(void)`, or parameters.
+#[derive(Drop)]
+pub enum Parameters {
+    Empty,
+    Void(Place),
+    Listed(Vec<Parameter>),
+}
+
+/// The block of a function, at its `{`.
+#[derive(Drop)]
+pub struct Body {
+    pub place: Place,
+    pub statements: Vec<Statement>,
+}
+
+/// A function, or its prototype where it has no body. `fixed` is the place of `static`.
+#[derive(Drop)]
+pub struct Function {
+    pub fixed: Option<Place>,
+    pub returned: Returned,
+    pub name: Name,
+    pub parameters: Parameters,
+    pub body: Option<Body>,
+}
+
+#[derive(Drop)]
+pub enum Item {
+    Struct(Struct),
+    Typedef(Typedef),
+    Function(Function),
+}
+
+/// A whole program.
+#[derive(Drop)]
+pub struct Unit {
+    pub items: Vec<Item>,
+}
