@@ -1,9 +1,12 @@
 // What a token is to the grammar.
-ghost use Rattle.mc_ast.specs.Names.{name_of};
-ghost use Rattle.std.specs.Prelude.{◌≡◌, IfOk};
+ghost use Rattle.mc_ast.specs.Classes.{IsClass, class_beside};
+ghost use Rattle.mc_lex.specs.declared.token.TokenKind.TheVariants as TokenKind;
+ghost use Rattle.mc_ast.specs.Names.{is_reserved, is_same, name_of};
+ghost use Rattle.std.specs.List.{list_any};
+ghost use Rattle.std.specs.Prelude.{◌≡◌, IfOk, map};
 
 use crate::trees::{Comparison, Name};
-use mc_lex::{Text, Token};
+use mc_lex::{Text, Token, TokenKind, number_value};
 use std::alloc::{AllocError, Global};
 
 /// What a token is to the grammar: a mark or word that it knows, another one, a name, a number or the end.
@@ -60,6 +63,338 @@ pub enum Class {
     OtherWord,
     /// A number that is too large, or none; no text has such a token.
     OtherNumber,
+}
+
+// A text that is always of one class.
+struct Known {
+    text: &'static [u8],
+    class: Class,
+}
+
+// The marks of the grammar.
+static MARKS: [Known; 24] = [
+    Known {
+        text: b"->",
+        class: Class::Arrow,
+    },
+    Known {
+        text: b"++",
+        class: Class::PlusPlus,
+    },
+    Known {
+        text: b"--",
+        class: Class::MinusMinus,
+    },
+    Known {
+        text: b"+=",
+        class: Class::PlusAssign,
+    },
+    Known {
+        text: b"-=",
+        class: Class::MinusAssign,
+    },
+    Known {
+        text: b"&&",
+        class: Class::And,
+    },
+    Known {
+        text: b"||",
+        class: Class::Or,
+    },
+    Known {
+        text: b"{",
+        class: Class::OpenBrace,
+    },
+    Known {
+        text: b"}",
+        class: Class::CloseBrace,
+    },
+    Known {
+        text: b"(",
+        class: Class::OpenParen,
+    },
+    Known {
+        text: b")",
+        class: Class::CloseParen,
+    },
+    Known {
+        text: b";",
+        class: Class::Semicolon,
+    },
+    Known {
+        text: b",",
+        class: Class::Comma,
+    },
+    Known {
+        text: b"=",
+        class: Class::Assign,
+    },
+    Known {
+        text: b"+",
+        class: Class::Plus,
+    },
+    Known {
+        text: b"-",
+        class: Class::Minus,
+    },
+    Known {
+        text: b"*",
+        class: Class::Star,
+    },
+    Known {
+        text: b"!",
+        class: Class::Bang,
+    },
+    Known {
+        text: b"==",
+        class: Class::Compare(Comparison::Equal),
+    },
+    Known {
+        text: b"!=",
+        class: Class::Compare(Comparison::Unequal),
+    },
+    Known {
+        text: b"<",
+        class: Class::Compare(Comparison::Below),
+    },
+    Known {
+        text: b"<=",
+        class: Class::Compare(Comparison::AtMost),
+    },
+    Known {
+        text: b">",
+        class: Class::Compare(Comparison::Above),
+    },
+    Known {
+        text: b">=",
+        class: Class::Compare(Comparison::AtLeast),
+    },
+];
+
+// The reserved words of the grammar.
+static WORDS: [Known; 23] = [
+    Known {
+        text: b"int",
+        class: Class::Int,
+    },
+    Known {
+        text: b"struct",
+        class: Class::Struct,
+    },
+    Known {
+        text: b"typedef",
+        class: Class::Typedef,
+    },
+    Known {
+        text: b"static",
+        class: Class::Static,
+    },
+    Known {
+        text: b"void",
+        class: Class::Void,
+    },
+    Known {
+        text: b"NULL",
+        class: Class::Null,
+    },
+    Known {
+        text: b"malloc",
+        class: Class::Malloc,
+    },
+    Known {
+        text: b"free",
+        class: Class::Free,
+    },
+    Known {
+        text: b"input",
+        class: Class::Input,
+    },
+    Known {
+        text: b"assert",
+        class: Class::Assert,
+    },
+    Known {
+        text: b"assume",
+        class: Class::Assume,
+    },
+    Known {
+        text: b"assume_shape",
+        class: Class::AssumeShape,
+    },
+    Known {
+        text: b"assert_shape",
+        class: Class::AssertShape,
+    },
+    Known {
+        text: b"assert_empty",
+        class: Class::AssertEmpty,
+    },
+    Known {
+        text: b"if",
+        class: Class::If,
+    },
+    Known {
+        text: b"else",
+        class: Class::Else,
+    },
+    Known {
+        text: b"while",
+        class: Class::While,
+    },
+    Known {
+        text: b"do",
+        class: Class::Do,
+    },
+    Known {
+        text: b"for",
+        class: Class::For,
+    },
+    Known {
+        text: b"break",
+        class: Class::Break,
+    },
+    Known {
+        text: b"continue",
+        class: Class::Continue,
+    },
+    Known {
+        text: b"return",
+        class: Class::Return,
+    },
+    Known {
+        text: b"sizeof",
+        class: Class::Sizeof,
+    },
+];
+
+// The keywords of C17, and the words that the language keeps for itself.
+static RESERVED: [&[u8]; 53] = [
+    b"auto",
+    b"break",
+    b"case",
+    b"char",
+    b"const",
+    b"continue",
+    b"default",
+    b"do",
+    b"double",
+    b"else",
+    b"enum",
+    b"extern",
+    b"float",
+    b"for",
+    b"goto",
+    b"if",
+    b"inline",
+    b"int",
+    b"long",
+    b"register",
+    b"restrict",
+    b"return",
+    b"short",
+    b"signed",
+    b"sizeof",
+    b"static",
+    b"struct",
+    b"switch",
+    b"typedef",
+    b"union",
+    b"unsigned",
+    b"void",
+    b"volatile",
+    b"while",
+    b"_Alignas",
+    b"_Alignof",
+    b"_Atomic",
+    b"_Bool",
+    b"_Complex",
+    b"_Generic",
+    b"_Imaginary",
+    b"_Noreturn",
+    b"_Static_assert",
+    b"_Thread_local",
+    b"NULL",
+    b"malloc",
+    b"free",
+    b"input",
+    b"assert",
+    b"assume",
+    b"assume_shape",
+    b"assert_shape",
+    b"assert_empty",
+];
+
+/// What a token is to the grammar.
+pub fn classify(token: &Token) -> Class
+    ensures { IsClass token.now result }
+{
+    match token.kind {
+        TokenKind::End => Class::End,
+        TokenKind::Number => number_class(token),
+        TokenKind::Mark => mark_class(token),
+        TokenKind::Name => word_class(token),
+    }
+}
+
+fn number_class(token: &Token) -> Class
+    requires { token.now.kind ≡ TokenKind.Number }
+    ensures { IsClass token.now result }
+{
+    let text = token.text.as_slice();
+    match number_value(text) {
+        Some(value) => Class::Number(value),
+        None => Class::OtherNumber,
+    }
+}
+
+fn mark_class(token: &Token) -> Class
+    requires { token.now.kind ≡ TokenKind.Mark }
+    ensures { IsClass token.now result }
+{
+    let text = token.text.as_slice();
+    match class_among(&MARKS, text) {
+        Some(class) => class,
+        None => Class::OtherMark,
+    }
+}
+
+fn word_class(token: &Token) -> Class
+    requires { token.now.kind ≡ TokenKind.Name }
+    ensures { IsClass token.now result }
+{
+    let text = token.text.as_slice();
+    if !is_reserved(text) {
+        return Class::Name;
+    }
+    match class_among(&WORDS, text) {
+        Some(class) => class,
+        None => Class::OtherWord,
+    }
+}
+
+// The class that stands beside a text.
+fn class_among(table: &[Known], text: &[u8]) -> Option<Class>
+    ensures { result ≡ class_beside (map (λ known. known.text.now) table.now) (map (λ known. known.class) table.now) text.now }
+{
+    for known in table {
+        if text == known.text {
+            return Some(known.class);
+        }
+    }
+    None
+}
+
+/// Whether a word is a keyword of C17 or one that the language keeps for itself.
+pub fn is_reserved(word: &[u8]) -> bool
+    ensures { result ≡ is_reserved word.now }
+{
+    is_one_of(word, &RESERVED)
+}
+
+fn is_one_of(word: &[u8], words: &[&[u8]]) -> bool
+    ensures { result ≡ list_any (λ known. is_same word.now known.now) words.now }
+{
+    words.iter().any(|known| word == *known)
 }
 
 /// The name that a token is.

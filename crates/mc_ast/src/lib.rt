@@ -4,7 +4,7 @@
 mod class;
 mod trees;
 
-pub use class::{Class, name_at};
+pub use class::{Class, classify, is_reserved, name_at};
 pub use trees::{
     Aliased, Argument, AssertShape, AssumeShape, Base, Body, Call, Cast, Comparison, Condition,
     Declaration, Declarator, Expression, Field, ForHead, ForStart, Function, Initial, Item,
