@@ -65,206 +65,59 @@ pub enum Class {
     OtherNumber,
 }
 
-// A text that is always of one class.
-struct Known {
-    text: &'static [u8],
-    class: Class,
-}
-
 // The marks of the grammar.
-static MARKS: [Known; 24] = [
-    Known {
-        text: b"->",
-        class: Class::Arrow,
-    },
-    Known {
-        text: b"++",
-        class: Class::PlusPlus,
-    },
-    Known {
-        text: b"--",
-        class: Class::MinusMinus,
-    },
-    Known {
-        text: b"+=",
-        class: Class::PlusAssign,
-    },
-    Known {
-        text: b"-=",
-        class: Class::MinusAssign,
-    },
-    Known {
-        text: b"&&",
-        class: Class::And,
-    },
-    Known {
-        text: b"||",
-        class: Class::Or,
-    },
-    Known {
-        text: b"{",
-        class: Class::OpenBrace,
-    },
-    Known {
-        text: b"}",
-        class: Class::CloseBrace,
-    },
-    Known {
-        text: b"(",
-        class: Class::OpenParen,
-    },
-    Known {
-        text: b")",
-        class: Class::CloseParen,
-    },
-    Known {
-        text: b";",
-        class: Class::Semicolon,
-    },
-    Known {
-        text: b",",
-        class: Class::Comma,
-    },
-    Known {
-        text: b"=",
-        class: Class::Assign,
-    },
-    Known {
-        text: b"+",
-        class: Class::Plus,
-    },
-    Known {
-        text: b"-",
-        class: Class::Minus,
-    },
-    Known {
-        text: b"*",
-        class: Class::Star,
-    },
-    Known {
-        text: b"!",
-        class: Class::Bang,
-    },
-    Known {
-        text: b"==",
-        class: Class::Compare(Comparison::Equal),
-    },
-    Known {
-        text: b"!=",
-        class: Class::Compare(Comparison::Unequal),
-    },
-    Known {
-        text: b"<",
-        class: Class::Compare(Comparison::Below),
-    },
-    Known {
-        text: b"<=",
-        class: Class::Compare(Comparison::AtMost),
-    },
-    Known {
-        text: b">",
-        class: Class::Compare(Comparison::Above),
-    },
-    Known {
-        text: b">=",
-        class: Class::Compare(Comparison::AtLeast),
-    },
+static MARKS: [(&[u8], Class); 24] = [
+    (b"->", Class::Arrow),
+    (b"++", Class::PlusPlus),
+    (b"--", Class::MinusMinus),
+    (b"+=", Class::PlusAssign),
+    (b"-=", Class::MinusAssign),
+    (b"&&", Class::And),
+    (b"||", Class::Or),
+    (b"{", Class::OpenBrace),
+    (b"}", Class::CloseBrace),
+    (b"(", Class::OpenParen),
+    (b")", Class::CloseParen),
+    (b";", Class::Semicolon),
+    (b",", Class::Comma),
+    (b"=", Class::Assign),
+    (b"+", Class::Plus),
+    (b"-", Class::Minus),
+    (b"*", Class::Star),
+    (b"!", Class::Bang),
+    (b"==", Class::Compare(Comparison::Equal)),
+    (b"!=", Class::Compare(Comparison::Unequal)),
+    (b"<", Class::Compare(Comparison::Below)),
+    (b"<=", Class::Compare(Comparison::AtMost)),
+    (b">", Class::Compare(Comparison::Above)),
+    (b">=", Class::Compare(Comparison::AtLeast)),
 ];
 
 // The reserved words of the grammar.
-static WORDS: [Known; 23] = [
-    Known {
-        text: b"int",
-        class: Class::Int,
-    },
-    Known {
-        text: b"struct",
-        class: Class::Struct,
-    },
-    Known {
-        text: b"typedef",
-        class: Class::Typedef,
-    },
-    Known {
-        text: b"static",
-        class: Class::Static,
-    },
-    Known {
-        text: b"void",
-        class: Class::Void,
-    },
-    Known {
-        text: b"NULL",
-        class: Class::Null,
-    },
-    Known {
-        text: b"malloc",
-        class: Class::Malloc,
-    },
-    Known {
-        text: b"free",
-        class: Class::Free,
-    },
-    Known {
-        text: b"input",
-        class: Class::Input,
-    },
-    Known {
-        text: b"assert",
-        class: Class::Assert,
-    },
-    Known {
-        text: b"assume",
-        class: Class::Assume,
-    },
-    Known {
-        text: b"assume_shape",
-        class: Class::AssumeShape,
-    },
-    Known {
-        text: b"assert_shape",
-        class: Class::AssertShape,
-    },
-    Known {
-        text: b"assert_empty",
-        class: Class::AssertEmpty,
-    },
-    Known {
-        text: b"if",
-        class: Class::If,
-    },
-    Known {
-        text: b"else",
-        class: Class::Else,
-    },
-    Known {
-        text: b"while",
-        class: Class::While,
-    },
-    Known {
-        text: b"do",
-        class: Class::Do,
-    },
-    Known {
-        text: b"for",
-        class: Class::For,
-    },
-    Known {
-        text: b"break",
-        class: Class::Break,
-    },
-    Known {
-        text: b"continue",
-        class: Class::Continue,
-    },
-    Known {
-        text: b"return",
-        class: Class::Return,
-    },
-    Known {
-        text: b"sizeof",
-        class: Class::Sizeof,
-    },
+static WORDS: [(&[u8], Class); 23] = [
+    (b"int", Class::Int),
+    (b"struct", Class::Struct),
+    (b"typedef", Class::Typedef),
+    (b"static", Class::Static),
+    (b"void", Class::Void),
+    (b"NULL", Class::Null),
+    (b"malloc", Class::Malloc),
+    (b"free", Class::Free),
+    (b"input", Class::Input),
+    (b"assert", Class::Assert),
+    (b"assume", Class::Assume),
+    (b"assume_shape", Class::AssumeShape),
+    (b"assert_shape", Class::AssertShape),
+    (b"assert_empty", Class::AssertEmpty),
+    (b"if", Class::If),
+    (b"else", Class::Else),
+    (b"while", Class::While),
+    (b"do", Class::Do),
+    (b"for", Class::For),
+    (b"break", Class::Break),
+    (b"continue", Class::Continue),
+    (b"return", Class::Return),
+    (b"sizeof", Class::Sizeof),
 ];
 
 // The keywords of C17, and the words that the language keeps for itself.
@@ -373,12 +226,12 @@ fn word_class(token: &Token) -> Class
 }
 
 // The class that stands beside a text.
-fn class_among(table: &[Known], text: &[u8]) -> Option<Class>
-    ensures { result ≡ class_beside (map (λ known. known.text.now) table.now) (map (λ known. known.class) table.now) text.now }
+fn class_among(table: &[(&[u8], Class)], text: &[u8]) -> Option<Class>
+    ensures { result ≡ class_beside (map (λ entry. entry.0.now) table.now) (map (λ entry. entry.1) table.now) text.now }
 {
-    for known in table {
-        if text == known.text {
-            return Some(known.class);
+    for (known, class) in table {
+        if text == *known {
+            return Some(*class);
         }
     }
     None
