@@ -1,6 +1,7 @@
 // The trees of programs: one type for each line of the grammar, with the places of their tokens.
 use mc_base::Place;
 use mc_lex::Text;
+use std::mem;
 
 /// A name, at its place.
 #[derive(Drop)]
@@ -17,7 +18,6 @@ pub struct LeftValue {
 }
 
 /// An expression. What stands in parentheses is a form of its own.
-#[derive(Drop)]
 pub enum Expression {
     Number(u32, Place),
     Null(Place),
@@ -33,6 +33,41 @@ pub enum Expression {
     Less(Box<Expression>, Box<Expression>),
 }
 
+impl Drop for Expression {
+    fn drop(mut self) {
+        let mut waiting = None;
+        loop {
+            match self {
+                Expression::Number(_, _)
+                | Expression::Null(_)
+                | Expression::Input(_)
+                | Expression::Value(_) => match waiting {
+                    Some(next) => {
+                        self = next;
+                        waiting = None;
+                    }
+                    None => return,
+                },
+                Expression::Minus(_, part) | Expression::Parens(_, part) => {
+                    self = Box::into_inner(part);
+                }
+                Expression::Times(mut first, second)
+                | Expression::Plus(mut first, second)
+                | Expression::Less(mut first, second) => match waiting {
+                    Some(next) => {
+                        self = mem::replace(&mut *first, next);
+                        waiting = Some(Expression::Times(second, first));
+                    }
+                    None => {
+                        self = Box::into_inner(first);
+                        waiting = Some(Box::into_inner(second));
+                    }
+                },
+            }
+        }
+    }
+}
+
 #[derive(Clone, Copy, Debug, PartialEq, Eq)]
 pub enum Comparison {
     Equal,
@@ -44,7 +79,6 @@ pub enum Comparison {
 }
 
 /// A condition.
-#[derive(Drop)]
 pub enum Condition {
     /// An expression that is not 0 or null.
     Plain(Expression),
@@ -55,6 +89,38 @@ pub enum Condition {
     Parens(Place, Box<Condition>),
     Both(Box<Condition>, Box<Condition>),
     Either(Box<Condition>, Box<Condition>),
+}
+
+impl Drop for Condition {
+    fn drop(mut self) {
+        let mut waiting = None;
+        loop {
+            match self {
+                Condition::Plain(_) | Condition::Compare(_, _, _) => match waiting {
+                    Some(next) => {
+                        self = next;
+                        waiting = None;
+                    }
+                    None => return,
+                },
+                Condition::Not(_, part) | Condition::Parens(_, part) => {
+                    self = Box::into_inner(part);
+                }
+                Condition::Both(mut first, second) | Condition::Either(mut first, second) => {
+                    match waiting {
+                        Some(next) => {
+                            self = mem::replace(&mut *first, next);
+                            waiting = Some(Condition::Both(second, first));
+                        }
+                        None => {
+                            self = Box::into_inner(first);
+                            waiting = Some(Box::into_inner(second));
+                        }
+                    }
+                }
+            }
+        }
+    }
 }
 
 #[derive(Drop)]
@@ -166,7 +232,6 @@ pub struct AssertShape {
 }
 
 /// A statement, at its first token.
-#[derive(Drop)]
 pub enum Statement {
     Declaration(Declaration),
     Block(Place, Vec<Statement>),
@@ -187,6 +252,76 @@ pub enum Statement {
     Break(Place),
     Continue(Place),
     Return(Place, Option<RightSide>),
+}
+
+impl Drop for Statement {
+    fn drop(mut self) {
+        let mut waiting = None;
+        loop {
+            match self {
+                Statement::Declaration(_)
+                | Statement::Empty(_)
+                | Statement::Simple(_)
+                | Statement::Free(_, _)
+                | Statement::Assert(_, _)
+                | Statement::Assume(_, _)
+                | Statement::AssumeShape(_)
+                | Statement::AssertShape(_)
+                | Statement::AssertEmpty(_)
+                | Statement::Break(_)
+                | Statement::Continue(_)
+                | Statement::Return(_, _) => match waiting {
+                    Some(next) => {
+                        self = next;
+                        waiting = None;
+                    }
+                    None => return,
+                },
+                Statement::If(_, _, part)
+                | Statement::While(_, _, part)
+                | Statement::Do(_, part, _)
+                | Statement::For(_, part) => {
+                    self = Box::into_inner(part);
+                }
+                Statement::IfElse(place, condition, mut first, second) => match waiting {
+                    Some(next) => {
+                        self = mem::replace(&mut *first, next);
+                        waiting = Some(Statement::IfElse(place, condition, second, first));
+                    }
+                    None => {
+                        self = Box::into_inner(first);
+                        waiting = Some(Box::into_inner(second));
+                    }
+                },
+                Statement::Block(place, mut parts) => match waiting {
+                    Some(next) => {
+                        if parts.is_empty() {
+                            parts.destroy_empty();
+                            self = next;
+                            waiting = None;
+                        } else {
+                            self = mem::replace(&mut parts[0], next);
+                            waiting = Some(Statement::Block(place, parts));
+                        }
+                    }
+                    None => match parts.pop() {
+                        Some(last) => {
+                            self = last;
+                            if parts.is_empty() {
+                                parts.destroy_empty();
+                            } else {
+                                waiting = Some(Statement::Block(place, parts));
+                            }
+                        }
+                        None => {
+                            parts.destroy_empty();
+                            return;
+                        }
+                    },
+                },
+            }
+        }
+    }
 }
 
 /// What stands in the parentheses of a `for`.
