@@ -1,4 +1,4 @@
-use Rattle.mc_ast.proofs.Weights.{left_of_conditions}
+use Rattle.mc_ast.specs.Weights.{left_of_conditions}
 use Rattle.mc_ast.proofs.trees.Condition.drop.Given as goal
 
 abbrev pub decreases-loop-self : goal.decreases-loop-self

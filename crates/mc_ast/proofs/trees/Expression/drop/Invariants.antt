@@ -1,4 +1,4 @@
-use Rattle.mc_ast.proofs.Weights.{left_of_expressions}
+use Rattle.mc_ast.specs.Weights.{left_of_expressions}
 use Rattle.mc_ast.proofs.trees.Expression.drop.Given as goal
 
 abbrev pub decreases-loop-self : goal.decreases-loop-self
