@@ -1,0 +1,4 @@
+mod Agree
+mod UniqueExpressions
+mod UniqueConditions
+mod UniqueSimples
