@@ -2,3 +2,5 @@ mod Agree
 mod UniqueExpressions
 mod UniqueConditions
 mod UniqueSimples
+mod UniqueStatements
+mod UniqueUnits

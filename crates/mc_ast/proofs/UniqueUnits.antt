@@ -1,0 +1,2 @@
+-- Programs are spelled once.
+use Rattle.std.proofs.Common.{◌≡◌}
