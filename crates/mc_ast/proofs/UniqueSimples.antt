@@ -18,7 +18,7 @@ use Rattle.mc_ast.specs.Trees.{Left, Expr, value, parens, CallTree, Right, expre
 use Rattle.mc_ast.specs.Names.{Tokens, IsMark, IsWord, IsName, IsNumber, IsAlias, name_of, is_in, is_reserved}
 use Rattle.mc_ast.specs.Grammar.{Fields, none, more, IsLeft, named, IsUnary, negative, numeral, null_word, input_call, variable, in_parens, Factors, no_factor, factor, IsTerm, product, Terms, no_term, added, taken, IsSum, sum_of}
 use Rattle.mc_ast.specs.Grammar.{MoreExpressions, last, next, IsCall, without, with_some, IsBase, int, tagged, alias, IsStar, star, no_star, IsDeclarator, declarator, IsCast, no_cast, cast, IsSize, of_type, of_parens, of_value, IsRight, sum, called, allocated, IsInitial, bare, with_value, MoreInitials, last_initial, next_initial, IsDeclaration, declared, IsSimple, assigned, adding, subtracting, incremented, decremented, incremented_first, decremented_first, performed, IsArgument, name_argument, null_argument, number_argument, negative_argument, MoreArguments, last_argument, next_argument}
-use Rattle.mc_ast.proofs.Agree.{Begins, Agree, same, early, late, agree_then, wider, conflict}
+use Rattle.mc_ast.proofs.Agree.{Begins, Agree, same, early, late, agree_then, wider, conflict, never}
 use Rattle.mc_ast.proofs.UniqueExpressions.{unary_marks, term_marks, sum_marks, one_left, one_sum, one_number}
 use Rattle.mc_ast.proofs.UniqueConditions.{unary_to_sum}
 
@@ -39,11 +39,6 @@ sum_to_right ts b = wider (codes "malloc") (codes "(" ∷ sum_marks) ts (wider (
 
 pub unary_to_right : (ts : Tokens) → Begins unary_marks ts → Begins right_marks ts
 unary_to_right ts b = sum_to_right ts (unary_to_sum ts b)
-
--- nothing begins with none
-pub never : (ts : Tokens) → Begins [] ts → ⊥
-never [] b = b
-never (t ∷ ts) b = absurd (grind arith)
 
 -- two readings that end at marks which can't go on are the same
 pub settle : (marks : List (List ℕ)) {m n : List ℕ} {X : Type 0} {x y : X} {a b : Token} {r s : Tokens} {R : Type 0} → is_in marks m ≡ false → is_in marks n ≡ false → IsMark m a → IsMark n b → (Agree [] x (a ∷ r) y (b ∷ s) → R) → Agree marks x (a ∷ r) y (b ∷ s) → R
