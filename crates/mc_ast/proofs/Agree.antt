@@ -1,10 +1,9 @@
 -- Two readings of the same tokens agree, or one of them stops where a mark could go on.
-use Rattle.std.proofs.Common.{◌≡◌, ℕ, Bool, true, false, ◌||◌, List, [], ◌∷◌, refl, ap, sym, ◌∙◌, subst}
+use Rattle.std.proofs.Common.{◌≡◌, ℕ, Bool, true, false, ◌||◌, List, [], ◌∷◌, refl, ap, ◌∙◌}
 use native.Mathlib.Omega.{arith}
-use Rattle.std.specs.Prelude.{IsTrue, codes}
-use Rattle.std.specs.Bool.{IsFalse}
+use Rattle.std.specs.Prelude.{IsTrue}
 use Rattle.mc_lex.specs.declared.token.Token.{Token}
-use Rattle.mc_ast.specs.Names.{Tokens, IsMark, IsWord, is_in, is_same}
+use Rattle.mc_ast.specs.Names.{Tokens, IsMark, is_in, is_same}
 
 -- the tokens begin with one of these marks
 abbrev pub Begins : List (List ℕ) → Tokens → Type 0

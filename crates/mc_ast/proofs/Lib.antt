@@ -3,4 +3,4 @@ mod UniqueExpressions
 mod UniqueConditions
 mod UniqueSimples
 mod UniqueStatements
-mod UniqueUnits
+pub mod UniqueUnits

@@ -1,14 +1,13 @@
 -- A condition is spelled once.
-use Rattle.std.proofs.Common.{◌≡◌, ℕ, List, [], ◌∷◌, ◌++◌, true, false, refl, ap, sym, ◌∙◌, subst}
+use Rattle.std.proofs.Common.{◌≡◌, ℕ, List, ◌∷◌, true, false, refl, ap, sym, ◌∙◌, subst}
 use Rattle.std.specs.Prelude.{codes}
 use native.Mathlib.Omega.{arith}
 use Rattle.mc_base.specs.declared.plain.Place.{Place}
 use Rattle.mc_lex.specs.declared.token.Token.{Token}
 use Rattle.mc_ast.specs.declared.trees.Comparison.{Comparison}
-use Rattle.mc_ast.specs.declared.trees.Comparison.TheVariants as Comparison
-use Rattle.mc_ast.specs.Trees.{Left, Expr, value, input, Cond, plain, compare, negation, enclosed, both, either}
-use Rattle.mc_ast.specs.Names.{Tokens, IsMark, IsWord, IsName, is_in, mark_of}
-use Rattle.mc_ast.specs.Grammar.{IsLeft, named, IsUnary, negative, numeral, null_word, input_call, variable, in_parens, IsTerm, product, IsSum, sum_of, IsProper, IsBang, bang_bang, bang_variable, bang_input, bang_parens, IsOne, plain_one, comparison, negated, condition_parens, Boths, no_both, one_more, IsBoth, all_of, Eithers, no_either, or_else, IsCondition, any_of}
+use Rattle.mc_ast.specs.Trees.{Left, Expr, value, Cond, plain, compare, negation, enclosed, both, either}
+use Rattle.mc_ast.specs.Names.{Tokens, IsMark, is_in, mark_of}
+use Rattle.mc_ast.specs.Grammar.{named, negative, numeral, null_word, input_call, variable, in_parens, product, IsSum, sum_of, IsProper, IsBang, bang_bang, bang_variable, bang_input, bang_parens, IsOne, plain_one, comparison, negated, condition_parens, Boths, no_both, one_more, IsBoth, all_of, Eithers, no_either, or_else, IsCondition, any_of}
 use Rattle.mc_ast.proofs.Agree.{Begins, Agree, same, early, late, agree_then, wider, conflict}
 use Rattle.mc_ast.proofs.UniqueExpressions.{unary_marks, term_marks, sum_marks, one_left, one_sum}
 

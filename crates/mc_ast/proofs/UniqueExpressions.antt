@@ -1,13 +1,13 @@
 -- An expression is spelled once.
-use Rattle.std.proofs.Common.{◌≡◌, ℕ, List, [], ◌∷◌, ◌++◌, true, false, refl, ap, sym, ◌∙◌, subst}
+use Rattle.std.proofs.Common.{◌≡◌, ℕ, List, [], ◌∷◌, refl, ap, sym, ◌∙◌, subst}
 use Rattle.std.specs.Prelude.{codes, slice_index}
-use Rattle.std.specs.Str.Parse.{IsNumeral, digits_value}
+use Rattle.std.specs.Str.Parse.{digits_value}
 use native.Mathlib.Omega.{arith}
 use Rattle.mc_base.specs.declared.plain.Place.{Place}
 use Rattle.mc_lex.specs.declared.token.Token.{Token}
 use Rattle.mc_lex.specs.Numbers.{Spells, as_zero, as_decimal, as_hexadecimal}
-use Rattle.mc_ast.specs.Trees.{Left, Expr, number, null, input, value, minus, parens, times, plus, less}
-use Rattle.mc_ast.specs.Names.{Tokens, IsMark, IsWord, IsName, IsNumber, is_in}
+use Rattle.mc_ast.specs.Trees.{Left, Expr, number, value, minus, parens, times, plus, less}
+use Rattle.mc_ast.specs.Names.{Tokens, IsMark, is_in}
 use Rattle.mc_ast.specs.Grammar.{Fields, none, more, IsLeft, named, IsUnary, negative, numeral, null_word, input_call, variable, in_parens, Factors, no_factor, factor, IsTerm, product, Terms, no_term, added, taken, IsSum, sum_of}
 use Rattle.mc_ast.proofs.Agree.{Begins, Agree, same, early, late, agree_then, wider, conflict}
 

@@ -1,25 +1,21 @@
 -- Right sides, declarations and simple statements are spelled once.
-use Rattle.std.proofs.Common.{◌≡◌, ℕ, List, [], ◌∷◌, ◌++◌, Option, Some, None, true, false, refl, ap, sym, ◌∙◌, subst}
+use Rattle.std.proofs.Common.{◌≡◌, ℕ, List, [], ◌∷◌, ◌++◌, Option, Some, None, false, refl, ap, sym, ◌∙◌, subst}
 use Rattle.std.specs.Prelude.{codes}
 use native.Mathlib.Omega.{arith}
 use Rattle.mc_base.specs.declared.plain.Place.{Place}
 use Rattle.mc_lex.specs.declared.token.Token.{Token}
 use Rattle.mc_ast.specs.declared.trees.Name.{Name}
 use Rattle.mc_ast.specs.declared.trees.Base.{Base}
-use Rattle.mc_ast.specs.declared.trees.Base.TheVariants as Base
 use Rattle.mc_ast.specs.declared.trees.Declarator.{Declarator}
 use Rattle.mc_ast.specs.declared.trees.Cast.{Cast}
 use Rattle.mc_ast.specs.declared.trees.Size.{Size}
-use Rattle.mc_ast.specs.declared.trees.Size.TheVariants as Size
-use Rattle.mc_ast.specs.declared.trees.Malloc.{Malloc}
 use Rattle.mc_ast.specs.declared.trees.Argument.{Argument}
-use Rattle.mc_ast.specs.declared.trees.Argument.TheVariants as Argument
-use Rattle.mc_ast.specs.Trees.{Left, Expr, value, parens, CallTree, Right, expression, result_of, allocation, InitialTree, DeclarationTree, SimpleTree, assign, add, subtract, increment, decrement, increment_first, decrement_first, call}
-use Rattle.mc_ast.specs.Names.{Tokens, IsMark, IsWord, IsName, IsNumber, IsAlias, name_of, is_in, is_reserved}
-use Rattle.mc_ast.specs.Grammar.{Fields, none, more, IsLeft, named, IsUnary, negative, numeral, null_word, input_call, variable, in_parens, Factors, no_factor, factor, IsTerm, product, Terms, no_term, added, taken, IsSum, sum_of}
+use Rattle.mc_ast.specs.Trees.{Left, Expr, CallTree, Right, expression, result_of, allocation, InitialTree, DeclarationTree, SimpleTree, assign, add, subtract, increment, decrement, increment_first, decrement_first, call}
+use Rattle.mc_ast.specs.Names.{Tokens, IsMark, IsWord, IsName, name_of, is_in}
+use Rattle.mc_ast.specs.Grammar.{Fields, none, more, IsLeft, named, IsUnary, negative, numeral, null_word, input_call, variable, in_parens, Factors, no_factor, factor, product, Terms, no_term, added, taken, IsSum, sum_of}
 use Rattle.mc_ast.specs.Grammar.{MoreExpressions, last, next, IsCall, without, with_some, IsBase, int, tagged, alias, IsStar, star, no_star, IsDeclarator, declarator, IsCast, no_cast, cast, IsSize, of_type, of_parens, of_value, IsRight, sum, called, allocated, IsInitial, bare, with_value, MoreInitials, last_initial, next_initial, IsDeclaration, declared, IsSimple, assigned, adding, subtracting, incremented, decremented, incremented_first, decremented_first, performed, IsArgument, name_argument, null_argument, number_argument, negative_argument, MoreArguments, last_argument, next_argument}
 use Rattle.mc_ast.proofs.Agree.{Begins, Agree, same, early, late, agree_then, wider, conflict, never}
-use Rattle.mc_ast.proofs.UniqueExpressions.{unary_marks, term_marks, sum_marks, one_left, one_sum, one_number}
+use Rattle.mc_ast.proofs.UniqueExpressions.{unary_marks, sum_marks, one_left, one_sum, one_number}
 use Rattle.mc_ast.proofs.UniqueConditions.{unary_to_sum}
 
 abbrev pub list_marks : List (List ℕ)

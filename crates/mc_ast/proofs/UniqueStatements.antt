@@ -1,19 +1,17 @@
 -- Statements are spelled once.
-use Rattle.std.proofs.Common.{◌≡◌, ℕ, List, [], ◌∷◌, ◌++◌, Option, Some, None, true, false, refl, ap, sym, ◌∙◌, subst}
+use Rattle.std.proofs.Common.{◌≡◌, ℕ, List, [], ◌∷◌, ◌++◌, Option, Some, true, false, refl, ap, ◌∙◌}
 use Rattle.std.specs.Prelude.{codes}
 use native.Mathlib.Omega.{arith}
 use Rattle.mc_base.specs.declared.plain.Place.{Place}
 use Rattle.mc_lex.specs.declared.token.Token.{Token}
-use Rattle.mc_ast.specs.declared.trees.Name.{Name}
-use Rattle.mc_ast.specs.declared.trees.Argument.{Argument}
-use Rattle.mc_ast.specs.Trees.{Left, Expr, Cond, CallTree, Right, DeclarationTree, SimpleTree, Start, nothing, declares, performs, Head, Stmt, declaration, block, empty, simple, free, assert, assume, assume_shape, assert_shape, assert_empty, if_only, if_else, while_loop, do_loop, for_loop, break_loop, continue_loop, returns, stmts_of}
-use Rattle.mc_ast.specs.Names.{Tokens, IsMark, IsWord, IsName, IsNumber, IsAlias, IsNoElse, name_of, is_in, is_reserved}
-use Rattle.mc_ast.specs.Grammar.{Fields, none, more, IsLeft, named, IsUnary, negative, numeral, null_word, input_call, variable, in_parens, IsTerm, product, IsSum, sum_of, IsBang, bang_bang, bang_variable, bang_input, bang_parens, IsOne, plain_one, comparison, negated, condition_parens, IsBoth, all_of, IsCondition, any_of}
-use Rattle.mc_ast.specs.Grammar.{IsCall, without, with_some, IsBase, int, tagged, alias, IsStar, star, no_star, IsDeclarator, declarator, IsCast, no_cast, cast, IsRight, sum, called, allocated, IsInitial, bare, with_value, IsDeclaration, declared, IsSimple, assigned, adding, subtracting, incremented, decremented, incremented_first, decremented_first, performed, IsArgument, MoreArguments}
+use Rattle.mc_ast.specs.Trees.{Left, Expr, Cond, Right, DeclarationTree, SimpleTree, Start, declares, performs, Head, Stmt, declaration, block, simple, free, assert, assume, assume_shape, assert_shape, if_only, if_else, while_loop, do_loop, for_loop, returns, stmts_of}
+use Rattle.mc_ast.specs.Names.{Tokens, IsMark, IsWord, IsName, IsNoElse, name_of, is_in, is_reserved}
+use Rattle.mc_ast.specs.Grammar.{Fields, none, more, named, negative, numeral, null_word, input_call, variable, in_parens, product, IsSum, sum_of, bang_bang, bang_variable, bang_input, bang_parens, plain_one, comparison, negated, condition_parens, all_of, IsCondition, any_of}
+use Rattle.mc_ast.specs.Grammar.{without, with_some, int, tagged, alias, star, no_star, declarator, no_cast, cast, IsRight, sum, called, allocated, bare, with_value, IsDeclaration, declared, IsSimple, assigned, adding, subtracting, incremented, decremented, incremented_first, decremented_first, performed, MoreArguments}
 use Rattle.mc_ast.specs.Grammar.{IsStart, starts_empty, starts_declaring, starts_performing, IsMaybeCondition, no_condition, condition, IsMaybeSimple, no_simple, some_simple, IsHead, head, IsStatement, MoreStatements, no_statement, next_statement}
 use Rattle.mc_ast.specs.Grammar.{declares_statement, block_statement, empty_statement, simple_statement, free_statement, assert_statement, assume_statement, assume_shape_statement, assert_shape_statement, assert_empty_statement, if_statement, if_else_statement, while_statement, do_statement, for_statement, break_statement, continue_statement, return_statement, return_value}
-use Rattle.mc_ast.proofs.Agree.{Begins, Agree, same, early, late, agree_then, agree_all, agree_at, wider, conflict, never, lift, close_one, close_two, Behind}
-use Rattle.mc_ast.proofs.UniqueExpressions.{unary_marks, sum_marks, one_left, one_sum}
+use Rattle.mc_ast.proofs.Agree.{Agree, same, early, late, agree_all, agree_at, conflict, never, lift, close_one, close_two, Behind}
+use Rattle.mc_ast.proofs.UniqueExpressions.{sum_marks, one_sum}
 use Rattle.mc_ast.proofs.UniqueConditions.{condition_marks, one_condition}
 use Rattle.mc_ast.proofs.UniqueSimples.{right_marks, one_right, one_declaration, one_simple, one_argument, one_arguments}
 
@@ -47,7 +45,7 @@ no_name_second (decremented_first is l) first second = absurd (grind arith)
 no_name_second (performed (without name before after)) first second = absurd (grind arith)
 no_name_second (performed (with_some name before e path after)) first second = absurd (grind arith)
 
-not_free : {t : Token} {w : List ℕ} → IsName t → IsWord w t → is_reserved w ≡ true → ⊥
+pub not_free : {t : Token} {w : List ℕ} → IsName t → IsWord w t → is_reserved w ≡ true → ⊥
 not_free name word reserved = let e = ap is_reserved word.text ∙ reserved in let f = name.free in cc
 
 pub no_word_first : {aliases : List (List ℕ)} {t : SimpleTree} {n : Token} {ts r : Tokens} {w : List ℕ} → IsSimple aliases t (n ∷ ts) r → IsWord w n → is_reserved w ≡ true → ⊥
@@ -446,7 +444,7 @@ mutual
   one_statement {aliases} (if_else_statement {c = cond} {s = first_tree} {t = second_tree} {word = word} {rest = rest} is before c after st otherwise st2) (if_else_statement {s = first'} {t = second'} {otherwise = mark'} {behind = behind'} {rest = rest'} is' before' c' after' st' otherwise' st2') =
       agree_at condition_marks (λ d. Behind (λ mid. IsStatement aliases first' mid (mark' ∷ behind'))) (λ d mid. Agree [] (if_else word.place cond first_tree second_tree) rest (if_else word.place d first' second') rest') refl after after' (one_condition c c')
       (λ q. agree_all (λ t. Behind (λ mid. IsStatement aliases second' mid rest')) (λ t mid. Agree [] (if_else word.place cond first_tree second_tree) rest (if_else word.place cond t second') rest') (one_statement st q)
-            (λ w. lift (if_else word.place cond first_tree) (one_statement st2 w)) st2')
+      (λ w. lift (if_else word.place cond first_tree) (one_statement st2 w)) st2')
       st'
   one_statement (if_else_statement is before c after st otherwise st2) (while_statement is' before' c' after' st') = absurd (grind arith)
   one_statement (if_else_statement is before c after st otherwise st2) (do_statement is' st' again' before' c' after' semi') = absurd (grind arith)

@@ -4,7 +4,6 @@ use Rattle.std.specs.Bool.{IsFalse}
 use Rattle.mc_lex.specs.declared.token.Token.{Token}
 use Rattle.mc_lex.specs.declared.token.TokenKind.TheVariants as TokenKind
 use Rattle.mc_ast.specs.declared.class.Class.{Class}
-use Rattle.mc_ast.specs.declared.class.Class.TheVariants as Class
 use Rattle.mc_ast.specs.Names.{IsMark, IsWord, IsName, IsNumber, is_in, is_reserved, mark_of}
 
 -- the marks of the grammar

@@ -8,7 +8,6 @@ use Rattle.mc_lex.specs.declared.token.TokenKind.TheVariants as TokenKind
 use Rattle.mc_lex.specs.Numbers as Numbers
 use Rattle.mc_ast.specs.declared.trees.Name.{Name}
 use Rattle.mc_ast.specs.declared.trees.Comparison.{Comparison}
-use Rattle.mc_ast.specs.declared.trees.Comparison.TheVariants as Comparison
 
 abbrev pub Tokens : Type 0
 Tokens = List Token
