@@ -2,6 +2,11 @@
 #![tactic(auto)]
 
 mod class;
+mod print_condition;
+mod print_expression;
+mod print_right;
+mod print_simple;
+mod print_word;
 mod trees;
 
 pub use class::{Class, classify, is_reserved, name_at};
