@@ -2,14 +2,18 @@
 #![tactic(auto)]
 
 mod class;
+mod print;
 mod print_condition;
 mod print_expression;
 mod print_right;
 mod print_simple;
+mod print_statement;
+mod print_struct;
 mod print_word;
 mod trees;
 
 pub use class::{Class, classify, is_reserved, name_at};
+pub use print::print_unit;
 pub use trees::{
     Aliased, Argument, AssertShape, AssumeShape, Base, Body, Call, Cast, Comparison, Condition,
     Declaration, Declarator, Expression, Field, ForHead, ForStart, Function, Initial, Item,

@@ -4,7 +4,7 @@ ghost use Rattle.mc_ast.specs.Words.{Prints, base_words, call_words, cast_words,
 ghost use Rattle.std.specs.Prelude.{IfOk, map};
 
 use crate::print_expression::print_expression;
-use crate::print_word::{print_name, print_word};
+use crate::print_word::{print_name, print_opening, print_word};
 use crate::trees::{Base, Call, Cast, Declarator, Expression, Malloc, RightSide, Size};
 use mc_base::Place;
 use std::alloc::{AllocError, Global};
@@ -103,20 +103,20 @@ fn print_maybe_cast(out: &mut Vec<u8>, cast: &Option<Cast>) -> Result<(), AllocE
 fn print_size(out: &mut Vec<u8>, size: &Size) -> Result<(), AllocError>
     ensures { IfOk result (λ _. Prints out.old.items (size_words size.now) out.new.items) }
 {
-    print_word(out, b"sizeof")?;
     match size {
         Size::OfType(_, base) => {
-            print_word(out, b"(")?;
+            print_opening(out, b"sizeof")?;
             print_base(out, base)?;
             print_word(out, b")")?;
         }
         Size::OfParens(_, name) => {
-            print_word(out, b"(")?;
+            print_opening(out, b"sizeof")?;
             print_word(out, b"*")?;
             print_name(out, name)?;
             print_word(out, b")")?;
         }
         Size::OfValue(_, name) => {
+            print_word(out, b"sizeof")?;
             print_word(out, b"*")?;
             print_name(out, name)?;
         }
@@ -128,8 +128,7 @@ fn print_malloc(out: &mut Vec<u8>, malloc: &Malloc) -> Result<(), AllocError>
     ensures { IfOk result (λ _. Prints out.old.items (malloc_words malloc.now) out.new.items) }
 {
     print_maybe_cast(out, &malloc.cast)?;
-    print_word(out, b"malloc")?;
-    print_word(out, b"(")?;
+    print_opening(out, b"malloc")?;
     print_size(out, &malloc.size)?;
     print_word(out, b")")?;
     Ok(())

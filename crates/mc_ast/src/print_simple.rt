@@ -2,12 +2,12 @@
 ghost use Rattle.mc_ast.specs.Views.{condition_of, declaration_of, head_of, initial_of, right_of, simple_of, start_of};
 ghost use Rattle.mc_ast.specs.Words.{Prints, argument_words, condition_words, declaration_words, head_words, initial_words, listed_words, maybe_words, more_words, simple_words, start_words, value_words};
 ghost use Rattle.std.specs.Option.{option_map};
-ghost use Rattle.std.specs.Prelude.{IfOk, map};
+ghost use Rattle.std.specs.Prelude.{◌∷◌, IfOk, codes, map};
 
 use crate::print_condition::print_condition;
 use crate::print_expression::print_expression;
 use crate::print_right::{print_base, print_call, print_declarator, print_right};
-use crate::print_word::{print_left, print_name, print_number, print_word};
+use crate::print_word::{print_left, print_name, print_number, print_opening, print_word};
 use crate::trees::{
     Argument, Condition, Declaration, ForHead, ForStart, Initial, RightSide, Simple,
 };
@@ -194,9 +194,16 @@ fn print_start(alloc: Global, out: &mut Vec<u8>, start: &ForStart) -> Result<(),
 pub fn print_head(alloc: Global, out: &mut Vec<u8>, head: &ForHead) -> Result<(), AllocError>
     ensures { IfOk result (λ _. Prints out.old.items (head_words (head_of head.now)) out.new.items) }
 {
-    print_word(out, b"for")?;
-    print_word(out, b"(")?;
+    print_opening(out, b"for")?;
     print_start(alloc, out, &head.start)?;
+    print_rest(alloc, out, head)?;
+    Ok(())
+}
+
+// What stands behind the first `;` of a `for`.
+fn print_rest(alloc: Global, out: &mut Vec<u8>, head: &ForHead) -> Result<(), AllocError>
+    ensures { IfOk result (λ _. Prints out.old.items (λ more. maybe_words condition_words (option_map condition_of head.now.condition) (codes ";" ∷ maybe_words simple_words (option_map simple_of head.now.last) (codes ")" ∷ more))) out.new.items) }
+{
     print_maybe_condition(alloc, out, &head.condition)?;
     print_word(out, b";")?;
     print_maybe_simple(alloc, out, &head.last)?;

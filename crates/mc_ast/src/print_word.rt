@@ -2,7 +2,7 @@
 ghost use Rattle.mc_ast.specs.Words.{Prints, field_words, gap, left_words};
 ghost use Rattle.mc_ast.specs.Views.{left_of};
 ghost use Rattle.std.specs.Fmt.{decimal};
-ghost use Rattle.std.specs.Prelude.{◌≡◌, ◌∷◌, IfOk};
+ghost use Rattle.std.specs.Prelude.{◌≡◌, ◌∷◌, IfOk, codes};
 
 use crate::class::is_one_of;
 use crate::trees::{LeftValue, Name};
@@ -28,6 +28,24 @@ fn gap(word: &[u8]) -> u8
     } else {
         b' '
     }
+}
+
+/// Prints a word and a `(`.
+pub fn print_opening(out: &mut Vec<u8>, word: &[u8]) -> Result<(), AllocError>
+    ensures { IfOk result (λ _. Prints out.old.items (λ more. word.now ∷ codes "(" ∷ more) out.new.items) }
+{
+    print_word(out, word)?;
+    print_word(out, b"(")?;
+    Ok(())
+}
+
+/// Prints `)` and `;`.
+pub fn print_ending(out: &mut Vec<u8>) -> Result<(), AllocError>
+    ensures { IfOk result (λ _. Prints out.old.items (λ more. codes ")" ∷ codes ";" ∷ more) out.new.items) }
+{
+    print_word(out, b")")?;
+    print_word(out, b";")?;
+    Ok(())
 }
 
 pub fn print_number(alloc: Global, out: &mut Vec<u8>, number: u32) -> Result<(), AllocError>
