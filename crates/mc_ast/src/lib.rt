@@ -20,3 +20,6 @@ pub use trees::{
     LeftValue, Malloc, Name, Parameter, Parameters, Returned, RightSide, Simple, Size, Statement,
     Struct, Typedef, Unit,
 };
+
+#[cfg(test)]
+mod tests;
