@@ -1,3 +1,4 @@
 pub mod Tables
 pub mod Blocks
 pub mod Parts
+pub mod Lexing

@@ -7,3 +7,4 @@ pub mod Readers
 pub mod Weights
 pub mod Words
 pub mod Printing
+pub mod Printed

@@ -2,6 +2,7 @@
 #![tactic(auto)]
 
 mod class;
+mod laws;
 mod print;
 mod print_condition;
 mod print_expression;
@@ -13,6 +14,7 @@ mod print_word;
 mod trees;
 
 pub use class::{Class, classify, is_reserved, name_at};
+pub use laws::printed_words_are_read;
 pub use print::print_unit;
 pub use trees::{
     Aliased, Argument, AssertShape, AssumeShape, Base, Body, Call, Cast, Comparison, Condition,
