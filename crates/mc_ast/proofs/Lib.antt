@@ -6,3 +6,5 @@ mod UniqueConditions
 mod UniqueSimples
 mod UniqueStatements
 pub mod UniqueUnits
+pub mod Parts
+pub mod Lexing

@@ -5,3 +5,6 @@ pub mod Classes
 pub mod Grammar
 pub mod Readers
 pub mod Weights
+pub mod Words
+pub mod Printing
+pub mod Printed

@@ -244,7 +244,8 @@ pub fn is_reserved(word: &[u8]) -> bool
     is_one_of(word, &RESERVED)
 }
 
-fn is_one_of(word: &[u8], words: &[&[u8]]) -> bool
+/// Whether the word is one of these.
+pub fn is_one_of(word: &[u8], words: &[&[u8]]) -> bool
     ensures { result ≡ list_any (λ known. is_same word.now known.now) words.now }
 {
     words.iter().any(|known| word == *known)

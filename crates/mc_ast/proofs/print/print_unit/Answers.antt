@@ -1,0 +1,12 @@
+use Rattle.std.proofs.Common.{◌≡◌, List, [], ◌++◌, map, sym, append-nil}
+use Rattle.mc_ast.specs.Views.{item_of}
+use Rattle.mc_ast.specs.Words.{text_of, all_words, item_words}
+use Rattle.mc_ast.proofs.print.print_unit.Goals as goal
+
+pub returns : goal.returns
+unfolding text_of
+returns c =
+    let e = c.new-out.ensures.items in
+    let s = c.as_slice.ensures.value in
+    let h = c.in_ok-print_items.ensures [] in
+    sym (rw (append-nil, e, s) at h)
