@@ -4,7 +4,7 @@ ghost use Rattle.mc_ast.specs.Views.{expression_of};
 ghost use Rattle.mc_ast.specs.Words.{Continues, Prints, Words, expression_words};
 ghost use Rattle.std.specs.Prelude.{◌≡◌, ◌<◌, ◌+◌, ◌∷◌, IfOk};
 
-use crate::print_word::{print_left, print_number, print_word};
+use crate::print_word::{print_left, print_number, print_opening, print_word};
 use crate::trees::Expression;
 use std::alloc::{AllocError, Global};
 
@@ -47,8 +47,7 @@ fn print_first<'a>(
         Expression::Number(number, _) => print_number(alloc, out, *number)?,
         Expression::Null(_) => print_word(out, b"NULL")?,
         Expression::Input(_) => {
-            print_word(out, b"input")?;
-            print_word(out, b"(")?;
+            print_opening(out, b"input")?;
             print_word(out, b")")?;
         }
         Expression::Value(left) => print_left(out, left)?,
