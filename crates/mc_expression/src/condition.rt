@@ -10,9 +10,9 @@ ghost use Rattle.mc_expression.specs.Turns.{Moves};
 
 use crate::expression::{ExpressionReader, ExpressionStep, begin};
 use crate::makes::{both_of, either_of, enclosed_of, not_of, parens_of};
-use crate::primary::{Primary, PrimaryStep};
+use crate::primary::{Primary, PrimaryStep, variable};
 use crate::stack::Stack;
-use mc_ast::{Class, Comparison, Condition, Expression, LeftValue, name_at};
+use mc_ast::{Class, Comparison, Condition, Expression};
 use mc_base::Place;
 use mc_lex::Token;
 use std::alloc::{AllocError, Global};
@@ -254,10 +254,7 @@ fn begin_denied(alloc: Global, token: &Token, class: Class) -> Result<Option<Pri
 {
     match class {
         Class::Name => {
-            let left = LeftValue {
-                name: name_at(alloc, token)?,
-                fields: Vec::new(alloc),
-            };
+            let left = variable(alloc, token)?;
             Ok(Some(Primary::Left(left)))
         }
         Class::Input => Ok(Some(Primary::Input(token.place))),

@@ -5,12 +5,13 @@ ghost use Rattle.mc_ast.specs.Grammar.{IsSum};
 ghost use Rattle.mc_ast.specs.Readers.{IsSame, CanEnd};
 ghost use Rattle.mc_ast.specs.Names.{IsMark};
 ghost use Rattle.mc_ast.specs.Views.{expression_of};
+ghost use Rattle.mc_expression.specs.Turns.{Moves};
 ghost use Rattle.mc_expression.specs.Expressions.{AtOperand, AtSpot, AtSum, Begins, Behind, BehindOperand, BehindName, CompletesExpression, GoesOn, StepsExpression, negated, product_of, sum_of};
 
 use crate::makes::{less_of, minus_of, parens_of, plus_of, times_of};
-use crate::primary::{Primary, PrimaryStep};
+use crate::primary::{Primary, PrimaryStep, variable};
 use crate::stack::Stack;
-use mc_ast::{Class, Expression, LeftValue, Name, name_at};
+use mc_ast::{Class, Expression, LeftValue, Name};
 use mc_base::Place;
 use mc_lex::Token;
 use std::alloc::{AllocError, Global};
@@ -135,7 +136,7 @@ fn fresh(alloc: Global) -> Pending
 }
 
 fn at_spot(alloc: Global, spot: Spot) -> ExpressionReader
-    ensures { (result.groups ≡ []) × (result.pending ≡ record { sum = None; factor = None; minuses = [] }) × (result.spot ≡ spot) }
+    ensures { result ≡ record { alloc = alloc; groups = []; pending = record { sum = None; factor = None; minuses = [] }; spot = spot } }
 {
     ExpressionReader {
         alloc,
@@ -145,57 +146,113 @@ fn at_spot(alloc: Global, spot: Spot) -> ExpressionReader
     }
 }
 
-/// Takes the first token of an operand.
-pub fn begin(
-    alloc: Global,
-    token: &Token,
-    class: Class,
-) -> Result<Option<ExpressionReader>, AllocError>
+/// Takes the first token of an expression.
+pub fn begin(alloc: Global, token: &Token, class: Class) -> Result<Option<ExpressionReader>, AllocError>
     requires { IsClass token.now class }
     ensures { IfOk result (λ begun. Begins (λ tokens rest e. IsSum e tokens rest) token.now begun) }
 {
-    let reader = at_operand(alloc, Stack::new(alloc), fresh(alloc), token, class)?;
-    Ok(reader)
+    let begun = at_operand(alloc, Stack::new(alloc), fresh(alloc), token, class)?;
+    Ok(begun)
 }
 
 fn at_operand(
     alloc: Global,
-    mut groups: Stack<Group>,
-    mut pending: Pending,
+    groups: Stack<Group>,
+    pending: Pending,
     token: &Token,
     class: Class,
 ) -> Result<Option<ExpressionReader>, AllocError>
     requires { IsClass token.now class }
     ensures { IfOk result (λ begun. Begins (AtOperand groups pending) token.now begun) }
 {
-    let spot = match class {
+    match class {
         Class::Minus => {
-            pending.minuses.push(token.place)?;
-            Spot::Operand
+            let reader = negate(alloc, groups, pending, token)?;
+            Ok(Some(reader))
         }
         Class::OpenParen => {
-            groups.push(Group {
-                place: token.place,
-                outer: pending,
-            })?;
-            pending = fresh(alloc);
-            Spot::Operand
+            let reader = open_group(alloc, groups, pending, token)?;
+            Ok(Some(reader))
         }
-        Class::Name => Spot::Primary(Primary::Left(LeftValue {
-            name: name_at(alloc, token)?,
-            fields: Vec::new(alloc),
+        Class::Name => {
+            let left = variable(alloc, token)?;
+            Ok(Some(ExpressionReader {
+                alloc,
+                groups,
+                pending,
+                spot: Spot::Primary(Primary::Left(left)),
+            }))
+        }
+        Class::Number(value) => Ok(Some(ExpressionReader {
+            alloc,
+            groups,
+            pending,
+            spot: Spot::Unary(Expression::Number(value, token.place)),
         })),
-        Class::Number(value) => Spot::Unary(Expression::Number(value, token.place)),
-        Class::Null => Spot::Unary(Expression::Null(token.place)),
-        Class::Input => Spot::Primary(Primary::Input(token.place)),
-        _ => return Ok(None),
-    };
-    Ok(Some(ExpressionReader {
+        Class::Null => Ok(Some(ExpressionReader {
+            alloc,
+            groups,
+            pending,
+            spot: Spot::Unary(Expression::Null(token.place)),
+        })),
+        Class::Input => Ok(Some(ExpressionReader {
+            alloc,
+            groups,
+            pending,
+            spot: Spot::Primary(Primary::Input(token.place)),
+        })),
+        _ => Ok(None),
+    }
+}
+
+/// Takes a `-` before an operand.
+fn negate(
+    alloc: Global,
+    groups: Stack<Group>,
+    pending: Pending,
+    token: &Token,
+) -> Result<ExpressionReader, AllocError>
+    requires { IsMark (codes "-") token.now }
+    ensures { IfOk result (λ reader. Moves (AtOperand groups pending) (CompletesExpression reader) token.now) }
+{
+    let Pending {
+        sum,
+        factor,
+        mut minuses,
+    } = pending;
+    minuses.push(token.place)?;
+    Ok(ExpressionReader {
         alloc,
         groups,
-        pending,
-        spot,
-    }))
+        pending: Pending {
+            sum,
+            factor,
+            minuses,
+        },
+        spot: Spot::Operand,
+    })
+}
+
+/// Takes a `(`.
+fn open_group(
+    alloc: Global,
+    mut groups: Stack<Group>,
+    pending: Pending,
+    token: &Token,
+) -> Result<ExpressionReader, AllocError>
+    requires { IsMark (codes "(") token.now }
+    ensures { IfOk result (λ reader. Moves (AtOperand groups pending) (CompletesExpression reader) token.now) }
+{
+    groups.push(Group {
+        place: token.place,
+        outer: pending,
+    })?;
+    Ok(ExpressionReader {
+        alloc,
+        groups,
+        pending: fresh(alloc),
+        spot: Spot::Operand,
+    })
 }
 
 fn at_primary(
@@ -209,21 +266,25 @@ fn at_primary(
     requires { IsClass token.now class }
     ensures { IfOk result (λ step. StepsExpression (AtSpot (Spot.Primary primary) groups pending) token.now step) }
 {
-    let spot = match primary.step(alloc, token, class)? {
-        PrimaryStep::Taken(primary) => Spot::Primary(primary),
-        PrimaryStep::Closed(operand) => Spot::Unary(operand),
+    match primary.step(alloc, token, class)? {
+        PrimaryStep::Taken(primary) => Ok(ExpressionStep::Taken(ExpressionReader {
+            alloc,
+            groups,
+            pending,
+            spot: Spot::Primary(primary),
+        })),
+        PrimaryStep::Closed(operand) => Ok(ExpressionStep::Taken(ExpressionReader {
+            alloc,
+            groups,
+            pending,
+            spot: Spot::Unary(operand),
+        })),
         PrimaryStep::Found(operand) => {
             let step = behind_unary(alloc, groups, pending, operand, token, class)?;
-            return Ok(step);
+            Ok(step)
         }
-        PrimaryStep::Stuck => return Ok(ExpressionStep::Stuck),
-    };
-    Ok(ExpressionStep::Taken(ExpressionReader {
-        alloc,
-        groups,
-        pending,
-        spot,
-    }))
+        PrimaryStep::Stuck => Ok(ExpressionStep::Stuck),
+    }
 }
 
 fn behind_unary(
