@@ -130,7 +130,12 @@ sum_same gs pending u s token other e =
     let P : Expr → Type 0 = λ x. SameAt (GoesOn pending u (Behind gs)) (AtSum gs x) token in
     subst P (sym e) (record { forward = λ tokens rest x h. without_star other h; backward = λ tokens rest x h. with_sum h })
 
+pub sum_same_at : (gs below : List Group) (pending : Pending) (u s : Expr) (token : Token) → below ≡ gs → (IsMark (codes "*") token → ⊥) → s ≡ Specs.sum_of pending.sum (product_of pending.factor (negated pending.minuses u)) → SameAt (GoesOn pending u (Behind gs)) (AtSum below s) token
+sum_same_at gs below pending u s token b other e =
+    let P : List Group → Type 0 = λ a. SameAt (GoesOn pending u (Behind gs)) (AtSum a s) token in
+    subst P (sym b) (sum_same gs pending u s token other e)
+
 -- behind `->` nothing goes on but fields
 pub primary_ends : (gs : List Group) (pending : Pending) (token : Token) → EndsAt primary_marks expression_marks (λ u. GoesOn pending u (Behind gs)) token
 primary_ends gs pending token known u tokens rest e h =
-    (goes_ends gs (not_in primary_marks (codes "*") refl known) (not_in primary_marks (codes "+") refl known) (not_in primary_marks (codes "-") refl known) (not_in primary_marks (codes ")") refl known) h, known_more known)
+    (goes_ends gs (not_in primary_marks (codes "*") refl known) (not_in primary_marks (codes "+") refl known) (not_in primary_marks (codes "-") refl known) (not_in primary_marks (codes ")") refl known) h, known_more token.text known)

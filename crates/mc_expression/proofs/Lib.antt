@@ -3,5 +3,7 @@ pub mod Marks
 pub mod Seen
 pub mod Turns
 pub mod Operands
+pub mod Starts
+pub mod Ends
 pub mod Primaries
 pub mod Expressions

@@ -44,5 +44,5 @@ in_last false true c d h = refl
 in_last false false true d h = refl
 in_last false false false d h = h
 
-pub known_more : {token : Token} → IsTrue (is_in primary_marks token.text) → IsTrue (is_in expression_marks token.text)
-known_more {token} h = in_last _ _ _ _ h
+pub known_more : (text : List ℕ) → IsTrue (is_in primary_marks text) → IsTrue (is_in expression_marks text)
+known_more text h = in_last (is_same text (codes "+")) (is_same text (codes "-")) (is_same text (codes "*")) (is_same text (codes "->")) h

@@ -73,12 +73,12 @@ turn_finds s = record { forward = λ tokens rest y h. finds_forward s h; backwar
 abbrev pub EndsAt : {X Y : Type 0} → (inner outer : List (List ℕ)) → (X → Tokens → Tokens → Y → Type 0) → Token → Type 0
 EndsAt {X} {Y} inner outer next token = IsTrue (is_in inner token.text) → (x : X) (tokens rest : Tokens) (y : Y) → next x (token ∷ tokens) rest y → (rest ≡ token ∷ tokens) × IsTrue (is_in outer token.text)
 
-takes_forward : {X Y : Type 0} {inner outer : List (List ℕ)} {first later : Tokens → Tokens → X → Type 0} {next : X → Tokens → Tokens → Y → Type 0} {token : Token} {tokens rest : Tokens} {y : Y} → Takes inner first later token → EndsAt inner outer next token → InTurn first next (token ∷ tokens) rest y → InTurn later next tokens rest y ⊎ ((rest ≡ token ∷ tokens) × IsTrue (is_in outer token.text))
-takes_forward {next = next} {tokens = tokens} {rest = rest} {y = y} s ends (in_turn {x = z} {mid = mid} f n) =
+takes_forward : {X Y : Type 0} (inner outer : List (List ℕ)) {first later : Tokens → Tokens → X → Type 0} {next : X → Tokens → Tokens → Y → Type 0} {token : Token} {tokens rest : Tokens} {y : Y} → Takes inner first later token → EndsAt inner outer next token → InTurn first next (token ∷ tokens) rest y → InTurn later next tokens rest y ⊎ ((rest ≡ token ∷ tokens) × IsTrue (is_in outer token.text))
+takes_forward inner outer {next = next} {tokens = tokens} {rest = rest} {y = y} s ends (in_turn {x = z} {mid = mid} f n) =
     ⊎_elim (λ l. inl (in_turn l n)) (λ e. inr (ends e.1 z tokens rest y (let Q : Tokens → Type 0 = λ m. next z m rest y in subst Q e.0 n))) (s.forward tokens mid z f)
 
 takes_backward : {X Y : Type 0} {inner : List (List ℕ)} {first later : Tokens → Tokens → X → Type 0} {next : X → Tokens → Tokens → Y → Type 0} {token : Token} {tokens rest : Tokens} {y : Y} → Takes inner first later token → InTurn later next tokens rest y → InTurn first next (token ∷ tokens) rest y
 takes_backward {tokens = tokens} s (in_turn {x = x} {mid = mid} f n) = in_turn (s.backward tokens mid x f) n
 
 pub turn_takes : {X Y : Type 0} (inner outer : List (List ℕ)) (first later : Tokens → Tokens → X → Type 0) (next : X → Tokens → Tokens → Y → Type 0) (token : Token) → Takes inner first later token → EndsAt inner outer next token → Takes outer (InTurn first next) (InTurn later next) token
-turn_takes inner outer first later next token s ends = record { forward = λ tokens rest y h. takes_forward {inner = inner} {outer = outer} {first = first} {later = later} {next = next} s ends h; backward = λ tokens rest y h. takes_backward s h }
+turn_takes inner outer first later next token s ends = record { forward = λ tokens rest y h. takes_forward inner outer {first = first} {later = later} {next = next} s ends h; backward = λ tokens rest y h. takes_backward s h }
