@@ -1,0 +1,14 @@
+pub mod Classes
+pub mod Marks
+pub mod Seen
+pub mod Turns
+pub mod Operands
+pub mod Starts
+pub mod Ends
+pub mod Conditions
+pub mod ConditionOperands
+pub mod Enclosed
+pub mod ConditionStarts
+pub mod ConditionEnds
+pub mod Primaries
+pub mod Expressions
