@@ -7,6 +7,7 @@ use Rattle.mc_ast.specs.Trees.{Left, Expr, value}
 use Rattle.mc_ast.specs.Grammar.{Fields, Factors, Terms, IsSum}
 use Rattle.mc_ast.specs.Readers.{Takes, Finds, IsStuckAt}
 use Rattle.mc_ast.specs.Views.{expression_of}
+use Rattle.mc_expression.specs.Turns.{InTurn}
 use Rattle.mc_expression.specs.declared.ExpressionReader.{ExpressionReader}
 use Rattle.mc_expression.specs.declared.ExpressionState.{ExpressionState}
 use Rattle.mc_expression.specs.declared.ExpressionState.TheVariants as ExpressionState
@@ -19,11 +20,11 @@ expression_marks = codes "+" ∷ codes "-" ∷ codes "*" ∷ codes "->" ∷ []
 
 -- behind an operand
 abbrev pub BehindOperand : Expr → Tokens → Tokens → Expr → Type 0
-BehindOperand u tokens rest e = (a : Expr) × (mid : Tokens) × Factors u tokens a mid × Terms a mid e rest
+BehindOperand u = InTurn (λ tokens rest a. Factors u tokens a rest) (λ a tokens rest e. Terms a tokens e rest)
 
 -- behind a name with which an operand begins
 abbrev pub BehindName : Name → Tokens → Tokens → Expr → Type 0
-BehindName name tokens rest e = (l : Left) × (mid : Tokens) × Fields (record { name = name; fields = [] }) tokens l mid × BehindOperand (value l) mid rest e
+BehindName name = InTurn (λ tokens rest l. Fields (record { name = name; fields = [] }) tokens l rest) (λ l. BehindOperand (value l))
 
 -- an expression
 abbrev pub Sums : Tokens → Tokens → Expr → Type 0
@@ -38,7 +39,7 @@ abbrev pub CompletesExpression : ExpressionReader → Tokens → Tokens → Expr
 CompletesExpression r = CompletesState r.state
 
 -- what a step says
-abbrev pub IsExpressionStep : (Tokens → Tokens → Expr → Type 0) → Token → ExpressionStep → Type 0
-IsExpressionStep now token (ExpressionStep.Taken r) = Takes expression_marks now (CompletesExpression r) token
-IsExpressionStep now token (ExpressionStep.Found e) = Finds now token (expression_of e)
-IsExpressionStep now token ExpressionStep.Stuck = IsStuckAt now token
+abbrev pub StepsExpression : (Tokens → Tokens → Expr → Type 0) → Token → ExpressionStep → Type 0
+StepsExpression now token (ExpressionStep.Taken r) = Takes expression_marks now (CompletesExpression r) token
+StepsExpression now token (ExpressionStep.Found e) = Finds now token (expression_of e)
+StepsExpression now token ExpressionStep.Stuck = IsStuckAt now token

@@ -4,8 +4,9 @@
 ghost use Rattle.std.specs.Prelude.{IfOk};
 ghost use Rattle.mc_ast.specs.Classes.{IsClass};
 ghost use Rattle.mc_ast.specs.Readers.{IsSame};
+ghost use Rattle.mc_ast.specs.Grammar.{IsSum};
 ghost use Rattle.mc_ast.specs.Views.{expression_of};
-ghost use Rattle.mc_expression.specs.Expressions.{CompletesExpression, BehindName, BehindOperand, Sums, IsExpressionStep};
+ghost use Rattle.mc_expression.specs.Expressions.{CompletesExpression, BehindName, BehindOperand, StepsExpression};
 
 use mc_ast::{Class, Expression, Name};
 use mc_lex::Token;
@@ -34,7 +35,7 @@ pub enum ExpressionStep {
 
 impl ExpressionReader {
     pub fn new(alloc: Global) -> ExpressionReader
-        ensures { IsSame (CompletesExpression result) Sums }
+        ensures { IsSame (CompletesExpression result) (λ tokens rest e. IsSum e tokens rest) }
     {
         ExpressionReader {
             alloc,
@@ -62,7 +63,7 @@ impl ExpressionReader {
 
     pub fn step(self, token: &Token, class: Class) -> Result<ExpressionStep, AllocError>
         requires { IsClass token.now class }
-        ensures { IfOk result (IsExpressionStep (CompletesExpression self) token.now) }
+        ensures { IfOk result (λ step. StepsExpression (CompletesExpression self) token.now step) }
     {
         Err(AllocError)
     }

@@ -12,7 +12,8 @@ use Rattle.mc_simple.specs.declared.allocation.AllocationReader.{AllocationReade
 use Rattle.mc_simple.specs.declared.allocation.AllocationReader.TheVariants as AllocationReader
 use Rattle.mc_simple.specs.declared.allocation.AllocationStep.{AllocationStep}
 use Rattle.mc_simple.specs.declared.allocation.AllocationStep.TheVariants as AllocationStep
-use Rattle.mc_simple.specs.Phrases.{Ended, Next, Then, Either}
+use Rattle.mc_expression.specs.Turns.{InTurn}
+use Rattle.mc_simple.specs.Phrases.{Ended, Next, Either}
 use Rattle.mc_simple.specs.Bases.{Bases, CompletesBase}
 use Rattle.mc_simple.specs.Sizes.{Sizes, CompletesSize}
 
@@ -26,7 +27,7 @@ BehindSize cast place size = ClosingMalloc (record { cast = cast; place = place;
 
 -- behind `malloc`
 abbrev pub BehindMalloc : List (List ℕ) → Option Cast → Place → Tokens → Tokens → Malloc → Type 0
-BehindMalloc aliases cast place = Next (IsMark (codes "(")) (λ before. Then (Sizes aliases) (BehindSize cast place))
+BehindMalloc aliases cast place = Next (IsMark (codes "(")) (λ before. InTurn (Sizes aliases) (BehindSize cast place))
 
 -- behind a cast
 abbrev pub BehindCast : List (List ℕ) → Cast → Tokens → Tokens → Malloc → Type 0
@@ -42,16 +43,16 @@ BehindCastBase aliases place base = Either (Next (IsMark (codes "*")) (λ star. 
 
 -- behind the `(` of a cast
 abbrev pub InCast : List (List ℕ) → Place → Tokens → Tokens → Malloc → Type 0
-InCast aliases place = Then (Bases aliases) (BehindCastBase aliases place)
+InCast aliases place = InTurn (Bases aliases) (BehindCastBase aliases place)
 
 -- the tokens complete what was read of an allocation
 abbrev pub CompletesAllocation : List (List ℕ) → AllocationReader → Tokens → Tokens → Malloc → Type 0
-CompletesAllocation aliases (AllocationReader.Base place reader) = Then (CompletesBase aliases reader) (BehindCastBase aliases place)
+CompletesAllocation aliases (AllocationReader.Base place reader) = InTurn (CompletesBase aliases reader) (BehindCastBase aliases place)
 CompletesAllocation aliases (AllocationReader.CastBase place base) = BehindCastBase aliases place base
 CompletesAllocation aliases (AllocationReader.CastEnd cast) = ClosingCast aliases cast
 CompletesAllocation aliases (AllocationReader.Cast cast) = BehindCast aliases cast
 CompletesAllocation aliases (AllocationReader.Malloc cast place) = BehindMalloc aliases cast place
-CompletesAllocation aliases (AllocationReader.Size cast place reader) = Then (CompletesSize aliases reader) (BehindSize cast place)
+CompletesAllocation aliases (AllocationReader.Size cast place reader) = InTurn (CompletesSize aliases reader) (BehindSize cast place)
 CompletesAllocation aliases (AllocationReader.Close malloc) = ClosingMalloc malloc
 
 -- what a step of the reader says

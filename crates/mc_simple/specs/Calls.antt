@@ -13,7 +13,8 @@ use Rattle.mc_simple.specs.declared.call.CallState.{CallState}
 use Rattle.mc_simple.specs.declared.call.CallState.TheVariants as CallState
 use Rattle.mc_simple.specs.declared.call.CallStep.{CallStep}
 use Rattle.mc_simple.specs.declared.call.CallStep.TheVariants as CallStep
-use Rattle.mc_simple.specs.Phrases.{Ended, Next, Then, Either}
+use Rattle.mc_expression.specs.Turns.{InTurn}
+use Rattle.mc_simple.specs.Phrases.{Ended, Next, Either}
 
 -- an expression
 abbrev pub Sums : Tokens → Tokens → Expr → Type 0
@@ -29,7 +30,7 @@ BehindArgument name es e = BehindArguments name (es ++ e ∷ [])
 
 -- what stands in the parentheses of a call, with their end
 abbrev pub FirstArgument : Name → List Expr → Tokens → Tokens → CallTree → Type 0
-FirstArgument name es = Either (Next (IsMark (codes ")")) (λ after. Ended (record { function = name; arguments = es }))) (Then Sums (BehindArgument name es))
+FirstArgument name es = Either (Next (IsMark (codes ")")) (λ after. Ended (record { function = name; arguments = es }))) (InTurn Sums (BehindArgument name es))
 
 -- behind the `(` of a call
 abbrev pub BehindCallParens : Name → Tokens → Tokens → CallTree → Type 0
@@ -38,7 +39,7 @@ BehindCallParens name = FirstArgument name []
 -- the same, as far as it was read
 abbrev pub CompletesArguments : Name → List Expr → CallState → Tokens → Tokens → CallTree → Type 0
 CompletesArguments name es CallState.First = FirstArgument name es
-CompletesArguments name es (CallState.Argument reader) = Then (CompletesExpression reader) (BehindArgument name es)
+CompletesArguments name es (CallState.Argument reader) = InTurn (CompletesExpression reader) (BehindArgument name es)
 
 -- the tokens complete what was read of a call
 abbrev pub CompletesCall : CallReader → Tokens → Tokens → CallTree → Type 0

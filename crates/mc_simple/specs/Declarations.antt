@@ -14,7 +14,8 @@ use Rattle.mc_simple.specs.declared.declaration.DeclarationState.{DeclarationSta
 use Rattle.mc_simple.specs.declared.declaration.DeclarationState.TheVariants as DeclarationState
 use Rattle.mc_simple.specs.declared.declaration.DeclarationStep.{DeclarationStep}
 use Rattle.mc_simple.specs.declared.declaration.DeclarationStep.TheVariants as DeclarationStep
-use Rattle.mc_simple.specs.Phrases.{Next, Then, Either}
+use Rattle.mc_expression.specs.Turns.{InTurn}
+use Rattle.mc_simple.specs.Phrases.{Next, Either}
 use Rattle.mc_simple.specs.Rights.{Rights, CompletesRight}
 
 -- behind a declarator and its value, with those up to it
@@ -31,7 +32,7 @@ BehindInitial aliases base is i = BehindInitials aliases base (is ++ i ∷ [])
 
 -- behind a base, or a `,`
 abbrev pub BehindComma : List (List ℕ) → Base → List InitialTree → Tokens → Tokens → DeclarationTree → Type 0
-BehindComma aliases base is = Then (Initials aliases) (BehindInitial aliases base is)
+BehindComma aliases base is = InTurn (Initials aliases) (BehindInitial aliases base is)
 
 -- behind its base
 abbrev pub BehindBase : List (List ℕ) → Base → Tokens → Tokens → DeclarationTree → Type 0
@@ -39,14 +40,14 @@ BehindBase aliases base = BehindComma aliases base []
 
 -- behind a declarator's name
 abbrev pub BehindDeclarator : List (List ℕ) → Base → List InitialTree → Declarator → Tokens → Tokens → DeclarationTree → Type 0
-BehindDeclarator aliases base is d = Either (BehindInitial aliases base is (record { declarator = d; value = None })) (Next (IsMark (codes "=")) (λ mark. Then (Rights aliases) (λ r. BehindInitial aliases base is (record { declarator = d; value = Some r }))))
+BehindDeclarator aliases base is d = Either (BehindInitial aliases base is (record { declarator = d; value = None })) (Next (IsMark (codes "=")) (λ mark. InTurn (Rights aliases) (λ r. BehindInitial aliases base is (record { declarator = d; value = Some r }))))
 
 -- the tokens complete what was read of a declaration
 abbrev pub CompletesDeclarationState : List (List ℕ) → Base → List InitialTree → DeclarationState → Tokens → Tokens → DeclarationTree → Type 0
 CompletesDeclarationState aliases base is DeclarationState.Start = BehindComma aliases base is
 CompletesDeclarationState aliases base is (DeclarationState.Pointer place) = Next IsName (λ name. BehindDeclarator aliases base is (record { pointer = Some place; name = name_of name }))
 CompletesDeclarationState aliases base is (DeclarationState.Named d) = BehindDeclarator aliases base is d
-CompletesDeclarationState aliases base is (DeclarationState.Value d reader) = Then (CompletesRight aliases reader) (λ r. BehindInitial aliases base is (record { declarator = d; value = Some r }))
+CompletesDeclarationState aliases base is (DeclarationState.Value d reader) = InTurn (CompletesRight aliases reader) (λ r. BehindInitial aliases base is (record { declarator = d; value = Some r }))
 
 abbrev pub CompletesDeclaration : List (List ℕ) → DeclarationReader → Tokens → Tokens → DeclarationTree → Type 0
 CompletesDeclaration aliases reader = CompletesDeclarationState aliases reader.base (map initial_of reader.items.items) reader.state

@@ -11,10 +11,6 @@ pub data Ended {Y : Type 0} (y : Y) : Tokens → Tokens → Y → Type 0 where
 pub data Next {Y : Type 0} (Is : Token → Type 0) (later : Token → Tokens → Tokens → Y → Type 0) : Tokens → Tokens → Y → Type 0 where
   next : {token : Token} {tokens rest : Tokens} {y : Y} → Is token → later token tokens rest y → Next Is later (token ∷ tokens) rest y
 
--- one phrase, and what follows its tree
-pub data Then {X Y : Type 0} (first : Tokens → Tokens → X → Type 0) (behind : X → Tokens → Tokens → Y → Type 0) : Tokens → Tokens → Y → Type 0 where
-  both : {x : X} {y : Y} {tokens mid rest : Tokens} → first tokens mid x → behind x mid rest y → Then first behind tokens rest y
-
 -- one phrase or the other
 abbrev pub Either : {Y : Type 0} → (Tokens → Tokens → Y → Type 0) → (Tokens → Tokens → Y → Type 0) → Tokens → Tokens → Y → Type 0
 Either one other tokens rest y = one tokens rest y ⊎ other tokens rest y

@@ -17,7 +17,8 @@ use Rattle.mc_simple.specs.declared.right.RightState.{RightState}
 use Rattle.mc_simple.specs.declared.right.RightState.TheVariants as RightState
 use Rattle.mc_simple.specs.declared.right.RightStep.{RightStep}
 use Rattle.mc_simple.specs.declared.right.RightStep.TheVariants as RightStep
-use Rattle.mc_simple.specs.Phrases.{Ended, Next, Then, Either}
+use Rattle.mc_expression.specs.Turns.{InTurn}
+use Rattle.mc_simple.specs.Phrases.{Ended, Next, Either}
 use Rattle.mc_simple.specs.Allocations.{BehindCast, ClosingCast, BehindCastBase, InCast, CompletesAllocation}
 use Rattle.mc_simple.specs.Calls.{Sums, BehindCallParens, CompletesCall}
 
@@ -31,17 +32,21 @@ Rights aliases tokens rest right = IsRight aliases right tokens rest
 
 -- the expression, call or allocation is the right side
 abbrev pub AsExpression : (Tokens → Tokens → Expr → Type 0) → Tokens → Tokens → Right → Type 0
-AsExpression inner = Then inner (λ e. Ended (expression e))
+AsExpression inner = InTurn inner (λ e. Ended (expression e))
 
 abbrev pub AsCall : (Tokens → Tokens → CallTree → Type 0) → Tokens → Tokens → Right → Type 0
-AsCall inner = Then inner (λ call. Ended (result_of call))
+AsCall inner = InTurn inner (λ call. Ended (result_of call))
 
 abbrev pub AsAllocation : (Tokens → Tokens → Malloc → Type 0) → Tokens → Tokens → Right → Type 0
-AsAllocation inner = Then inner (λ malloc. Ended (allocation malloc))
+AsAllocation inner = InTurn inner (λ malloc. Ended (allocation malloc))
+
+-- the `)` of parentheses with which an expression begins, and what follows them
+abbrev pub ClosingParens : Place → Expr → Tokens → Tokens → Expr → Type 0
+ClosingParens place e = Next (IsMark (codes ")")) (λ after. BehindOperand (parens place e))
 
 -- what stands in the parentheses with which an expression begins, and what follows them
 abbrev pub InParens : Place → (Tokens → Tokens → Expr → Type 0) → Tokens → Tokens → Expr → Type 0
-InParens place inner = Then inner (λ e. Next (IsMark (codes ")")) (λ after. BehindOperand (parens place e)))
+InParens place inner = InTurn inner (ClosingParens place)
 
 -- a name alone
 abbrev pub named : Name → Expr
@@ -49,7 +54,7 @@ named name = value (record { name = name; fields = [] })
 
 -- behind a name and a `*`
 abbrev pub BehindTimes : Name → Tokens → Tokens → Expr → Type 0
-BehindTimes name = Then (λ tokens rest e. IsUnary e tokens rest) (λ e. BehindOperand (times (named name) e))
+BehindTimes name = InTurn (λ tokens rest e. IsUnary e tokens rest) (λ e. BehindOperand (times (named name) e))
 
 -- behind a name with which a right side begins
 abbrev pub BehindRightName : Name → Tokens → Tokens → Right → Type 0

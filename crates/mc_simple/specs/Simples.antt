@@ -16,7 +16,8 @@ use Rattle.mc_simple.specs.declared.simple.SimpleStep.{SimpleStep}
 use Rattle.mc_simple.specs.declared.simple.SimpleStep.TheVariants as SimpleStep
 use Rattle.mc_simple.specs.declared.simple.Change.{Change}
 use Rattle.mc_simple.specs.declared.simple.Change.TheVariants as Change
-use Rattle.mc_simple.specs.Phrases.{Ended, Next, Then, Either}
+use Rattle.mc_expression.specs.Turns.{InTurn}
+use Rattle.mc_simple.specs.Phrases.{Ended, Next, Either}
 use Rattle.mc_simple.specs.Calls.{BehindCallParens, CompletesCall}
 use Rattle.mc_simple.specs.Rights.{CompletesRight, right_marks}
 
@@ -65,15 +66,15 @@ pub data BehindLeft (aliases : List (List ℕ)) (l : Left) : Tokens → Tokens �
 
 -- behind a name, or a field of it, with which a statement begins
 abbrev pub InLeft : List (List ℕ) → Left → Tokens → Tokens → SimpleTree → Type 0
-InLeft aliases l = Then (MoreFields l) (BehindLeft aliases)
+InLeft aliases l = InTurn (MoreFields l) (BehindLeft aliases)
 
 -- behind a name with which a statement begins
 abbrev pub BehindSimpleName : List (List ℕ) → Name → Tokens → Tokens → SimpleTree → Type 0
-BehindSimpleName aliases name = Either (InLeft aliases (just name)) (Next (IsMark (codes "(")) (λ before. Then (BehindCallParens name) (λ c. Ended (call c))))
+BehindSimpleName aliases name = Either (InLeft aliases (just name)) (Next (IsMark (codes "(")) (λ before. InTurn (BehindCallParens name) (λ c. Ended (call c))))
 
 -- behind `++x` or `--x`, or a field of x
 abbrev pub InFirst : Change → Place → Left → Tokens → Tokens → SimpleTree → Type 0
-InFirst change place l = Then (MoreFields l) (λ all. Ended (changed_first change place all))
+InFirst change place l = InTurn (MoreFields l) (λ all. Ended (changed_first change place all))
 
 -- the tokens complete what was read of a simple statement
 abbrev pub CompletesSimpleState : List (List ℕ) → SimpleState → Tokens → Tokens → SimpleTree → Type 0
@@ -84,9 +85,9 @@ CompletesSimpleState aliases (SimpleState.FirstArrow change place l) = Next IsNa
 CompletesSimpleState aliases (SimpleState.Named name) = BehindSimpleName aliases name
 CompletesSimpleState aliases (SimpleState.Left l) = InLeft aliases (left_of l)
 CompletesSimpleState aliases (SimpleState.Arrow l) = Next IsName (λ name. InLeft aliases (with_field (left_of l) (name_of name)))
-CompletesSimpleState aliases (SimpleState.Assign l reader) = Then (CompletesRight aliases reader) (λ r. Ended (assign (left_of l) r))
-CompletesSimpleState aliases (SimpleState.ChangeBy change l reader) = Then (CompletesExpression reader) (λ e. Ended (changed_by change (left_of l) e))
-CompletesSimpleState aliases (SimpleState.Call reader) = Then (CompletesCall reader) (λ c. Ended (call c))
+CompletesSimpleState aliases (SimpleState.Assign l reader) = InTurn (CompletesRight aliases reader) (λ r. Ended (assign (left_of l) r))
+CompletesSimpleState aliases (SimpleState.ChangeBy change l reader) = InTurn (CompletesExpression reader) (λ e. Ended (changed_by change (left_of l) e))
+CompletesSimpleState aliases (SimpleState.Call reader) = InTurn (CompletesCall reader) (λ c. Ended (call c))
 CompletesSimpleState aliases (SimpleState.Done simple) = Ended (simple_of simple)
 
 abbrev pub CompletesSimple : List (List ℕ) → SimpleReader → Tokens → Tokens → SimpleTree → Type 0

@@ -12,7 +12,8 @@ use Rattle.mc_simple.specs.declared.size.SizeReader.{SizeReader}
 use Rattle.mc_simple.specs.declared.size.SizeReader.TheVariants as SizeReader
 use Rattle.mc_simple.specs.declared.size.SizeStep.{SizeStep}
 use Rattle.mc_simple.specs.declared.size.SizeStep.TheVariants as SizeStep
-use Rattle.mc_simple.specs.Phrases.{Ended, Next, Then, Either}
+use Rattle.mc_expression.specs.Turns.{InTurn}
+use Rattle.mc_simple.specs.Phrases.{Ended, Next, Either}
 use Rattle.mc_simple.specs.Bases.{Bases, CompletesBase}
 
 -- a size
@@ -22,6 +23,10 @@ Sizes aliases tokens rest size = IsSize aliases size tokens rest
 -- the `)` behind a size
 abbrev pub ClosingSize : Size → Tokens → Tokens → Size → Type 0
 ClosingSize size = Next (IsMark (codes ")")) (λ after. Ended size)
+
+-- behind `sizeof (int` and the like
+abbrev pub BehindType : Place → Base → Tokens → Tokens → Size → Type 0
+BehindType place base = ClosingSize (Size.OfType place base)
 
 -- behind `sizeof (*`
 abbrev pub BehindParensStar : Place → Tokens → Tokens → Size → Type 0
@@ -33,7 +38,7 @@ BehindStar place = Next IsName (λ name. Ended (Size.OfValue place (name_of name
 
 -- behind `sizeof (`
 abbrev pub BehindParens : List (List ℕ) → Place → Tokens → Tokens → Size → Type 0
-BehindParens aliases place = Either (Then (Bases aliases) (λ base. ClosingSize (Size.OfType place base))) (Next (IsMark (codes "*")) (λ star. BehindParensStar place))
+BehindParens aliases place = Either (InTurn (Bases aliases) (BehindType place)) (Next (IsMark (codes "*")) (λ star. BehindParensStar place))
 
 -- behind `sizeof`
 abbrev pub BehindSizeof : List (List ℕ) → Place → Tokens → Tokens → Size → Type 0
@@ -44,7 +49,7 @@ abbrev pub CompletesSize : List (List ℕ) → SizeReader → Tokens → Tokens 
 CompletesSize aliases SizeReader.Start = Sizes aliases
 CompletesSize aliases (SizeReader.Sizeof place) = BehindSizeof aliases place
 CompletesSize aliases (SizeReader.Parens place) = BehindParens aliases place
-CompletesSize aliases (SizeReader.Base place reader) = Then (CompletesBase aliases reader) (λ base. ClosingSize (Size.OfType place base))
+CompletesSize aliases (SizeReader.Base place reader) = InTurn (CompletesBase aliases reader) (BehindType place)
 CompletesSize aliases (SizeReader.ParensStar place) = BehindParensStar place
 CompletesSize aliases (SizeReader.Star place) = BehindStar place
 CompletesSize aliases (SizeReader.Close size) = ClosingSize size

@@ -2,7 +2,10 @@
 ghost use Rattle.std.specs.Prelude.{◌≡◌, IfOk};
 ghost use Rattle.mc_ast.specs.Classes.{IsClass};
 ghost use Rattle.mc_ast.specs.Readers.{IsSame};
-ghost use Rattle.mc_simple.specs.Calls.{BehindCallParens, CompletesCall, IsCallStep};
+ghost use Rattle.mc_simple.specs.Calls.{BehindCallParens, FirstArgument, BehindArgument, BehindArguments, CompletesCall, IsCallStep};
+ghost use Rattle.mc_ast.specs.Views.{expressions_of};
+ghost use Rattle.mc_expression.specs.Turns.{InTurn};
+ghost use Rattle.mc_expression.specs.Expressions.{CompletesExpression};
 
 use mc_ast::{Call, Class, Expression, Name};
 use mc_expression::{ExpressionReader, ExpressionStep};
@@ -52,6 +55,67 @@ impl CallReader {
         requires { IsClass token.now class }
         ensures { IfOk result (IsCallStep (CompletesCall self) token.now) }
     {
-        Err(AllocError)
+        let CallReader {
+            alloc,
+            function,
+            arguments,
+            state,
+        } = self;
+        match state {
+            CallState::First => first(alloc, function, arguments, token, class),
+            CallState::Argument(reader) => in_argument(alloc, function, arguments, reader, token, class),
+        }
+    }
+}
+
+fn first(alloc: Global, function: Name, arguments: Vec<Expression>, token: &Token, class: Class) -> Result<CallStep, AllocError>
+    requires { IsClass token.now class }
+    ensures { IfOk result (IsCallStep (FirstArgument function (expressions_of arguments.items)) token.now) }
+{
+    match class {
+        Class::CloseParen => Ok(CallStep::Closed(Call { function, arguments })),
+        _ => {
+            let reader = ExpressionReader::new(alloc);
+            let step = in_argument(alloc, function, arguments, reader, token, class)?;
+            Ok(step)
+        }
+    }
+}
+
+fn in_argument(alloc: Global, function: Name, mut arguments: Vec<Expression>, reader: ExpressionReader, token: &Token, class: Class) -> Result<CallStep, AllocError>
+    requires { IsClass token.now class }
+    ensures { IfOk result (IsCallStep (InTurn (CompletesExpression reader) (BehindArgument function (expressions_of arguments.items))) token.now) }
+{
+    match reader.step(token, class)? {
+        ExpressionStep::Taken(reader) => Ok(CallStep::Taken(CallReader {
+            alloc,
+            function,
+            arguments,
+            state: CallState::Argument(reader),
+        })),
+        ExpressionStep::Found(argument) => {
+            arguments.push(argument)?;
+            Ok(behind_argument(alloc, function, arguments, token, class))
+        }
+        ExpressionStep::Stuck => Ok(CallStep::Stuck),
+    }
+}
+
+fn behind_argument(alloc: Global, function: Name, arguments: Vec<Expression>, token: &Token, class: Class) -> CallStep
+    requires { IsClass token.now class }
+    ensures { IsCallStep (BehindArguments function (expressions_of arguments.items)) token.now result }
+{
+    match class {
+        Class::Comma => {
+            let reader = ExpressionReader::new(alloc);
+            CallStep::Taken(CallReader {
+                alloc,
+                function,
+                arguments,
+                state: CallState::Argument(reader),
+            })
+        }
+        Class::CloseParen => CallStep::Closed(Call { function, arguments }),
+        _ => CallStep::Stuck,
     }
 }
