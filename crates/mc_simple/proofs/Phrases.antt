@@ -14,6 +14,9 @@ pub record SameAt {X : Type 0} (now other : Tokens → Tokens → X → Type 0) 
 pub same_at : {X : Type 0} {now other : Tokens → Tokens → X → Type 0} (token : Token) → IsSame now other → SameAt now other token
 same_at token s = record { forward = λ tokens rest x h. s.forward (token ∷ tokens) rest x h; backward = λ tokens rest x h. s.backward (token ∷ tokens) rest x h }
 
+pub turned : {X : Type 0} {now other : Tokens → Tokens → X → Type 0} → IsSame now other → IsSame other now
+turned s = record { forward = s.backward; backward = s.forward }
+
 pub takes_along : {X : Type 0} {marks : List (List ℕ)} {now other later : Tokens → Tokens → X → Type 0} {token : Token} → SameAt now other token → Takes marks other later token → Takes marks now later token
 takes_along s t = record { forward = λ tokens rest x h. t.forward tokens rest x (s.forward tokens rest x h); backward = λ tokens rest x h. s.backward tokens rest x (t.backward tokens rest x h) }
 
@@ -52,6 +55,9 @@ then_takes {X = X} {Y = Y} {marks = marks} {outer = outer} {first = first} {late
 
     back : (tokens rest : Tokens) (y : Y) → InTurn later behind tokens rest y → InTurn first behind (token ∷ tokens) rest y
     back tokens rest y (in_turn {x = x} {mid = mid} l n) = in_turn (t.backward tokens mid x l) n
+
+pub then_moves : {X Y : Type 0} {first later : Tokens → Tokens → X → Type 0} {behind : X → Tokens → Tokens → Y → Type 0} {token : Token} → Takes [] first later token → Takes [] (InTurn first behind) (InTurn later behind) token
+then_moves t = then_takes t (λ x tokens rest y n none. absurd (let e : false ≡ true = none in cc))
 
 pub then_finds : {X Y : Type 0} {first : Tokens → Tokens → X → Type 0} {behind : X → Tokens → Tokens → Y → Type 0} {token : Token} {x : X} → Finds first token x → SameAt (InTurn first behind) (behind x) token
 then_finds {X = X} {Y = Y} {first = first} {behind = behind} {token = token} {x = x} f = record { forward = go; backward = λ tokens rest y h. in_turn (f.backward tokens) h }

@@ -115,3 +115,10 @@ only_name token Class.Continue h k = absurd (name_no_word k h refl)
 only_name token Class.Return h k = absurd (name_no_word k h refl)
 only_name token Class.Sizeof h k = absurd (name_no_word k h refl)
 only_name token _ h k = grind arith
+
+-- a token is none of the marks of a list where its mark is not
+pub no_mark : (marks : List (List ℕ)) {m : List ℕ} {token : Token} → IsMark m token → is_in marks m ≡ false → IsTrue (is_in marks token.text) → ⊥
+no_mark marks {m} {token} h none found =
+    let one : is_in marks token.text ≡ true = found in
+    let other : is_in marks token.text ≡ false = rw h.text none in
+    let both : true ≡ false = sym one ∙ other in cc
