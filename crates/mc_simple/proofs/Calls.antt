@@ -1,5 +1,6 @@
 -- What a token does to a call behind its `(`.
-use Rattle.std.proofs.Common.{◌≡◌, ℕ, List, [], ◌∷◌, ◌++◌, ◌⊎◌, inl, inr, refl, codes, IsTrue, map}
+use Rattle.std.proofs.Common.{◌≡◌, ℕ, List, [], ◌∷◌, ◌++◌, ◌⊎◌, inl, inr, refl, codes, IsTrue, map, ap, ◌∙◌, subst}
+use Rattle.std.proofs.lemmas.List.{map-append}
 use native.Mathlib.Omega.{arith}
 use Rattle.mc_lex.specs.declared.token.Token.{Token}
 use Rattle.mc_ast.specs.declared.trees.Name.{Name}
@@ -7,13 +8,14 @@ use Rattle.mc_ast.specs.declared.trees.Expression.{Expression}
 use Rattle.mc_ast.specs.Trees.{Expr, CallTree}
 use Rattle.mc_ast.specs.Names.{Tokens, IsMark, is_in}
 use Rattle.mc_ast.specs.Grammar.{MoreExpressions, last as no_more, next as one_more}
-use Rattle.mc_ast.specs.Readers.{Takes, Closes, IsStuckAt}
+use Rattle.mc_ast.specs.Readers.{Takes, Finds, Closes, IsStuckAt}
+use Rattle.mc_ast.specs.Views.{expression_of, expressions_of}
 use Rattle.mc_expression.specs.Expressions.{expression_marks}
 use Rattle.mc_expression.specs.Turns.{InTurn, in_turn}
 use Rattle.mc_simple.specs.declared.call.CallStep.{CallStep}
 use Rattle.mc_simple.specs.declared.call.CallStep.TheVariants as CallStep
 use Rattle.mc_simple.specs.Calls.{Sums, BehindArguments, behind_arguments, BehindArgument, FirstArgument, IsCallStep}
-use Rattle.mc_simple.proofs.Phrases.{SameAt, takes_along, closes_along, stuck_along, either_left, then_stuck, next_closes}
+use Rattle.mc_simple.proofs.Phrases.{SameAt, takes_along, closes_along, stuck_along, either_left, then_stuck, then_finds, next_closes}
 use Rattle.mc_simple.proofs.Tokens.{no_mark}
 use Rattle.mc_simple.proofs.Sums.{sums_stuck, close_begins_none}
 
@@ -42,6 +44,12 @@ arguments_close name es {token} is = record { forward = go; backward = λ tokens
 pub arguments_stuck : (name : Name) (es : List Expr) {token : Token} → ¬ IsMark (codes ",") token → ¬ IsMark (codes ")") token → IsStuckAt (BehindArguments name es) token
 arguments_stuck name es no_comma no_close tokens rest y (behind_arguments no_more close) = no_close close
 arguments_stuck name es no_comma no_close tokens rest y (behind_arguments (one_more comma sum more) close) = no_comma comma
+
+-- an argument is there, and the token shows what follows it
+pub argument_found : (name : Name) (before after : List Expression) (e : Expression) {first : Tokens → Tokens → Expr → Type 0} {token : Token} (step : CallStep) → after ≡ before ++ e ∷ [] → Finds first token (expression_of e) → IsCallStep (BehindArguments name (expressions_of after)) token step → IsCallStep (InTurn first (BehindArgument name (expressions_of before))) token step
+argument_found name before after e {first} {token} step is found h =
+    let all : expressions_of after ≡ expressions_of before ++ expression_of e ∷ [] = ap expressions_of is ∙ map-append expression_of before (e ∷ []) in
+    call_step_along step (then_finds found) (subst (λ es. IsCallStep (BehindArguments name es) token step) all h)
 
 -- no mark of an expression stands behind an argument
 pub arguments_end : (name : Name) (es : List Expr) {token : Token} {tokens rest : Tokens} {y : CallTree} → BehindArguments name es (token ∷ tokens) rest y → IsTrue (is_in expression_marks token.text) → ⊥

@@ -5,3 +5,4 @@ pub mod Sizes
 pub mod Allocations
 pub mod Sums
 pub mod Calls
+pub mod Rights

@@ -59,6 +59,15 @@ then_takes {X = X} {Y = Y} {marks = marks} {outer = outer} {first = first} {late
 pub then_moves : {X Y : Type 0} {first later : Tokens → Tokens → X → Type 0} {behind : X → Tokens → Tokens → Y → Type 0} {token : Token} → Takes [] first later token → Takes [] (InTurn first behind) (InTurn later behind) token
 then_moves t = then_takes t (λ x tokens rest y n none. absurd (let e : false ≡ true = none in cc))
 
+pub then_same_at : {X Y : Type 0} {first other : Tokens → Tokens → X → Type 0} {behind : X → Tokens → Tokens → Y → Type 0} {token : Token} → SameAt first other token → SameAt (InTurn first behind) (InTurn other behind) token
+then_same_at {X = X} {Y = Y} {first = first} {other = other} {behind = behind} {token = token} s = record { forward = go; backward = back }
+  where
+    go : (tokens rest : Tokens) (y : Y) → InTurn first behind (token ∷ tokens) rest y → InTurn other behind (token ∷ tokens) rest y
+    go tokens rest y (in_turn {x = x} {mid = mid} f n) = in_turn (s.forward tokens mid x f) n
+
+    back : (tokens rest : Tokens) (y : Y) → InTurn other behind (token ∷ tokens) rest y → InTurn first behind (token ∷ tokens) rest y
+    back tokens rest y (in_turn {x = x} {mid = mid} f n) = in_turn (s.backward tokens mid x f) n
+
 pub then_finds : {X Y : Type 0} {first : Tokens → Tokens → X → Type 0} {behind : X → Tokens → Tokens → Y → Type 0} {token : Token} {x : X} → Finds first token x → SameAt (InTurn first behind) (behind x) token
 then_finds {X = X} {Y = Y} {first = first} {behind = behind} {token = token} {x = x} f = record { forward = go; backward = λ tokens rest y h. in_turn (f.backward tokens) h }
   where

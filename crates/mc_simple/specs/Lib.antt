@@ -3,3 +3,4 @@ pub mod Bases
 pub mod Sizes
 pub mod Allocations
 pub mod Calls
+pub mod Rights

@@ -4,7 +4,9 @@
 mod allocation;
 mod base;
 mod call;
+mod right;
 mod size;
 
 pub use base::{BaseReader, BaseStep};
 pub use call::{CallReader, CallStep};
+pub use right::{RightReader, RightStep};
