@@ -185,7 +185,7 @@ pub alias_close : (aliases : List (List ℕ)) (place : Place) (name : Name) {tok
 alias_close aliases place name is = either_takes (then_moves (takes_along (then_finds (name_close name is)) (next_takes is))) (then_moves (cast_close aliases place (Base.Alias name) is))
 
 pub alias_other : (aliases : List (List ℕ)) (place : Place) (name : Name) {token : Token} → ¬ IsMark (codes "*") token → ¬ IsMark (codes ")") token → SameAt (BehindParensAlias aliases place name) (AsExpression (InParens place (BehindName name))) token
-alias_other aliases place name no_star no_close = either_left (then_stuck (cast_stuck aliases place (Base.Alias name) no_star no_close))
+alias_other aliases place name not_star not_close = either_left (then_stuck (cast_stuck aliases place (Base.Alias name) not_star not_close))
 
 -- behind `(`, a type's name and `*`
 times_close : (name : Name) {token : Token} → IsMark (codes ")") token → IsStuckAt (BehindTimes name) token

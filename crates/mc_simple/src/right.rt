@@ -3,11 +3,12 @@ ghost use Rattle.std.specs.Prelude.{◌≡◌, ℕ, List, IfOk};
 ghost use Rattle.mc_ast.specs.Classes.{IsClass};
 ghost use Rattle.mc_ast.specs.Names.{is_in, IsName};
 ghost use Rattle.mc_ast.specs.Readers.{IsSame};
-ghost use Rattle.mc_simple.specs.Rights.{Rights, AsExpression, AsCall, AsAllocation, InParens, BehindTimes, BehindRightName, BehindRightParens, BehindParensAlias, BehindParensStar, BehindEnclosed, ClosingParens, CompletesRight, IsRightStep};
+ghost use Rattle.mc_simple.specs.Rights.{Rights, AsExpression, AsCall, AsAllocation, InParens, BehindTimes, BehindRightName, BehindRightParens, BehindParensAlias, BehindParensStar, BehindEnclosed, ClosingParens, named, CompletesRight, IsRightStep};
 ghost use Rattle.mc_simple.specs.Calls.{CompletesCall};
 ghost use Rattle.mc_simple.specs.Allocations.{InCast, CompletesAllocation};
 ghost use Rattle.mc_base.specs.declared.plain.Place.{Place};
 ghost use Rattle.mc_ast.specs.Views.{expression_of};
+ghost use Rattle.mc_ast.specs.Trees.{parens};
 ghost use Rattle.mc_expression.specs.Expressions.{CompletesExpression};
 
 use crate::allocation::{AllocationReader, AllocationStep};
@@ -267,11 +268,8 @@ fn enclosed(alloc: Global, place: Place, name: Name, token: &Token, class: Class
             }))
         }
         _ => {
-            let value = Expression::Value(LeftValue {
-                name,
-                fields: Vec::new(alloc),
-            });
-            let operand = Expression::Parens(place, Box::new(alloc, value)?);
+            let value = named(alloc, name);
+            let operand = parens(alloc, place, value)?;
             let reader = ExpressionReader::behind_operand(alloc, operand);
             let step = in_sum(alloc, reader, token, class)?;
             Ok(step)
@@ -302,7 +300,7 @@ fn behind_parens(alloc: Global, place: Place, inner: Expression, token: &Token, 
 {
     match class {
         Class::CloseParen => {
-            let operand = Expression::Parens(place, Box::new(alloc, inner)?);
+            let operand = parens(alloc, place, inner)?;
             let reader = ExpressionReader::behind_operand(alloc, operand);
             Ok(RightStep::Taken(RightReader {
                 alloc,
@@ -359,4 +357,19 @@ fn in_allocation(alloc: Global, reader: AllocationReader, token: &Token, class: 
         })),
         AllocationStep::Stuck => Ok(RightStep::Stuck),
     }
+}
+
+fn named(alloc: Global, name: Name) -> Expression
+    ensures { expression_of result ≡ named name }
+{
+    Expression::Value(LeftValue {
+        name,
+        fields: Vec::new(alloc),
+    })
+}
+
+fn parens(alloc: Global, place: Place, inner: Expression) -> Result<Expression, AllocError>
+    ensures { IfOk result (λ e. expression_of e ≡ parens place (expression_of inner)) }
+{
+    Ok(Expression::Parens(place, Box::new(alloc, inner)?))
 }

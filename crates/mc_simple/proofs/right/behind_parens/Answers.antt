@@ -1,8 +1,12 @@
-use Rattle.std.proofs.Common.{◌≡◌, ℕ, List, [], ◌∷◌, ◌++◌, codes, subst, sym, ◌∙◌, inl, inr, refl, Bool, true, false}
+use Rattle.std.proofs.Common.{◌≡◌, ℕ, List, [], ◌∷◌, ◌++◌, codes, subst, ap, sym, ◌∙◌, inl, inr, refl, Bool, true, false}
 use Rattle.mc_ast.specs.Names.{IsMark, IsWord, IsName, IsAlias, name_of, is_in}
 use Rattle.mc_ast.specs.Views.{expression_of, right_of}
+use Rattle.mc_ast.specs.Readers.{IsSame}
+use Rattle.mc_ast.specs.Trees.{parens}
+use Rattle.mc_lex.specs.declared.token.Token.{Token}
+use Rattle.mc_lex.specs.declared.token.TokenKind.TheVariants as TokenKind
 use Rattle.mc_expression.specs.declared.ExpressionStep.TheVariants as ExpressionStep
-use Rattle.mc_expression.specs.Expressions.{CompletesExpression, StepsExpression}
+use Rattle.mc_expression.specs.Expressions.{CompletesExpression, StepsExpression, BehindName, BehindOperand}
 use Rattle.mc_simple.specs.declared.call.CallStep.TheVariants as CallStep
 use Rattle.mc_simple.specs.declared.allocation.AllocationStep.TheVariants as AllocationStep
 use Rattle.mc_simple.specs.Calls.{CompletesCall, IsCallStep}
@@ -13,8 +17,8 @@ use Rattle.mc_simple.proofs.Tokens.{only_close, only_name, only_open_paren, only
 use Rattle.mc_simple.proofs.Rights.{right_step_along, as_takes, parens_takes, right_name, right_open, right_malloc, right_sum, name_open, opened_word, opened_other, opened_type, opened_variable, alias_star, alias_close, alias_other, star_close, star_other, times_same, times_not_found, times_not_stuck, enclosed_malloc, enclosed_other}
 use Rattle.mc_simple.proofs.right.behind_parens.Goals as goal
 
-pub returns-in-CloseParen : goal.returns-in-CloseParen
-returns-in-CloseParen c = λ aliases. let is : IsMark (codes ")") c.args.token.now = rw c.in-CloseParen.is at c.requires in let h = c in ?
+pub returns-in_ok-operand-in-CloseParen : goal.returns-in_ok-operand-in-CloseParen
+returns-in_ok-operand-in-CloseParen c = λ aliases. let is : IsMark (codes ")") c.args.token.now = rw c.in-CloseParen.is at c.requires in takes_more (takes_to (then_moves (next_takes is)) (then_same (subst (λ u. IsSame (CompletesExpression c.behind_operand-reader.result) (BehindOperand u)) c.in_ok-operand-in-CloseParen.ensures c.behind_operand-reader.ensures)))
 
 pub returns-in_default : goal.returns-in_default
 returns-in_default c = λ aliases. then_stuck (next_stuck (λ i. c.in_default.not-CloseParen (only_close _ _ c.requires i)))

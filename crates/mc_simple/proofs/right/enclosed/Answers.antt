@@ -1,8 +1,12 @@
-use Rattle.std.proofs.Common.{◌≡◌, ℕ, List, [], ◌∷◌, ◌++◌, codes, subst, sym, ◌∙◌, inl, inr, refl, Bool, true, false}
+use Rattle.std.proofs.Common.{◌≡◌, ℕ, List, [], ◌∷◌, ◌++◌, codes, subst, ap, sym, ◌∙◌, inl, inr, refl, Bool, true, false}
 use Rattle.mc_ast.specs.Names.{IsMark, IsWord, IsName, IsAlias, name_of, is_in}
 use Rattle.mc_ast.specs.Views.{expression_of, right_of}
+use Rattle.mc_ast.specs.Readers.{IsSame}
+use Rattle.mc_ast.specs.Trees.{parens}
+use Rattle.mc_lex.specs.declared.token.Token.{Token}
+use Rattle.mc_lex.specs.declared.token.TokenKind.TheVariants as TokenKind
 use Rattle.mc_expression.specs.declared.ExpressionStep.TheVariants as ExpressionStep
-use Rattle.mc_expression.specs.Expressions.{CompletesExpression, StepsExpression}
+use Rattle.mc_expression.specs.Expressions.{CompletesExpression, StepsExpression, BehindName, BehindOperand}
 use Rattle.mc_simple.specs.declared.call.CallStep.TheVariants as CallStep
 use Rattle.mc_simple.specs.declared.allocation.AllocationStep.TheVariants as AllocationStep
 use Rattle.mc_simple.specs.Calls.{CompletesCall, IsCallStep}
@@ -17,4 +21,4 @@ pub returns-in-Malloc : goal.returns-in-Malloc
 returns-in-Malloc c = λ aliases. let is : IsWord (codes "malloc") c.args.token.now = rw c.in-Malloc.is at c.requires in enclosed_malloc aliases _ _ is
 
 pub returns-in_ok-step-in_default : goal.returns-in_ok-step-in_default
-returns-in_ok-step-in_default c = λ aliases. right_step_along aliases _ (enclosed_other aliases _ _ (λ i. c.in_default.not-Malloc (only_malloc _ _ c.requires i))) (right_step_along aliases _ (same_at _ (then_same (turned ?))) (c.in_ok-step-in_default.ensures aliases))
+returns-in_ok-step-in_default c = λ aliases. right_step_along aliases _ (enclosed_other aliases _ _ (λ i. c.in_default.not-Malloc (only_malloc _ _ c.requires i))) (right_step_along aliases _ (same_at _ (then_same (turned (subst (λ u. IsSame (CompletesExpression c.behind_operand-reader.result) (BehindOperand u)) (c.in_ok-operand-in_default.ensures ∙ ap (parens c.args.place) c.named-value.ensures) c.behind_operand-reader.ensures)))) (c.in_ok-step-in_default.ensures aliases))

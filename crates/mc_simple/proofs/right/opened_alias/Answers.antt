@@ -1,8 +1,12 @@
-use Rattle.std.proofs.Common.{◌≡◌, ℕ, List, [], ◌∷◌, ◌++◌, codes, subst, sym, ◌∙◌, inl, inr, refl, Bool, true, false}
+use Rattle.std.proofs.Common.{◌≡◌, ℕ, List, [], ◌∷◌, ◌++◌, codes, subst, ap, sym, ◌∙◌, inl, inr, refl, Bool, true, false}
 use Rattle.mc_ast.specs.Names.{IsMark, IsWord, IsName, IsAlias, name_of, is_in}
 use Rattle.mc_ast.specs.Views.{expression_of, right_of}
+use Rattle.mc_ast.specs.Readers.{IsSame}
+use Rattle.mc_ast.specs.Trees.{parens}
+use Rattle.mc_lex.specs.declared.token.Token.{Token}
+use Rattle.mc_lex.specs.declared.token.TokenKind.TheVariants as TokenKind
 use Rattle.mc_expression.specs.declared.ExpressionStep.TheVariants as ExpressionStep
-use Rattle.mc_expression.specs.Expressions.{CompletesExpression, StepsExpression}
+use Rattle.mc_expression.specs.Expressions.{CompletesExpression, StepsExpression, BehindName, BehindOperand}
 use Rattle.mc_simple.specs.declared.call.CallStep.TheVariants as CallStep
 use Rattle.mc_simple.specs.declared.allocation.AllocationStep.TheVariants as AllocationStep
 use Rattle.mc_simple.specs.Calls.{CompletesCall, IsCallStep}

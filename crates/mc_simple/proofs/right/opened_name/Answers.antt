@@ -1,8 +1,12 @@
-use Rattle.std.proofs.Common.{◌≡◌, ℕ, List, [], ◌∷◌, ◌++◌, codes, subst, sym, ◌∙◌, inl, inr, refl, Bool, true, false}
+use Rattle.std.proofs.Common.{◌≡◌, ℕ, List, [], ◌∷◌, ◌++◌, codes, subst, ap, sym, ◌∙◌, inl, inr, refl, Bool, true, false}
 use Rattle.mc_ast.specs.Names.{IsMark, IsWord, IsName, IsAlias, name_of, is_in}
 use Rattle.mc_ast.specs.Views.{expression_of, right_of}
+use Rattle.mc_ast.specs.Readers.{IsSame}
+use Rattle.mc_ast.specs.Trees.{parens}
+use Rattle.mc_lex.specs.declared.token.Token.{Token}
+use Rattle.mc_lex.specs.declared.token.TokenKind.TheVariants as TokenKind
 use Rattle.mc_expression.specs.declared.ExpressionStep.TheVariants as ExpressionStep
-use Rattle.mc_expression.specs.Expressions.{CompletesExpression, StepsExpression}
+use Rattle.mc_expression.specs.Expressions.{CompletesExpression, StepsExpression, BehindName, BehindOperand}
 use Rattle.mc_simple.specs.declared.call.CallStep.TheVariants as CallStep
 use Rattle.mc_simple.specs.declared.allocation.AllocationStep.TheVariants as AllocationStep
 use Rattle.mc_simple.specs.Calls.{CompletesCall, IsCallStep}
@@ -17,4 +21,4 @@ pub returns-then-alias : goal.returns-then-alias
 returns-then-alias c = λ aliases e. let a : IsAlias aliases c.args.token.now = record { name = c.requires; known = e ∙ c.if-alias.true } in rw c.in_ok-name.ensures (takes_more (opened_type aliases _ a))
 
 pub returns-else-alias : goal.returns-else-alias
-returns-else-alias c = λ aliases e. rw c.in_ok-name.ensures at (takes_more (takes_to (opened_variable aliases _ c.requires (λ a. let both : true ≡ false = sym a.known ∙ e ∙ c.if-alias.false in cc)) (then_same (then_same ?))))
+returns-else-alias c = λ aliases e. takes_more (takes_to (opened_variable aliases _ c.requires (λ a. let both : true ≡ false = sym a.known ∙ e ∙ c.if-alias.false in cc)) (then_same (then_same (subst (λ n. IsSame (CompletesExpression c.behind_name-reader.result) (BehindName n)) c.in_ok-name.ensures c.behind_name-reader.ensures))))

@@ -11,4 +11,4 @@ use Rattle.mc_simple.proofs.Calls.{call_step_along, arguments_comma, arguments_c
 use Rattle.mc_simple.proofs.call.CallReader.new.Goals as goal
 
 pub returns : goal.returns
-returns c = let h = c.new in ?
+returns c = rw c.new.ensures.items same_same
