@@ -6,3 +6,5 @@ pub mod Allocations
 pub mod Sums
 pub mod Calls
 pub mod Rights
+pub mod Simples
+pub mod Declarations

@@ -59,6 +59,13 @@ then_takes {X = X} {Y = Y} {marks = marks} {outer = outer} {first = first} {late
 pub then_moves : {X Y : Type 0} {first later : Tokens → Tokens → X → Type 0} {behind : X → Tokens → Tokens → Y → Type 0} {token : Token} → Takes [] first later token → Takes [] (InTurn first behind) (InTurn later behind) token
 then_moves t = then_takes t (λ x tokens rest y n none. absurd (let e : false ≡ true = none in cc))
 
+-- the tree is made of the phrase's
+pub made_takes : {X Y : Type 0} {marks outer : List (List ℕ)} (f : X → Y) {first later : Tokens → Tokens → X → Type 0} {token : Token} → (IsTrue (is_in marks token.text) → IsTrue (is_in outer token.text)) → Takes marks first later token → Takes outer (InTurn first (λ x. Ended (f x))) (InTurn later (λ x. Ended (f x))) token
+made_takes {X} {Y} {marks} {outer} f {first} {later} {token} wider t = then_takes t go
+  where
+    go : (x : X) (tokens rest : Tokens) (y : Y) → Ended (f x) (token ∷ tokens) rest y → IsTrue (is_in marks token.text) → (rest ≡ token ∷ tokens) × IsTrue (is_in outer token.text)
+    go x tokens rest y ended h = (refl, wider h)
+
 pub then_same_at : {X Y : Type 0} {first other : Tokens → Tokens → X → Type 0} {behind : X → Tokens → Tokens → Y → Type 0} {token : Token} → SameAt first other token → SameAt (InTurn first behind) (InTurn other behind) token
 then_same_at {X = X} {Y = Y} {first = first} {other = other} {behind = behind} {token = token} s = record { forward = go; backward = back }
   where
@@ -164,3 +171,6 @@ ended_finds {Y = Y} {token = token} y = record { forward = go; backward = λ tok
   where
     go : (tokens rest : Tokens) (z : Y) → Ended y (token ∷ tokens) rest z → (rest ≡ token ∷ tokens) × (z ≡ y)
     go tokens rest z ended = (refl, refl)
+
+pub made_finds : {X Y : Type 0} (f : X → Y) {first : Tokens → Tokens → X → Type 0} {token : Token} {x : X} → Finds first token x → Finds (InTurn first (λ x. Ended (f x))) token (f x)
+made_finds f {x = x} h = finds_along (then_finds h) (ended_finds (f x))

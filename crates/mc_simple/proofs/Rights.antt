@@ -19,7 +19,7 @@ use Rattle.mc_simple.specs.Phrases.{Ended, ended, Next, next, Either}
 use Rattle.mc_simple.specs.Allocations.{BehindMalloc, BehindCast, ClosingCast, BehindCastBase, InCast}
 use Rattle.mc_simple.specs.Calls.{Sums, behind_arguments, BehindCallParens}
 use Rattle.mc_simple.specs.Rights.{right_marks, Rights, AsExpression, AsCall, AsAllocation, ClosingParens, InParens, named, BehindTimes, BehindRightName, BehindRightParens, BehindParensAlias, BehindParensStar, BehindEnclosed, IsRightStep}
-use Rattle.mc_simple.proofs.Phrases.{SameAt, takes_along, finds_along, stuck_along, takes_more, takes_to, then_takes, then_moves, then_finds, then_closes, then_stuck, next_takes, next_stuck, either_takes, either_left, either_right, either_on, ended_finds}
+use Rattle.mc_simple.proofs.Phrases.{SameAt, takes_along, finds_along, stuck_along, takes_more, takes_to, then_takes, then_moves, then_finds, then_closes, then_stuck, next_takes, next_stuck, either_takes, either_left, either_right, either_on, ended_finds, made_takes}
 use Rattle.mc_simple.proofs.Tokens.{mark_no_word, mark_no_name, name_no_word, no_mark}
 use Rattle.mc_simple.proofs.Sums.{Begins, unary_begins, sums_stuck, close_begins_none, word_begins_none}
 use Rattle.mc_simple.proofs.Bases.{base_alias, base_stuck}
@@ -38,12 +38,12 @@ in_more : (xs ys : List (List ℕ)) (t : List ℕ) → IsTrue (is_in xs t) → I
 in_more [] ys t h = absurd (let e : false ≡ true = h in cc)
 in_more (x ∷ xs) ys t h = either_bool (is_same t x) (is_in xs t) (is_in (xs ++ ys) t) (in_more xs ys t) h
 
+pub in_right : (token : Token) → IsTrue (is_in expression_marks token.text) → IsTrue (is_in right_marks token.text)
+in_right token h = in_more expression_marks (codes "(" ∷ codes "malloc" ∷ []) token.text h
+
 -- an expression that is the right side
 pub as_takes : {first later : Tokens → Tokens → Expr → Type 0} {token : Token} → Takes expression_marks first later token → Takes right_marks (AsExpression first) (AsExpression later) token
-as_takes {first} {later} {token} t = then_takes t go
-  where
-    go : (x : Expr) (tokens rest : Tokens) (y : Right) → Ended (expression x) (token ∷ tokens) rest y → IsTrue (is_in expression_marks token.text) → (rest ≡ token ∷ tokens) × IsTrue (is_in right_marks token.text)
-    go x tokens rest y ended h = (refl, in_more expression_marks (codes "(" ∷ codes "malloc" ∷ []) token.text h)
+as_takes {first} {later} {token} t = made_takes expression (in_right token) t
 
 -- an expression in parentheses
 pub parens_takes : (place : Place) {first later : Tokens → Tokens → Expr → Type 0} {token : Token} → Takes expression_marks first later token → Takes [] (InParens place first) (InParens place later) token

@@ -4,3 +4,5 @@ pub mod Sizes
 pub mod Allocations
 pub mod Calls
 pub mod Rights
+pub mod Simples
+pub mod Declarations

@@ -4,9 +4,13 @@
 mod allocation;
 mod base;
 mod call;
+mod declaration;
 mod right;
+mod simple;
 mod size;
 
 pub use base::{BaseReader, BaseStep};
 pub use call::{CallReader, CallStep};
+pub use declaration::{DeclarationReader, DeclarationStep};
 pub use right::{RightReader, RightStep};
+pub use simple::{SimpleReader, SimpleStep};

@@ -1,0 +1,15 @@
+use Rattle.std.proofs.Common.{◌≡◌, ℕ, List, [], ◌∷◌, ◌++◌, codes, subst, ap, sym, ◌∙◌, inl, inr, refl, map, Some, None}
+use Rattle.mc_ast.specs.Names.{IsMark, IsName, name_of, is_in}
+use Rattle.mc_ast.specs.Views.{initial_of, right_of}
+use Rattle.mc_simple.specs.declared.right.RightStep.TheVariants as RightStep
+use Rattle.mc_simple.specs.Rights.{CompletesRight, IsRightStep}
+use Rattle.mc_simple.proofs.Phrases.{takes_to, next_takes, next_stuck, then_takes, then_finds, then_stuck, then_same, same_same}
+use Rattle.mc_simple.proofs.Tokens.{only_name, only_star, only_assign, only_comma, only_semicolon}
+use Rattle.mc_simple.proofs.Declarations.{declaration_step_along, comma_star, comma_name, comma_stuck, initials_comma, initials_close, initials_stuck, initials_end, declarator_assign, declarator_other, one_item}
+use Rattle.mc_simple.proofs.declaration.behind_declarator.Goals as goal
+
+pub returns-in-Assign : goal.returns-in-Assign
+returns-in-Assign c = λ aliases. let is : IsMark (codes "=") c.args.token.now = rw c.in-Assign.is at c.requires in takes_to (declarator_assign aliases _ _ _ is) (then_same (c.new-reader.ensures aliases))
+
+pub returns-in_ok-push-in_default : goal.returns-in_ok-push-in_default
+returns-in_ok-push-in_default c = λ aliases. declaration_step_along aliases _ (declarator_other aliases _ _ _ (λ i. c.in_default.not-Assign (only_assign _ _ c.requires i))) (one_item aliases _ _ _ _ _ c.in_ok-push-in_default.ensures.items (c.behind_initial.ensures aliases))
