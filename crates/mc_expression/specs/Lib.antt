@@ -1,2 +1,4 @@
 pub mod Turns
+pub mod Primaries
 pub mod Expressions
+pub mod Conditions

@@ -99,5 +99,5 @@ pub declarator_other : (aliases : List (List ℕ)) (base : Base) (is : List Init
 declarator_other aliases base is d no_mark_here = either_left (next_stuck no_mark_here)
 
 -- with one more item
-pub one_item : (aliases : List (List ℕ)) (base : Base) (before after : List Initial) (i : Initial) {token : Token} (step : DeclarationStep) → after ≡ before ++ i ∷ [] → IsDeclarationStep aliases (BehindInitials aliases base (map initial_of after)) token step → IsDeclarationStep aliases (BehindInitial aliases base (map initial_of before) (initial_of i)) token step
-one_item aliases base before after i {token} step is h = subst (λ items. IsDeclarationStep aliases (BehindInitials aliases base items) token step) (ap (map initial_of) is ∙ map-append initial_of before (i ∷ [])) h
+pub one_item : (aliases : List (List ℕ)) (base : Base) (before after : List Initial) (i : Initial) (token : Token) (step : DeclarationStep) → after ≡ before ++ i ∷ [] → IsDeclarationStep aliases (BehindInitials aliases base (map initial_of after)) token step → IsDeclarationStep aliases (BehindInitial aliases base (map initial_of before) (initial_of i)) token step
+one_item aliases base before after i token step is h = subst (λ items. IsDeclarationStep aliases (BehindInitials aliases base items) token step) (ap (map initial_of) is ∙ map-append initial_of before (i ∷ [])) h

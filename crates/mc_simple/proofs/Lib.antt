@@ -8,3 +8,4 @@ pub mod Calls
 pub mod Rights
 pub mod Simples
 pub mod Declarations
+pub mod Ends

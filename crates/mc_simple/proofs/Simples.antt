@@ -200,23 +200,20 @@ module _ (aliases : List (List ℕ)) (l : Left) {token : Token} where
       back : (tokens rest : Tokens) (s : SimpleTree) → Ended (decrement l) tokens rest s → BehindLeft aliases l (token ∷ tokens) rest s
       back tokens rest s ended = decrements is
 
-  other_no_arrow : {m : List ℕ} → IsMark m token → ¬ (m ≡ codes "->") → ¬ IsMark (codes "->") token
-  other_no_arrow is other arrow = grind arith
-
   pub left_assign : IsMark (codes "=") token → Takes [] (InLeft aliases l) (InTurn (Rights aliases) (λ r. Ended (assign l r))) token
-  left_assign is = takes_along (fields_other l (other_no_arrow is (λ e. cc))) (behind_assign is)
+  left_assign is = takes_along (fields_other l (λ arrow. grind arith)) (behind_assign is)
 
   pub left_add : IsMark (codes "+=") token → Takes [] (InLeft aliases l) (InTurn Sums (λ e. Ended (changed_by Change.Increment l e))) token
-  left_add is = takes_along (fields_other l (other_no_arrow is (λ e. cc))) (behind_add is)
+  left_add is = takes_along (fields_other l (λ arrow. grind arith)) (behind_add is)
 
   pub left_subtract : IsMark (codes "-=") token → Takes [] (InLeft aliases l) (InTurn Sums (λ e. Ended (changed_by Change.Decrement l e))) token
-  left_subtract is = takes_along (fields_other l (other_no_arrow is (λ e. cc))) (behind_subtract is)
+  left_subtract is = takes_along (fields_other l (λ arrow. grind arith)) (behind_subtract is)
 
   pub left_increment : IsMark (codes "++") token → Takes [] (InLeft aliases l) (Ended (increment l)) token
-  left_increment is = takes_along (fields_other l (other_no_arrow is (λ e. cc))) (behind_increment is)
+  left_increment is = takes_along (fields_other l (λ arrow. grind arith)) (behind_increment is)
 
   pub left_decrement : IsMark (codes "--") token → Takes [] (InLeft aliases l) (Ended (decrement l)) token
-  left_decrement is = takes_along (fields_other l (other_no_arrow is (λ e. cc))) (behind_decrement is)
+  left_decrement is = takes_along (fields_other l (λ arrow. grind arith)) (behind_decrement is)
 
   behind_stuck : ¬ IsMark (codes "=") token → ¬ IsMark (codes "+=") token → ¬ IsMark (codes "-=") token → ¬ IsMark (codes "++") token → ¬ IsMark (codes "--") token → IsStuckAt (BehindLeft aliases l) token
   behind_stuck a b c d e tokens rest s (assigns m r) = a m

@@ -1,8 +1,10 @@
 // Reads a base.
 ghost use Rattle.std.specs.Prelude.{◌≡◌, ℕ, List, IfOk};
 ghost use Rattle.mc_ast.specs.Classes.{IsClass};
+ghost use Rattle.mc_ast.specs.Readers.{CanEnd};
 ghost use Rattle.mc_ast.specs.Names.{is_in};
 ghost use Rattle.mc_simple.specs.Bases.{Bases, BehindStruct, CompletesBase, IsBaseStep};
+ghost use Rattle.mc_simple.specs.declared.base.BaseReader.{BaseReader};
 
 use mc_ast::{Base, Class, name_at};
 use mc_base::Place;
@@ -69,3 +71,8 @@ fn behind_struct(alloc: Global, place: Place, token: &Token, class: Class) -> Re
         _ => Ok(BaseStep::Stuck),
     }
 }
+
+/// Every reader can come to the end of a base.
+pub fn bases_can_end()
+    ensures { (aliases : List (List ℕ)) (reader : BaseReader) → CanEnd (CompletesBase aliases reader) }
+{}

@@ -1,14 +1,15 @@
 // Reads a call behind its `(`.
 ghost use Rattle.std.specs.Prelude.{◌≡◌, IfOk};
 ghost use Rattle.mc_ast.specs.Classes.{IsClass};
-ghost use Rattle.mc_ast.specs.Readers.{IsSame};
+ghost use Rattle.mc_ast.specs.Readers.{IsSame, CanEnd};
 ghost use Rattle.mc_simple.specs.Calls.{BehindCallParens, FirstArgument, BehindArgument, BehindArguments, CompletesCall, IsCallStep};
 ghost use Rattle.mc_ast.specs.Views.{expressions_of};
 ghost use Rattle.mc_expression.specs.Turns.{InTurn};
 ghost use Rattle.mc_expression.specs.Expressions.{CompletesExpression};
+ghost use Rattle.mc_simple.specs.declared.call.CallReader.{CallReader};
 
 use mc_ast::{Call, Class, Expression, Name};
-use mc_expression::{ExpressionReader, ExpressionStep};
+use mc_expression::{ExpressionReader, ExpressionStep, expressions_can_end};
 use mc_lex::Token;
 use std::alloc::{AllocError, Global};
 
@@ -118,4 +119,11 @@ fn behind_argument(alloc: Global, function: Name, arguments: Vec<Expression>, to
         Class::CloseParen => CallStep::Closed(Call { function, arguments }),
         _ => CallStep::Stuck,
     }
+}
+
+/// Every reader can come to the end of a call.
+pub fn calls_can_end()
+    ensures { (reader : CallReader) → CanEnd (CompletesCall reader) }
+{
+    expressions_can_end();
 }

@@ -2,16 +2,18 @@
 ghost use Rattle.std.specs.Prelude.{◌≡◌, ℕ, List, IfOk, map};
 ghost use Rattle.mc_ast.specs.Classes.{IsClass};
 ghost use Rattle.mc_ast.specs.Names.{is_in, IsName, name_of};
-ghost use Rattle.mc_ast.specs.Readers.{IsSame};
+ghost use Rattle.mc_ast.specs.Readers.{IsSame, CanEnd};
 ghost use Rattle.mc_simple.specs.Declarations.{BehindBase, BehindComma, BehindDeclarator, BehindInitial, BehindInitials, CompletesDeclaration, IsDeclarationStep};
 ghost use Rattle.mc_simple.specs.Rights.{CompletesRight};
 ghost use Rattle.mc_simple.specs.Phrases.{Next};
 ghost use Rattle.mc_ast.specs.Views.{initial_of};
 ghost use Rattle.mc_expression.specs.Turns.{InTurn};
+ghost use Rattle.mc_simple.specs.declared.declaration.DeclarationReader.{DeclarationReader};
 
 use crate::right::{RightReader, RightStep};
 use mc_ast::{Base, Class, Declaration, Declarator, Initial, name_at};
 use mc_base::Place;
+use mc_expression::expressions_can_end;
 use mc_lex::Token;
 use std::alloc::{AllocError, Global};
 
@@ -158,4 +160,11 @@ fn behind_initial(alloc: Global, base: Base, items: Vec<Initial>, token: &Token,
         Class::Semicolon => DeclarationStep::Closed(Declaration { base, items }),
         _ => DeclarationStep::Stuck,
     }
+}
+
+/// Every reader can come to the end of a declaration.
+pub fn declarations_can_end()
+    ensures { (aliases : List (List ℕ)) (reader : DeclarationReader) → CanEnd (CompletesDeclaration aliases reader) }
+{
+    expressions_can_end();
 }

@@ -9,8 +9,8 @@ mod right;
 mod simple;
 mod size;
 
-pub use base::{BaseReader, BaseStep};
-pub use call::{CallReader, CallStep};
-pub use declaration::{DeclarationReader, DeclarationStep};
-pub use right::{RightReader, RightStep};
-pub use simple::{SimpleReader, SimpleStep};
+pub use base::{BaseReader, BaseStep, bases_can_end};
+pub use call::{CallReader, CallStep, calls_can_end};
+pub use declaration::{DeclarationReader, DeclarationStep, declarations_can_end};
+pub use right::{RightReader, RightStep, rights_can_end};
+pub use simple::{SimpleReader, SimpleStep, simples_can_end};

@@ -2,7 +2,7 @@
 ghost use Rattle.std.specs.Prelude.{◌≡◌, ℕ, List, IfOk};
 ghost use Rattle.mc_ast.specs.Classes.{IsClass};
 ghost use Rattle.mc_ast.specs.Names.{is_in, IsName};
-ghost use Rattle.mc_ast.specs.Readers.{IsSame};
+ghost use Rattle.mc_ast.specs.Readers.{IsSame, CanEnd};
 ghost use Rattle.mc_simple.specs.Rights.{Rights, AsExpression, AsCall, AsAllocation, InParens, BehindTimes, BehindRightName, BehindRightParens, BehindParensAlias, BehindParensStar, BehindEnclosed, ClosingParens, named, CompletesRight, IsRightStep};
 ghost use Rattle.mc_simple.specs.Calls.{CompletesCall};
 ghost use Rattle.mc_simple.specs.Allocations.{InCast, CompletesAllocation};
@@ -10,13 +10,14 @@ ghost use Rattle.mc_base.specs.declared.plain.Place.{Place};
 ghost use Rattle.mc_ast.specs.Views.{expression_of};
 ghost use Rattle.mc_ast.specs.Trees.{parens};
 ghost use Rattle.mc_expression.specs.Expressions.{CompletesExpression};
+ghost use Rattle.mc_simple.specs.declared.right.RightReader.{RightReader};
 
 use crate::allocation::{AllocationReader, AllocationStep};
 use crate::base::BaseReader;
 use crate::call::{CallReader, CallStep};
 use mc_ast::{Base, Cast, Class, Expression, LeftValue, Name, RightSide, name_at};
 use mc_base::Place;
-use mc_expression::{ExpressionReader, ExpressionStep};
+use mc_expression::{ExpressionReader, ExpressionStep, expressions_can_end};
 use mc_lex::{Text, Token, TokenKind};
 use std::alloc::{AllocError, Global};
 
@@ -372,4 +373,11 @@ fn parens(alloc: Global, place: Place, inner: Expression) -> Result<Expression, 
     ensures { IfOk result (λ e. expression_of e ≡ parens place (expression_of inner)) }
 {
     Ok(Expression::Parens(place, Box::new(alloc, inner)?))
+}
+
+/// Every reader can come to the end of a right side.
+pub fn rights_can_end()
+    ensures { (aliases : List (List ℕ)) (reader : RightReader) → CanEnd (CompletesRight aliases reader) }
+{
+    expressions_can_end();
 }

@@ -4,7 +4,7 @@ ghost use Rattle.mc_lex.specs.declared.token.Token.{Token};
 ghost use Rattle.mc_ast.specs.Classes.{IsClass};
 ghost use Rattle.mc_ast.specs.Names.{is_in, IsName, name_of};
 ghost use Rattle.mc_ast.specs.Grammar.{IsSimple};
-ghost use Rattle.mc_ast.specs.Readers.{IsSame};
+ghost use Rattle.mc_ast.specs.Readers.{IsSame, CanEnd};
 ghost use Rattle.mc_simple.specs.Simples.{Simples, InFirst, InLeft, BehindSimpleName, just, with_field, changed_first, changed_by, CompletesSimple, IsSimpleStep};
 ghost use Rattle.mc_simple.specs.Rights.{CompletesRight};
 ghost use Rattle.mc_simple.specs.Calls.{CompletesCall};
@@ -13,12 +13,13 @@ ghost use Rattle.mc_ast.specs.Trees.{assign, call};
 ghost use Rattle.mc_ast.specs.Views.{left_of, simple_of, expression_of};
 ghost use Rattle.mc_expression.specs.Turns.{InTurn};
 ghost use Rattle.mc_expression.specs.Expressions.{CompletesExpression};
+ghost use Rattle.mc_simple.specs.declared.simple.SimpleReader.{SimpleReader};
 
 use crate::call::{CallReader, CallStep};
 use crate::right::{RightReader, RightStep};
 use mc_ast::{Class, Expression, LeftValue, Name, Simple, name_at};
 use mc_base::Place;
-use mc_expression::{ExpressionReader, ExpressionStep};
+use mc_expression::{ExpressionReader, ExpressionStep, expressions_can_end};
 use mc_lex::Token;
 use std::alloc::{AllocError, Global};
 
@@ -294,4 +295,11 @@ fn changed_by(change: Change, left: LeftValue, by: Expression) -> Simple
         Change::Increment => Simple::Add(left, by),
         Change::Decrement => Simple::Subtract(left, by),
     }
+}
+
+/// Every reader can come to the end of a simple statement.
+pub fn simples_can_end()
+    ensures { (aliases : List (List ℕ)) (reader : SimpleReader) → CanEnd (CompletesSimple aliases reader) }
+{
+    expressions_can_end();
 }

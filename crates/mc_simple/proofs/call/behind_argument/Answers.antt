@@ -2,7 +2,6 @@ use Rattle.std.proofs.Common.{◌≡◌, ℕ, List, [], ◌∷◌, ◌++◌, cod
 use Rattle.mc_ast.specs.Names.{IsMark}
 use Rattle.mc_ast.specs.Trees.{CallTree}
 use Rattle.mc_ast.specs.Views.{expressions_of, expression_of}
-use Rattle.mc_expression.specs.declared.ExpressionStep.TheVariants as ExpressionStep
 use Rattle.mc_expression.specs.Expressions.{CompletesExpression, StepsExpression}
 use Rattle.mc_simple.specs.Calls.{BehindArguments, IsCallStep}
 use Rattle.mc_simple.proofs.Phrases.{takes_along, closes_along, stuck_along, next_takes, next_stuck, next_closes, then_takes, then_finds, then_stuck, then_same, same_at, same_same, turned, takes_to, either_left, either_right}

@@ -5,7 +5,6 @@ use Rattle.mc_ast.specs.Readers.{IsSame}
 use Rattle.mc_ast.specs.Trees.{parens}
 use Rattle.mc_lex.specs.declared.token.Token.{Token}
 use Rattle.mc_lex.specs.declared.token.TokenKind.TheVariants as TokenKind
-use Rattle.mc_expression.specs.declared.ExpressionStep.TheVariants as ExpressionStep
 use Rattle.mc_expression.specs.Expressions.{CompletesExpression, StepsExpression, BehindName, BehindOperand}
 use Rattle.mc_simple.specs.declared.call.CallStep.TheVariants as CallStep
 use Rattle.mc_simple.specs.declared.allocation.AllocationStep.TheVariants as AllocationStep

@@ -3,7 +3,6 @@ use Rattle.mc_ast.specs.Names.{IsMark, IsWord, IsName, name_of, is_in}
 use Rattle.mc_ast.specs.Views.{expression_of, right_of, left_of, simple_of}
 use Rattle.mc_ast.specs.Readers.{IsSame, Finds, Takes}
 use Rattle.mc_ast.specs.Trees.{assign}
-use Rattle.mc_expression.specs.declared.ExpressionStep.TheVariants as ExpressionStep
 use Rattle.mc_expression.specs.Expressions.{CompletesExpression, StepsExpression}
 use Rattle.mc_simple.specs.declared.call.CallStep.TheVariants as CallStep
 use Rattle.mc_simple.specs.declared.right.RightStep.TheVariants as RightStep

@@ -3,7 +3,6 @@ use Rattle.mc_ast.specs.Names.{IsMark, IsWord, IsName, name_of, is_in}
 use Rattle.mc_ast.specs.Views.{expression_of, right_of, left_of, simple_of}
 use Rattle.mc_ast.specs.Readers.{IsSame, Finds, Takes}
 use Rattle.mc_ast.specs.Trees.{assign}
-use Rattle.mc_expression.specs.declared.ExpressionStep.TheVariants as ExpressionStep
 use Rattle.mc_expression.specs.Expressions.{CompletesExpression, StepsExpression}
 use Rattle.mc_simple.specs.declared.call.CallStep.TheVariants as CallStep
 use Rattle.mc_simple.specs.declared.right.RightStep.TheVariants as RightStep
@@ -25,10 +24,10 @@ pub returns-in-Assign : goal.returns-in-Assign
 returns-in-Assign c = λ aliases. let is : IsMark (codes "=") c.args.token.now = rw c.in-Assign.is at c.requires in takes_more (takes_to (left_assign aliases _ is) (then_same (c.new-reader.ensures aliases)))
 
 pub returns-in-PlusAssign : goal.returns-in-PlusAssign
-returns-in-PlusAssign c = λ aliases. let is : IsMark (codes "+=") c.args.token.now = rw c.in-PlusAssign.is at c.requires in takes_more (takes_to (left_add aliases _ is) (then_same c.new-reader.ensures))
+returns-in-PlusAssign c = λ aliases. let is : IsMark (codes "+=") c.args.token.now = rw c.in-PlusAssign.is at c.requires in takes_more (takes_to (left_add aliases _ is) (then_same c.new-reader-in-PlusAssign.ensures))
 
 pub returns-in-MinusAssign : goal.returns-in-MinusAssign
-returns-in-MinusAssign c = λ aliases. let is : IsMark (codes "-=") c.args.token.now = rw c.in-MinusAssign.is at c.requires in takes_more (takes_to (left_subtract aliases _ is) (then_same c.new-reader.ensures))
+returns-in-MinusAssign c = λ aliases. let is : IsMark (codes "-=") c.args.token.now = rw c.in-MinusAssign.is at c.requires in takes_more (takes_to (left_subtract aliases _ is) (then_same c.new-reader-in-MinusAssign.ensures))
 
 pub returns-in-PlusPlus : goal.returns-in-PlusPlus
 returns-in-PlusPlus c = λ aliases. let is : IsMark (codes "++") c.args.token.now = rw c.in-PlusPlus.is at c.requires in takes_more (left_increment aliases _ is)

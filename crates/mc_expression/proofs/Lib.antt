@@ -1,0 +1,9 @@
+pub mod Classes
+pub mod Marks
+pub mod Seen
+pub mod Turns
+pub mod Operands
+pub mod Starts
+pub mod Ends
+pub mod Primaries
+pub mod Expressions

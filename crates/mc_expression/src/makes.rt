@@ -1,0 +1,66 @@
+// Expressions and conditions of smaller ones.
+ghost use Rattle.std.specs.Prelude.{◌≡◌, IfOk};
+ghost use Rattle.mc_ast.specs.Trees.{minus, parens, times, plus, less, negation, enclosed, both, either};
+ghost use Rattle.mc_ast.specs.Views.{expression_of, condition_of};
+
+use mc_ast::{Condition, Expression};
+use mc_base::Place;
+use std::alloc::{AllocError, Global};
+
+pub fn minus_of(alloc: Global, place: Place, operand: Expression) -> Result<Expression, AllocError>
+    ensures { IfOk result (λ e. expression_of e ≡ minus place (expression_of operand)) }
+{
+    Ok(Expression::Minus(place, Box::new(alloc, operand)?))
+}
+
+pub fn parens_of(alloc: Global, place: Place, inner: Expression) -> Result<Expression, AllocError>
+    ensures { IfOk result (λ e. expression_of e ≡ parens place (expression_of inner)) }
+{
+    Ok(Expression::Parens(place, Box::new(alloc, inner)?))
+}
+
+pub fn times_of(
+    alloc: Global,
+    left: Expression,
+    right: Expression,
+) -> Result<Expression, AllocError>
+    ensures { IfOk result (λ e. expression_of e ≡ times (expression_of left) (expression_of right)) }
+{
+    Ok(Expression::Times(Box::new(alloc, left)?, Box::new(alloc, right)?))
+}
+
+pub fn plus_of(alloc: Global, left: Expression, right: Expression) -> Result<Expression, AllocError>
+    ensures { IfOk result (λ e. expression_of e ≡ plus (expression_of left) (expression_of right)) }
+{
+    Ok(Expression::Plus(Box::new(alloc, left)?, Box::new(alloc, right)?))
+}
+
+pub fn less_of(alloc: Global, left: Expression, right: Expression) -> Result<Expression, AllocError>
+    ensures { IfOk result (λ e. expression_of e ≡ less (expression_of left) (expression_of right)) }
+{
+    Ok(Expression::Less(Box::new(alloc, left)?, Box::new(alloc, right)?))
+}
+
+pub fn not_of(alloc: Global, place: Place, inner: Condition) -> Result<Condition, AllocError>
+    ensures { IfOk result (λ c. condition_of c ≡ negation place (condition_of inner)) }
+{
+    Ok(Condition::Not(place, Box::new(alloc, inner)?))
+}
+
+pub fn enclosed_of(alloc: Global, place: Place, inner: Condition) -> Result<Condition, AllocError>
+    ensures { IfOk result (λ c. condition_of c ≡ enclosed place (condition_of inner)) }
+{
+    Ok(Condition::Parens(place, Box::new(alloc, inner)?))
+}
+
+pub fn both_of(alloc: Global, left: Condition, right: Condition) -> Result<Condition, AllocError>
+    ensures { IfOk result (λ c. condition_of c ≡ both (condition_of left) (condition_of right)) }
+{
+    Ok(Condition::Both(Box::new(alloc, left)?, Box::new(alloc, right)?))
+}
+
+pub fn either_of(alloc: Global, left: Condition, right: Condition) -> Result<Condition, AllocError>
+    ensures { IfOk result (λ c. condition_of c ≡ either (condition_of left) (condition_of right)) }
+{
+    Ok(Condition::Either(Box::new(alloc, left)?, Box::new(alloc, right)?))
+}
