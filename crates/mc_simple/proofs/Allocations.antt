@@ -1,5 +1,5 @@
 -- What a token does to an allocation.
-use Rattle.std.proofs.Common.{◌≡◌, ℕ, List, [], ◌∷◌, inl, inr, Option, Some, None, codes}
+use Rattle.std.proofs.Common.{ℕ, List, [], inl, inr, Some, None, codes}
 use native.Mathlib.Omega.{arith}
 use Rattle.mc_base.specs.declared.plain.Place.{Place}
 use Rattle.mc_lex.specs.declared.token.Token.{Token}

@@ -1,21 +1,14 @@
 -- What a token does to a base.
 use Rattle.std.proofs.Common.{◌≡◌, ℕ, List, [], ◌∷◌, ◌⊎◌, inl, refl, codes, IsTrue}
 use native.Mathlib.Omega.{arith}
-use Rattle.mc_base.specs.declared.plain.Place.{Place}
 use Rattle.mc_lex.specs.declared.token.Token.{Token}
 use Rattle.mc_ast.specs.declared.trees.Base.{Base}
-use Rattle.mc_ast.specs.declared.trees.Base.TheVariants as Base
-use Rattle.mc_ast.specs.declared.trees.Name.{Name}
-use Rattle.mc_ast.specs.declared.class.Class.{Class}
-use Rattle.mc_ast.specs.declared.class.Class.TheVariants as Class
-use Rattle.mc_ast.specs.Names.{Tokens, IsMark, IsWord, IsName, IsAlias, name_of, is_in}
+use Rattle.mc_ast.specs.Names.{Tokens, IsWord, IsAlias, name_of, is_in}
 use Rattle.mc_ast.specs.Grammar.{IsBase, int, tagged, alias}
-use Rattle.mc_ast.specs.Classes.{IsClass}
 use Rattle.mc_ast.specs.Readers.{Takes, Closes, IsStuckAt}
 use Rattle.mc_simple.specs.Phrases.{next, ended}
 use Rattle.mc_simple.specs.Bases.{Bases, BehindStruct}
-use Rattle.mc_simple.proofs.Phrases.{next_closes, next_stuck}
-use Rattle.mc_simple.proofs.Tokens.{one_word, mark_no_word, name_no_word, only_name, only_int, only_struct}
+use Rattle.mc_simple.proofs.Tokens.{name_no_word}
 
 pub base_int : (aliases : List (List ℕ)) {token : Token} → IsWord (codes "int") token → Closes (Bases aliases) token (Base.Int token.place)
 base_int aliases {token} is = record { forward = go; backward = λ tokens. int is }

@@ -1,5 +1,5 @@
 -- What a token does to a call behind its `(`.
-use Rattle.std.proofs.Common.{◌≡◌, ℕ, List, [], ◌∷◌, ◌++◌, ◌⊎◌, inl, inr, refl, codes, IsTrue, map, ap, ◌∙◌, subst}
+use Rattle.std.proofs.Common.{◌≡◌, List, [], ◌∷◌, ◌++◌, ◌⊎◌, inl, refl, codes, IsTrue, ap, ◌∙◌, subst}
 use Rattle.std.proofs.lemmas.List.{map-append}
 use native.Mathlib.Omega.{arith}
 use Rattle.mc_lex.specs.declared.token.Token.{Token}
@@ -7,13 +7,12 @@ use Rattle.mc_ast.specs.declared.trees.Name.{Name}
 use Rattle.mc_ast.specs.declared.trees.Expression.{Expression}
 use Rattle.mc_ast.specs.Trees.{Expr, CallTree}
 use Rattle.mc_ast.specs.Names.{Tokens, IsMark, is_in}
-use Rattle.mc_ast.specs.Grammar.{MoreExpressions, last as no_more, next as one_more}
+use Rattle.mc_ast.specs.Grammar.{last as no_more, next as one_more}
 use Rattle.mc_ast.specs.Readers.{Takes, Finds, Closes, IsStuckAt}
 use Rattle.mc_ast.specs.Views.{expression_of, expressions_of}
 use Rattle.mc_expression.specs.Expressions.{expression_marks}
 use Rattle.mc_expression.specs.Turns.{InTurn, in_turn}
 use Rattle.mc_simple.specs.declared.call.CallStep.{CallStep}
-use Rattle.mc_simple.specs.declared.call.CallStep.TheVariants as CallStep
 use Rattle.mc_simple.specs.Calls.{Sums, BehindArguments, behind_arguments, BehindArgument, FirstArgument, IsCallStep}
 use Rattle.mc_simple.proofs.Phrases.{SameAt, takes_along, closes_along, stuck_along, either_left, then_stuck, then_finds, next_closes}
 use Rattle.mc_simple.proofs.Tokens.{no_mark}

@@ -1,24 +1,22 @@
 -- What a token does to a declaration behind its base.
-use Rattle.std.proofs.Common.{◌≡◌, ℕ, List, [], ◌∷◌, ◌++◌, ◌⊎◌, inl, inr, refl, codes, IsTrue, Option, Some, None, map, ap, ◌∙◌, subst}
+use Rattle.std.proofs.Common.{◌≡◌, ℕ, List, [], ◌∷◌, ◌++◌, ◌⊎◌, inl, inr, refl, codes, IsTrue, Some, None, map, ap, ◌∙◌, subst}
 use Rattle.std.proofs.lemmas.List.{map-append}
 use native.Mathlib.Omega.{arith}
-use Rattle.mc_base.specs.declared.plain.Place.{Place}
 use Rattle.mc_lex.specs.declared.token.Token.{Token}
 use Rattle.mc_ast.specs.declared.trees.Base.{Base}
 use Rattle.mc_ast.specs.declared.trees.Declarator.{Declarator}
 use Rattle.mc_ast.specs.declared.trees.Initial.{Initial}
-use Rattle.mc_ast.specs.Trees.{Right, InitialTree, DeclarationTree}
+use Rattle.mc_ast.specs.Trees.{InitialTree, DeclarationTree}
 use Rattle.mc_ast.specs.Views.{initial_of}
 use Rattle.mc_ast.specs.Names.{Tokens, IsMark, IsName, name_of, is_in}
-use Rattle.mc_ast.specs.Grammar.{IsStar, star, no_star, IsDeclarator, declarator, IsInitial, bare, with_value, MoreInitials, last_initial, next_initial}
-use Rattle.mc_ast.specs.Readers.{Takes, Finds, Closes, IsStuckAt}
+use Rattle.mc_ast.specs.Grammar.{star, no_star, declarator, bare, with_value, last_initial, next_initial}
+use Rattle.mc_ast.specs.Readers.{Takes, Closes, IsStuckAt}
 use Rattle.mc_expression.specs.Turns.{InTurn, in_turn}
 use Rattle.mc_simple.specs.declared.declaration.DeclarationStep.{DeclarationStep}
-use Rattle.mc_simple.specs.declared.declaration.DeclarationStep.TheVariants as DeclarationStep
-use Rattle.mc_simple.specs.Phrases.{Next, next, Either}
+use Rattle.mc_simple.specs.Phrases.{Next, next}
 use Rattle.mc_simple.specs.Rights.{Rights, right_marks}
-use Rattle.mc_simple.specs.Declarations.{Initials, BehindInitials, behind_initials, BehindInitial, BehindComma, BehindDeclarator, IsDeclarationStep}
-use Rattle.mc_simple.proofs.Phrases.{SameAt, takes_along, closes_along, stuck_along, next_takes, next_stuck, then_finds, either_left, either_right}
+use Rattle.mc_simple.specs.Declarations.{BehindInitials, behind_initials, BehindInitial, BehindComma, BehindDeclarator, IsDeclarationStep}
+use Rattle.mc_simple.proofs.Phrases.{SameAt, takes_along, closes_along, stuck_along, next_takes, next_stuck, either_left, either_right}
 use Rattle.mc_simple.proofs.Tokens.{mark_no_name, no_mark}
 
 pub declaration_step_along : (aliases : List (List ℕ)) {now other : Tokens → Tokens → DeclarationTree → Type 0} {token : Token} (step : DeclarationStep) → SameAt now other token → IsDeclarationStep aliases other token step → IsDeclarationStep aliases now token step

@@ -1,49 +1,41 @@
 -- Whatever is begun can be completed.
-use Rattle.std.proofs.Common.{◌≡◌, ℕ, List, [], ◌∷◌, ◌++◌, ◌⊎◌, inl, inr, append_assoc, refl, sym, subst, codes, map, Option, Some, None}
+use Rattle.std.proofs.Common.{ℕ, List, [], ◌∷◌, ◌++◌, inl, inr, append_assoc, refl, sym, subst, codes, map, Option, Some}
 use Rattle.mc_base.specs.declared.plain.Place.{Place}
 use Rattle.mc_lex.specs.declared.token.Token.{Token}
 use Rattle.mc_lex.specs.declared.token.TokenKind.TheVariants as TokenKind
 use Rattle.mc_ast.specs.declared.trees.Name.{Name}
 use Rattle.mc_ast.specs.declared.trees.Base.{Base}
-use Rattle.mc_ast.specs.declared.trees.Base.TheVariants as Base
 use Rattle.mc_ast.specs.declared.trees.Cast.{Cast}
 use Rattle.mc_ast.specs.declared.trees.Malloc.{Malloc}
 use Rattle.mc_ast.specs.declared.trees.Size.{Size}
-use Rattle.mc_ast.specs.Trees.{Left, Expr, null, parens, Right, expression, result_of, allocation, InitialTree, DeclarationTree, SimpleTree, assign, call}
+use Rattle.mc_ast.specs.Trees.{Left, Expr, null, parens, expression, result_of, allocation, InitialTree, assign, call}
 use Rattle.mc_ast.specs.Views.{expressions_of, left_of, right_of, simple_of, initial_of}
-use Rattle.mc_ast.specs.Names.{Tokens, IsMark, IsWord, IsName, name_of}
-use Rattle.mc_ast.specs.Grammar.{none, IsUnary, null_word, product, no_factor, no_term, IsSum, sum_of, last as no_more, int, of_value, no_star, declarator, bare, last_initial, sum, named, incremented}
+use Rattle.mc_ast.specs.Names.{Tokens, IsMark, IsWord, IsName}
+use Rattle.mc_ast.specs.Grammar.{none, IsUnary, null_word, product, no_factor, no_term, sum_of, last as no_more, int, of_value, no_star, declarator, bare, last_initial, sum, named, incremented}
 use Rattle.mc_ast.specs.Readers.{CanEnd}
 use Rattle.mc_expression.specs.Expressions.{CompletesExpression, BehindOperand, BehindName}
 use Rattle.mc_expression.specs.declared.expression.ExpressionReader.{ExpressionReader}
 use Rattle.mc_expression.specs.Turns.{InTurn, in_turn}
 use Rattle.mc_simple.specs.declared.base.BaseReader.{BaseReader}
-use Rattle.mc_simple.specs.declared.base.BaseReader.TheVariants as BaseReader
 use Rattle.mc_simple.specs.declared.size.SizeReader.{SizeReader}
-use Rattle.mc_simple.specs.declared.size.SizeReader.TheVariants as SizeReader
 use Rattle.mc_simple.specs.declared.allocation.AllocationReader.{AllocationReader}
-use Rattle.mc_simple.specs.declared.allocation.AllocationReader.TheVariants as AllocationReader
 use Rattle.mc_simple.specs.declared.call.CallReader.{CallReader}
 use Rattle.mc_simple.specs.declared.call.CallState.{CallState}
-use Rattle.mc_simple.specs.declared.call.CallState.TheVariants as CallState
 use Rattle.mc_simple.specs.declared.right.RightReader.{RightReader}
 use Rattle.mc_simple.specs.declared.right.RightState.{RightState}
-use Rattle.mc_simple.specs.declared.right.RightState.TheVariants as RightState
 use Rattle.mc_simple.specs.declared.simple.SimpleReader.{SimpleReader}
 use Rattle.mc_simple.specs.declared.simple.SimpleState.{SimpleState}
-use Rattle.mc_simple.specs.declared.simple.SimpleState.TheVariants as SimpleState
 use Rattle.mc_simple.specs.declared.simple.Change.{Change}
 use Rattle.mc_simple.specs.declared.declaration.DeclarationReader.{DeclarationReader}
 use Rattle.mc_simple.specs.declared.declaration.DeclarationState.{DeclarationState}
-use Rattle.mc_simple.specs.declared.declaration.DeclarationState.TheVariants as DeclarationState
 use Rattle.mc_simple.specs.Phrases.{Ended, ended, Next, next, Either}
-use Rattle.mc_simple.specs.Bases.{Bases, BehindStruct, CompletesBase}
+use Rattle.mc_simple.specs.Bases.{CompletesBase}
 use Rattle.mc_simple.specs.Sizes.{Sizes, ClosingSize, BehindParensStar, BehindStar, CompletesSize}
 use Rattle.mc_simple.specs.Allocations.{ClosingMalloc, BehindMalloc, BehindCast, ClosingCast, BehindCastBase, CompletesAllocation}
-use Rattle.mc_simple.specs.Calls.{Sums, BehindArguments, behind_arguments, BehindArgument, CompletesArguments, CompletesCall}
-use Rattle.mc_simple.specs.Rights.{Rights, AsExpression, ClosingParens, InParens, BehindTimes, CompletesRightState, CompletesRight}
-use Rattle.mc_simple.specs.Simples.{Simples, MoreFields, just, with_field, changed_first, changed_by, BehindLeft, increments, InLeft, InFirst, CompletesSimpleState, CompletesSimple}
-use Rattle.mc_simple.specs.Declarations.{BehindInitials, behind_initials, BehindInitial, BehindComma, BehindDeclarator, CompletesDeclarationState, CompletesDeclaration}
+use Rattle.mc_simple.specs.Calls.{Sums, BehindArguments, behind_arguments, CompletesArguments, CompletesCall}
+use Rattle.mc_simple.specs.Rights.{InParens, CompletesRightState, CompletesRight}
+use Rattle.mc_simple.specs.Simples.{MoreFields, just, changed_first, changed_by, increments, InLeft, InFirst, CompletesSimpleState, CompletesSimple}
+use Rattle.mc_simple.specs.Declarations.{BehindInitials, behind_initials, BehindComma, CompletesDeclarationState, CompletesDeclaration}
 
 abbrev somewhere : Place
 somewhere = record { line = 1; column = 1 }

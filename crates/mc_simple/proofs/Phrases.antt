@@ -1,5 +1,5 @@
 -- What a token does to phrases that are put together from smaller ones.
-use Rattle.std.proofs.Common.{◌≡◌, ℕ, List, [], ◌∷◌, ◌⊎◌, inl, inr, refl, sym, subst, IsTrue, Bool, true, false}
+use Rattle.std.proofs.Common.{◌≡◌, ℕ, List, [], ◌∷◌, ◌⊎◌, inl, inr, refl, subst, IsTrue, true, false}
 use Rattle.mc_lex.specs.declared.token.Token.{Token}
 use Rattle.mc_ast.specs.Names.{Tokens, is_in}
 use Rattle.mc_ast.specs.Readers.{Takes, Finds, Closes, IsStuckAt, IsSame}

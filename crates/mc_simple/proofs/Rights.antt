@@ -1,27 +1,25 @@
 -- What a token does to a right side.
-use Rattle.std.proofs.Common.{◌≡◌, ℕ, List, [], ◌∷◌, ◌++◌, ◌⊎◌, inl, inr, refl, sym, ◌∙◌, codes, Bool, true, false, ◌||◌, IsTrue, Option, Some, None, subst}
+use Rattle.std.proofs.Common.{◌≡◌, ℕ, List, [], ◌∷◌, ◌++◌, ◌⊎◌, inl, inr, refl, codes, Bool, true, false, ◌||◌, IsTrue, Some, None, subst}
 use native.Mathlib.Omega.{arith}
 use Rattle.mc_base.specs.declared.plain.Place.{Place}
 use Rattle.mc_lex.specs.declared.token.Token.{Token}
 use Rattle.mc_lex.specs.declared.token.TokenKind.TheVariants as TokenKind
 use Rattle.mc_ast.specs.declared.trees.Name.{Name}
 use Rattle.mc_ast.specs.declared.trees.Base.{Base}
-use Rattle.mc_ast.specs.declared.trees.Base.TheVariants as Base
-use Rattle.mc_ast.specs.Trees.{Expr, value, parens, times, null, CallTree, Right, expression, result_of, allocation}
+use Rattle.mc_ast.specs.Trees.{Expr, parens, times, null, Right, expression}
 use Rattle.mc_ast.specs.Names.{Tokens, IsMark, IsWord, IsName, IsAlias, name_of, is_in, is_same}
-use Rattle.mc_ast.specs.Grammar.{Fields, none, more, IsLeft, named as named_left, IsUnary, negative, numeral, null_word, input_call, variable, in_parens, Factors, no_factor, factor, IsTerm, product, Terms, no_term, added, taken, IsSum, sum_of, IsCall, without, with_some, IsCast, no_cast, cast, IsStar, star, no_star, IsRight, sum, called, allocated}
-use Rattle.mc_ast.specs.Readers.{Takes, Finds, Closes, IsStuckAt, IsSame}
+use Rattle.mc_ast.specs.Grammar.{none, more, named as named_left, negative, numeral, null_word, input_call, variable, in_parens, no_factor, factor, product, no_term, added, taken, IsSum, sum_of, without, with_some, no_cast, cast, star, no_star, IsRight, sum, called, allocated}
+use Rattle.mc_ast.specs.Readers.{Takes, Finds, IsStuckAt, IsSame}
 use Rattle.mc_expression.specs.Expressions.{BehindName, BehindOperand, expression_marks}
-use Rattle.mc_expression.specs.Turns.{InTurn, in_turn}
+use Rattle.mc_expression.specs.Turns.{in_turn}
 use Rattle.mc_simple.specs.declared.right.RightStep.{RightStep}
-use Rattle.mc_simple.specs.declared.right.RightStep.TheVariants as RightStep
-use Rattle.mc_simple.specs.Phrases.{Ended, ended, Next, next, Either}
-use Rattle.mc_simple.specs.Allocations.{BehindMalloc, BehindCast, ClosingCast, BehindCastBase, InCast}
+use Rattle.mc_simple.specs.Phrases.{ended, next}
+use Rattle.mc_simple.specs.Allocations.{BehindMalloc, BehindCast, InCast}
 use Rattle.mc_simple.specs.Calls.{Sums, behind_arguments, BehindCallParens}
 use Rattle.mc_simple.specs.Rights.{right_marks, Rights, AsExpression, AsCall, AsAllocation, ClosingParens, InParens, named, BehindTimes, BehindRightName, BehindRightParens, BehindParensAlias, BehindParensStar, BehindEnclosed, IsRightStep}
-use Rattle.mc_simple.proofs.Phrases.{SameAt, takes_along, finds_along, stuck_along, takes_more, takes_to, then_takes, then_moves, then_finds, then_closes, then_stuck, next_takes, next_stuck, either_takes, either_left, either_right, either_on, ended_finds, made_takes}
+use Rattle.mc_simple.proofs.Phrases.{SameAt, takes_along, finds_along, stuck_along, takes_more, then_takes, then_moves, then_finds, then_closes, then_stuck, next_takes, next_stuck, either_takes, either_left, either_right, either_on, made_takes}
 use Rattle.mc_simple.proofs.Tokens.{mark_no_word, mark_no_name, name_no_word, no_mark}
-use Rattle.mc_simple.proofs.Sums.{Begins, unary_begins, sums_stuck, close_begins_none, word_begins_none}
+use Rattle.mc_simple.proofs.Sums.{unary_begins, sums_stuck, close_begins_none, word_begins_none}
 use Rattle.mc_simple.proofs.Bases.{base_alias, base_stuck}
 use Rattle.mc_simple.proofs.Allocations.{cast_star, cast_close, cast_stuck}
 

@@ -1,19 +1,17 @@
 -- What a token does to a simple statement.
-use Rattle.std.proofs.Common.{◌≡◌, ℕ, List, [], ◌∷◌, ◌⊎◌, inl, inr, refl, codes, IsTrue, Bool, true, false, subst}
+use Rattle.std.proofs.Common.{◌≡◌, ℕ, List, [], ◌∷◌, ◌⊎◌, inl, inr, refl, codes, IsTrue, true, false, subst}
 use native.Mathlib.Omega.{arith}
 use Rattle.mc_base.specs.declared.plain.Place.{Place}
 use Rattle.mc_lex.specs.declared.token.Token.{Token}
 use Rattle.mc_ast.specs.declared.trees.Name.{Name}
-use Rattle.mc_ast.specs.Trees.{Left, Expr, Right, SimpleTree, assign, add, subtract, increment, decrement, call}
+use Rattle.mc_ast.specs.Trees.{Left, SimpleTree, assign, increment, decrement, call}
 use Rattle.mc_ast.specs.Names.{Tokens, IsMark, IsName, name_of, is_in}
-use Rattle.mc_ast.specs.Grammar.{Fields, none, more, IsLeft, named, IsCall, without, with_some, IsSimple, assigned, adding, subtracting, incremented, decremented, incremented_first, decremented_first, performed}
+use Rattle.mc_ast.specs.Grammar.{none, more, named, without, with_some, IsSimple, assigned, adding, subtracting, incremented, decremented, incremented_first, decremented_first, performed}
 use Rattle.mc_ast.specs.Readers.{Takes, Finds, IsStuckAt, IsSame}
 use Rattle.mc_expression.specs.Turns.{InTurn, in_turn}
 use Rattle.mc_simple.specs.declared.simple.SimpleStep.{SimpleStep}
-use Rattle.mc_simple.specs.declared.simple.SimpleStep.TheVariants as SimpleStep
 use Rattle.mc_simple.specs.declared.simple.Change.{Change}
-use Rattle.mc_simple.specs.declared.simple.Change.TheVariants as Change
-use Rattle.mc_simple.specs.Phrases.{Ended, ended, Next, next, Either}
+use Rattle.mc_simple.specs.Phrases.{Ended, ended, Next, next}
 use Rattle.mc_simple.specs.Calls.{Sums, behind_arguments, BehindCallParens}
 use Rattle.mc_simple.specs.Rights.{Rights}
 use Rattle.mc_simple.specs.Simples.{simple_marks, changed_first, changed_by, Simples, MoreFields, with_field, just, BehindLeft, assigns, adds, subtracts, increments, decrements, InLeft, BehindSimpleName, InFirst, IsSimpleStep}

@@ -1,16 +1,14 @@
 -- What a token does to a size.
-use Rattle.std.proofs.Common.{◌≡◌, ℕ, List, [], ◌∷◌, ◌⊎◌, inl, inr, refl, codes, IsTrue}
+use Rattle.std.proofs.Common.{◌≡◌, ℕ, List, [], ◌∷◌, ◌⊎◌, inl, inr, codes, IsTrue}
 use native.Mathlib.Omega.{arith}
 use Rattle.mc_base.specs.declared.plain.Place.{Place}
 use Rattle.mc_lex.specs.declared.token.Token.{Token}
 use Rattle.mc_ast.specs.declared.trees.Size.{Size}
-use Rattle.mc_ast.specs.declared.trees.Size.TheVariants as Size
-use Rattle.mc_ast.specs.Names.{Tokens, IsMark, IsWord, IsName, name_of, is_in}
+use Rattle.mc_ast.specs.Names.{Tokens, IsMark, IsWord, is_in}
 use Rattle.mc_ast.specs.Grammar.{IsBase, IsSize, of_type, of_parens, of_value}
-use Rattle.mc_ast.specs.Readers.{Takes, Closes, IsStuckAt}
-use Rattle.mc_expression.specs.Turns.{InTurn, in_turn}
+use Rattle.mc_ast.specs.Readers.{Takes, IsStuckAt}
+use Rattle.mc_expression.specs.Turns.{in_turn}
 use Rattle.mc_simple.specs.declared.size.SizeStep.{SizeStep}
-use Rattle.mc_simple.specs.declared.size.SizeStep.TheVariants as SizeStep
 use Rattle.mc_simple.specs.Phrases.{next, ended}
 use Rattle.mc_simple.specs.Sizes.{Sizes, BehindSizeof, BehindParens, BehindParensStar, BehindStar, IsSizeStep}
 use Rattle.mc_simple.proofs.Phrases.{SameAt, takes_along, closes_along, stuck_along, next_takes, next_stuck, then_stuck, either_left, either_right}

@@ -1,13 +1,13 @@
 -- With which tokens an expression begins.
-use Rattle.std.proofs.Common.{◌≡◌, ℕ, List, [], ◌∷◌, ◌⊎◌, inl, inr, refl, codes}
+use Rattle.std.proofs.Common.{◌≡◌, ℕ, List, ◌∷◌, ◌⊎◌, inl, inr, refl, codes}
 use native.Mathlib.Omega.{arith}
 use Rattle.mc_lex.specs.declared.token.Token.{Token}
 use Rattle.mc_ast.specs.Trees.{Expr}
 use Rattle.mc_ast.specs.Names.{Tokens, IsMark, IsWord, IsName, IsNumber}
-use Rattle.mc_ast.specs.Grammar.{IsLeft, named, IsUnary, negative, numeral, null_word, input_call, variable, in_parens, IsTerm, product, IsSum, sum_of}
+use Rattle.mc_ast.specs.Grammar.{named, IsUnary, negative, numeral, null_word, input_call, variable, in_parens, product, IsSum, sum_of}
 use Rattle.mc_ast.specs.Readers.{IsStuckAt}
 use Rattle.mc_simple.specs.Calls.{Sums}
-use Rattle.mc_simple.proofs.Tokens.{one_mark, mark_no_word, mark_no_name, name_no_word}
+use Rattle.mc_simple.proofs.Tokens.{mark_no_word, mark_no_name, name_no_word}
 
 -- an expression can begin with this token
 pub data Begins (token : Token) : Type 0 where

@@ -9,9 +9,7 @@ use Rattle.mc_ast.specs.declared.trees.Size.{Size}
 use Rattle.mc_ast.specs.Names.{Tokens, IsMark, IsWord}
 use Rattle.mc_ast.specs.Readers.{Takes, Closes, IsStuckAt}
 use Rattle.mc_simple.specs.declared.allocation.AllocationReader.{AllocationReader}
-use Rattle.mc_simple.specs.declared.allocation.AllocationReader.TheVariants as AllocationReader
 use Rattle.mc_simple.specs.declared.allocation.AllocationStep.{AllocationStep}
-use Rattle.mc_simple.specs.declared.allocation.AllocationStep.TheVariants as AllocationStep
 use Rattle.mc_expression.specs.Turns.{InTurn}
 use Rattle.mc_simple.specs.Phrases.{Ended, Next, Either}
 use Rattle.mc_simple.specs.Bases.{Bases, CompletesBase}

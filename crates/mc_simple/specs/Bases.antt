@@ -3,14 +3,11 @@ use Rattle.std.specs.Prelude.{ℕ, List, []}
 use Rattle.mc_base.specs.declared.plain.Place.{Place}
 use Rattle.mc_lex.specs.declared.token.Token.{Token}
 use Rattle.mc_ast.specs.declared.trees.Base.{Base}
-use Rattle.mc_ast.specs.declared.trees.Base.TheVariants as Base
 use Rattle.mc_ast.specs.Names.{Tokens, IsName, name_of}
 use Rattle.mc_ast.specs.Grammar.{IsBase}
 use Rattle.mc_ast.specs.Readers.{Takes, Closes, IsStuckAt}
 use Rattle.mc_simple.specs.declared.base.BaseReader.{BaseReader}
-use Rattle.mc_simple.specs.declared.base.BaseReader.TheVariants as BaseReader
 use Rattle.mc_simple.specs.declared.base.BaseStep.{BaseStep}
-use Rattle.mc_simple.specs.declared.base.BaseStep.TheVariants as BaseStep
 use Rattle.mc_simple.specs.Phrases.{Ended, Next}
 
 -- a base

@@ -1,5 +1,5 @@
 -- What completes a call behind its `(`.
-use Rattle.std.specs.Prelude.{ℕ, List, [], ◌∷◌, ◌++◌, codes}
+use Rattle.std.specs.Prelude.{List, [], ◌∷◌, ◌++◌, codes}
 use Rattle.mc_lex.specs.declared.token.Token.{Token}
 use Rattle.mc_ast.specs.declared.trees.Name.{Name}
 use Rattle.mc_ast.specs.Trees.{Expr, CallTree}
@@ -10,9 +10,7 @@ use Rattle.mc_ast.specs.Views.{expressions_of, call_of}
 use Rattle.mc_expression.specs.Expressions.{CompletesExpression}
 use Rattle.mc_simple.specs.declared.call.CallReader.{CallReader}
 use Rattle.mc_simple.specs.declared.call.CallState.{CallState}
-use Rattle.mc_simple.specs.declared.call.CallState.TheVariants as CallState
 use Rattle.mc_simple.specs.declared.call.CallStep.{CallStep}
-use Rattle.mc_simple.specs.declared.call.CallStep.TheVariants as CallStep
 use Rattle.mc_expression.specs.Turns.{InTurn}
 use Rattle.mc_simple.specs.Phrases.{Ended, Next, Either}
 

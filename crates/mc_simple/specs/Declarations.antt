@@ -1,6 +1,5 @@
 -- What completes a declaration behind its base.
 use Rattle.std.specs.Prelude.{ℕ, List, [], ◌∷◌, ◌++◌, Some, None, codes, map}
-use Rattle.mc_base.specs.declared.plain.Place.{Place}
 use Rattle.mc_lex.specs.declared.token.Token.{Token}
 use Rattle.mc_ast.specs.declared.trees.Base.{Base}
 use Rattle.mc_ast.specs.declared.trees.Declarator.{Declarator}
@@ -11,9 +10,7 @@ use Rattle.mc_ast.specs.Readers.{Takes, Closes, IsStuckAt}
 use Rattle.mc_ast.specs.Views.{initial_of, declaration_of}
 use Rattle.mc_simple.specs.declared.declaration.DeclarationReader.{DeclarationReader}
 use Rattle.mc_simple.specs.declared.declaration.DeclarationState.{DeclarationState}
-use Rattle.mc_simple.specs.declared.declaration.DeclarationState.TheVariants as DeclarationState
 use Rattle.mc_simple.specs.declared.declaration.DeclarationStep.{DeclarationStep}
-use Rattle.mc_simple.specs.declared.declaration.DeclarationStep.TheVariants as DeclarationStep
 use Rattle.mc_expression.specs.Turns.{InTurn}
 use Rattle.mc_simple.specs.Phrases.{Next, Either}
 use Rattle.mc_simple.specs.Rights.{Rights, CompletesRight}

@@ -4,7 +4,6 @@ use Rattle.mc_base.specs.declared.plain.Place.{Place}
 use Rattle.mc_lex.specs.declared.token.Token.{Token}
 use Rattle.mc_ast.specs.declared.trees.Name.{Name}
 use Rattle.mc_ast.specs.declared.trees.Base.{Base}
-use Rattle.mc_ast.specs.declared.trees.Base.TheVariants as Base
 use Rattle.mc_ast.specs.declared.trees.Malloc.{Malloc}
 use Rattle.mc_ast.specs.Trees.{Expr, value, parens, times, CallTree, Right, expression, result_of, allocation}
 use Rattle.mc_ast.specs.Names.{Tokens, IsMark}
@@ -14,9 +13,7 @@ use Rattle.mc_ast.specs.Views.{right_of}
 use Rattle.mc_expression.specs.Expressions.{CompletesExpression, BehindName, BehindOperand, expression_marks}
 use Rattle.mc_simple.specs.declared.right.RightReader.{RightReader}
 use Rattle.mc_simple.specs.declared.right.RightState.{RightState}
-use Rattle.mc_simple.specs.declared.right.RightState.TheVariants as RightState
 use Rattle.mc_simple.specs.declared.right.RightStep.{RightStep}
-use Rattle.mc_simple.specs.declared.right.RightStep.TheVariants as RightStep
 use Rattle.mc_expression.specs.Turns.{InTurn}
 use Rattle.mc_simple.specs.Phrases.{Ended, Next, Either}
 use Rattle.mc_simple.specs.Allocations.{BehindCast, ClosingCast, BehindCastBase, InCast, CompletesAllocation}

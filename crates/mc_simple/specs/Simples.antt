@@ -5,17 +5,14 @@ use Rattle.mc_lex.specs.declared.token.Token.{Token}
 use Rattle.mc_ast.specs.declared.trees.Name.{Name}
 use Rattle.mc_ast.specs.Trees.{Left, Expr, Right, SimpleTree, assign, add, subtract, increment, decrement, increment_first, decrement_first, call}
 use Rattle.mc_ast.specs.Names.{Tokens, IsMark, IsName, name_of}
-use Rattle.mc_ast.specs.Grammar.{Fields, IsLeft, IsSum, IsRight, IsSimple}
+use Rattle.mc_ast.specs.Grammar.{Fields, IsSum, IsRight, IsSimple}
 use Rattle.mc_ast.specs.Readers.{Takes, Finds, IsStuckAt}
 use Rattle.mc_ast.specs.Views.{left_of, simple_of}
 use Rattle.mc_expression.specs.Expressions.{CompletesExpression}
 use Rattle.mc_simple.specs.declared.simple.SimpleReader.{SimpleReader}
 use Rattle.mc_simple.specs.declared.simple.SimpleState.{SimpleState}
-use Rattle.mc_simple.specs.declared.simple.SimpleState.TheVariants as SimpleState
 use Rattle.mc_simple.specs.declared.simple.SimpleStep.{SimpleStep}
-use Rattle.mc_simple.specs.declared.simple.SimpleStep.TheVariants as SimpleStep
 use Rattle.mc_simple.specs.declared.simple.Change.{Change}
-use Rattle.mc_simple.specs.declared.simple.Change.TheVariants as Change
 use Rattle.mc_expression.specs.Turns.{InTurn}
 use Rattle.mc_simple.specs.Phrases.{Ended, Next, Either}
 use Rattle.mc_simple.specs.Calls.{BehindCallParens, CompletesCall}

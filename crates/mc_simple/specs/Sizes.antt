@@ -4,14 +4,11 @@ use Rattle.mc_base.specs.declared.plain.Place.{Place}
 use Rattle.mc_lex.specs.declared.token.Token.{Token}
 use Rattle.mc_ast.specs.declared.trees.Base.{Base}
 use Rattle.mc_ast.specs.declared.trees.Size.{Size}
-use Rattle.mc_ast.specs.declared.trees.Size.TheVariants as Size
 use Rattle.mc_ast.specs.Names.{Tokens, IsMark, IsName, name_of}
 use Rattle.mc_ast.specs.Grammar.{IsSize}
 use Rattle.mc_ast.specs.Readers.{Takes, Closes, IsStuckAt}
 use Rattle.mc_simple.specs.declared.size.SizeReader.{SizeReader}
-use Rattle.mc_simple.specs.declared.size.SizeReader.TheVariants as SizeReader
 use Rattle.mc_simple.specs.declared.size.SizeStep.{SizeStep}
-use Rattle.mc_simple.specs.declared.size.SizeStep.TheVariants as SizeStep
 use Rattle.mc_expression.specs.Turns.{InTurn}
 use Rattle.mc_simple.specs.Phrases.{Ended, Next, Either}
 use Rattle.mc_simple.specs.Bases.{Bases, CompletesBase}

@@ -1,9 +1,5 @@
-use Rattle.std.proofs.Common.{◌≡◌, ℕ, List}
 use Rattle.mc_ast.specs.Names.{IsName, name_of}
-use Rattle.mc_ast.specs.declared.trees.Name.{Name}
 use Rattle.mc_ast.specs.declared.trees.Base.TheVariants as Base
-use Rattle.mc_ast.specs.Readers.{Closes}
-use Rattle.mc_simple.specs.Bases.{BehindStruct}
 use Rattle.mc_simple.proofs.Phrases.{next_closes, next_stuck}
 use Rattle.mc_simple.proofs.Tokens.{only_name}
 use Rattle.mc_simple.proofs.base.behind_struct.Goals as goal

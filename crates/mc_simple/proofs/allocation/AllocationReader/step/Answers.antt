@@ -1,4 +1,3 @@
-use Rattle.std.proofs.Common.{◌≡◌}
 use Rattle.mc_simple.proofs.allocation.AllocationReader.step.Goals as goal
 
 pub returns-in-Base : goal.returns-in-Base

@@ -1,4 +1,3 @@
-use Rattle.std.proofs.Common.{◌≡◌}
 use Rattle.mc_simple.proofs.base.BaseReader.step.Goals as goal
 
 pub returns-in-Start : goal.returns-in-Start
