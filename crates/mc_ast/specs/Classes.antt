@@ -1,11 +1,11 @@
 -- What a token is to the grammar.
-use Rattle.std.specs.Prelude.{◌≡◌, ℕ, List, [], ◌∷◌, IsTrue, codes}
+use Rattle.std.specs.Prelude.{◌≡◌, ℕ, List, [], ◌∷◌, IsTrue, codes, Option, Some, None, if◌then◌else◌}
 use Rattle.std.specs.Bool.{IsFalse}
 use Rattle.mc_lex.specs.declared.token.Token.{Token}
 use Rattle.mc_lex.specs.declared.token.TokenKind.TheVariants as TokenKind
 use Rattle.mc_ast.specs.declared.class.Class.{Class}
 use Rattle.mc_ast.specs.declared.class.Class.TheVariants as Class
-use Rattle.mc_ast.specs.Names.{IsMark, IsWord, IsName, IsNumber, is_in, is_reserved, mark_of}
+use Rattle.mc_ast.specs.Names.{IsMark, IsWord, IsName, IsNumber, is_same, is_in, is_reserved, mark_of}
 
 -- the marks of the grammar
 abbrev pub grammar_marks : List (List ℕ)
@@ -67,3 +67,9 @@ IsClass token Class.Sizeof = IsWord (codes "sizeof") token
 IsClass token Class.OtherMark = (token.kind ≡ TokenKind.Mark) × IsFalse (is_in grammar_marks token.text)
 IsClass token Class.OtherWord = (token.kind ≡ TokenKind.Name) × IsTrue (is_reserved token.text) × IsFalse (is_in grammar_words token.text)
 IsClass token Class.OtherNumber = (token.kind ≡ TokenKind.Number) × ((n : ℕ) → ¬ IsNumber token n)
+
+-- the class at the place where a word first stands among texts
+abbrev pub class_beside : List (List ℕ) → List Class → List ℕ → Option Class
+class_beside [] classes word = None
+class_beside (text ∷ texts) [] word = None
+class_beside (text ∷ texts) (class ∷ classes) word = if is_same word text then Some class else class_beside texts classes word

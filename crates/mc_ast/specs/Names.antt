@@ -8,7 +8,7 @@ use Rattle.mc_lex.specs.declared.token.TokenKind.TheVariants as TokenKind
 use Rattle.mc_lex.specs.Numbers as Numbers
 use Rattle.mc_ast.specs.declared.trees.Name.{Name}
 use Rattle.mc_ast.specs.declared.trees.Comparison.{Comparison}
-use Rattle.mc_ast.specs.declared.trees.Comparison.TheVariants as Comparison
+use Rattle.mc_ast.specs.declared.trees.Comparison.TheVariants.{Equal, Unequal, Below, AtMost, Above, AtLeast}
 
 abbrev pub Tokens : Type 0
 Tokens = List Token
@@ -67,12 +67,12 @@ name_of token = record { text = token.text; place = token.place }
 
 -- the marks of comparisons
 abbrev pub mark_of : Comparison → List ℕ
-mark_of Comparison.Equal = codes "=="
-mark_of Comparison.Unequal = codes "!="
-mark_of Comparison.Below = codes "<"
-mark_of Comparison.AtMost = codes "<="
-mark_of Comparison.Above = codes ">"
-mark_of Comparison.AtLeast = codes ">="
+mark_of Equal = codes "=="
+mark_of Unequal = codes "!="
+mark_of Below = codes "<"
+mark_of AtMost = codes "<="
+mark_of Above = codes ">"
+mark_of AtLeast = codes ">="
 
 -- the tokens do not begin with `else`
 abbrev pub IsNoElse : Tokens → Type 0

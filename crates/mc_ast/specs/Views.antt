@@ -1,5 +1,5 @@
 -- The plain data that the trees of the code stand for.
-use Rattle.std.specs.Prelude.{ℕ, List, [], ◌∷◌, Option, Some, None, map, box_value}
+use Rattle.std.specs.Prelude.{List, map, box_value}
 use Rattle.std.specs.Option.{option_map}
 use Rattle.mc_ast.specs.declared.trees.LeftValue.{LeftValue}
 use Rattle.mc_ast.specs.declared.trees.Expression.{Expression, fold-Expression}
@@ -8,28 +8,22 @@ use Rattle.mc_ast.specs.declared.trees.Condition.{Condition, fold-Condition}
 use Rattle.mc_ast.specs.declared.trees.Condition.TheOpen.{Condition-F}
 use Rattle.mc_ast.specs.declared.trees.Call.{Call}
 use Rattle.mc_ast.specs.declared.trees.RightSide.{RightSide}
-use Rattle.mc_ast.specs.declared.trees.RightSide.TheVariants as RightSide
 use Rattle.mc_ast.specs.Trees.{Left, Expr, number, null, input, value, minus, parens, times, plus, less, Cond, plain, compare, negation, enclosed, both, either, CallTree, Right, expression, result_of, allocation}
 use Rattle.mc_ast.specs.declared.trees.Initial.{Initial}
 use Rattle.mc_ast.specs.declared.trees.Declaration.{Declaration}
 use Rattle.mc_ast.specs.declared.trees.Simple.{Simple}
-use Rattle.mc_ast.specs.declared.trees.Simple.TheVariants as Simple
 use Rattle.mc_ast.specs.declared.trees.ForHead.{ForHead}
 use Rattle.mc_ast.specs.declared.trees.ForStart.{ForStart}
-use Rattle.mc_ast.specs.declared.trees.ForStart.TheVariants as ForStart
 use Rattle.mc_ast.specs.declared.trees.Statement.{Statement, fold-Statement}
 use Rattle.mc_ast.specs.declared.trees.Statement.TheOpen.{Statement-F}
 use Rattle.mc_ast.specs.declared.trees.Field.{Field}
 use Rattle.mc_ast.specs.declared.trees.Struct.{Struct}
 use Rattle.mc_ast.specs.declared.trees.Aliased.{Aliased}
-use Rattle.mc_ast.specs.declared.trees.Aliased.TheVariants as Aliased
 use Rattle.mc_ast.specs.declared.trees.Typedef.{Typedef}
 use Rattle.mc_ast.specs.declared.trees.Parameters.{Parameters}
-use Rattle.mc_ast.specs.declared.trees.Parameters.TheVariants as Parameters
 use Rattle.mc_ast.specs.declared.trees.Body.{Body}
 use Rattle.mc_ast.specs.declared.trees.Function.{Function}
 use Rattle.mc_ast.specs.declared.trees.Item.{Item}
-use Rattle.mc_ast.specs.declared.trees.Item.TheVariants as Item
 use Rattle.mc_ast.specs.declared.trees.Unit.{Unit}
 use Rattle.mc_ast.specs.Trees.{InitialTree, DeclarationTree, SimpleTree, assign, add, subtract, increment, decrement, increment_first, decrement_first, call, Start, nothing, declares, performs, Head, Stmt, declaration, block, empty, simple, free, assert, assume, assume_shape, assert_shape, assert_empty, if_only, if_else, while_loop, do_loop, for_loop, break_loop, continue_loop, returns, stmts_of, FieldTree, StructTree, AliasedTree, of_base, of_struct, TypedefTree, ParametersTree, unnamed, void, listed, BodyTree, FunctionTree, ItemTree, structure, typedef, function, UnitTree}
 

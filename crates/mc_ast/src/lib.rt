@@ -2,9 +2,11 @@
 #![tactic(auto)]
 
 mod class;
+mod laws;
 mod trees;
 
-pub use class::{Class, name_at};
+pub use class::{Class, classify, is_reserved, name_at};
+pub use laws::trees_are_unique;
 pub use trees::{
     Aliased, Argument, AssertShape, AssumeShape, Base, Body, Call, Cast, Comparison, Condition,
     Declaration, Declarator, Expression, Field, ForHead, ForStart, Function, Initial, Item,

@@ -1,6 +1,7 @@
 // The trees of programs: one type for each line of the grammar, with the places of their tokens.
 use mc_base::Place;
 use mc_lex::Text;
+use std::mem;
 
 /// A name, at its place.
 #[derive(Drop)]
@@ -17,7 +18,6 @@ pub struct LeftValue {
 }
 
 /// An expression. What stands in parentheses is a form of its own.
-#[derive(Drop)]
 pub enum Expression {
     Number(u32, Place),
     Null(Place),
@@ -33,6 +33,41 @@ pub enum Expression {
     Less(Box<Expression>, Box<Expression>),
 }
 
+impl Drop for Expression {
+    fn drop(mut self) {
+        let mut waiting = None;
+        loop {
+            match self {
+                Expression::Number(_, _)
+                | Expression::Null(_)
+                | Expression::Input(_)
+                | Expression::Value(_) => match waiting {
+                    Some(next) => {
+                        self = next;
+                        waiting = None;
+                    }
+                    None => return,
+                },
+                Expression::Minus(_, part) | Expression::Parens(_, part) => {
+                    self = Box::into_inner(part);
+                }
+                Expression::Times(mut first, second)
+                | Expression::Plus(mut first, second)
+                | Expression::Less(mut first, second) => match waiting {
+                    Some(next) => {
+                        self = mem::replace(&mut *first, next);
+                        waiting = Some(Expression::Times(second, first));
+                    }
+                    None => {
+                        self = Box::into_inner(first);
+                        waiting = Some(Box::into_inner(second));
+                    }
+                },
+            }
+        }
+    }
+}
+
 #[derive(Clone, Copy, Debug, PartialEq, Eq)]
 pub enum Comparison {
     Equal,
@@ -44,7 +79,6 @@ pub enum Comparison {
 }
 
 /// A condition.
-#[derive(Drop)]
 pub enum Condition {
     /// An expression that is not 0 or null.
     Plain(Expression),
@@ -55,6 +89,38 @@ pub enum Condition {
     Parens(Place, Box<Condition>),
     Both(Box<Condition>, Box<Condition>),
     Either(Box<Condition>, Box<Condition>),
+}
+
+impl Drop for Condition {
+    fn drop(mut self) {
+        let mut waiting = None;
+        loop {
+            match self {
+                Condition::Plain(_) | Condition::Compare(_, _, _) => match waiting {
+                    Some(next) => {
+                        self = next;
+                        waiting = None;
+                    }
+                    None => return,
+                },
+                Condition::Not(_, part) | Condition::Parens(_, part) => {
+                    self = Box::into_inner(part);
+                }
+                Condition::Both(mut first, second) | Condition::Either(mut first, second) => {
+                    match waiting {
+                        Some(next) => {
+                            self = mem::replace(&mut *first, next);
+                            waiting = Some(Condition::Both(second, first));
+                        }
+                        None => {
+                            self = Box::into_inner(first);
+                            waiting = Some(Box::into_inner(second));
+                        }
+                    }
+                }
+            }
+        }
+    }
 }
 
 #[derive(Drop)]
@@ -166,7 +232,6 @@ pub struct AssertShape {
 }
 
 /// A statement, at its first token.
-#[derive(Drop)]
 pub enum Statement {
     Declaration(Declaration),
     Block(Place, Vec<Statement>),
@@ -187,6 +252,164 @@ pub enum Statement {
     Break(Place),
     Continue(Place),
     Return(Place, Option<RightSide>),
+}
+
+// The statements in a statement.
+enum Inside {
+    Nothing,
+    One(Box<Statement>),
+    // Those of an `if` with an `else`, with its condition.
+    Two(Place, Condition, Box<Statement>, Box<Statement>),
+    Many(Place, Vec<Statement>),
+}
+
+impl Statement {
+    ghost use Rattle.mc_ast.specs.Weights.{whole_inside, whole_statement, lone_inside, lone_statement};
+    ghost use Rattle.std.specs.Prelude.{◌≡◌};
+
+    // The statements in it; all else is let go of.
+    fn inside(self) -> Inside
+        ensures whole { whole_inside result ≡ whole_statement self }
+        ensures lone { lone_inside result ≡ lone_statement self }
+    {
+        match self {
+            Statement::Declaration(declaration) => {
+                drop(declaration);
+                Inside::Nothing
+            }
+            Statement::Simple(simple) => {
+                drop(simple);
+                Inside::Nothing
+            }
+            Statement::Free(_, pointer) => {
+                drop(pointer);
+                Inside::Nothing
+            }
+            Statement::Assert(_, condition) => {
+                drop(condition);
+                Inside::Nothing
+            }
+            Statement::Assume(_, condition) => {
+                drop(condition);
+                Inside::Nothing
+            }
+            Statement::AssumeShape(shape) => {
+                drop(shape);
+                Inside::Nothing
+            }
+            Statement::AssertShape(shape) => {
+                drop(shape);
+                Inside::Nothing
+            }
+            Statement::Return(_, value) => {
+                drop(value);
+                Inside::Nothing
+            }
+            Statement::Empty(_) => Inside::Nothing,
+            Statement::AssertEmpty(_) => Inside::Nothing,
+            Statement::Break(_) => Inside::Nothing,
+            Statement::Continue(_) => Inside::Nothing,
+            Statement::If(_, condition, part) => {
+                drop(condition);
+                Inside::One(part)
+            }
+            Statement::While(_, condition, part) => {
+                drop(condition);
+                Inside::One(part)
+            }
+            Statement::Do(_, part, condition) => {
+                drop(condition);
+                Inside::One(part)
+            }
+            Statement::For(head, part) => {
+                drop(head);
+                Inside::One(part)
+            }
+            Statement::IfElse(place, condition, first, second) => {
+                Inside::Two(place, condition, first, second)
+            }
+            Statement::Block(place, parts) => Inside::Many(place, parts),
+        }
+    }
+}
+
+impl Drop for Statement {
+    fn drop(mut self) {
+        let mut waiting = None;
+        loop {
+            match self.inside() {
+                Inside::Nothing => match waiting {
+                    Some(next) => {
+                        self = next;
+                        waiting = None;
+                    }
+                    None => return,
+                },
+                Inside::One(part) => self = Box::into_inner(part),
+                Inside::Two(place, condition, mut first, second) => match waiting {
+                    Some(next) => {
+                        self = mem::replace(&mut *first, next);
+                        waiting = Some(Statement::IfElse(place, condition, second, first));
+                    }
+                    None => {
+                        drop(condition);
+                        self = Box::into_inner(first);
+                        waiting = Some(Box::into_inner(second));
+                    }
+                },
+                Inside::Many(place, parts) => match waiting {
+                    Some(next) => {
+                        let (part, rest) = exchanged(place, parts, next);
+                        self = part;
+                        waiting = rest;
+                    }
+                    None => match taken(place, parts) {
+                        Some((part, rest)) => {
+                            self = part;
+                            waiting = rest;
+                        }
+                        None => return,
+                    },
+                },
+            }
+        }
+    }
+}
+
+ghost use Rattle.mc_ast.specs.Weights.{left_of_statements, lone_statement, whole_statement};
+ghost use Rattle.mc_ast.specs.declared.trees.Statement.TheVariants as Statement;
+ghost use Rattle.std.specs.Prelude.{◌<◌, ◌+◌, IfSome};
+
+// The first statement of a block, and the block with another in its place.
+fn exchanged(
+    place: Place,
+    mut parts: Vec<Statement>,
+    next: Statement,
+) -> (Statement, Option<Statement>)
+    ensures { left_of_statements result.0 result.1 < whole_statement (Statement.Block place parts) + lone_statement next }
+{
+    if parts.is_empty() {
+        parts.destroy_empty();
+        return (next, None);
+    }
+    let first = mem::replace(&mut parts[0], next);
+    (first, Some(Statement::Block(place, parts)))
+}
+
+// The last statement of a block, and the block of those before it.
+fn taken(place: Place, mut parts: Vec<Statement>) -> Option<(Statement, Option<Statement>)>
+    ensures { IfSome result (λ both. left_of_statements both.0 both.1 < lone_statement (Statement.Block place parts)) }
+{
+    let Some(last) = parts.pop() else {
+        parts.destroy_empty();
+        return None;
+    };
+    if parts.is_empty() {
+        parts.destroy_empty();
+        Some((last, None))
+    } else {
+        Some((last, Some(Statement::Block(place, parts))))
+    }
 }
 
 /// What stands in the parentheses of a `for`.

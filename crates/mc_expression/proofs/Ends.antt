@@ -19,16 +19,16 @@ use Rattle.mc_expression.specs.Turns.{InTurn, in_turn, Marked, marked}
 use Rattle.mc_expression.specs.Primaries.{CompletesPrimary, behind_left, behind_arrow, behind_input, behind_open}
 use Rattle.mc_expression.specs.Expressions.{negated, product_of, sum_of, GoesOn, goes_on, Behind, AtOperand, AtSpot, CompletesExpression}
 
-abbrev somewhere : Place
+abbrev pub somewhere : Place
 somewhere = record { line = 1; column = 1 }
 
-abbrev mark_token : List ℕ → Token
+abbrev pub mark_token : List ℕ → Token
 mark_token mark = record { kind = TokenKind.Mark; text = mark; place = somewhere }
 
-abbrev word_token : List ℕ → Token
+abbrev pub word_token : List ℕ → Token
 word_token word = record { kind = TokenKind.Name; text = word; place = somewhere }
 
-is_mark : (mark : List ℕ) → IsMark mark (mark_token mark)
+pub is_mark : (mark : List ℕ) → IsMark mark (mark_token mark)
 is_mark mark = record { kind = refl; text = refl }
 
 pub null_reads : (tokens : Tokens) → IsUnary (null somewhere) (word_token (codes "NULL") ∷ tokens) tokens
@@ -56,7 +56,7 @@ behind_can_end (g ∷ gs) s = group_can_end g gs s (goes_can_end (behind_can_end
 pub unary_can_end : (gs : List Group) (pending : Pending) (u : Expr) → CanEnd (GoesOn pending u (Behind gs))
 unary_can_end gs pending u = goes_can_end (behind_can_end gs (sum_of pending.sum (product_of pending.factor (negated pending.minuses u))))
 
-x_is_name : IsName (word_token (codes "x"))
+pub x_is_name : IsName (word_token (codes "x"))
 x_is_name = record { kind = refl; free = refl }
 
 pub primary_can_end : (p : Primary) → CanEnd (CompletesPrimary p)

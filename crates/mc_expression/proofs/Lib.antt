@@ -5,5 +5,10 @@ pub mod Turns
 pub mod Operands
 pub mod Starts
 pub mod Ends
+pub mod Conditions
+pub mod ConditionOperands
+pub mod Enclosed
+pub mod ConditionStarts
+pub mod ConditionEnds
 pub mod Primaries
 pub mod Expressions

@@ -162,14 +162,19 @@ fn at_operand(
     requires { IsClass token.now class }
     ensures { IfOk result (λ step. StepsCondition (AtConditionOperand groups pending) token.now step) }
 {
-    let begun = match class {
-        Class::Bang => Some(deny(alloc, groups, pending, token)?),
-        Class::OpenParen => Some(open_group(alloc, groups, pending, token)?),
-        _ => begin_operand(alloc, groups, pending, token, class)?,
-    };
-    match begun {
-        Some(reader) => Ok(ConditionStep::Taken(reader)),
-        None => Ok(ConditionStep::Stuck),
+    match class {
+        Class::Bang => {
+            let reader = deny(alloc, groups, pending, token)?;
+            Ok(ConditionStep::Taken(reader))
+        }
+        Class::OpenParen => {
+            let reader = open_group(alloc, groups, pending, token)?;
+            Ok(ConditionStep::Taken(reader))
+        }
+        _ => match begin_operand(alloc, groups, pending, token, class)? {
+            Some(reader) => Ok(ConditionStep::Taken(reader)),
+            None => Ok(ConditionStep::Stuck),
+        },
     }
 }
 
@@ -177,17 +182,26 @@ fn at_operand(
 fn deny(
     alloc: Global,
     groups: Stack<ConditionGroup>,
-    mut pending: ConditionPending,
+    pending: ConditionPending,
     token: &Token,
 ) -> Result<ConditionReader, AllocError>
     requires { IsMark (codes "!") token.now }
     ensures { IfOk result (λ reader. Moves (AtConditionOperand groups pending) (CompletesCondition reader) token.now) }
 {
-    pending.bangs.push(token.place)?;
+    let ConditionPending {
+        either,
+        both,
+        mut bangs,
+    } = pending;
+    bangs.push(token.place)?;
     Ok(ConditionReader {
         alloc,
         groups,
-        pending,
+        pending: ConditionPending {
+            either,
+            both,
+            bangs,
+        },
         spot: ConditionSpot::Operand,
     })
 }
@@ -227,23 +241,27 @@ fn begin_operand(
     requires no_parens { class ≢ Class.OpenParen }
     ensures { IfOk result (λ begun. BeginsCondition (AtConditionOperand groups pending) token.now begun) }
 {
-    let spot = if pending.bangs.is_empty() {
+    if pending.bangs.is_empty() {
         match begin(alloc, token, class)? {
-            Some(reader) => ConditionSpot::Sum(reader),
-            None => return Ok(None),
+            Some(reader) => Ok(Some(ConditionReader {
+                alloc,
+                groups,
+                pending,
+                spot: ConditionSpot::Sum(reader),
+            })),
+            None => Ok(None),
         }
     } else {
         match begin_denied(alloc, token, class)? {
-            Some(primary) => ConditionSpot::Primary(primary),
-            None => return Ok(None),
+            Some(primary) => Ok(Some(ConditionReader {
+                alloc,
+                groups,
+                pending,
+                spot: ConditionSpot::Primary(primary),
+            })),
+            None => Ok(None),
         }
-    };
-    Ok(Some(ConditionReader {
-        alloc,
-        groups,
-        pending,
-        spot,
-    }))
+    }
 }
 
 fn begin_denied(alloc: Global, token: &Token, class: Class) -> Result<Option<Primary>, AllocError>
@@ -273,22 +291,26 @@ fn at_primary(
     requires { IsClass token.now class }
     ensures { IfOk result (λ step. StepsCondition (AtConditionSpot (ConditionSpot.Primary primary) groups pending) token.now step) }
 {
-    let spot = match primary.step(alloc, token, class)? {
-        PrimaryStep::Taken(primary) => ConditionSpot::Primary(primary),
-        PrimaryStep::Closed(operand) => ConditionSpot::Whole(Whole::Plain(operand)),
+    match primary.step(alloc, token, class)? {
+        PrimaryStep::Taken(primary) => Ok(ConditionStep::Taken(ConditionReader {
+            alloc,
+            groups,
+            pending,
+            spot: ConditionSpot::Primary(primary),
+        })),
+        PrimaryStep::Closed(operand) => Ok(ConditionStep::Taken(ConditionReader {
+            alloc,
+            groups,
+            pending,
+            spot: ConditionSpot::Whole(Whole::Plain(operand)),
+        })),
         PrimaryStep::Found(operand) => {
             let whole = Whole::Plain(operand);
             let step = behind_whole(alloc, groups, pending, whole, token, class)?;
-            return Ok(step);
+            Ok(step)
         }
-        PrimaryStep::Stuck => return Ok(ConditionStep::Stuck),
-    };
-    Ok(ConditionStep::Taken(ConditionReader {
-        alloc,
-        groups,
-        pending,
-        spot,
-    }))
+        PrimaryStep::Stuck => Ok(ConditionStep::Stuck),
+    }
 }
 
 fn at_sum(

@@ -7,5 +7,5 @@ mod makes;
 mod primary;
 mod stack;
 
-pub use condition::{ConditionReader, ConditionStep};
-pub use expression::{ExpressionReader, ExpressionStep};
+pub use condition::{ConditionReader, ConditionStep, conditions_can_end};
+pub use expression::{ExpressionReader, ExpressionStep, expressions_can_end};

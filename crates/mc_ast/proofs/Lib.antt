@@ -1,0 +1,8 @@
+pub mod Tables
+pub mod Blocks
+mod Agree
+mod UniqueExpressions
+mod UniqueConditions
+mod UniqueSimples
+mod UniqueStatements
+pub mod UniqueUnits

@@ -1,0 +1,28 @@
+use Rattle.std.proofs.Common.{◌≡◌, subst, sym}
+use Rattle.mc_ast.specs.Trees.{Expr, plain}
+use Rattle.mc_expression.specs.declared.primary.PrimaryStep.{PrimaryStep}
+use Rattle.mc_expression.specs.Primaries.{CompletesPrimary, StepsPrimary, primary_marks}
+use Rattle.mc_expression.specs.Conditions.{Joins, BehindCondition, condition_marks}
+use Rattle.mc_expression.proofs.Turns.{turn_takes, turn_closes, turn_finds, turn_stuck}
+use Rattle.mc_expression.proofs.Conditions.{primary_ends_at, steps_same}
+use Rattle.mc_expression.proofs.condition.at_primary.Goals as goal
+
+pub returns-in-Taken : goal.returns-in-Taken
+returns-in-Taken c =
+    let P : PrimaryStep → Type 0 = StepsPrimary (CompletesPrimary c.args.primary) c.args.token.now in
+    turn_takes primary_marks condition_marks (CompletesPrimary c.args.primary) (CompletesPrimary c.in-Taken.primary) (λ e. Joins c.args.pending (plain e) (BehindCondition c.args.groups)) c.args.token.now (subst P c.in-Taken.is c.in_ok-step.ensures) (primary_ends_at c.args.groups c.args.pending c.args.token.now)
+
+pub returns-in-Closed : goal.returns-in-Closed
+returns-in-Closed c =
+    let P : PrimaryStep → Type 0 = StepsPrimary (CompletesPrimary c.args.primary) c.args.token.now in
+    turn_closes (subst P c.in-Closed.is c.in_ok-step.ensures)
+
+pub returns-in-Stuck : goal.returns-in-Stuck
+returns-in-Stuck c =
+    let P : PrimaryStep → Type 0 = StepsPrimary (CompletesPrimary c.args.primary) c.args.token.now in
+    turn_stuck (subst P c.in-Stuck.is c.in_ok-step.ensures)
+
+pub returns-in_ok-step-in-Found : goal.returns-in_ok-step-in-Found
+returns-in_ok-step-in-Found c =
+    let P : PrimaryStep → Type 0 = StepsPrimary (CompletesPrimary c.args.primary) c.args.token.now in
+    steps_same _ (turn_finds (subst P c.in-Found.is c.in_ok-step.ensures)) c.in_ok-step-in-Found.ensures
