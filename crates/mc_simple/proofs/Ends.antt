@@ -70,9 +70,9 @@ name_ends e = next_ends (word_token (codes "x")) x_is_name e
 
 turn_ends : {X Y : Type 0} {first : Tokens → Tokens → X → Type 0} {behind : X → Tokens → Tokens → Y → Type 0} → (f : CanEnd first) → CanEnd (behind f.tree) → CanEnd (InTurn first behind)
 turn_ends {first = first} {behind = behind} f n = record {
-    more = f.more ++ n.more;
-    tree = n.tree;
-    completes = λ rest. let P : Tokens → Type 0 = λ tokens. InTurn first behind tokens rest n.tree in subst P (sym (append_assoc f.more n.more rest)) (in_turn (f.completes (n.more ++ rest)) (n.completes rest))
+  more = f.more ++ n.more;
+  tree = n.tree;
+  completes = λ rest. let P : Tokens → Type 0 = λ tokens. InTurn first behind tokens rest n.tree in subst P (sym (append_assoc f.more n.more rest)) (in_turn (f.completes (n.more ++ rest)) (n.completes rest));
 }
 
 made_ends : {X Y : Type 0} {first : Tokens → Tokens → X → Type 0} (f : X → Y) → CanEnd first → CanEnd (InTurn first (λ x. Ended (f x)))

@@ -32,12 +32,14 @@ stuck_along s n tokens rest x h = n tokens rest x (s.forward tokens rest x h)
 pub takes_to : {X : Type 0} {marks : List (List ℕ)} {now later other : Tokens → Tokens → X → Type 0} {token : Token} → Takes marks now other token → IsSame later other → Takes marks now later token
 takes_to t s = record {
   forward = λ tokens rest x h. elim (t.forward tokens rest x h) [ inl l ↦ inl (s.backward tokens rest x l) | inr r ↦ inr r ];
-  backward = λ tokens rest x h. t.backward tokens rest x (s.forward tokens rest x h) }
+  backward = λ tokens rest x h. t.backward tokens rest x (s.forward tokens rest x h);
+}
 
 pub takes_more : {X : Type 0} {marks : List (List ℕ)} {now later : Tokens → Tokens → X → Type 0} {token : Token} → Takes [] now later token → Takes marks now later token
 takes_more t = record {
   forward = λ tokens rest x h. elim (t.forward tokens rest x h) [ inl l ↦ inl l | inr r ↦ absurd (let e : false ≡ true = r.1 in cc) ];
-  backward = λ tokens rest x h. t.backward tokens rest x h }
+  backward = λ tokens rest x h. t.backward tokens rest x h;
+}
 
 pub same_same : {X : Type 0} {now : Tokens → Tokens → X → Type 0} → IsSame now now
 same_same = record { forward = λ tokens rest x h. h; backward = λ tokens rest x h. h }

@@ -43,7 +43,13 @@ pub enum AllocationStep {
 
 impl AllocationReader {
     /// Takes a token. `alias` says whether a typedef introduced it.
-    pub fn step(self, alloc: Global, token: &Token, class: Class, alias: bool) -> Result<AllocationStep, AllocError>
+    pub fn step(
+        self,
+        alloc: Global,
+        token: &Token,
+        class: Class,
+        alias: bool,
+    ) -> Result<AllocationStep, AllocError>
         requires { IsClass token.now class }
         ensures { (aliases : List (List ℕ)) → is_in aliases token.now.text ≡ alias → IfOk result (IsAllocationStep aliases (CompletesAllocation aliases self) token.now) }
     {
@@ -53,19 +59,30 @@ impl AllocationReader {
             AllocationReader::CastEnd(cast) => Ok(cast_end(cast, token, class)),
             AllocationReader::Cast(cast) => Ok(behind_cast(cast, token, class)),
             AllocationReader::Malloc(cast, place) => Ok(behind_malloc(cast, place, token, class)),
-            AllocationReader::Size(cast, place, size) => in_size(alloc, cast, place, size, token, class, alias),
+            AllocationReader::Size(cast, place, size) => in_size(
+                alloc, cast, place, size, token, class, alias,
+            ),
             AllocationReader::Close(malloc) => Ok(close(malloc, token, class)),
         }
     }
 }
 
-fn in_base(alloc: Global, place: Place, base: BaseReader, token: &Token, class: Class, alias: bool) -> Result<AllocationStep, AllocError>
+fn in_base(
+    alloc: Global,
+    place: Place,
+    base: BaseReader,
+    token: &Token,
+    class: Class,
+    alias: bool,
+) -> Result<AllocationStep, AllocError>
     requires { IsClass token.now class }
     ensures { (aliases : List (List ℕ)) → is_in aliases token.now.text ≡ alias → IfOk result (IsAllocationStep aliases (InTurn (CompletesBase aliases base) (BehindCastBase aliases place)) token.now) }
 {
     match base.step(alloc, token, class, alias)? {
         BaseStep::Taken(base) => Ok(AllocationStep::Taken(AllocationReader::Base(place, base))),
-        BaseStep::Closed(base) => Ok(AllocationStep::Taken(AllocationReader::CastBase(place, base))),
+        BaseStep::Closed(base) => Ok(AllocationStep::Taken(AllocationReader::CastBase(
+            place, base,
+        ))),
         BaseStep::Stuck => Ok(AllocationStep::Stuck),
     }
 }
@@ -114,18 +131,36 @@ fn behind_malloc(cast: Option<Cast>, place: Place, token: &Token, class: Class) 
     ensures { (aliases : List (List ℕ)) → IsAllocationStep aliases (BehindMalloc aliases cast place) token.now result }
 {
     match class {
-        Class::OpenParen => AllocationStep::Taken(AllocationReader::Size(cast, place, SizeReader::Start)),
+        Class::OpenParen => AllocationStep::Taken(AllocationReader::Size(
+            cast,
+            place,
+            SizeReader::Start,
+        )),
         _ => AllocationStep::Stuck,
     }
 }
 
-fn in_size(alloc: Global, cast: Option<Cast>, place: Place, size: SizeReader, token: &Token, class: Class, alias: bool) -> Result<AllocationStep, AllocError>
+fn in_size(
+    alloc: Global,
+    cast: Option<Cast>,
+    place: Place,
+    size: SizeReader,
+    token: &Token,
+    class: Class,
+    alias: bool,
+) -> Result<AllocationStep, AllocError>
     requires { IsClass token.now class }
     ensures { (aliases : List (List ℕ)) → is_in aliases token.now.text ≡ alias → IfOk result (IsAllocationStep aliases (InTurn (CompletesSize aliases size) (BehindSize cast place)) token.now) }
 {
     match size.step(alloc, token, class, alias)? {
-        SizeStep::Taken(size) => Ok(AllocationStep::Taken(AllocationReader::Size(cast, place, size))),
-        SizeStep::Closed(size) => Ok(AllocationStep::Taken(AllocationReader::Close(Malloc { cast, place, size }))),
+        SizeStep::Taken(size) => Ok(AllocationStep::Taken(AllocationReader::Size(
+            cast, place, size,
+        ))),
+        SizeStep::Closed(size) => Ok(AllocationStep::Taken(AllocationReader::Close(Malloc {
+            cast,
+            place,
+            size,
+        }))),
         SizeStep::Stuck => Ok(AllocationStep::Stuck),
     }
 }

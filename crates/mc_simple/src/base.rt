@@ -29,7 +29,13 @@ pub enum BaseStep {
 
 impl BaseReader {
     /// Takes a token. `alias` says whether a typedef introduced it.
-    pub fn step(self, alloc: Global, token: &Token, class: Class, alias: bool) -> Result<BaseStep, AllocError>
+    pub fn step(
+        self,
+        alloc: Global,
+        token: &Token,
+        class: Class,
+        alias: bool,
+    ) -> Result<BaseStep, AllocError>
         requires { IsClass token.now class }
         ensures { (aliases : List (List ℕ)) → is_in aliases token.now.text ≡ alias → IfOk result (IsBaseStep aliases (CompletesBase aliases self) token.now) }
     {
@@ -59,7 +65,12 @@ fn start(alloc: Global, token: &Token, class: Class, alias: bool) -> Result<Base
     }
 }
 
-fn behind_struct(alloc: Global, place: Place, token: &Token, class: Class) -> Result<BaseStep, AllocError>
+fn behind_struct(
+    alloc: Global,
+    place: Place,
+    token: &Token,
+    class: Class,
+) -> Result<BaseStep, AllocError>
     requires { IsClass token.now class }
     ensures { (aliases : List (List ℕ)) → IfOk result (IsBaseStep aliases (BehindStruct place) token.now) }
 {

@@ -64,17 +64,28 @@ impl CallReader {
         } = self;
         match state {
             CallState::First => first(alloc, function, arguments, token, class),
-            CallState::Argument(reader) => in_argument(alloc, function, arguments, reader, token, class),
+            CallState::Argument(reader) => in_argument(
+                alloc, function, arguments, reader, token, class,
+            ),
         }
     }
 }
 
-fn first(alloc: Global, function: Name, arguments: Vec<Expression>, token: &Token, class: Class) -> Result<CallStep, AllocError>
+fn first(
+    alloc: Global,
+    function: Name,
+    arguments: Vec<Expression>,
+    token: &Token,
+    class: Class,
+) -> Result<CallStep, AllocError>
     requires { IsClass token.now class }
     ensures { IfOk result (IsCallStep (FirstArgument function (expressions_of arguments.items)) token.now) }
 {
     match class {
-        Class::CloseParen => Ok(CallStep::Closed(Call { function, arguments })),
+        Class::CloseParen => Ok(CallStep::Closed(Call {
+            function,
+            arguments,
+        })),
         _ => {
             let reader = ExpressionReader::new(alloc);
             let step = in_argument(alloc, function, arguments, reader, token, class)?;
@@ -83,7 +94,14 @@ fn first(alloc: Global, function: Name, arguments: Vec<Expression>, token: &Toke
     }
 }
 
-fn in_argument(alloc: Global, function: Name, mut arguments: Vec<Expression>, reader: ExpressionReader, token: &Token, class: Class) -> Result<CallStep, AllocError>
+fn in_argument(
+    alloc: Global,
+    function: Name,
+    mut arguments: Vec<Expression>,
+    reader: ExpressionReader,
+    token: &Token,
+    class: Class,
+) -> Result<CallStep, AllocError>
     requires { IsClass token.now class }
     ensures { IfOk result (IsCallStep (InTurn (CompletesExpression reader) (BehindArgument function (expressions_of arguments.items))) token.now) }
 {
@@ -102,7 +120,13 @@ fn in_argument(alloc: Global, function: Name, mut arguments: Vec<Expression>, re
     }
 }
 
-fn behind_argument(alloc: Global, function: Name, arguments: Vec<Expression>, token: &Token, class: Class) -> CallStep
+fn behind_argument(
+    alloc: Global,
+    function: Name,
+    arguments: Vec<Expression>,
+    token: &Token,
+    class: Class,
+) -> CallStep
     requires { IsClass token.now class }
     ensures { IsCallStep (BehindArguments function (expressions_of arguments.items)) token.now result }
 {
@@ -116,7 +140,10 @@ fn behind_argument(alloc: Global, function: Name, arguments: Vec<Expression>, to
                 state: CallState::Argument(reader),
             })
         }
-        Class::CloseParen => CallStep::Closed(Call { function, arguments }),
+        Class::CloseParen => CallStep::Closed(Call {
+            function,
+            arguments,
+        }),
         _ => CallStep::Stuck,
     }
 }

@@ -61,7 +61,12 @@ impl DeclarationReader {
     }
 
     /// Takes a token. `alias` says whether a typedef introduced it.
-    pub fn step(self, token: &Token, class: Class, alias: bool) -> Result<DeclarationStep, AllocError>
+    pub fn step(
+        self,
+        token: &Token,
+        class: Class,
+        alias: bool,
+    ) -> Result<DeclarationStep, AllocError>
         requires { IsClass token.now class }
         ensures { (aliases : List (List ℕ)) → is_in aliases token.now.text ≡ alias → IfOk result (IsDeclarationStep aliases (CompletesDeclaration aliases self) token.now) }
     {
@@ -73,32 +78,61 @@ impl DeclarationReader {
         } = self;
         match state {
             DeclarationState::Start => start(alloc, base, items, token, class),
-            DeclarationState::Pointer(place) => behind_star(alloc, base, items, place, token, class),
-            DeclarationState::Named(declarator) => behind_declarator(alloc, base, items, declarator, token, class),
-            DeclarationState::Value(declarator, reader) => in_value(alloc, base, items, declarator, reader, token, class, alias),
+            DeclarationState::Pointer(place) => behind_star(
+                alloc, base, items, place, token, class,
+            ),
+            DeclarationState::Named(declarator) => behind_declarator(
+                alloc, base, items, declarator, token, class,
+            ),
+            DeclarationState::Value(declarator, reader) => in_value(
+                alloc, base, items, declarator, reader, token, class, alias,
+            ),
         }
     }
 }
 
-fn start(alloc: Global, base: Base, items: Vec<Initial>, token: &Token, class: Class) -> Result<DeclarationStep, AllocError>
+fn start(
+    alloc: Global,
+    base: Base,
+    items: Vec<Initial>,
+    token: &Token,
+    class: Class,
+) -> Result<DeclarationStep, AllocError>
     requires { IsClass token.now class }
     ensures { (aliases : List (List ℕ)) → IfOk result (IsDeclarationStep aliases (BehindComma aliases base (map initial_of items.items)) token.now) }
 {
     match class {
-        Class::Star => Ok(DeclarationStep::Taken(DeclarationReader { alloc, base, items, state: DeclarationState::Pointer(token.place) })),
+        Class::Star => Ok(DeclarationStep::Taken(DeclarationReader {
+            alloc,
+            base,
+            items,
+            state: DeclarationState::Pointer(token.place),
+        })),
         Class::Name => {
             let name = name_at(alloc, token)?;
             let declarator = Declarator {
                 pointer: None,
                 name,
             };
-            Ok(DeclarationStep::Taken(DeclarationReader { alloc, base, items, state: DeclarationState::Named(declarator) }))
+            Ok(DeclarationStep::Taken(DeclarationReader {
+                alloc,
+                base,
+                items,
+                state: DeclarationState::Named(declarator),
+            }))
         }
         _ => Ok(DeclarationStep::Stuck),
     }
 }
 
-fn behind_star(alloc: Global, base: Base, items: Vec<Initial>, place: Place, token: &Token, class: Class) -> Result<DeclarationStep, AllocError>
+fn behind_star(
+    alloc: Global,
+    base: Base,
+    items: Vec<Initial>,
+    place: Place,
+    token: &Token,
+    class: Class,
+) -> Result<DeclarationStep, AllocError>
     requires { IsClass token.now class }
     ensures { (aliases : List (List ℕ)) → IfOk result (IsDeclarationStep aliases (Next IsName (λ name. BehindDeclarator aliases base (map initial_of items.items) (record { pointer = Some place; name = name_of name }))) token.now) }
 {
@@ -109,20 +143,37 @@ fn behind_star(alloc: Global, base: Base, items: Vec<Initial>, place: Place, tok
                 pointer: Some(place),
                 name,
             };
-            Ok(DeclarationStep::Taken(DeclarationReader { alloc, base, items, state: DeclarationState::Named(declarator) }))
+            Ok(DeclarationStep::Taken(DeclarationReader {
+                alloc,
+                base,
+                items,
+                state: DeclarationState::Named(declarator),
+            }))
         }
         _ => Ok(DeclarationStep::Stuck),
     }
 }
 
-fn behind_declarator(alloc: Global, base: Base, mut items: Vec<Initial>, declarator: Declarator, token: &Token, class: Class) -> Result<DeclarationStep, AllocError>
+fn behind_declarator(
+    alloc: Global,
+    base: Base,
+    mut items: Vec<Initial>,
+    declarator: Declarator,
+    token: &Token,
+    class: Class,
+) -> Result<DeclarationStep, AllocError>
     requires { IsClass token.now class }
     ensures { (aliases : List (List ℕ)) → IfOk result (IsDeclarationStep aliases (BehindDeclarator aliases base (map initial_of items.items) declarator) token.now) }
 {
     match class {
         Class::Assign => {
             let reader = RightReader::new(alloc);
-            Ok(DeclarationStep::Taken(DeclarationReader { alloc, base, items, state: DeclarationState::Value(declarator, reader) }))
+            Ok(DeclarationStep::Taken(DeclarationReader {
+                alloc,
+                base,
+                items,
+                state: DeclarationState::Value(declarator, reader),
+            }))
         }
         _ => {
             items.push(Initial {
@@ -134,12 +185,26 @@ fn behind_declarator(alloc: Global, base: Base, mut items: Vec<Initial>, declara
     }
 }
 
-fn in_value(alloc: Global, base: Base, mut items: Vec<Initial>, declarator: Declarator, reader: RightReader, token: &Token, class: Class, alias: bool) -> Result<DeclarationStep, AllocError>
+fn in_value(
+    alloc: Global,
+    base: Base,
+    mut items: Vec<Initial>,
+    declarator: Declarator,
+    reader: RightReader,
+    token: &Token,
+    class: Class,
+    alias: bool,
+) -> Result<DeclarationStep, AllocError>
     requires { IsClass token.now class }
     ensures { (aliases : List (List ℕ)) → is_in aliases token.now.text ≡ alias → IfOk result (IsDeclarationStep aliases (InTurn (CompletesRight aliases reader) (λ r. BehindInitial aliases base (map initial_of items.items) (record { declarator = declarator; value = Some r }))) token.now) }
 {
     match reader.step(token, class, alias)? {
-        RightStep::Taken(reader) => Ok(DeclarationStep::Taken(DeclarationReader { alloc, base, items, state: DeclarationState::Value(declarator, reader) })),
+        RightStep::Taken(reader) => Ok(DeclarationStep::Taken(DeclarationReader {
+            alloc,
+            base,
+            items,
+            state: DeclarationState::Value(declarator, reader),
+        })),
         RightStep::Found(right) => {
             items.push(Initial {
                 declarator,
@@ -151,12 +216,23 @@ fn in_value(alloc: Global, base: Base, mut items: Vec<Initial>, declarator: Decl
     }
 }
 
-fn behind_initial(alloc: Global, base: Base, items: Vec<Initial>, token: &Token, class: Class) -> DeclarationStep
+fn behind_initial(
+    alloc: Global,
+    base: Base,
+    items: Vec<Initial>,
+    token: &Token,
+    class: Class,
+) -> DeclarationStep
     requires { IsClass token.now class }
     ensures { (aliases : List (List ℕ)) → IsDeclarationStep aliases (BehindInitials aliases base (map initial_of items.items)) token.now result }
 {
     match class {
-        Class::Comma => DeclarationStep::Taken(DeclarationReader { alloc, base, items, state: DeclarationState::Start }),
+        Class::Comma => DeclarationStep::Taken(DeclarationReader {
+            alloc,
+            base,
+            items,
+            state: DeclarationState::Start,
+        }),
         Class::Semicolon => DeclarationStep::Closed(Declaration { base, items }),
         _ => DeclarationStep::Stuck,
     }

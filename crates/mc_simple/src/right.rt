@@ -78,7 +78,9 @@ impl RightReader {
             RightState::Named(name) => behind_name(alloc, name, token, class),
             RightState::Opened(place) => opened(alloc, place, token, class, alias),
             RightState::OpenedAlias(place, name) => opened_alias(alloc, place, name, token, class),
-            RightState::OpenedStar(place, name, star) => opened_star(alloc, place, name, star, token, class),
+            RightState::OpenedStar(place, name, star) => opened_star(
+                alloc, place, name, star, token, class,
+            ),
             RightState::Enclosed(place, name) => enclosed(alloc, place, name, token, class),
             RightState::Parens(place, reader) => in_parens(alloc, place, reader, token, class),
             RightState::Sum(reader) => in_sum(alloc, reader, token, class),
@@ -117,7 +119,12 @@ fn start(alloc: Global, token: &Token, class: Class) -> Result<RightStep, AllocE
     }
 }
 
-fn behind_name(alloc: Global, name: Name, token: &Token, class: Class) -> Result<RightStep, AllocError>
+fn behind_name(
+    alloc: Global,
+    name: Name,
+    token: &Token,
+    class: Class,
+) -> Result<RightStep, AllocError>
     requires { IsClass token.now class }
     ensures { (aliases : List (List ℕ)) → IfOk result (IsRightStep aliases (BehindRightName name) token.now) }
 {
@@ -137,7 +144,13 @@ fn behind_name(alloc: Global, name: Name, token: &Token, class: Class) -> Result
     }
 }
 
-fn opened(alloc: Global, place: Place, token: &Token, class: Class, alias: bool) -> Result<RightStep, AllocError>
+fn opened(
+    alloc: Global,
+    place: Place,
+    token: &Token,
+    class: Class,
+    alias: bool,
+) -> Result<RightStep, AllocError>
     requires { IsClass token.now class }
     ensures { (aliases : List (List ℕ)) → is_in aliases token.now.text ≡ alias → IfOk result (IsRightStep aliases (BehindRightParens aliases place) token.now) }
 {
@@ -162,7 +175,12 @@ fn opened(alloc: Global, place: Place, token: &Token, class: Class, alias: bool)
     }
 }
 
-fn opened_name(alloc: Global, place: Place, token: &Token, alias: bool) -> Result<RightStep, AllocError>
+fn opened_name(
+    alloc: Global,
+    place: Place,
+    token: &Token,
+    alias: bool,
+) -> Result<RightStep, AllocError>
     requires { IsName token.now }
     ensures { (aliases : List (List ℕ)) → is_in aliases token.now.text ≡ alias → IfOk result (IsRightStep aliases (BehindRightParens aliases place) token.now) }
 {
@@ -181,7 +199,13 @@ fn opened_name(alloc: Global, place: Place, token: &Token, alias: bool) -> Resul
     }
 }
 
-fn in_cast(alloc: Global, place: Place, token: &Token, class: Class, alias: bool) -> Result<RightStep, AllocError>
+fn in_cast(
+    alloc: Global,
+    place: Place,
+    token: &Token,
+    class: Class,
+    alias: bool,
+) -> Result<RightStep, AllocError>
     requires { IsClass token.now class }
     ensures { (aliases : List (List ℕ)) → is_in aliases token.now.text ≡ alias → IfOk result (IsRightStep aliases (AsAllocation (InCast aliases place)) token.now) }
 {
@@ -190,7 +214,13 @@ fn in_cast(alloc: Global, place: Place, token: &Token, class: Class, alias: bool
     Ok(step)
 }
 
-fn opened_alias(alloc: Global, place: Place, name: Name, token: &Token, class: Class) -> Result<RightStep, AllocError>
+fn opened_alias(
+    alloc: Global,
+    place: Place,
+    name: Name,
+    token: &Token,
+    class: Class,
+) -> Result<RightStep, AllocError>
     requires { IsClass token.now class }
     ensures { (aliases : List (List ℕ)) → IfOk result (IsRightStep aliases (BehindParensAlias aliases place name) token.now) }
 {
@@ -211,7 +241,14 @@ fn opened_alias(alloc: Global, place: Place, name: Name, token: &Token, class: C
     }
 }
 
-fn opened_star(alloc: Global, place: Place, name: Name, star: Place, token: &Token, class: Class) -> Result<RightStep, AllocError>
+fn opened_star(
+    alloc: Global,
+    place: Place,
+    name: Name,
+    star: Place,
+    token: &Token,
+    class: Class,
+) -> Result<RightStep, AllocError>
     requires { IsClass token.now class }
     ensures { (aliases : List (List ℕ)) → IfOk result (IsRightStep aliases (BehindParensStar aliases place name star) token.now) }
 {
@@ -252,7 +289,13 @@ fn behind_times(alloc: Global, name: Name, star: Place) -> Result<ExpressionRead
     }
 }
 
-fn enclosed(alloc: Global, place: Place, name: Name, token: &Token, class: Class) -> Result<RightStep, AllocError>
+fn enclosed(
+    alloc: Global,
+    place: Place,
+    name: Name,
+    token: &Token,
+    class: Class,
+) -> Result<RightStep, AllocError>
     requires { IsClass token.now class }
     ensures { (aliases : List (List ℕ)) → IfOk result (IsRightStep aliases (BehindEnclosed aliases place name) token.now) }
 {
@@ -278,7 +321,13 @@ fn enclosed(alloc: Global, place: Place, name: Name, token: &Token, class: Class
     }
 }
 
-fn in_parens(alloc: Global, place: Place, reader: ExpressionReader, token: &Token, class: Class) -> Result<RightStep, AllocError>
+fn in_parens(
+    alloc: Global,
+    place: Place,
+    reader: ExpressionReader,
+    token: &Token,
+    class: Class,
+) -> Result<RightStep, AllocError>
     requires { IsClass token.now class }
     ensures { (aliases : List (List ℕ)) → IfOk result (IsRightStep aliases (AsExpression (InParens place (CompletesExpression reader))) token.now) }
 {
@@ -295,7 +344,13 @@ fn in_parens(alloc: Global, place: Place, reader: ExpressionReader, token: &Toke
     }
 }
 
-fn behind_parens(alloc: Global, place: Place, inner: Expression, token: &Token, class: Class) -> Result<RightStep, AllocError>
+fn behind_parens(
+    alloc: Global,
+    place: Place,
+    inner: Expression,
+    token: &Token,
+    class: Class,
+) -> Result<RightStep, AllocError>
     requires { IsClass token.now class }
     ensures { (aliases : List (List ℕ)) → IfOk result (IsRightStep aliases (AsExpression (ClosingParens place (expression_of inner))) token.now) }
 {
@@ -312,7 +367,12 @@ fn behind_parens(alloc: Global, place: Place, inner: Expression, token: &Token, 
     }
 }
 
-fn in_sum(alloc: Global, reader: ExpressionReader, token: &Token, class: Class) -> Result<RightStep, AllocError>
+fn in_sum(
+    alloc: Global,
+    reader: ExpressionReader,
+    token: &Token,
+    class: Class,
+) -> Result<RightStep, AllocError>
     requires { IsClass token.now class }
     ensures { (aliases : List (List ℕ)) → IfOk result (IsRightStep aliases (AsExpression (CompletesExpression reader)) token.now) }
 {
@@ -326,7 +386,12 @@ fn in_sum(alloc: Global, reader: ExpressionReader, token: &Token, class: Class) 
     }
 }
 
-fn in_call(alloc: Global, reader: CallReader, token: &Token, class: Class) -> Result<RightStep, AllocError>
+fn in_call(
+    alloc: Global,
+    reader: CallReader,
+    token: &Token,
+    class: Class,
+) -> Result<RightStep, AllocError>
     requires { IsClass token.now class }
     ensures { (aliases : List (List ℕ)) → IfOk result (IsRightStep aliases (AsCall (CompletesCall reader)) token.now) }
 {
@@ -343,7 +408,13 @@ fn in_call(alloc: Global, reader: CallReader, token: &Token, class: Class) -> Re
     }
 }
 
-fn in_allocation(alloc: Global, reader: AllocationReader, token: &Token, class: Class, alias: bool) -> Result<RightStep, AllocError>
+fn in_allocation(
+    alloc: Global,
+    reader: AllocationReader,
+    token: &Token,
+    class: Class,
+    alias: bool,
+) -> Result<RightStep, AllocError>
     requires { IsClass token.now class }
     ensures { (aliases : List (List ℕ)) → is_in aliases token.now.text ≡ alias → IfOk result (IsRightStep aliases (AsAllocation (CompletesAllocation aliases reader)) token.now) }
 {

@@ -97,13 +97,21 @@ impl SimpleReader {
         match state {
             SimpleState::Start => start(alloc, token, class),
             SimpleState::First(change, place) => first(alloc, change, place, token, class),
-            SimpleState::FirstLeft(change, place, left) => Ok(first_left(alloc, change, place, left, token, class)),
-            SimpleState::FirstArrow(change, place, left) => first_arrow(alloc, change, place, left, token, class),
+            SimpleState::FirstLeft(change, place, left) => Ok(first_left(
+                alloc, change, place, left, token, class,
+            )),
+            SimpleState::FirstArrow(change, place, left) => first_arrow(
+                alloc, change, place, left, token, class,
+            ),
             SimpleState::Named(name) => Ok(behind_name(alloc, name, token, class)),
             SimpleState::Left(left) => Ok(behind_left(alloc, left, token, class)),
             SimpleState::Arrow(left) => behind_arrow(alloc, left, token, class),
-            SimpleState::Assign(left, reader) => in_assign(alloc, left, reader, token, class, alias),
-            SimpleState::ChangeBy(change, left, reader) => in_change(alloc, change, left, reader, token, class),
+            SimpleState::Assign(left, reader) => in_assign(
+                alloc, left, reader, token, class, alias,
+            ),
+            SimpleState::ChangeBy(change, left, reader) => in_change(
+                alloc, change, left, reader, token, class,
+            ),
             SimpleState::Call(reader) => in_call(alloc, reader, token, class),
             SimpleState::Done(simple) => Ok(SimpleStep::Found(simple)),
         }
@@ -117,15 +125,30 @@ fn start(alloc: Global, token: &Token, class: Class) -> Result<SimpleStep, Alloc
     match class {
         Class::Name => {
             let name = name_at(alloc, token)?;
-            Ok(SimpleStep::Taken(SimpleReader { alloc, state: SimpleState::Named(name) }))
+            Ok(SimpleStep::Taken(SimpleReader {
+                alloc,
+                state: SimpleState::Named(name),
+            }))
         }
-        Class::PlusPlus => Ok(SimpleStep::Taken(SimpleReader { alloc, state: SimpleState::First(Change::Increment, token.place) })),
-        Class::MinusMinus => Ok(SimpleStep::Taken(SimpleReader { alloc, state: SimpleState::First(Change::Decrement, token.place) })),
+        Class::PlusPlus => Ok(SimpleStep::Taken(SimpleReader {
+            alloc,
+            state: SimpleState::First(Change::Increment, token.place),
+        })),
+        Class::MinusMinus => Ok(SimpleStep::Taken(SimpleReader {
+            alloc,
+            state: SimpleState::First(Change::Decrement, token.place),
+        })),
         _ => Ok(SimpleStep::Stuck),
     }
 }
 
-fn first(alloc: Global, change: Change, place: Place, token: &Token, class: Class) -> Result<SimpleStep, AllocError>
+fn first(
+    alloc: Global,
+    change: Change,
+    place: Place,
+    token: &Token,
+    class: Class,
+) -> Result<SimpleStep, AllocError>
     requires { IsClass token.now class }
     ensures { (aliases : List (List ℕ)) → IfOk result (IsSimpleStep aliases (Next IsName (λ name. InFirst change place (just (name_of name)))) token.now) }
 {
@@ -133,18 +156,31 @@ fn first(alloc: Global, change: Change, place: Place, token: &Token, class: Clas
         Class::Name => {
             let name = name_at(alloc, token)?;
             let left = just(alloc, name);
-            Ok(SimpleStep::Taken(SimpleReader { alloc, state: SimpleState::FirstLeft(change, place, left) }))
+            Ok(SimpleStep::Taken(SimpleReader {
+                alloc,
+                state: SimpleState::FirstLeft(change, place, left),
+            }))
         }
         _ => Ok(SimpleStep::Stuck),
     }
 }
 
-fn first_left(alloc: Global, change: Change, place: Place, left: LeftValue, token: &Token, class: Class) -> SimpleStep
+fn first_left(
+    alloc: Global,
+    change: Change,
+    place: Place,
+    left: LeftValue,
+    token: &Token,
+    class: Class,
+) -> SimpleStep
     requires { IsClass token.now class }
     ensures { (aliases : List (List ℕ)) → IsSimpleStep aliases (InFirst change place (left_of left)) token.now result }
 {
     match class {
-        Class::Arrow => SimpleStep::Taken(SimpleReader { alloc, state: SimpleState::FirstArrow(change, place, left) }),
+        Class::Arrow => SimpleStep::Taken(SimpleReader {
+            alloc,
+            state: SimpleState::FirstArrow(change, place, left),
+        }),
         _ => {
             let simple = changed_first(change, place, left);
             SimpleStep::Found(simple)
@@ -152,7 +188,14 @@ fn first_left(alloc: Global, change: Change, place: Place, left: LeftValue, toke
     }
 }
 
-fn first_arrow(alloc: Global, change: Change, place: Place, left: LeftValue, token: &Token, class: Class) -> Result<SimpleStep, AllocError>
+fn first_arrow(
+    alloc: Global,
+    change: Change,
+    place: Place,
+    left: LeftValue,
+    token: &Token,
+    class: Class,
+) -> Result<SimpleStep, AllocError>
     requires { IsClass token.now class }
     ensures { (aliases : List (List ℕ)) → IfOk result (IsSimpleStep aliases (Next IsName (λ name. InFirst change place (with_field (left_of left) (name_of name)))) token.now) }
 {
@@ -160,7 +203,10 @@ fn first_arrow(alloc: Global, change: Change, place: Place, left: LeftValue, tok
         Class::Name => {
             let name = name_at(alloc, token)?;
             let longer = with_field(left, name)?;
-            Ok(SimpleStep::Taken(SimpleReader { alloc, state: SimpleState::FirstLeft(change, place, longer) }))
+            Ok(SimpleStep::Taken(SimpleReader {
+                alloc,
+                state: SimpleState::FirstLeft(change, place, longer),
+            }))
         }
         _ => Ok(SimpleStep::Stuck),
     }
@@ -173,7 +219,10 @@ fn behind_name(alloc: Global, name: Name, token: &Token, class: Class) -> Simple
     match class {
         Class::OpenParen => {
             let reader = CallReader::new(alloc, name);
-            SimpleStep::Taken(SimpleReader { alloc, state: SimpleState::Call(reader) })
+            SimpleStep::Taken(SimpleReader {
+                alloc,
+                state: SimpleState::Call(reader),
+            })
         }
         _ => {
             let left = just(alloc, name);
@@ -187,26 +236,49 @@ fn behind_left(alloc: Global, left: LeftValue, token: &Token, class: Class) -> S
     ensures { (aliases : List (List ℕ)) → IsSimpleStep aliases (InLeft aliases (left_of left)) token.now result }
 {
     match class {
-        Class::Arrow => SimpleStep::Taken(SimpleReader { alloc, state: SimpleState::Arrow(left) }),
+        Class::Arrow => SimpleStep::Taken(SimpleReader {
+            alloc,
+            state: SimpleState::Arrow(left),
+        }),
         Class::Assign => {
             let reader = RightReader::new(alloc);
-            SimpleStep::Taken(SimpleReader { alloc, state: SimpleState::Assign(left, reader) })
+            SimpleStep::Taken(SimpleReader {
+                alloc,
+                state: SimpleState::Assign(left, reader),
+            })
         }
         Class::PlusAssign => {
             let reader = ExpressionReader::new(alloc);
-            SimpleStep::Taken(SimpleReader { alloc, state: SimpleState::ChangeBy(Change::Increment, left, reader) })
+            SimpleStep::Taken(SimpleReader {
+                alloc,
+                state: SimpleState::ChangeBy(Change::Increment, left, reader),
+            })
         }
         Class::MinusAssign => {
             let reader = ExpressionReader::new(alloc);
-            SimpleStep::Taken(SimpleReader { alloc, state: SimpleState::ChangeBy(Change::Decrement, left, reader) })
+            SimpleStep::Taken(SimpleReader {
+                alloc,
+                state: SimpleState::ChangeBy(Change::Decrement, left, reader),
+            })
         }
-        Class::PlusPlus => SimpleStep::Taken(SimpleReader { alloc, state: SimpleState::Done(Simple::Increment(left)) }),
-        Class::MinusMinus => SimpleStep::Taken(SimpleReader { alloc, state: SimpleState::Done(Simple::Decrement(left)) }),
+        Class::PlusPlus => SimpleStep::Taken(SimpleReader {
+            alloc,
+            state: SimpleState::Done(Simple::Increment(left)),
+        }),
+        Class::MinusMinus => SimpleStep::Taken(SimpleReader {
+            alloc,
+            state: SimpleState::Done(Simple::Decrement(left)),
+        }),
         _ => SimpleStep::Stuck,
     }
 }
 
-fn behind_arrow(alloc: Global, left: LeftValue, token: &Token, class: Class) -> Result<SimpleStep, AllocError>
+fn behind_arrow(
+    alloc: Global,
+    left: LeftValue,
+    token: &Token,
+    class: Class,
+) -> Result<SimpleStep, AllocError>
     requires { IsClass token.now class }
     ensures { (aliases : List (List ℕ)) → IfOk result (IsSimpleStep aliases (Next IsName (λ name. InLeft aliases (with_field (left_of left) (name_of name)))) token.now) }
 {
@@ -214,29 +286,52 @@ fn behind_arrow(alloc: Global, left: LeftValue, token: &Token, class: Class) -> 
         Class::Name => {
             let name = name_at(alloc, token)?;
             let longer = with_field(left, name)?;
-            Ok(SimpleStep::Taken(SimpleReader { alloc, state: SimpleState::Left(longer) }))
+            Ok(SimpleStep::Taken(SimpleReader {
+                alloc,
+                state: SimpleState::Left(longer),
+            }))
         }
         _ => Ok(SimpleStep::Stuck),
     }
 }
 
-fn in_assign(alloc: Global, left: LeftValue, reader: RightReader, token: &Token, class: Class, alias: bool) -> Result<SimpleStep, AllocError>
+fn in_assign(
+    alloc: Global,
+    left: LeftValue,
+    reader: RightReader,
+    token: &Token,
+    class: Class,
+    alias: bool,
+) -> Result<SimpleStep, AllocError>
     requires { IsClass token.now class }
     ensures { (aliases : List (List ℕ)) → is_in aliases token.now.text ≡ alias → IfOk result (IsSimpleStep aliases (InTurn (CompletesRight aliases reader) (λ r. Ended (assign (left_of left) r))) token.now) }
 {
     match reader.step(token, class, alias)? {
-        RightStep::Taken(reader) => Ok(SimpleStep::Taken(SimpleReader { alloc, state: SimpleState::Assign(left, reader) })),
+        RightStep::Taken(reader) => Ok(SimpleStep::Taken(SimpleReader {
+            alloc,
+            state: SimpleState::Assign(left, reader),
+        })),
         RightStep::Found(right) => Ok(SimpleStep::Found(Simple::Assign(left, right))),
         RightStep::Stuck => Ok(SimpleStep::Stuck),
     }
 }
 
-fn in_change(alloc: Global, change: Change, left: LeftValue, reader: ExpressionReader, token: &Token, class: Class) -> Result<SimpleStep, AllocError>
+fn in_change(
+    alloc: Global,
+    change: Change,
+    left: LeftValue,
+    reader: ExpressionReader,
+    token: &Token,
+    class: Class,
+) -> Result<SimpleStep, AllocError>
     requires { IsClass token.now class }
     ensures { (aliases : List (List ℕ)) → IfOk result (IsSimpleStep aliases (InTurn (CompletesExpression reader) (λ e. Ended (changed_by change (left_of left) e))) token.now) }
 {
     match reader.step(token, class)? {
-        ExpressionStep::Taken(reader) => Ok(SimpleStep::Taken(SimpleReader { alloc, state: SimpleState::ChangeBy(change, left, reader) })),
+        ExpressionStep::Taken(reader) => Ok(SimpleStep::Taken(SimpleReader {
+            alloc,
+            state: SimpleState::ChangeBy(change, left, reader),
+        })),
         ExpressionStep::Found(by) => {
             let simple = changed_by(change, left, by);
             Ok(SimpleStep::Found(simple))
@@ -245,13 +340,24 @@ fn in_change(alloc: Global, change: Change, left: LeftValue, reader: ExpressionR
     }
 }
 
-fn in_call(alloc: Global, reader: CallReader, token: &Token, class: Class) -> Result<SimpleStep, AllocError>
+fn in_call(
+    alloc: Global,
+    reader: CallReader,
+    token: &Token,
+    class: Class,
+) -> Result<SimpleStep, AllocError>
     requires { IsClass token.now class }
     ensures { (aliases : List (List ℕ)) → IfOk result (IsSimpleStep aliases (InTurn (CompletesCall reader) (λ c. Ended (call c))) token.now) }
 {
     match reader.step(token, class)? {
-        CallStep::Taken(reader) => Ok(SimpleStep::Taken(SimpleReader { alloc, state: SimpleState::Call(reader) })),
-        CallStep::Closed(call) => Ok(SimpleStep::Taken(SimpleReader { alloc, state: SimpleState::Done(Simple::Call(call)) })),
+        CallStep::Taken(reader) => Ok(SimpleStep::Taken(SimpleReader {
+            alloc,
+            state: SimpleState::Call(reader),
+        })),
+        CallStep::Closed(call) => Ok(SimpleStep::Taken(SimpleReader {
+            alloc,
+            state: SimpleState::Done(Simple::Call(call)),
+        })),
         CallStep::Stuck => Ok(SimpleStep::Stuck),
     }
 }

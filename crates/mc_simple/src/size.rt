@@ -40,7 +40,13 @@ pub enum SizeStep {
 
 impl SizeReader {
     /// Takes a token. `alias` says whether a typedef introduced it.
-    pub fn step(self, alloc: Global, token: &Token, class: Class, alias: bool) -> Result<SizeStep, AllocError>
+    pub fn step(
+        self,
+        alloc: Global,
+        token: &Token,
+        class: Class,
+        alias: bool,
+    ) -> Result<SizeStep, AllocError>
         requires { IsClass token.now class }
         ensures { (aliases : List (List ℕ)) → is_in aliases token.now.text ≡ alias → IfOk result (IsSizeStep aliases (CompletesSize aliases self) token.now) }
     {
@@ -77,7 +83,13 @@ fn behind_sizeof(place: Place, token: &Token, class: Class) -> SizeStep
     }
 }
 
-fn behind_parens(alloc: Global, place: Place, token: &Token, class: Class, alias: bool) -> Result<SizeStep, AllocError>
+fn behind_parens(
+    alloc: Global,
+    place: Place,
+    token: &Token,
+    class: Class,
+    alias: bool,
+) -> Result<SizeStep, AllocError>
     requires { IsClass token.now class }
     ensures { (aliases : List (List ℕ)) → is_in aliases token.now.text ≡ alias → IfOk result (IsSizeStep aliases (BehindParens aliases place) token.now) }
 {
@@ -90,7 +102,14 @@ fn behind_parens(alloc: Global, place: Place, token: &Token, class: Class, alias
     }
 }
 
-fn in_base(alloc: Global, place: Place, base: BaseReader, token: &Token, class: Class, alias: bool) -> Result<SizeStep, AllocError>
+fn in_base(
+    alloc: Global,
+    place: Place,
+    base: BaseReader,
+    token: &Token,
+    class: Class,
+    alias: bool,
+) -> Result<SizeStep, AllocError>
     requires { IsClass token.now class }
     ensures { (aliases : List (List ℕ)) → is_in aliases token.now.text ≡ alias → IfOk result (IsSizeStep aliases (InTurn (CompletesBase aliases base) (BehindType place)) token.now) }
 {
@@ -101,7 +120,12 @@ fn in_base(alloc: Global, place: Place, base: BaseReader, token: &Token, class: 
     }
 }
 
-fn behind_parens_star(alloc: Global, place: Place, token: &Token, class: Class) -> Result<SizeStep, AllocError>
+fn behind_parens_star(
+    alloc: Global,
+    place: Place,
+    token: &Token,
+    class: Class,
+) -> Result<SizeStep, AllocError>
     requires { IsClass token.now class }
     ensures { (aliases : List (List ℕ)) → IfOk result (IsSizeStep aliases (BehindParensStar place) token.now) }
 {
@@ -114,7 +138,12 @@ fn behind_parens_star(alloc: Global, place: Place, token: &Token, class: Class) 
     }
 }
 
-fn behind_star(alloc: Global, place: Place, token: &Token, class: Class) -> Result<SizeStep, AllocError>
+fn behind_star(
+    alloc: Global,
+    place: Place,
+    token: &Token,
+    class: Class,
+) -> Result<SizeStep, AllocError>
     requires { IsClass token.now class }
     ensures { (aliases : List (List ℕ)) → IfOk result (IsSizeStep aliases (BehindStar place) token.now) }
 {
