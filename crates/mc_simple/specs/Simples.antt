@@ -1,0 +1,92 @@
+-- What completes a simple statement.
+use Rattle.std.specs.Prelude.{ℕ, List, [], ◌∷◌, ◌++◌, codes}
+use Rattle.mc_base.specs.declared.plain.Place.{Place}
+use Rattle.mc_lex.specs.declared.token.Token.{Token}
+use Rattle.mc_ast.specs.declared.trees.Name.{Name}
+use Rattle.mc_ast.specs.Trees.{Left, Expr, Right, SimpleTree, assign, add, subtract, increment, decrement, increment_first, decrement_first, call}
+use Rattle.mc_ast.specs.Names.{Tokens, IsMark, IsName, name_of}
+use Rattle.mc_ast.specs.Grammar.{Fields, IsSum, IsRight, IsSimple}
+use Rattle.mc_ast.specs.Readers.{Takes, Finds, IsStuckAt}
+use Rattle.mc_ast.specs.Views.{left_of, simple_of}
+use Rattle.mc_expression.specs.Expressions.{CompletesExpression}
+use Rattle.mc_simple.specs.declared.simple.SimpleReader.{SimpleReader}
+use Rattle.mc_simple.specs.declared.simple.SimpleState.{SimpleState}
+use Rattle.mc_simple.specs.declared.simple.SimpleStep.{SimpleStep}
+use Rattle.mc_simple.specs.declared.simple.Change.{Change}
+use Rattle.mc_expression.specs.Turns.{InTurn}
+use Rattle.mc_simple.specs.Phrases.{Ended, Next, Either}
+use Rattle.mc_simple.specs.Calls.{BehindCallParens, CompletesCall}
+use Rattle.mc_simple.specs.Rights.{CompletesRight, right_marks}
+
+-- the marks and words with which a complete simple statement can go on
+abbrev pub simple_marks : List (List ℕ)
+simple_marks = right_marks
+
+-- `++x` or `--x`
+abbrev pub changed_first : Change → Place → Left → SimpleTree
+changed_first Change.Increment place l = increment_first place l
+changed_first Change.Decrement place l = decrement_first place l
+
+-- `x += e` or `x -= e`
+abbrev pub changed_by : Change → Left → Expr → SimpleTree
+changed_by Change.Increment l e = add l e
+changed_by Change.Decrement l e = subtract l e
+
+-- a simple statement
+abbrev pub Simples : List (List ℕ) → Tokens → Tokens → SimpleTree → Type 0
+Simples aliases tokens rest s = IsSimple aliases s tokens rest
+
+-- the fields behind a variable or field
+abbrev pub MoreFields : Left → Tokens → Tokens → Left → Type 0
+MoreFields l tokens rest all = Fields l tokens all rest
+
+-- a field more
+abbrev pub with_field : Left → Name → Left
+with_field l name = record { name = l.name; fields = l.fields ++ name ∷ [] }
+
+-- a name alone
+abbrev pub just : Name → Left
+just name = record { name = name; fields = [] }
+
+-- behind a variable or field
+pub data BehindLeft (aliases : List (List ℕ)) (l : Left) : Tokens → Tokens → SimpleTree → Type 0 where
+  assigns : {r : Right} {mark : Token} {tokens rest : Tokens} → IsMark (codes "=") mark → IsRight aliases r tokens rest → BehindLeft aliases l (mark ∷ tokens) rest (assign l r)
+  adds : {e : Expr} {mark : Token} {tokens rest : Tokens} → IsMark (codes "+=") mark → IsSum e tokens rest → BehindLeft aliases l (mark ∷ tokens) rest (add l e)
+  subtracts : {e : Expr} {mark : Token} {tokens rest : Tokens} → IsMark (codes "-=") mark → IsSum e tokens rest → BehindLeft aliases l (mark ∷ tokens) rest (subtract l e)
+  increments : {mark : Token} {tokens : Tokens} → IsMark (codes "++") mark → BehindLeft aliases l (mark ∷ tokens) tokens (increment l)
+  decrements : {mark : Token} {tokens : Tokens} → IsMark (codes "--") mark → BehindLeft aliases l (mark ∷ tokens) tokens (decrement l)
+
+-- behind a name, or a field of it, with which a statement begins
+abbrev pub InLeft : List (List ℕ) → Left → Tokens → Tokens → SimpleTree → Type 0
+InLeft aliases l = InTurn (MoreFields l) (BehindLeft aliases)
+
+-- behind a name with which a statement begins
+abbrev pub BehindSimpleName : List (List ℕ) → Name → Tokens → Tokens → SimpleTree → Type 0
+BehindSimpleName aliases name = Either (InLeft aliases (just name)) (Next (IsMark (codes "(")) (λ before. InTurn (BehindCallParens name) (λ c. Ended (call c))))
+
+-- behind `++x` or `--x`, or a field of x
+abbrev pub InFirst : Change → Place → Left → Tokens → Tokens → SimpleTree → Type 0
+InFirst change place l = InTurn (MoreFields l) (λ all. Ended (changed_first change place all))
+
+-- the tokens complete what was read of a simple statement
+abbrev pub CompletesSimpleState : List (List ℕ) → SimpleState → Tokens → Tokens → SimpleTree → Type 0
+CompletesSimpleState aliases SimpleState.Start = Simples aliases
+CompletesSimpleState aliases (SimpleState.First change place) = Next IsName (λ name. InFirst change place (just (name_of name)))
+CompletesSimpleState aliases (SimpleState.FirstLeft change place l) = InFirst change place (left_of l)
+CompletesSimpleState aliases (SimpleState.FirstArrow change place l) = Next IsName (λ name. InFirst change place (with_field (left_of l) (name_of name)))
+CompletesSimpleState aliases (SimpleState.Named name) = BehindSimpleName aliases name
+CompletesSimpleState aliases (SimpleState.Left l) = InLeft aliases (left_of l)
+CompletesSimpleState aliases (SimpleState.Arrow l) = Next IsName (λ name. InLeft aliases (with_field (left_of l) (name_of name)))
+CompletesSimpleState aliases (SimpleState.Assign l reader) = InTurn (CompletesRight aliases reader) (λ r. Ended (assign (left_of l) r))
+CompletesSimpleState aliases (SimpleState.ChangeBy change l reader) = InTurn (CompletesExpression reader) (λ e. Ended (changed_by change (left_of l) e))
+CompletesSimpleState aliases (SimpleState.Call reader) = InTurn (CompletesCall reader) (λ c. Ended (call c))
+CompletesSimpleState aliases (SimpleState.Done simple) = Ended (simple_of simple)
+
+abbrev pub CompletesSimple : List (List ℕ) → SimpleReader → Tokens → Tokens → SimpleTree → Type 0
+CompletesSimple aliases reader = CompletesSimpleState aliases reader.state
+
+-- what a step of the reader says
+abbrev pub IsSimpleStep : List (List ℕ) → (Tokens → Tokens → SimpleTree → Type 0) → Token → SimpleStep → Type 0
+IsSimpleStep aliases now token (SimpleStep.Taken reader) = Takes simple_marks now (CompletesSimple aliases reader) token
+IsSimpleStep aliases now token (SimpleStep.Found simple) = Finds now token (simple_of simple)
+IsSimpleStep aliases now token SimpleStep.Stuck = IsStuckAt now token

@@ -1,0 +1,411 @@
+// Reads a simple statement.
+ghost use Rattle.std.specs.Prelude.{◌≡◌, ◌∷◌, ℕ, List, IfOk};
+ghost use Rattle.mc_lex.specs.declared.token.Token.{Token};
+ghost use Rattle.mc_ast.specs.Classes.{IsClass};
+ghost use Rattle.mc_ast.specs.Names.{is_in, IsName, name_of};
+ghost use Rattle.mc_ast.specs.Grammar.{IsSimple};
+ghost use Rattle.mc_ast.specs.Readers.{IsSame, CanEnd};
+ghost use Rattle.mc_simple.specs.Simples.{Simples, InFirst, InLeft, BehindSimpleName, just, with_field, changed_first, changed_by, CompletesSimple, IsSimpleStep};
+ghost use Rattle.mc_simple.specs.Rights.{CompletesRight};
+ghost use Rattle.mc_simple.specs.Calls.{CompletesCall};
+ghost use Rattle.mc_simple.specs.Phrases.{Ended, Next};
+ghost use Rattle.mc_ast.specs.Trees.{assign, call};
+ghost use Rattle.mc_ast.specs.Views.{left_of, simple_of, expression_of};
+ghost use Rattle.mc_expression.specs.Turns.{InTurn};
+ghost use Rattle.mc_expression.specs.Expressions.{CompletesExpression};
+ghost use Rattle.mc_simple.specs.declared.simple.SimpleReader.{SimpleReader};
+
+use crate::call::{CallReader, CallStep};
+use crate::right::{RightReader, RightStep};
+use mc_ast::{Class, Expression, LeftValue, Name, Simple, name_at};
+use mc_base::Place;
+use mc_expression::{ExpressionReader, ExpressionStep, expressions_can_end};
+use mc_lex::Token;
+use std::alloc::{AllocError, Global};
+
+/// Reads a simple statement: an assignment, `+=`, `-=`, `++`, `--` or a call.
+#[derive(Drop)]
+pub struct SimpleReader {
+    alloc: Global,
+    state: SimpleState,
+}
+
+/// By one up, or by one down.
+#[derive(Clone, Copy, Debug, PartialEq, Eq)]
+enum Change {
+    Increment,
+    Decrement,
+}
+
+#[derive(Drop)]
+enum SimpleState {
+    Start,
+    /// Behind a first `++` or `--`.
+    First(Change, Place),
+    /// Behind a variable or field behind a first `++` or `--`.
+    FirstLeft(Change, Place, LeftValue),
+    /// Behind the `->` of such a one.
+    FirstArrow(Change, Place, LeftValue),
+    /// Behind a first name.
+    Named(Name),
+    /// Behind a field.
+    Left(LeftValue),
+    /// Behind the `->` of a variable or field.
+    Arrow(LeftValue),
+    /// Behind `=`.
+    Assign(LeftValue, RightReader),
+    /// Behind `+=` or `-=`.
+    ChangeBy(Change, LeftValue, ExpressionReader),
+    Call(CallReader),
+    Done(Simple),
+}
+
+/// What a token does to a simple statement.
+#[derive(Drop)]
+pub enum SimpleStep {
+    Taken(SimpleReader),
+    Found(Simple),
+    Stuck,
+}
+
+impl SimpleReader {
+    pub fn new(alloc: Global) -> SimpleReader
+        ensures { (aliases : List (List ℕ)) → IsSame (CompletesSimple aliases result) (Simples aliases) }
+    {
+        SimpleReader {
+            alloc,
+            state: SimpleState::Start,
+        }
+    }
+
+    /// Behind a name with which the statement begins.
+    pub fn behind_name(alloc: Global, name: Name) -> SimpleReader
+        ensures { (aliases : List (List ℕ)) (token : Token) → IsName token → name_of token ≡ name → IsSame (CompletesSimple aliases result) (λ tokens rest s. IsSimple aliases s (token ∷ tokens) rest) }
+    {
+        SimpleReader {
+            alloc,
+            state: SimpleState::Named(name),
+        }
+    }
+
+    /// Takes a token. `alias` says whether a typedef introduced it.
+    pub fn step(self, token: &Token, class: Class, alias: bool) -> Result<SimpleStep, AllocError>
+        requires { IsClass token.now class }
+        ensures { (aliases : List (List ℕ)) → is_in aliases token.now.text ≡ alias → IfOk result (IsSimpleStep aliases (CompletesSimple aliases self) token.now) }
+    {
+        let SimpleReader { alloc, state } = self;
+        match state {
+            SimpleState::Start => start(alloc, token, class),
+            SimpleState::First(change, place) => first(alloc, change, place, token, class),
+            SimpleState::FirstLeft(change, place, left) => Ok(first_left(
+                alloc, change, place, left, token, class,
+            )),
+            SimpleState::FirstArrow(change, place, left) => first_arrow(
+                alloc, change, place, left, token, class,
+            ),
+            SimpleState::Named(name) => Ok(behind_name(alloc, name, token, class)),
+            SimpleState::Left(left) => Ok(behind_left(alloc, left, token, class)),
+            SimpleState::Arrow(left) => behind_arrow(alloc, left, token, class),
+            SimpleState::Assign(left, reader) => in_assign(
+                alloc, left, reader, token, class, alias,
+            ),
+            SimpleState::ChangeBy(change, left, reader) => in_change(
+                alloc, change, left, reader, token, class,
+            ),
+            SimpleState::Call(reader) => in_call(alloc, reader, token, class),
+            SimpleState::Done(simple) => Ok(SimpleStep::Found(simple)),
+        }
+    }
+}
+
+fn start(alloc: Global, token: &Token, class: Class) -> Result<SimpleStep, AllocError>
+    requires { IsClass token.now class }
+    ensures { (aliases : List (List ℕ)) → IfOk result (IsSimpleStep aliases (Simples aliases) token.now) }
+{
+    match class {
+        Class::Name => {
+            let name = name_at(alloc, token)?;
+            Ok(SimpleStep::Taken(SimpleReader {
+                alloc,
+                state: SimpleState::Named(name),
+            }))
+        }
+        Class::PlusPlus => Ok(SimpleStep::Taken(SimpleReader {
+            alloc,
+            state: SimpleState::First(Change::Increment, token.place),
+        })),
+        Class::MinusMinus => Ok(SimpleStep::Taken(SimpleReader {
+            alloc,
+            state: SimpleState::First(Change::Decrement, token.place),
+        })),
+        _ => Ok(SimpleStep::Stuck),
+    }
+}
+
+fn first(
+    alloc: Global,
+    change: Change,
+    place: Place,
+    token: &Token,
+    class: Class,
+) -> Result<SimpleStep, AllocError>
+    requires { IsClass token.now class }
+    ensures { (aliases : List (List ℕ)) → IfOk result (IsSimpleStep aliases (Next IsName (λ name. InFirst change place (just (name_of name)))) token.now) }
+{
+    match class {
+        Class::Name => {
+            let name = name_at(alloc, token)?;
+            let left = just(alloc, name);
+            Ok(SimpleStep::Taken(SimpleReader {
+                alloc,
+                state: SimpleState::FirstLeft(change, place, left),
+            }))
+        }
+        _ => Ok(SimpleStep::Stuck),
+    }
+}
+
+fn first_left(
+    alloc: Global,
+    change: Change,
+    place: Place,
+    left: LeftValue,
+    token: &Token,
+    class: Class,
+) -> SimpleStep
+    requires { IsClass token.now class }
+    ensures { (aliases : List (List ℕ)) → IsSimpleStep aliases (InFirst change place (left_of left)) token.now result }
+{
+    match class {
+        Class::Arrow => SimpleStep::Taken(SimpleReader {
+            alloc,
+            state: SimpleState::FirstArrow(change, place, left),
+        }),
+        _ => {
+            let simple = changed_first(change, place, left);
+            SimpleStep::Found(simple)
+        }
+    }
+}
+
+fn first_arrow(
+    alloc: Global,
+    change: Change,
+    place: Place,
+    left: LeftValue,
+    token: &Token,
+    class: Class,
+) -> Result<SimpleStep, AllocError>
+    requires { IsClass token.now class }
+    ensures { (aliases : List (List ℕ)) → IfOk result (IsSimpleStep aliases (Next IsName (λ name. InFirst change place (with_field (left_of left) (name_of name)))) token.now) }
+{
+    match class {
+        Class::Name => {
+            let name = name_at(alloc, token)?;
+            let longer = with_field(left, name)?;
+            Ok(SimpleStep::Taken(SimpleReader {
+                alloc,
+                state: SimpleState::FirstLeft(change, place, longer),
+            }))
+        }
+        _ => Ok(SimpleStep::Stuck),
+    }
+}
+
+fn behind_name(alloc: Global, name: Name, token: &Token, class: Class) -> SimpleStep
+    requires { IsClass token.now class }
+    ensures { (aliases : List (List ℕ)) → IsSimpleStep aliases (BehindSimpleName aliases name) token.now result }
+{
+    match class {
+        Class::OpenParen => {
+            let reader = CallReader::new(alloc, name);
+            SimpleStep::Taken(SimpleReader {
+                alloc,
+                state: SimpleState::Call(reader),
+            })
+        }
+        _ => {
+            let left = just(alloc, name);
+            behind_left(alloc, left, token, class)
+        }
+    }
+}
+
+fn behind_left(alloc: Global, left: LeftValue, token: &Token, class: Class) -> SimpleStep
+    requires { IsClass token.now class }
+    ensures { (aliases : List (List ℕ)) → IsSimpleStep aliases (InLeft aliases (left_of left)) token.now result }
+{
+    match class {
+        Class::Arrow => SimpleStep::Taken(SimpleReader {
+            alloc,
+            state: SimpleState::Arrow(left),
+        }),
+        Class::Assign => {
+            let reader = RightReader::new(alloc);
+            SimpleStep::Taken(SimpleReader {
+                alloc,
+                state: SimpleState::Assign(left, reader),
+            })
+        }
+        Class::PlusAssign => {
+            let reader = ExpressionReader::new(alloc);
+            SimpleStep::Taken(SimpleReader {
+                alloc,
+                state: SimpleState::ChangeBy(Change::Increment, left, reader),
+            })
+        }
+        Class::MinusAssign => {
+            let reader = ExpressionReader::new(alloc);
+            SimpleStep::Taken(SimpleReader {
+                alloc,
+                state: SimpleState::ChangeBy(Change::Decrement, left, reader),
+            })
+        }
+        Class::PlusPlus => SimpleStep::Taken(SimpleReader {
+            alloc,
+            state: SimpleState::Done(Simple::Increment(left)),
+        }),
+        Class::MinusMinus => SimpleStep::Taken(SimpleReader {
+            alloc,
+            state: SimpleState::Done(Simple::Decrement(left)),
+        }),
+        _ => SimpleStep::Stuck,
+    }
+}
+
+fn behind_arrow(
+    alloc: Global,
+    left: LeftValue,
+    token: &Token,
+    class: Class,
+) -> Result<SimpleStep, AllocError>
+    requires { IsClass token.now class }
+    ensures { (aliases : List (List ℕ)) → IfOk result (IsSimpleStep aliases (Next IsName (λ name. InLeft aliases (with_field (left_of left) (name_of name)))) token.now) }
+{
+    match class {
+        Class::Name => {
+            let name = name_at(alloc, token)?;
+            let longer = with_field(left, name)?;
+            Ok(SimpleStep::Taken(SimpleReader {
+                alloc,
+                state: SimpleState::Left(longer),
+            }))
+        }
+        _ => Ok(SimpleStep::Stuck),
+    }
+}
+
+fn in_assign(
+    alloc: Global,
+    left: LeftValue,
+    reader: RightReader,
+    token: &Token,
+    class: Class,
+    alias: bool,
+) -> Result<SimpleStep, AllocError>
+    requires { IsClass token.now class }
+    ensures { (aliases : List (List ℕ)) → is_in aliases token.now.text ≡ alias → IfOk result (IsSimpleStep aliases (InTurn (CompletesRight aliases reader) (λ r. Ended (assign (left_of left) r))) token.now) }
+{
+    match reader.step(token, class, alias)? {
+        RightStep::Taken(reader) => Ok(SimpleStep::Taken(SimpleReader {
+            alloc,
+            state: SimpleState::Assign(left, reader),
+        })),
+        RightStep::Found(right) => Ok(SimpleStep::Found(Simple::Assign(left, right))),
+        RightStep::Stuck => Ok(SimpleStep::Stuck),
+    }
+}
+
+fn in_change(
+    alloc: Global,
+    change: Change,
+    left: LeftValue,
+    reader: ExpressionReader,
+    token: &Token,
+    class: Class,
+) -> Result<SimpleStep, AllocError>
+    requires { IsClass token.now class }
+    ensures { (aliases : List (List ℕ)) → IfOk result (IsSimpleStep aliases (InTurn (CompletesExpression reader) (λ e. Ended (changed_by change (left_of left) e))) token.now) }
+{
+    match reader.step(token, class)? {
+        ExpressionStep::Taken(reader) => Ok(SimpleStep::Taken(SimpleReader {
+            alloc,
+            state: SimpleState::ChangeBy(change, left, reader),
+        })),
+        ExpressionStep::Found(by) => {
+            let simple = changed_by(change, left, by);
+            Ok(SimpleStep::Found(simple))
+        }
+        ExpressionStep::Stuck => Ok(SimpleStep::Stuck),
+    }
+}
+
+fn in_call(
+    alloc: Global,
+    reader: CallReader,
+    token: &Token,
+    class: Class,
+) -> Result<SimpleStep, AllocError>
+    requires { IsClass token.now class }
+    ensures { (aliases : List (List ℕ)) → IfOk result (IsSimpleStep aliases (InTurn (CompletesCall reader) (λ c. Ended (call c))) token.now) }
+{
+    match reader.step(token, class)? {
+        CallStep::Taken(reader) => Ok(SimpleStep::Taken(SimpleReader {
+            alloc,
+            state: SimpleState::Call(reader),
+        })),
+        CallStep::Closed(call) => Ok(SimpleStep::Taken(SimpleReader {
+            alloc,
+            state: SimpleState::Done(Simple::Call(call)),
+        })),
+        CallStep::Stuck => Ok(SimpleStep::Stuck),
+    }
+}
+
+fn just(alloc: Global, name: Name) -> LeftValue
+    ensures { left_of result ≡ just name }
+{
+    LeftValue {
+        name,
+        fields: Vec::new(alloc),
+    }
+}
+
+fn with_field(left: LeftValue, name: Name) -> Result<LeftValue, AllocError>
+    ensures { IfOk result (λ longer. left_of longer ≡ with_field (left_of left) name) }
+{
+    let LeftValue {
+        name: variable,
+        mut fields,
+    } = left;
+    fields.push(name)?;
+    Ok(LeftValue {
+        name: variable,
+        fields,
+    })
+}
+
+fn changed_first(change: Change, place: Place, left: LeftValue) -> Simple
+    ensures { simple_of result ≡ changed_first change place (left_of left) }
+{
+    match change {
+        Change::Increment => Simple::IncrementFirst(place, left),
+        Change::Decrement => Simple::DecrementFirst(place, left),
+    }
+}
+
+fn changed_by(change: Change, left: LeftValue, by: Expression) -> Simple
+    ensures { simple_of result ≡ changed_by change (left_of left) (expression_of by) }
+{
+    match change {
+        Change::Increment => Simple::Add(left, by),
+        Change::Decrement => Simple::Subtract(left, by),
+    }
+}
+
+/// Every reader can come to the end of a simple statement.
+pub fn simples_can_end()
+    ensures { (aliases : List (List ℕ)) (reader : SimpleReader) → CanEnd (CompletesSimple aliases reader) }
+{
+    expressions_can_end();
+}
