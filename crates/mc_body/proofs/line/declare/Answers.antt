@@ -1,0 +1,19 @@
+use Rattle.std.proofs.Common.{◌≡◌, ℕ, List, [], ◌∷◌, sym, ◌∙◌, subst, refl, true, false}
+use Rattle.std.specs.Prelude.{codes, IsTrue}
+use Rattle.mc_lex.specs.declared.token.Token.{Token}
+use Rattle.mc_ast.specs.declared.class.Class.TheVariants as Class
+use Rattle.mc_ast.specs.declared.trees.Base.TheVariants as Base
+use Rattle.mc_ast.specs.Names.{IsName, IsMark, name_of, is_in}
+use Rattle.mc_ast.specs.Trees.{declares, performs}
+use Rattle.mc_ast.specs.Views.{declaration_of, simple_of}
+use Rattle.mc_simple.specs.Declarations.{CompletesDeclaration, IsDeclarationStep, BehindBase}
+use Rattle.mc_simple.specs.Simples.{CompletesSimple, IsSimpleStep, simple_marks}
+use Rattle.mc_simple.proofs.Phrases.{SameAt, same_at, same_same, takes_to, then_moves, then_closes, then_finds, then_stuck, then_same, next_takes, next_stuck, next_closes, either_left, either_right}
+use Rattle.mc_body.specs.Lines.{BehindSimple, SimpleLine, DeclarationLine, CompletesLine, IsLineStep, token_of}
+use Rattle.mc_body.proofs.Unique.{class_of_mark, class_of_word, class_of_name, class_of_number}
+use Rattle.mc_body.proofs.Tokens.{of_class, first_is, then_rejects, closes_ended, if_ok_map}
+use Rattle.mc_body.proofs.LineTurns.{line_step_along, no_declaration, line_semicolon, line_int, line_struct, line_alias, line_other, line_name, simple_stuck_name, simple_stuck_star, declaration_stuck, token_is_name}
+use Rattle.mc_body.proofs.line.declare.Goals as goal
+
+pub returns : goal.returns
+returns c = λ aliases e. if_ok_map c.in_declaration.result (λ step h. line_step_along aliases step (same_at c.args.token.now (then_same record { forward = (c.behind_base-reader.ensures aliases).backward; backward = (c.behind_base-reader.ensures aliases).forward })) h) (c.in_declaration.ensures aliases e)
