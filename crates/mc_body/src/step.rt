@@ -1,5 +1,6 @@
 // What the states of a reader do with a token.
 #![tactic(none)]
+
 ghost use Rattle.std.specs.Prelude.{◌≡◌, ℕ, List, IfOk};
 ghost use Rattle.mc_ast.specs.Classes.{IsClass};
 ghost use Rattle.mc_ast.specs.Names.{is_in};

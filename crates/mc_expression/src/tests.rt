@@ -45,7 +45,10 @@ static CONDITIONS: [(&'static str, &'static str); 20] = [
     ("!a && b", "((!a) && b) found before 8"),
     ("!!x->f", "(!(!x->f)) found before 7"),
     ("!(a)", "(!{a}) found before 5"),
-    ("!input() || !(a == 1)", "((!input()) || (!{(a == 1)})) found before 22"),
+    (
+        "!input() || !(a == 1)",
+        "((!input()) || (!{(a == 1)})) found before 22",
+    ),
     ("!x + 1", "(!x) found before 4"),
     ("(!x + 1)", "stuck 5"),
     ("!1", "stuck 2"),
