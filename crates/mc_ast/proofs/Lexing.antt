@@ -173,4 +173,4 @@ unfolding text_of
 words_are_read none_printable spot = (token_at spot TokenKind.End [] ∷ [], at_end (end refl), carries_none refl)
 words_are_read (one_printable {word = word} {words = words} {kind = kind} printable others) spot =
     let rest = words_are_read others (behind (behind spot word) (gap word ∷ [])) in
-    (token_at spot kind word ∷ rest.0, word_read spot word kind printable (text_of words) rest.0 rest.1, carries_one printable rest.2)
+    (token_at spot kind word ∷ rest.0, word_read spot word kind printable (text_of words) rest.0 rest.1, carries_one refl printable rest.2)

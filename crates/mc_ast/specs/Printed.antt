@@ -25,4 +25,4 @@ pub data ArePrintable : Words → Type 0 where
 -- the tokens have these words, one by one, up to the end
 pub data Carries : List Token → Words → Type 0 where
   carries_none : {token : Token} → token.kind ≡ TokenKind.End → Carries (token ∷ []) []
-  carries_one : {token : Token} {tokens : List Token} {words : Words} → IsPrintable token.text token.kind → Carries tokens words → Carries (token ∷ tokens) (token.text ∷ words)
+  carries_one : {token : Token} {tokens : List Token} {word : List ℕ} {words : Words} → token.text ≡ word → IsPrintable word token.kind → Carries tokens words → Carries (token ∷ tokens) (word ∷ words)

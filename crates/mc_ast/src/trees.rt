@@ -33,6 +33,8 @@ pub enum Expression {
     Less(Box<Expression>, Box<Expression>),
 }
 
+/// A loop, so that a tree of any depth needs no more stack than a leaf does, and no memory either. What is at hand is taken apart, and at
+/// most one tree waits. Where a second one has to wait, a new node joins the two, in the box of the part that comes to hand.
 impl Drop for Expression {
     fn drop(mut self) {
         let mut waiting = None;
@@ -91,6 +93,7 @@ pub enum Condition {
     Either(Box<Condition>, Box<Condition>),
 }
 
+/// A loop, as that of an expression.
 impl Drop for Condition {
     fn drop(mut self) {
         let mut waiting = None;
@@ -333,6 +336,8 @@ impl Statement {
     }
 }
 
+/// A loop, as that of an expression. A block waits with its own statements; where another tree waits already, that one takes the place of
+/// the statement that comes to hand.
 impl Drop for Statement {
     fn drop(mut self) {
         let mut waiting = None;
