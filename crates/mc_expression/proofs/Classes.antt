@@ -2,7 +2,7 @@
 use Rattle.mc_lex.specs.Numbers.{Spells, as_zero, as_decimal, as_hexadecimal}
 use Rattle.std.specs.Str.Parse.{digits_value}
 use Rattle.mc_ast.specs.declared.trees.Comparison.{Comparison}
-use Rattle.std.proofs.Common.{◌≡◌, ◌≢◌, ℕ,  List, [], ◌∷◌, Bool, true, false, cond, Option, Some, None, refl, ap, sym, ◌∙◌, subst, IsTrue, arith}
+use Rattle.std.proofs.Common.{◌≡◌, ◌≢◌, ℕ, List, [], ◌∷◌, Bool, true, false, cond, Option, Some, None, refl, ap, sym, ◌∙◌, subst, IsTrue, arith}
 use Rattle.std.specs.Prelude.{codes, slice_index}
 use Rattle.mc_lex.specs.declared.token.Token.{Token}
 use Rattle.mc_lex.specs.declared.token.TokenKind.{TokenKind}

@@ -234,8 +234,8 @@ variable_backward {tokens = tokens} {rest = rest} m q (behind_left {all = all} f
 
 pub variable_denied : (l : LeftValue) (token : Token) → IsName token → left_of l ≡ record { name = name_of token; fields = [] } → BeginsDenied token (Some (Primary.Left l))
 variable_denied l token m q = record {
-    forward = λ tokens rest x h. variable_forward m q h;
-    backward = λ tokens rest x h. let P : Cond → Type 0 = λ c. IsDenied c (token ∷ tokens) rest in subst P (sym h.1) (variable_backward m q h.2)
+  forward = λ tokens rest x h. variable_forward m q h;
+  backward = λ tokens rest x h. let P : Cond → Type 0 = λ c. IsDenied c (token ∷ tokens) rest in subst P (sym h.1) (variable_backward m q h.2);
 }
 
 input_forward : {token : Token} {tokens rest : Tokens} {c : Cond} → IsWord (codes "input") token → IsDenied c (token ∷ tokens) rest → (e : Expr) × (c ≡ plain e) × CompletesPrimary (Primary.Input token.place) tokens rest e
@@ -249,8 +249,8 @@ input_backward m (behind_input b a) = denied_input m b a
 
 pub input_denied : (token : Token) → IsWord (codes "input") token → BeginsDenied token (Some (Primary.Input token.place))
 input_denied token m = record {
-    forward = λ tokens rest x h. input_forward m h;
-    backward = λ tokens rest x h. let P : Cond → Type 0 = λ c. IsDenied c (token ∷ tokens) rest in subst P (sym h.1) (input_backward m h.2)
+  forward = λ tokens rest x h. input_forward m h;
+  backward = λ tokens rest x h. let P : Cond → Type 0 = λ c. IsDenied c (token ∷ tokens) rest in subst P (sym h.1) (input_backward m h.2);
 }
 
 no_denied : {token : Token} {tokens rest : Tokens} {c : Cond} → (IsMark (codes "!") token → ⊥) → (IsMark (codes "(") token → ⊥) → (IsName token → ⊥) → (IsWord (codes "input") token → ⊥) → IsDenied c (token ∷ tokens) rest → ⊥

@@ -99,8 +99,8 @@ close_forward g gs w token tokens rest x (more, marked m, h) = h
 
 close_takes : (g : ConditionGroup) (gs : List ConditionGroup) (w : Cond) (spot : ConditionSpot) (token : Token) → IsMark (codes ")") token → IsEnclosed g.outer.bangs g.place w spot → Takes condition_marks (AtEither (g ∷ gs) w) (AtConditionSpot spot gs g.outer) token
 close_takes g gs w spot token m s = record {
-    forward = λ tokens rest x h. inl ((s gs g.outer).backward tokens rest x (close_forward g gs w token tokens rest x (either_ends {ends = BehindCondition (g ∷ gs)} (clash (codes ")") (codes "||") refl refl m) h)));
-    backward = λ tokens rest x h. in_turn no_either (tokens, marked m, (s gs g.outer).forward tokens rest x h)
+  forward = λ tokens rest x h. inl ((s gs g.outer).backward tokens rest x (close_forward g gs w token tokens rest x (either_ends {ends = BehindCondition (g ∷ gs)} (clash (codes ")") (codes "||") refl refl m) h)));
+  backward = λ tokens rest x h. in_turn no_either (tokens, marked m, (s gs g.outer).forward tokens rest x h);
 }
 
 pub close_takes_at : (all gs below : List ConditionGroup) (g : ConditionGroup) (w : Cond) (spot : ConditionSpot) (token : Token) → all ≡ g ∷ gs → below ≡ gs → IsMark (codes ")") token → IsEnclosed g.outer.bangs g.place w spot → Takes condition_marks (AtEither all w) (AtConditionSpot spot below g.outer) token

@@ -37,9 +37,9 @@ null_reads tokens = null_word (record { kind = refl; text = refl })
 -- one thing, and from there the next
 pub turn_ends : {X Y : Type 0} {first : Tokens → Tokens → X → Type 0} {next : X → Tokens → Tokens → Y → Type 0} → (f : CanEnd first) → CanEnd (next f.tree) → CanEnd (InTurn first next)
 turn_ends {first = first} {next = next} f n = record {
-    more = f.more ++ n.more;
-    tree = n.tree;
-    completes = λ rest. let P : Tokens → Type 0 = λ tokens. InTurn first next tokens rest n.tree in subst P (sym (append_assoc f.more n.more rest)) (in_turn (f.completes (n.more ++ rest)) (n.completes rest))
+  more = f.more ++ n.more;
+  tree = n.tree;
+  completes = λ rest. let P : Tokens → Type 0 = λ tokens. InTurn first next tokens rest n.tree in subst P (sym (append_assoc f.more n.more rest)) (in_turn (f.completes (n.more ++ rest)) (n.completes rest));
 }
 
 goes_can_end : {pending : Pending} {u : Expr} {ends : Expr → Tokens → Tokens → Expr → Type 0} → CanEnd (ends (sum_of pending.sum (product_of pending.factor (negated pending.minuses u)))) → CanEnd (GoesOn pending u ends)

@@ -106,8 +106,8 @@ close_forward g gs s token tokens rest e (more, marked m, h) = h
 
 pub close_takes : (g : Group) (gs : List Group) (s : Expr) (token : Token) → IsMark (codes ")") token → Takes expression_marks (AtSum (g ∷ gs) s) (GoesOn g.outer (parens g.place s) (Behind gs)) token
 close_takes g gs s token c = record {
-    forward = λ tokens rest x h. inl (close_forward g gs s token tokens rest x (sum_ends {ends = Behind (g ∷ gs)} (clash (codes ")") (codes "+") refl refl c) (clash (codes ")") (codes "-") refl refl c) h));
-    backward = λ tokens rest x h. in_turn no_term (tokens, marked c, h)
+  forward = λ tokens rest x h. inl (close_forward g gs s token tokens rest x (sum_ends {ends = Behind (g ∷ gs)} (clash (codes ")") (codes "+") refl refl c) (clash (codes ")") (codes "-") refl refl c) h));
+  backward = λ tokens rest x h. in_turn no_term (tokens, marked c, h);
 }
 
 pub close_takes_at : (all gs below : List Group) (g : Group) (s x : Expr) (token : Token) → all ≡ g ∷ gs → below ≡ gs → x ≡ parens g.place s → IsMark (codes ")") token → Takes expression_marks (AtSum all s) (GoesOn g.outer x (Behind below)) token

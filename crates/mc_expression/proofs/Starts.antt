@@ -52,8 +52,8 @@ name_same l = record { forward = λ tokens rest x h. name_forward h; backward = 
 
 begins_some : (r : ExpressionReader) (token : Token) → Moves (AtOperand [] nothing) (CompletesExpression r) token → Moves (λ tokens rest e. IsSum e tokens rest) (CompletesExpression r) token
 begins_some r token m = record {
-    forward = λ tokens rest x h. m.forward tokens rest x (sum_backward h);
-    backward = λ tokens rest x h. sum_forward (m.backward tokens rest x h)
+  forward = λ tokens rest x h. m.forward tokens rest x (sum_backward h);
+  backward = λ tokens rest x h. sum_forward (m.backward tokens rest x h);
 }
 
 begins_sum : (begun : Option ExpressionReader) (token : Token) → Begins (AtOperand [] nothing) token begun → Begins (λ tokens rest e. IsSum e tokens rest) token begun

@@ -12,14 +12,14 @@ pub record SameAt {X : Type 0} (now other : Tokens → Tokens → X → Type 0) 
 
 pub same_takes : {X : Type 0} {marks : List (List ℕ)} {now other later : Tokens → Tokens → X → Type 0} {token : Token} → SameAt now other token → Takes marks other later token → Takes marks now later token
 same_takes s t = record {
-    forward = λ tokens rest x h. t.forward tokens rest x (s.forward tokens rest x h);
-    backward = λ tokens rest x h. s.backward tokens rest x (t.backward tokens rest x h)
+  forward = λ tokens rest x h. t.forward tokens rest x (s.forward tokens rest x h);
+  backward = λ tokens rest x h. s.backward tokens rest x (t.backward tokens rest x h);
 }
 
 pub same_finds : {X : Type 0} {now other : Tokens → Tokens → X → Type 0} {token : Token} {x : X} → SameAt now other token → Finds other token x → Finds now token x
 same_finds {token = token} {x = x} s t = record {
-    forward = λ tokens rest y h. t.forward tokens rest y (s.forward tokens rest y h);
-    backward = λ tokens. s.backward tokens (token ∷ tokens) x (t.backward tokens)
+  forward = λ tokens rest y h. t.forward tokens rest y (s.forward tokens rest y h);
+  backward = λ tokens. s.backward tokens (token ∷ tokens) x (t.backward tokens);
 }
 
 pub same_stuck : {X : Type 0} {now other : Tokens → Tokens → X → Type 0} {token : Token} → SameAt now other token → IsStuckAt other token → IsStuckAt now token
@@ -27,8 +27,8 @@ same_stuck s t tokens rest x h = t tokens rest x (s.forward tokens rest x h)
 
 pub same_moves : {X : Type 0} {now other later : Tokens → Tokens → X → Type 0} {token : Token} → SameAt now other token → Moves other later token → Moves now later token
 same_moves s t = record {
-    forward = λ tokens rest x h. t.forward tokens rest x (s.forward tokens rest x h);
-    backward = λ tokens rest x h. s.backward tokens rest x (t.backward tokens rest x h)
+  forward = λ tokens rest x h. t.forward tokens rest x (s.forward tokens rest x h);
+  backward = λ tokens rest x h. s.backward tokens rest x (t.backward tokens rest x h);
 }
 
 pub moves_takes : {X : Type 0} {marks : List (List ℕ)} {now later : Tokens → Tokens → X → Type 0} {token : Token} → Moves now later token → Takes marks now later token

@@ -147,7 +147,11 @@ fn at_spot(alloc: Global, spot: Spot) -> ExpressionReader
 }
 
 /// Takes the first token of an expression.
-pub fn begin(alloc: Global, token: &Token, class: Class) -> Result<Option<ExpressionReader>, AllocError>
+pub fn begin(
+    alloc: Global,
+    token: &Token,
+    class: Class,
+) -> Result<Option<ExpressionReader>, AllocError>
     requires { IsClass token.now class }
     ensures { IfOk result (λ begun. Begins (λ tokens rest e. IsSum e tokens rest) token.now begun) }
 {

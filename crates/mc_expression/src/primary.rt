@@ -39,9 +39,9 @@ impl Primary {
         match self {
             Primary::Left(left) => Ok(behind_left(left, token, class)),
             Primary::Arrow(left) => {
- let step = behind_arrow(alloc, left, token, class)?;
- Ok(step)
-}
+                let step = behind_arrow(alloc, left, token, class)?;
+                Ok(step)
+            }
             Primary::Input(place) => Ok(behind_input(place, token, class)),
             Primary::InputOpen(place) => Ok(behind_open(place, token, class)),
         }
@@ -58,7 +58,12 @@ fn behind_left(left: LeftValue, token: &Token, class: Class) -> PrimaryStep
     }
 }
 
-fn behind_arrow(alloc: Global, left: LeftValue, token: &Token, class: Class) -> Result<PrimaryStep, AllocError>
+fn behind_arrow(
+    alloc: Global,
+    left: LeftValue,
+    token: &Token,
+    class: Class,
+) -> Result<PrimaryStep, AllocError>
     requires { IsClass token.now class }
     ensures { IfOk result (λ step. StepsPrimary (CompletesPrimary (Primary.Arrow left)) token.now step) }
 {

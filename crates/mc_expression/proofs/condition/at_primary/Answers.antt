@@ -10,19 +10,19 @@ use Rattle.mc_expression.proofs.condition.at_primary.Goals as goal
 pub returns-in-Taken : goal.returns-in-Taken
 returns-in-Taken c =
     let P : PrimaryStep → Type 0 = StepsPrimary (CompletesPrimary c.args.primary) c.args.token.now in
-    turn_takes primary_marks condition_marks (CompletesPrimary c.args.primary) (CompletesPrimary c.in-Taken.primary) (λ e. Joins c.args.pending (plain e) (BehindCondition c.args.groups)) c.args.token.now (subst P c.in-Taken.is c.in_ok-step.ensures) (primary_ends_at c.args.groups c.args.pending c.args.token.now)
+    turn_takes primary_marks condition_marks (CompletesPrimary c.args.primary) (CompletesPrimary c.in-Taken.primary) (λ e. Joins c.args.pending (plain e) (BehindCondition c.args.groups)) c.args.token.now (subst P c.in-Taken.is c.in_ok-primary.ensures) (primary_ends_at c.args.groups c.args.pending c.args.token.now)
 
 pub returns-in-Closed : goal.returns-in-Closed
 returns-in-Closed c =
     let P : PrimaryStep → Type 0 = StepsPrimary (CompletesPrimary c.args.primary) c.args.token.now in
-    turn_closes (subst P c.in-Closed.is c.in_ok-step.ensures)
+    turn_closes (subst P c.in-Closed.is c.in_ok-primary.ensures)
 
 pub returns-in-Stuck : goal.returns-in-Stuck
 returns-in-Stuck c =
     let P : PrimaryStep → Type 0 = StepsPrimary (CompletesPrimary c.args.primary) c.args.token.now in
-    turn_stuck (subst P c.in-Stuck.is c.in_ok-step.ensures)
+    turn_stuck (subst P c.in-Stuck.is c.in_ok-primary.ensures)
 
 pub returns-in_ok-step-in-Found : goal.returns-in_ok-step-in-Found
 returns-in_ok-step-in-Found c =
     let P : PrimaryStep → Type 0 = StepsPrimary (CompletesPrimary c.args.primary) c.args.token.now in
-    steps_same _ (turn_finds (subst P c.in-Found.is c.in_ok-step.ensures)) c.in_ok-step-in-Found.ensures
+    steps_same _ (turn_finds (subst P c.in-Found.is c.in_ok-primary.ensures)) c.in_ok-step-in-Found.ensures
