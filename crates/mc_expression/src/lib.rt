@@ -9,6 +9,3 @@ mod stack;
 
 pub use condition::{ConditionReader, ConditionStep, conditions_can_end};
 pub use expression::{ExpressionReader, ExpressionStep, expressions_can_end};
-
-#[cfg(test)]
-mod tests;

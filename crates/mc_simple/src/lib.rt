@@ -14,6 +14,3 @@ pub use call::{CallReader, CallStep, calls_can_end};
 pub use declaration::{DeclarationReader, DeclarationStep, declarations_can_end};
 pub use right::{RightReader, RightStep, rights_can_end};
 pub use simple::{SimpleReader, SimpleStep, simples_can_end};
-
-#[cfg(test)]
-mod tests;
