@@ -13,4 +13,7 @@ mod shape;
 mod state;
 mod step;
 
-pub use state::{BodyReader, BodyStep};
+pub use state::{BodyReader, BodyStep, bodies_can_end};
+
+#[cfg(test)]
+mod tests;

@@ -2,7 +2,8 @@
 ghost use Rattle.std.specs.Prelude.{◌≡◌, ℕ, List, IfOk};
 ghost use Rattle.mc_ast.specs.Classes.{IsClass};
 ghost use Rattle.mc_ast.specs.Names.{is_in};
-ghost use Rattle.mc_ast.specs.Readers.{IsSame};
+ghost use Rattle.mc_ast.specs.Readers.{CanEnd, IsSame};
+ghost use Rattle.mc_body.specs.declared.state.BodyReader.{BodyReader};
 ghost use Rattle.mc_body.specs.Bodies.{Bodies, CompletesBody, IsBodyStep};
 
 use crate::frames::Nest;
@@ -12,9 +13,9 @@ use crate::shape::ShapeReader;
 use crate::step::{at_state, expect};
 use mc_ast::{Class, Condition, ForStart, Statement};
 use mc_base::Place;
-use mc_expression::{ConditionReader, ExpressionReader};
+use mc_expression::{ConditionReader, ExpressionReader, conditions_can_end, expressions_can_end};
 use mc_lex::Token;
-use mc_simple::{RightReader, SimpleReader};
+use mc_simple::{RightReader, SimpleReader, declarations_can_end, rights_can_end, simples_can_end};
 use std::alloc::{AllocError, Global};
 
 /// What a line is for.
@@ -110,4 +111,15 @@ impl BodyReader {
             None => at_state(nest, state, token, class, alias),
         }
     }
+}
+
+/// Every state of a reader can be completed.
+pub fn bodies_can_end()
+    ensures { (aliases : List (List ℕ)) (reader : BodyReader) → CanEnd (CompletesBody aliases reader) }
+{
+    expressions_can_end();
+    conditions_can_end();
+    rights_can_end();
+    simples_can_end();
+    declarations_can_end();
 }
