@@ -14,12 +14,24 @@ use Rattle.mc_ast.specs.Classes.{IsClass}
 use Rattle.mc_ast.specs.Readers.{Takes, Closes, IsStuckAt, IsSame}
 use Rattle.mc_ast.specs.Trees.{Stmt, BodyTree, FunctionTree, ParametersTree}
 use Rattle.mc_ast.specs.Grammar.{MoreStatements, IsParameters, IsBody, prototype, body, IsFixed, fixed, not_fixed, IsFunction, defined}
-use Rattle.mc_body.specs.Bodies.{IsBodyOf, CompletesBody}
-use Rattle.mc_body.specs.declared.reader.BodyReader.{BodyReader}
+use Rattle.mc_expression.specs.Turns.{in_turn}
+use Rattle.mc_simple.specs.Phrases.{next, ended}
+use Rattle.mc_body.specs.Bodies.{Bodies, CompletesBody}
+use Rattle.mc_body.specs.declared.state.BodyReader.{BodyReader}
 use Rattle.mc_parse.specs.declared.header.Header.{Header}
 use Rattle.mc_parse.specs.Threads.{Then, Gives}
 use Rattle.mc_parse.specs.Functions.{IsHeader, is_header, EndsFunction, BehindHeader}
 use Rattle.mc_parse.proofs.Marks.{only_semicolon, only_open_brace}
+
+-- statements and a `}`
+abbrev pub IsBodyOf : List (List ℕ) → Tokens → Tokens → List Stmt → Type 0
+IsBodyOf aliases tokens rest ss = (after : Token) × MoreStatements aliases [] tokens ss (after ∷ rest) × IsMark (codes "}") after
+
+pub body_of_bodies : {aliases : List (List ℕ)} {tokens rest : Tokens} {ss : List Stmt} → Bodies aliases tokens rest ss → IsBodyOf aliases tokens rest ss
+body_of_bodies (in_turn listed (next is ended)) = (_, listed, is)
+
+pub bodies_of_body : {aliases : List (List ℕ)} {tokens rest : Tokens} {ss : List Stmt} → IsBodyOf aliases tokens rest ss → Bodies aliases tokens rest ss
+bodies_of_body (after, listed, is) = in_turn listed (next is ended)
 
 -- a function behind `static`, if it has one
 abbrev pub FunctionBehind : List (List ℕ) → Option Place → Tokens → Tokens → FunctionTree → Type 0
@@ -62,8 +74,8 @@ no_body class c not_semicolon not_open (body v ss k) = not_open (only_open_brace
 pub body_stuck : (aliases : List (List ℕ)) {token : Token} (class : Class) → IsClass token class → (class ≡ Class.Semicolon → ⊥) → (class ≡ Class.OpenBrace → ⊥) → IsStuckAt (λ tokens rest (b : Option BodyTree). IsBody aliases b tokens rest) token
 body_stuck aliases class c not_semicolon not_open = λ tokens rest b n. no_body class c not_semicolon not_open n
 
-pub body_enters : (aliases : List (List ℕ)) {X : Type 0} (function : Option BodyTree → X) {token : Token} {reader : BodyReader} → IsMark (codes "{") token → IsSame (CompletesBody aliases reader) (IsBodyOf aliases) → Takes [] (Then (λ tokens rest (b : Option BodyTree). IsBody aliases b tokens rest) (λ b. Gives (function b))) (Then (CompletesBody aliases reader) (λ ss. Gives (function (Some (record { place = token.place; statements = ss }))))) token
+pub body_enters : (aliases : List (List ℕ)) {X : Type 0} (function : Option BodyTree → X) {token : Token} {reader : BodyReader} → IsMark (codes "{") token → IsSame (CompletesBody aliases reader) (Bodies aliases) → Takes [] (Then (λ tokens rest (b : Option BodyTree). IsBody aliases b tokens rest) (λ b. Gives (function b))) (Then (CompletesBody aliases reader) (λ ss. Gives (function (Some (record { place = token.place; statements = ss }))))) token
 body_enters aliases function w same = let t = body_opens aliases function w in record {
-  forward = λ tokens rest x n. inl (let within = enters function w n.2 n.3.0 n.3.1 in (within.0, within.1, same.backward _ _ _ within.2, within.3));
-  backward = λ tokens rest x n. t.backward tokens rest x (n.0, n.1, same.forward _ _ _ n.2, n.3);
+  forward = λ tokens rest x n. inl (let within = enters function w n.2 n.3.0 n.3.1 in (within.0, within.1, same.backward _ _ _ (bodies_of_body within.2), within.3));
+  backward = λ tokens rest x n. t.backward tokens rest x (n.0, n.1, body_of_bodies (same.forward _ _ _ n.2), n.3);
 }

@@ -15,7 +15,7 @@ use Rattle.mc_ast.specs.Trees.{FieldTree, StructTree, AliasedTree, of_base, of_s
 use Rattle.mc_ast.specs.Views.{parameters_of, aliased_of, struct_of, field_of, item_of}
 use Rattle.mc_ast.specs.Grammar.{int, star, no_star, IsDeclarator, declarator, last_declarator, IsField, field, declarators, no_field, gives_nothing, not_fixed, defined, no_parameters, last_parameter, prototype, IsBody, IsAliased, base_aliased, function_item, introduced, no_item}
 use Rattle.mc_ast.specs.Readers.{CanEnd}
-use Rattle.mc_body.specs.declared.reader.BodyReader.{BodyReader}
+use Rattle.mc_body.specs.declared.state.BodyReader.{BodyReader}
 use Rattle.mc_body.specs.Bodies.{CompletesBody}
 use Rattle.mc_parse.specs.declared.base.BaseReader.{BaseReader}
 use Rattle.mc_parse.specs.declared.base.BaseReader.TheVariants as BaseReader
