@@ -138,7 +138,7 @@ module _ (aliases : List (List ℕ)) where
   behind_ends (Frame.Do place ∷ frames) body s =
       ends_with (word (codes "while")) while_no_else
       (can_next {Is = λ t. IsMark (codes "(") t} {later = λ t. InTurn Conditions (λ c. Expects (Class.CloseParen ∷ Class.Semicolon ∷ []) (Behind aliases frames body (do_loop place s c)))} (mark (codes "(")) (is_mark (codes "("))
-      (can_then (λ c. Expects (Class.CloseParen ∷ Class.Semicolon ∷ []) (Behind aliases frames body (do_loop place s c))) can_condition (λ c. can_expect Phrase.CloseSemicolon (ending_ends (behind_ends frames body (do_loop place s c))))))
+          (can_then (λ c. Expects (Class.CloseParen ∷ Class.Semicolon ∷ []) (Behind aliases frames body (do_loop place s c))) can_condition (λ c. can_expect Phrase.CloseSemicolon (ending_ends (behind_ends frames body (do_loop place s c))))))
       (BehindDo place (Behind aliases frames body) s)
       (λ tokens rest y h. next (is_word (codes "while")) h)
   behind_ends (Frame.For h ∷ frames) body s = behind_ends frames body (for_loop (head_of h) s)

@@ -122,13 +122,13 @@ module _ (aliases : List (List ℕ)) (place : Place) (start : Start) (goes : Stm
       back : (tokens rest : Tokens) (y : List Stmt) → InTurn (Simples aliases) (λ last. BehindLast aliases place start c goes (Some last)) (token ∷ tokens) rest y → AtLast aliases place start goes c (token ∷ tokens) rest y
       back tokens rest y (in_turn s h) = in_turn (some_simple s) h
 
-purpose_end : (aliases : List (List ℕ)) (purpose : Purpose) (goes : Stmt → Tokens → Tokens → List Stmt → Type 0) (c : Cond) {token : Token} {tokens rest : Tokens} {y : List Stmt} → BehindPurpose aliases purpose goes c (token ∷ tokens) rest y → IsMark (codes ")") token ⊎ IsMark (codes ";") token
-purpose_end aliases (Purpose.Assert place) goes c h = inl (first_is h)
-purpose_end aliases (Purpose.Assume place) goes c h = inl (first_is h)
-purpose_end aliases (Purpose.If place) goes c h = inl (first_is h)
-purpose_end aliases (Purpose.While place) goes c h = inl (first_is h)
-purpose_end aliases (Purpose.Do place s) goes c h = inl (first_is h)
-purpose_end aliases (Purpose.For place start) goes c h = inr (first_is h)
+purpose_end : (aliases : List (List ℕ)) (purpose : Purpose) (goes : Stmt → Tokens → Tokens → List Stmt → Type 0) (c : Cond) (token : Token) (tokens rest : Tokens) (y : List Stmt) → BehindPurpose aliases purpose goes c (token ∷ tokens) rest y → IsMark (codes ")") token ⊎ IsMark (codes ";") token
+purpose_end aliases (Purpose.Assert place) goes c token tokens rest y h = inl (first_is h)
+purpose_end aliases (Purpose.Assume place) goes c token tokens rest y h = inl (first_is h)
+purpose_end aliases (Purpose.If place) goes c token tokens rest y h = inl (first_is h)
+purpose_end aliases (Purpose.While place) goes c token tokens rest y h = inl (first_is h)
+purpose_end aliases (Purpose.Do place s) goes c token tokens rest y h = inl (first_is h)
+purpose_end aliases (Purpose.For place start) goes c token tokens rest y h = inr (first_is h)
 
 no_condition_mark : {token : Token} → IsMark (codes ")") token ⊎ IsMark (codes ";") token → IsTrue (is_in condition_marks token.text) → ⊥
 no_condition_mark {token} (inl m) among = rejects condition_marks (codes ")") token refl m among
@@ -136,4 +136,4 @@ no_condition_mark {token} (inr m) among = rejects condition_marks (codes ";") to
 
 -- within a condition, whatever it is for
 pub condition_takes : (aliases : List (List ℕ)) (purpose : Purpose) (goes : Stmt → Tokens → Tokens → List Stmt → Type 0) {first later : Tokens → Tokens → Cond → Type 0} {token : Token} → Takes condition_marks first later token → Takes [] (InTurn first (BehindPurpose aliases purpose goes)) (InTurn later (BehindPurpose aliases purpose goes)) token
-condition_takes aliases purpose goes t = then_takes t (λ c tokens rest y h among. absurd (no_condition_mark (purpose_end aliases purpose goes c h) among))
+condition_takes aliases purpose goes {token = token} t = then_takes t (λ c tokens rest y h among. absurd (no_condition_mark (purpose_end aliases purpose goes c token tokens rest y h) among))

@@ -1,6 +1,4 @@
 // The first token of a statement.
-#![tactic(none)]
-
 ghost use Rattle.std.specs.Prelude.{◌≡◌, ℕ, List, IfOk};
 ghost use Rattle.mc_ast.specs.Classes.{IsClass};
 ghost use Rattle.mc_ast.specs.Names.{is_in};
@@ -24,12 +22,7 @@ use mc_lex::Token;
 use std::alloc::AllocError;
 
 /// Where a statement begins, or a block or the body ends.
-pub fn at_start(
-    nest: Nest,
-    token: &Token,
-    class: Class,
-    alias: bool,
-) -> Result<BodyStep, AllocError>
+pub fn at_start(nest: Nest, token: &Token, class: Class, alias: bool) -> Result<BodyStep, AllocError>
     requires { IsClass token.now class }
     ensures { (aliases : List (List ℕ)) → is_in aliases token.now.text ≡ alias → IfOk result (IsBodyStep aliases (AtStart aliases (frames_of nest) (body_of nest)) token.now) }
 {
@@ -91,69 +84,18 @@ fn begin(nest: Nest, token: &Token, class: Class, alias: bool) -> Result<BodySte
             let nest = nest.within(Frame::Do(place))?;
             Ok(opened(nest, None, State::Start))
         }
-        Class::Free => Ok(opened(
-            nest,
-            Some(Phrase::Open),
-            State::Freed(place, ExpressionReader::new(alloc)),
-        )),
-        Class::Assert => Ok(opened(
-            nest,
-            Some(Phrase::Open),
-            State::Condition(Purpose::Assert(place), ConditionReader::new(alloc)),
-        )),
-        Class::Assume => Ok(opened(
-            nest,
-            Some(Phrase::Open),
-            State::Condition(Purpose::Assume(place), ConditionReader::new(alloc)),
-        )),
-        Class::If => Ok(opened(
-            nest,
-            Some(Phrase::Open),
-            State::Condition(Purpose::If(place), ConditionReader::new(alloc)),
-        )),
-        Class::While => Ok(opened(
-            nest,
-            Some(Phrase::Open),
-            State::Condition(Purpose::While(place), ConditionReader::new(alloc)),
-        )),
-        Class::AssumeShape => Ok(opened(
-            nest,
-            Some(Phrase::Open),
-            State::Shape(ShapeReader::Predicate(Command::Assume, place)),
-        )),
-        Class::AssertShape => Ok(opened(
-            nest,
-            Some(Phrase::Open),
-            State::Shape(ShapeReader::Predicate(Command::Assert, place)),
-        )),
-        Class::AssertEmpty => Ok(opened(
-            nest,
-            Some(Phrase::OpenCloseSemicolon),
-            State::Behind(Statement::AssertEmpty(place)),
-        )),
-        Class::For => Ok(opened(
-            nest,
-            Some(Phrase::Open),
-            State::Line(LinePurpose::For(place), LineReader::Start),
-        )),
-        Class::Break => Ok(opened(
-            nest,
-            Some(Phrase::Semicolon),
-            State::Behind(Statement::Break(place)),
-        )),
-        Class::Continue => Ok(opened(
-            nest,
-            Some(Phrase::Semicolon),
-            State::Behind(Statement::Continue(place)),
-        )),
+        Class::Free => Ok(opened(nest, Some(Phrase::Open), State::Freed(place, ExpressionReader::new(alloc)))),
+        Class::Assert => Ok(opened(nest, Some(Phrase::Open), State::Condition(Purpose::Assert(place), ConditionReader::new(alloc)))),
+        Class::Assume => Ok(opened(nest, Some(Phrase::Open), State::Condition(Purpose::Assume(place), ConditionReader::new(alloc)))),
+        Class::If => Ok(opened(nest, Some(Phrase::Open), State::Condition(Purpose::If(place), ConditionReader::new(alloc)))),
+        Class::While => Ok(opened(nest, Some(Phrase::Open), State::Condition(Purpose::While(place), ConditionReader::new(alloc)))),
+        Class::AssumeShape => Ok(opened(nest, Some(Phrase::Open), State::Shape(ShapeReader::Predicate(Command::Assume, place)))),
+        Class::AssertShape => Ok(opened(nest, Some(Phrase::Open), State::Shape(ShapeReader::Predicate(Command::Assert, place)))),
+        Class::AssertEmpty => Ok(opened(nest, Some(Phrase::OpenCloseSemicolon), State::Behind(Statement::AssertEmpty(place)))),
+        Class::For => Ok(opened(nest, Some(Phrase::Open), State::Line(LinePurpose::For(place), LineReader::Start))),
+        Class::Break => Ok(opened(nest, Some(Phrase::Semicolon), State::Behind(Statement::Break(place)))),
+        Class::Continue => Ok(opened(nest, Some(Phrase::Semicolon), State::Behind(Statement::Continue(place)))),
         Class::Return => Ok(opened(nest, None, State::Return(place))),
-        _ => in_line(
-            nest,
-            LinePurpose::Statement(place),
-            LineReader::Start,
-            token,
-            class,
-            alias,
-        ),
+        _ => in_line(nest, LinePurpose::Statement(place), LineReader::Start, token, class, alias),
     }
 }

@@ -107,13 +107,7 @@ fn behind_purpose(
         }
         Purpose::Do(place, part) => {
             let statement = do_of(nest.alloc, place, part, condition)?;
-            Ok(expect(
-                nest,
-                Phrase::CloseSemicolon,
-                State::Behind(statement),
-                token,
-                class,
-            ))
+            Ok(expect(nest, Phrase::CloseSemicolon, State::Behind(statement), token, class))
         }
         Purpose::For(place, start) => {
             let state = State::ForLast(place, start, Some(condition));
@@ -298,12 +292,7 @@ pub fn in_last(
 }
 
 /// Behind the last part of a `for`.
-fn behind_last(
-    nest: Nest,
-    head: ForHead,
-    token: &Token,
-    class: Class,
-) -> Result<BodyStep, AllocError>
+fn behind_last(nest: Nest, head: ForHead, token: &Token, class: Class) -> Result<BodyStep, AllocError>
     requires { IsClass token.now class }
     ensures { (aliases : List (List ℕ)) → IfOk result (IsBodyStep aliases (BehindLast aliases head.place (start_of head.start) (option_map condition_of head.condition) (Around aliases nest) (option_map simple_of head.last)) token.now) }
 {
@@ -312,12 +301,7 @@ fn behind_last(
 }
 
 /// Within a shape command.
-pub fn in_shape(
-    nest: Nest,
-    reader: ShapeReader,
-    token: &Token,
-    class: Class,
-) -> Result<BodyStep, AllocError>
+pub fn in_shape(nest: Nest, reader: ShapeReader, token: &Token, class: Class) -> Result<BodyStep, AllocError>
     requires { IsClass token.now class }
     ensures { (aliases : List (List ℕ)) → IfOk result (IsBodyStep aliases (AtState aliases nest (State.Shape reader)) token.now) }
 {

@@ -43,13 +43,7 @@ pub enum LineStep {
 
 impl LineReader {
     /// Takes a token, or answers why not.
-    pub fn step(
-        self,
-        alloc: Global,
-        token: &Token,
-        class: Class,
-        alias: bool,
-    ) -> Result<LineStep, AllocError>
+    pub fn step(self, alloc: Global, token: &Token, class: Class, alias: bool) -> Result<LineStep, AllocError>
         requires { IsClass token.now class }
         ensures { (aliases : List (List ℕ)) → is_in aliases token.now.text ≡ alias → IfOk result (IsLineStep aliases (CompletesLine aliases self) token.now) }
     {
@@ -95,12 +89,7 @@ fn at_name(alloc: Global, token: &Token, alias: bool) -> Result<LineStep, AllocE
 }
 
 /// Behind `struct`.
-fn behind_struct(
-    alloc: Global,
-    place: Place,
-    token: &Token,
-    class: Class,
-) -> Result<LineStep, AllocError>
+fn behind_struct(alloc: Global, place: Place, token: &Token, class: Class) -> Result<LineStep, AllocError>
     requires { IsClass token.now class }
     ensures { (aliases : List (List ℕ)) → IfOk result (IsLineStep aliases (CompletesLine aliases (LineReader.Struct place)) token.now) }
 {
@@ -129,12 +118,7 @@ fn behind_alias(
     match class {
         Class::Name => declare(alloc, known.name, token, class, alias),
         Class::Star => declare(alloc, known.name, token, class, alias),
-        _ => in_simple(
-            SimpleReader::behind_name(alloc, known.name),
-            token,
-            class,
-            alias,
-        ),
+        _ => in_simple(SimpleReader::behind_name(alloc, known.name), token, class, alias),
     }
 }
 
@@ -166,9 +150,7 @@ fn in_declaration(
     let step = reader.step(token, class, alias)?;
     match step {
         DeclarationStep::Taken(reader) => Ok(LineStep::Taken(LineReader::Declaration(reader))),
-        DeclarationStep::Closed(declaration) => Ok(LineStep::Closed(ForStart::Declaration(
-            declaration,
-        ))),
+        DeclarationStep::Closed(declaration) => Ok(LineStep::Closed(ForStart::Declaration(declaration))),
         DeclarationStep::Stuck => Ok(LineStep::Stuck),
     }
 }

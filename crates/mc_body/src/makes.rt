@@ -15,12 +15,7 @@ pub fn block_of(place: Place, statements: Vec<Statement>) -> Statement
 }
 
 /// The `if` without an `else`.
-pub fn if_of(
-    alloc: Global,
-    place: Place,
-    condition: Condition,
-    part: Statement,
-) -> Result<Statement, AllocError>
+pub fn if_of(alloc: Global, place: Place, condition: Condition, part: Statement) -> Result<Statement, AllocError>
     ensures { IfOk result (λ s. statement_of s ≡ if_only place (condition_of condition) (statement_of part)) }
 {
     Ok(Statement::If(place, condition, Box::new(alloc, part)?))
@@ -41,23 +36,13 @@ pub fn if_else_of(
     Ok(Statement::IfElse(place, condition, first, second))
 }
 
-pub fn while_of(
-    alloc: Global,
-    place: Place,
-    condition: Condition,
-    part: Statement,
-) -> Result<Statement, AllocError>
+pub fn while_of(alloc: Global, place: Place, condition: Condition, part: Statement) -> Result<Statement, AllocError>
     ensures { IfOk result (λ s. statement_of s ≡ while_loop place (condition_of condition) (statement_of part)) }
 {
     Ok(Statement::While(place, condition, Box::new(alloc, part)?))
 }
 
-pub fn do_of(
-    alloc: Global,
-    place: Place,
-    part: Statement,
-    condition: Condition,
-) -> Result<Statement, AllocError>
+pub fn do_of(alloc: Global, place: Place, part: Statement, condition: Condition) -> Result<Statement, AllocError>
     ensures { IfOk result (λ s. statement_of s ≡ do_loop place (statement_of part) (condition_of condition)) }
 {
     Ok(Statement::Do(place, Box::new(alloc, part)?, condition))

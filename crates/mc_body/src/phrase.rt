@@ -1,5 +1,6 @@
 // Marks and words that come one after another.
-ghost use Rattle.std.specs.Prelude.{◌≡◌, ◌∷◌};
+ghost use Rattle.std.specs.Bool.{IsFalse};
+ghost use Rattle.std.specs.Prelude.{◌≡◌, ◌≢◌, ◌∷◌, IsTrue};
 ghost use Rattle.mc_body.specs.Phrases.{classes_of, expected_of, first_of};
 
 use mc_ast::Class;
@@ -16,17 +17,18 @@ pub enum Phrase {
 }
 
 impl Phrase {
-    /// The class of the first token.
-    pub fn first(self) -> Class
-        ensures { result ≡ first_of self }
+    /// Whether a token of this class comes first.
+    pub fn begins_with(self, class: Class) -> bool
+        ensures first { IsTrue result → class ≡ first_of self }
+        ensures other { IsFalse result → class ≢ first_of self }
     {
         match self {
-            Phrase::Semicolon => Class::Semicolon,
-            Phrase::Open => Class::OpenParen,
-            Phrase::Close => Class::CloseParen,
-            Phrase::CloseSemicolon => Class::CloseParen,
-            Phrase::OpenCloseSemicolon => Class::OpenParen,
-            Phrase::WhileOpen => Class::While,
+            Phrase::Semicolon => matches!(class, Class::Semicolon),
+            Phrase::Open => matches!(class, Class::OpenParen),
+            Phrase::Close => matches!(class, Class::CloseParen),
+            Phrase::CloseSemicolon => matches!(class, Class::CloseParen),
+            Phrase::OpenCloseSemicolon => matches!(class, Class::OpenParen),
+            Phrase::WhileOpen => matches!(class, Class::While),
         }
     }
 

@@ -1,6 +1,4 @@
 // What becomes of a whole statement.
-#![tactic(none)]
-
 ghost use Rattle.std.specs.Prelude.{◌≡◌, ℕ, List, IfOk};
 ghost use Rattle.mc_ast.specs.Classes.{IsClass};
 ghost use Rattle.mc_ast.specs.Names.{is_in};
@@ -70,12 +68,7 @@ pub fn behind(
 }
 
 /// The statement as part of what it stands in, as far as the token goes.
-fn settle(
-    nest: Nest,
-    statement: Statement,
-    token: &Token,
-    class: Class,
-) -> Result<Settled, AllocError>
+fn settle(nest: Nest, statement: Statement, token: &Token, class: Class) -> Result<Settled, AllocError>
     requires { IsClass token.now class }
     ensures { IfOk result (λ settled. (aliases : List (List ℕ)) → AgreeAt (Around aliases nest (statement_of statement)) (AtSettled aliases settled) token.now) }
 {

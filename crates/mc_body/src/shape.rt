@@ -71,20 +71,12 @@ impl ShapeReader {
         ensures { IfOk result (IsShapeStep (CompletesShape self) token.now) }
     {
         match self {
-            ShapeReader::Predicate(command, place) => at_predicate(
-                alloc, command, place, token, class,
-            ),
-            ShapeReader::Comma(command, place, predicate) => Ok(at_comma(
-                command, place, predicate, token, class,
-            )),
-            ShapeReader::Variable(place, predicate) => at_variable(
-                alloc, place, predicate, token, class,
-            ),
+            ShapeReader::Predicate(command, place) => at_predicate(alloc, command, place, token, class),
+            ShapeReader::Comma(command, place, predicate) => Ok(at_comma(command, place, predicate, token, class)),
+            ShapeReader::Variable(place, predicate) => at_variable(alloc, place, predicate, token, class),
             ShapeReader::Argument(usage) => at_argument(alloc, usage, token, class),
             ShapeReader::Negative(usage, place) => behind_minus(alloc, usage, place, token, class),
-            ShapeReader::Arguments(shape, arguments) => Ok(behind_arguments(
-                shape, arguments, token, class,
-            )),
+            ShapeReader::Arguments(shape, arguments) => Ok(behind_arguments(shape, arguments, token, class)),
         }
     }
 }
@@ -108,22 +100,14 @@ fn at_predicate(
     }
 }
 
-fn at_comma(
-    command: Command,
-    place: Place,
-    predicate: Name,
-    token: &Token,
-    class: Class,
-) -> ShapeStep
+fn at_comma(command: Command, place: Place, predicate: Name, token: &Token, class: Class) -> ShapeStep
     requires { IsClass token.now class }
     ensures { IsShapeStep (CompletesShape (ShapeReader.Comma command place predicate)) token.now result }
 {
     match class {
         Class::Comma => match command {
             Command::Assume => ShapeStep::Taken(ShapeReader::Variable(place, predicate)),
-            Command::Assert => ShapeStep::Taken(ShapeReader::Argument(Use::Start(
-                place, predicate,
-            ))),
+            Command::Assert => ShapeStep::Taken(ShapeReader::Argument(Use::Start(place, predicate))),
         },
         _ => ShapeStep::Stuck,
     }
@@ -149,12 +133,7 @@ fn at_variable(
     }
 }
 
-fn at_argument(
-    alloc: Global,
-    usage: Use,
-    token: &Token,
-    class: Class,
-) -> Result<ShapeStep, AllocError>
+fn at_argument(alloc: Global, usage: Use, token: &Token, class: Class) -> Result<ShapeStep, AllocError>
     requires { IsClass token.now class }
     ensures { IfOk result (IsShapeStep (CompletesShape (ShapeReader.Argument usage)) token.now) }
 {
@@ -212,12 +191,7 @@ fn behind_use(alloc: Global, usage: Use, argument: Argument) -> Result<ShapeRead
     }
 }
 
-fn behind_arguments(
-    shape: Shape,
-    arguments: Vec<Argument>,
-    token: &Token,
-    class: Class,
-) -> ShapeStep
+fn behind_arguments(shape: Shape, arguments: Vec<Argument>, token: &Token, class: Class) -> ShapeStep
     requires { IsClass token.now class }
     ensures { IsShapeStep (CompletesShape (ShapeReader.Arguments shape arguments)) token.now result }
 {

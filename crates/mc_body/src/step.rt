@@ -1,6 +1,4 @@
 // What the states of a reader do with a token.
-#![tactic(none)]
-
 ghost use Rattle.std.specs.Prelude.{◌≡◌, ℕ, List, IfOk};
 ghost use Rattle.mc_ast.specs.Classes.{IsClass};
 ghost use Rattle.mc_ast.specs.Names.{is_in};
@@ -26,7 +24,7 @@ pub fn expect(nest: Nest, phrase: Phrase, state: State, token: &Token, class: Cl
     requires { IsClass token.now class }
     ensures { (aliases : List (List ℕ)) → IsBodyStep aliases (Expects (classes_of phrase) (AtState aliases nest state)) token.now result }
 {
-    if class == phrase.first() {
+    if phrase.begins_with(class) {
         BodyStep::Taken(BodyReader {
             nest,
             expected: phrase.behind(),

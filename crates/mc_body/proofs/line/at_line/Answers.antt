@@ -30,6 +30,6 @@ returns-in-Name c = λ aliases e. c.at_name.ensures aliases e
 pub returns-in_default : goal.returns-in_default
 returns-in_default c = λ aliases e.
     let other = line_other aliases {token = c.args.token.now}
-    (λ m. c.in_default.not-Semicolon (class_of_mark c.args.class Class.Semicolon c.args.token.now tt c.requires m))
-    (λ d tokens rest h. no_declaration c.args.class c.requires c.in_default.not-Int c.in_default.not-Struct c.in_default.not-Name h) in
+        (λ m. c.in_default.not-Semicolon (class_of_mark c.args.class Class.Semicolon c.args.token.now tt c.requires m))
+        (λ d tokens rest h. no_declaration c.args.class c.requires c.in_default.not-Int c.in_default.not-Struct c.in_default.not-Name h) in
     if_ok_map c.in_simple.result (λ step h. line_step_along aliases step other (line_step_along aliases step (same_at c.args.token.now (then_same record { forward = (c.new.ensures aliases).backward; backward = (c.new.ensures aliases).forward })) h)) (c.in_simple.ensures aliases e)

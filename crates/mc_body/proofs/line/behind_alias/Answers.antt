@@ -26,6 +26,6 @@ returns-in_default c = λ aliases e.
     let name = c.args.known.name in
     let same = c.behind_name.ensures aliases (token_of name) (token_is_name name c.args.known.is_free) refl in
     let stuck = declaration_stuck aliases name {token = c.args.token.now}
-    (λ n. c.in_default.not-Name (class_of_name c.args.class c.args.token.now c.requires n))
-    (λ m. c.in_default.not-Star (class_of_mark c.args.class Class.Star c.args.token.now tt c.requires m)) in
+        (λ n. c.in_default.not-Name (class_of_name c.args.class c.args.token.now c.requires n))
+        (λ m. c.in_default.not-Star (class_of_mark c.args.class Class.Star c.args.token.now tt c.requires m)) in
     if_ok_map c.in_simple.result (λ step h. line_step_along aliases step (either_right stuck) (line_step_along aliases step (same_at c.args.token.now (then_same record { forward = same.backward; backward = same.forward })) h)) (c.in_simple.ensures aliases e)
