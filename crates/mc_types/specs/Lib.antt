@@ -1,0 +1,6 @@
+pub mod Types
+pub mod Tables
+pub mod Scopes
+pub mod Faults
+pub mod Calls
+pub mod Typing
