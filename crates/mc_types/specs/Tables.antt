@@ -22,9 +22,10 @@ use Rattle.mc_types.specs.declared.types.VariableType.TheVariants.{Int, Pointer,
 use Rattle.mc_types.specs.declared.types.BaseType.{BaseType}
 use Rattle.mc_types.specs.declared.types.BaseType.TheVariants as BaseType
 
--- a variable, field or parameter
+-- a variable, field or parameter, at the place of its name
 pub record Variable : Type 0 where
   pub name : List ℕ
+  pub place : Place
   pub type : VariableType
 
 -- the type of the one with this name, the first if there are several
@@ -130,7 +131,7 @@ meaning_of t base = base_meaning t.structs t.aliases base
 
 -- the variable that a declarator makes
 abbrev pub variable_of : Tables → Base → Declarator → Variable
-variable_of t base d = record { name = d.name.text; type = declared_type (meaning_of t base) d.pointer }
+variable_of t base d = record { name = d.name.text; place = d.name.place; type = declared_type (meaning_of t base) d.pointer }
 
 -- the fields of a struct
 abbrev pub fields_of : Tables → StructTree → List Variable

@@ -1,0 +1,4 @@
+pub mod Configs
+pub mod Values
+pub mod Moves
+pub mod Steps
