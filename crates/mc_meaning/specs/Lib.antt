@@ -2,3 +2,4 @@ pub mod Configs
 pub mod Values
 pub mod Moves
 pub mod Steps
+pub mod Examples
