@@ -3,4 +3,5 @@ pub mod Tables
 pub mod Scopes
 pub mod Faults
 pub mod Calls
+pub mod First
 pub mod Typing
