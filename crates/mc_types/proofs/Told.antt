@@ -108,6 +108,9 @@ contains_cases x y xs (suc k, below, is) = inr (k, omega arith, is)
 pub contains_none : {X : Type 0} (x : X) → Contains [] x → ⊥
 contains_none x h = omega (arith, h.1)
 
+pub contains_nothing : {X : Type 0} (xs : List X) (x : X) → xs ≡ [] → Contains xs x → ⊥
+contains_nothing xs x e h = contains_none x (rw e at h)
+
 -- ---- the one that is told of one and these
 pub record IsTold (told : Fault) (faults : List Fault) (f : Fault) : Type 0 where
   pub is_one : (f ≡ told) ⊎ Contains faults f
@@ -149,3 +152,13 @@ none_not_some o h e = absurd (none-some h.0 (let is = h.1 in cc))
 pub told_of-none : (xs : List Fault) → told_of None xs ≡ None → xs ≡ []
 told_of-none [] e = refl
 told_of-none (x ∷ xs) e = none_not_some (told_of (Some x) xs) (told_of-some x xs) e
+
+pub told_of-before : (fs : List Fault) (f g : Fault) → told_of None fs ≡ Some f → Contains fs g → is_told f g ≡ true
+told_of-before [] f g e c = absurd (contains_none g c)
+told_of-before (x ∷ xs) f g e c =
+    let all = told_of-is x f xs e in elim (contains_cases g x xs c) [ inl p ↦ rw p all.before_it | inr p ↦ all.before_all g p ]
+
+pub told_of-among : (fs : List Fault) (f : Fault) → told_of None fs ≡ Some f → Contains fs f
+told_of-among [] f e = absurd (none-some f e)
+told_of-among (x ∷ xs) f e =
+    let all = told_of-is x f xs e in elim all.is_one [ inl p ↦ rw p (contains_here x xs) | inr p ↦ contains_later f x xs p ]

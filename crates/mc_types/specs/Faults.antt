@@ -140,11 +140,11 @@ expression_faults t vs (number n p) = []
 expression_faults t vs (null p) = []
 expression_faults t vs (input p) = []
 expression_faults t vs (value l) = left_faults t vs l
-expression_faults t vs (minus p e) = expression_faults t vs e ++ no_int t vs e
+expression_faults t vs (minus p e) = no_int t vs e ++ expression_faults t vs e
 expression_faults t vs (parens p e) = expression_faults t vs e
-expression_faults t vs (times a b) = expression_faults t vs a ++ no_int t vs a ++ expression_faults t vs b ++ no_int t vs b
-expression_faults t vs (plus a b) = expression_faults t vs a ++ no_int t vs a ++ expression_faults t vs b ++ no_int t vs b
-expression_faults t vs (less a b) = expression_faults t vs a ++ no_int t vs a ++ expression_faults t vs b ++ no_int t vs b
+expression_faults t vs (times a b) = no_int t vs a ++ no_int t vs b ++ expression_faults t vs a ++ expression_faults t vs b
+expression_faults t vs (plus a b) = no_int t vs a ++ no_int t vs b ++ expression_faults t vs a ++ expression_faults t vs b
+expression_faults t vs (less a b) = no_int t vs a ++ no_int t vs b ++ expression_faults t vs a ++ expression_faults t vs b
 
 -- ---- conditions
 -- `==` and `!=` compare what is comparable, the others compare `int`s

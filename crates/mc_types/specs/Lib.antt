@@ -5,3 +5,4 @@ pub mod Faults
 pub mod Calls
 pub mod First
 pub mod Typing
+pub mod Examples
