@@ -9,7 +9,7 @@ use Rattle.mc_types.specs.First.{is_told, told_of}
 use Rattle.mc_types.specs.Tables.{Tables, tables_of}
 use Rattle.mc_types.specs.Typing.{recursion_at, IsRecursion, is_entry, HasEntry, Breaks, plainly, by_recursion, entry_fault, HasFault, breaks, no_entry, IsWellTyped, IsFirstFault, IsFaultless, IsToldOnce}
 use Rattle.mc_types.specs.declared.faults.Fault.{Fault}
-use Rattle.mc_types.proofs.Told.{is_told-refl, is_told-antisym, is_told-trans, is_told-total, told_of-is, told_of-some, IsTold, contains_here, contains_later, contains_cases, contains_none, contains_nothing, told_of-before, told_of-among}
+use Rattle.mc_types.proofs.Orders.{is_told-refl, is_told-antisym, is_told-trans, is_told-total, told_of-is, told_of-some, IsTold, contains_here, contains_later, contains_cases, contains_none, contains_nothing, told_of-before, told_of-among}
 
 -- ---- the laws
 well_typed_breaks : (unit : UnitTree) (entry : List ℕ) → IsWellTyped unit entry → (fault : Fault) → ¬ Breaks unit fault

@@ -6,3 +6,4 @@ pub mod Calls
 pub mod First
 pub mod Typing
 pub mod Examples
+pub mod Held

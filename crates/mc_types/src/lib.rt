@@ -4,6 +4,9 @@
 mod examples;
 mod faults;
 mod laws;
+mod names;
+mod tables;
+mod told;
 mod types;
 
 pub use examples::{

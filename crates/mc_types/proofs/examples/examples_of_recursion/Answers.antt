@@ -3,7 +3,7 @@ use Rattle.std.specs.Prelude.{[], ◌∷◌, codes}
 use Rattle.mc_types.specs.Calls.{CallSite, itself, through}
 use Rattle.mc_types.specs.Examples.{named, calls_itself, calls_in_a_ring}
 use Rattle.mc_types.proofs.Wells.{recursion_first}
-use Rattle.mc_types.proofs.Told.{contains_here, contains_later}
+use Rattle.mc_types.proofs.Orders.{contains_here, contains_later}
 use Rattle.mc_types.proofs.examples.examples_of_recursion.Goals as goal
 
 abbrev f_calls_f : CallSite

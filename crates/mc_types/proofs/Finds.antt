@@ -1,0 +1,51 @@
+-- What is found in lists.
+use Rattle.std.proofs.Common.{◌≡◌, ℕ, zero, suc, List, [], ◌∷◌, ◌++◌, ◌+◌, refl, ap, sym, Bool, true, false, cond, not, map, length, ◌<◌, arith, nat_lt}
+use Rattle.std.specs.List.{prefix_len}
+use Rattle.std.proofs.Common.{Bor}
+use Rattle.std.specs.Prelude.{option_copied, Option, Some, None, position, find, slice_get, option_map, option_and_then}
+
+later_place : (n len : ℕ) (b c : Bool) → nat_lt (1 + n) (suc len) ≡ b → nat_lt n len ≡ c → cond b (Some (1 + n)) None ≡ option_map (λ i. suc i) (cond c (Some n) None)
+later_place n len true true p q = ap (λ i. Some i) (omega arith)
+later_place n len false false p q = refl
+later_place n len true false p q = grind arith
+later_place n len false true p q = grind arith
+
+position_step : (b : Bool) (n len : ℕ)
+  → cond (nat_lt (cond (not b) (1 + n) 0) (suc len)) (Some (cond (not b) (1 + n) 0)) None ≡ cond b (Some 0) (option_map (λ i. suc i) (cond (nat_lt n len) (Some n) None))
+position_step true n len = let first : nat_lt 0 (suc len) ≡ true = grind arith in rw first refl
+position_step false n len = later_place n len _ _ refl refl
+
+-- the first place, at the head or behind it
+pub position-cons : {X : Type 0} (p : X → Bool) (x : X) (xs : List X) → position p (x ∷ xs) ≡ cond (p x) (Some 0) (option_map (λ i. suc i) (position p xs))
+position-cons p x xs = position_step (p x) (prefix_len (λ y. not (p y)) xs) (length xs)
+
+-- a place in a list whose elements are seen otherwise
+pub position-map : {X Y : Type 0} (p : Y → Bool) (f : X → Y) (xs : List X) → position p (map f xs) ≡ position (λ x. p (f x)) xs
+position-map p f [] = refl
+position-map p f (x ∷ xs) = rw (position-cons p (f x) (map f xs)) (rw (position-cons (λ y. p (f y)) x xs) (ap (λ o. cond (p (f x)) (Some 0) (option_map (λ i. suc i) o)) (position-map p f xs)))
+
+-- what is found is what stands at the place that is found
+found_step : {X Y : Type 0} (f : X → Y) (b : Bool) (x : X) (xs : List X) (rest : Option Y) (place : Option ℕ)
+  → rest ≡ option_and_then (λ i. option_map f (slice_get xs i)) place
+  → cond b (Some (f x)) rest ≡ option_and_then (λ i. option_map f (slice_get (x ∷ xs) i)) (cond b (Some 0) (option_map (λ i. suc i) place))
+found_step f true x xs rest place e = refl
+found_step f false x xs rest None e = e
+found_step f false x xs rest (Some i) e = e
+
+pub find-at : {X Y : Type 0} (p : Y → Bool) (f : X → Y) (xs : List X)
+  → find p (map f xs) ≡ option_and_then (λ i. option_map f (slice_get xs i)) (position (λ x. p (f x)) xs)
+find-at p f [] = refl
+find-at p f (x ∷ xs) =
+    rw (position-cons (λ y. p (f y)) x xs) (found_step f (p (f x)) x xs (find p (map f xs)) (position (λ y. p (f y)) xs) (find-at p f xs))
+
+-- the same in two cases
+pub find-none : {X Y : Type 0} (p : Y → Bool) (f : X → Y) (xs : List X) → None ≡ position (λ x. p (f x)) xs → None ≡ find p (map f xs)
+find-none p f xs e = rw (find-at p f xs) (ap (λ place. option_and_then (λ i. option_map f (slice_get xs i)) place) e)
+
+pub find-some : {X Y : Type 0} (p : Y → Bool) (f : X → Y) (xs : List X) (i : ℕ) (o : Option X) → Some i ≡ position (λ x. p (f x)) xs → o ≡ slice_get xs i → option_map f o ≡ find p (map f xs)
+find-some p f xs i o e is = rw is (rw (find-at p f xs) (ap (λ place. option_and_then (λ i. option_map f (slice_get xs i)) place) e))
+
+-- what is behind a reference
+pub option_map-copied : {X Y : Type 0} (f : X → Y) (o : Option (Bor X)) → option_map f (option_copied o) ≡ option_map (λ x. f x.now) o
+option_map-copied f None = refl
+option_map-copied f (Some x) = refl
