@@ -5,6 +5,7 @@ mod examples;
 mod faults;
 mod laws;
 mod names;
+mod scope;
 mod tables;
 mod told;
 mod types;
