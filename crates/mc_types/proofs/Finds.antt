@@ -49,3 +49,19 @@ find-some p f xs i o e is = rw is (rw (find-at p f xs) (ap (λ place. option_and
 pub option_map-copied : {X Y : Type 0} (f : X → Y) (o : Option (Bor X)) → option_map f (option_copied o) ≡ option_map (λ x. f x.now) o
 option_map-copied f None = refl
 option_map-copied f (Some x) = refl
+
+-- what is found and then read, in a list whose elements are seen otherwise
+find_seen : {X Y : Type 0} (f : X → Y) (b : Bool) (x : X) (rest : Option X) → cond b (Some (f x)) (option_map f rest) ≡ option_map f (cond b (Some x) rest)
+find_seen f true x rest = refl
+find_seen f false x rest = refl
+
+pub find-map : {X Y : Type 0} (p : Y → Bool) (f : X → Y) (xs : List X) → find p (map f xs) ≡ option_map f (find (λ x. p (f x)) xs)
+find-map p f [] = refl
+find-map p f (x ∷ xs) = rw (find-map p f xs) (find_seen f (p (f x)) x (find (λ y. p (f y)) xs))
+
+twice_seen : {X Y Z : Type 0} (g : Y → Z) (f : X → Y) (o : Option X) → option_map (λ x. g (f x)) o ≡ option_map g (option_map f o)
+twice_seen g f None = refl
+twice_seen g f (Some x) = refl
+
+pub find-read : {X Y Z : Type 0} (g : Y → Z) (p : Y → Bool) (f : X → Y) (xs : List X) (o : Option X) → o ≡ find (λ x. p (f x)) xs → option_map (λ x. g (f x)) o ≡ option_map g (find p (map f xs))
+find-read g p f xs o e = rw (find-map p f xs) (rw (sym e) (twice_seen g f o))

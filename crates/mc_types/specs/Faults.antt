@@ -21,7 +21,7 @@ use Rattle.mc_ast.specs.Trees.{Left, Expr, number, null, input, value, minus, pa
 use Rattle.mc_ast.specs.Trees.{InitialTree, DeclarationTree, SimpleTree, assign, add, subtract, increment, decrement, increment_first, decrement_first, call, Start, nothing, declares, performs, Head, Stmt, declaration, block, empty, simple, free, assert, assume, assume_shape, assert_shape, assert_empty, if_only, if_else, while_loop, do_loop, for_loop, break_loop, continue_loop, returns, Stmts, no_more, then, stmts_of, FieldTree, StructTree, AliasedTree, of_base, of_struct, TypedefTree, ParametersTree, unnamed, void, listed, BodyTree, FunctionTree, ItemTree, structure, typedef, function, UnitTree}
 use Rattle.mc_ast.specs.Names.{is_same, is_in}
 use Rattle.mc_types.specs.Types.{agree, fits, number_type, is_int, is_pointer, are_comparable, result_fits, allocates, is_declarable}
-use Rattle.mc_types.specs.Tables.{Variable, type_in, Tables, struct_number, is_alias, is_undefined, meaning_of, declared_type, variable_of, fields_of, parameters_of, listed_parameters, returned_type, same_type, is_defined, called_function, unit_structs, tables_of}
+use Rattle.mc_types.specs.Tables.{Variable, type_in, Tables, struct_number, alias_in, is_undefined, meaning_of, declared_type, variable_of, fields_of, parameters_of, listed_parameters, returned_type, same_type, is_defined, called_function, unit_structs, tables_of}
 use Rattle.mc_types.specs.Scopes.{Scope, visible, inside, declare, behind, behind_start}
 use Rattle.mc_types.specs.declared.types.VariableType.{VariableType}
 use Rattle.mc_types.specs.declared.types.VariableType.TheVariants.{Int, Pointer, Anything}
@@ -53,8 +53,8 @@ variable_faults vs name = unless (is_some (type_in vs name.text)) Unknown name.p
 abbrev pub is_known : Tables → Base → Option Place → Bool
 is_known t (Base.Int p) star = true
 is_known t (Base.Struct p name) star = is_none star || is_some (struct_number t.structs name.text)
-is_known t (Base.Alias name) None = is_alias t name.text
-is_known t (Base.Alias name) (Some star) = is_alias t name.text && not (is_undefined (meaning_of t (Base.Alias name)))
+is_known t (Base.Alias name) None = is_some (alias_in t.aliases name.text)
+is_known t (Base.Alias name) (Some star) = is_some (alias_in t.aliases name.text) && not (is_undefined (meaning_of t (Base.Alias name)))
 
 abbrev pub base_faults : Tables → Base → Option Place → List Fault
 base_faults t (Base.Int p) star = []

@@ -1,8 +1,21 @@
--- The tables that the code holds, as data.
-use Rattle.std.specs.Prelude.{List, [], map}
+-- What the code holds, as data.
+use Rattle.std.specs.Prelude.{List, map, reverse}
 use Rattle.mc_ast.specs.Views.{struct_of, function_of}
-use Rattle.mc_types.specs.Tables.{Tables}
+use Rattle.mc_types.specs.Tables.{Tables, Alias, Variable}
+use Rattle.mc_types.specs.declared.scope.Named.{Named}
+use Rattle.mc_types.specs.declared.tables.Meaning.{Meaning}
 use Rattle.mc_types.specs.declared.tables.NameTables.{NameTables}
 
+-- the variables, of which the code has the innermost last
+abbrev pub variable_held : Named → Variable
+variable_held v = record { name = v.name.now; type = v.variable_type }
+
+abbrev pub variables_held : List Named → List Variable
+variables_held vs = map variable_held (reverse vs)
+
+-- the tables
+abbrev pub alias_held : Meaning → Alias
+alias_held a = record { name = a.name.now; meaning = a.meaning }
+
 abbrev pub tables_held : NameTables → Tables
-tables_held t = record { structs = map (λ s. struct_of s.now) t.structs; aliases = []; functions = map (λ f. function_of f.now) t.functions }
+tables_held t = record { structs = map (λ s. struct_of s.now) t.structs; aliases = map alias_held t.aliases; functions = map (λ f. function_of f.now) t.functions }

@@ -66,12 +66,15 @@ abbrev pub struct_meaning : Option StructId → BaseType
 struct_meaning None = BaseType.Undefined
 struct_meaning (Some s) = BaseType.Struct s
 
+-- what a name means that a typedef introduced, the first if there are several
+abbrev pub alias_in : List Alias → List ℕ → Option BaseType
+alias_in aliases name = option_map (λ alias. alias.meaning) (find (λ alias. is_same alias.name name) aliases)
+
 -- what a base means, with these structs and typedefs
 abbrev pub base_meaning : List StructTree → List Alias → Base → BaseType
 base_meaning structs aliases (Base.Int p) = BaseType.Typed Int
 base_meaning structs aliases (Base.Struct p name) = struct_meaning (struct_number structs name.text)
-base_meaning structs aliases (Base.Alias name) =
-    unwrap_or (option_map (λ alias. alias.meaning) (find (λ alias. is_same alias.name name.text) aliases)) (BaseType.Typed Anything)
+base_meaning structs aliases (Base.Alias name) = unwrap_or (alias_in aliases name.text) (BaseType.Typed Anything)
 
 -- the type of a name that is declared with a base that means this, and perhaps behind a `*`
 abbrev pub declared_type : BaseType → Option Place → VariableType
@@ -120,10 +123,6 @@ pub record Tables : Type 0 where
 abbrev pub tables_of : UnitTree → Tables
 tables_of unit =
     record { structs = unit_structs unit; aliases = aliases_of (unit_structs unit) [] unit; functions = flat_map item_functions unit }
-
--- the name is one that a typedef introduced
-abbrev pub is_alias : Tables → List ℕ → Bool
-is_alias t name = list_any (λ alias. is_same alias.name name) t.aliases
 
 abbrev pub meaning_of : Tables → Base → BaseType
 meaning_of t base = base_meaning t.structs t.aliases base

@@ -6,6 +6,7 @@ mod faults;
 mod laws;
 mod names;
 mod scope;
+mod stack;
 mod tables;
 mod told;
 mod types;
