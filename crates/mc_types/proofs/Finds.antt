@@ -1,5 +1,13 @@
 -- What is found in lists.
 use Rattle.std.proofs.Common.{◌≡◌, ℕ, zero, suc, List, [], ◌∷◌, ◌++◌, ◌+◌, refl, ap, sym, Bool, true, false, cond, not, map, length, ◌<◌, arith, nat_lt}
+use Rattle.std.proofs.Common.{get_or, drop}
+use Rattle.std.proofs.lemmas.Option.{none-some}
+use Rattle.std.proofs.lemmas.List.Folds.{find-append}
+use Rattle.std.proofs.Math.Seq.{drop-cons}
+use Rattle.mc_ast.specs.Names.{is_same}
+use Rattle.mc_types.specs.Tables.{Variable, type_in}
+use Rattle.mc_types.specs.declared.types.VariableType.{VariableType}
+use Rattle.std.specs.Option.{option_or}
 use Rattle.std.specs.List.{prefix_len}
 use Rattle.std.proofs.Common.{Bor}
 use Rattle.std.specs.Prelude.{option_copied, Option, Some, None, position, find, slice_get, option_map, option_and_then}
@@ -65,3 +73,23 @@ twice_seen g f (Some x) = refl
 
 pub find-read : {X Y Z : Type 0} (g : Y → Z) (p : Y → Bool) (f : X → Y) (xs : List X) (o : Option X) → o ≡ find (λ x. p (f x)) xs → option_map (λ x. g (f x)) o ≡ option_map g (find p (map f xs))
 find-read g p f xs o e = rw (find-map p f xs) (rw (sym e) (twice_seen g f o))
+
+-- the variable is among the first, or else among the others
+pub type_in-here : (xs ys : List Variable) (name : List ℕ) (type : VariableType) → type_in xs name ≡ Some type → type_in (xs ++ ys) name ≡ Some type
+type_in-here xs ys name type e =
+    rw (find-append (λ v. is_same v.name name) xs ys) (type_or_here (find (λ v. is_same v.name name) xs) (find (λ v. is_same v.name name) ys) type e) where
+  type_or_here : (o p : Option Variable) (type : VariableType) → option_map (λ v. v.type) o ≡ Some type → option_map (λ v. v.type) (option_or o p) ≡ Some type
+  type_or_here None p type e = absurd (none-some type e)
+  type_or_here (Some v) p type e = e
+
+pub type_in-later : (xs ys : List Variable) (name : List ℕ) → type_in xs name ≡ None → type_in (xs ++ ys) name ≡ type_in ys name
+type_in-later xs ys name e =
+    rw (find-append (λ v. is_same v.name name) xs ys) (type_or_later (find (λ v. is_same v.name name) xs) (find (λ v. is_same v.name name) ys) e) where
+  type_or_later : (o p : Option Variable) → option_map (λ v. v.type) o ≡ None → option_map (λ v. v.type) (option_or o p) ≡ option_map (λ v. v.type) p
+  type_or_later None p e = refl
+  type_or_later (Some v) p e = absurd (none-some v.type (sym e))
+
+-- what is left at a place of a list
+pub drop_at : {X : Type 0} (xs : List X) (i : ℕ) (x : X) → i < length xs → x ≡ get_or xs i x → drop i xs ≡ x ∷ drop (i + 1) xs
+drop_at xs i x below is =
+    let next : suc i ≡ i + 1 = omega arith in rw (sym next) (let head = drop-cons xs i x below in cc)

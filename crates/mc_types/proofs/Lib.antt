@@ -1,3 +1,5 @@
 pub mod Orders
 pub mod Wells
 pub mod Finds
+pub mod Sizes
+pub mod FieldLists

@@ -132,8 +132,11 @@ abbrev pub variable_of : Tables → Base → Declarator → Variable
 variable_of t base d = record { name = d.name.text; type = declared_type (meaning_of t base) d.pointer }
 
 -- the fields of a struct
+abbrev pub variables_of : Tables → FieldTree → List Variable
+variables_of t field = map (variable_of t field.base) field.declarators
+
 abbrev pub fields_of : Tables → StructTree → List Variable
-fields_of t s = flat_map (λ field. map (variable_of t field.base) field.declarators) s.fields
+fields_of t s = flat_map (variables_of t) s.fields
 
 -- the parameters of a function
 abbrev pub listed_parameters : ParametersTree → List Parameter

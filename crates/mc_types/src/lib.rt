@@ -2,7 +2,9 @@
 #![tactic(auto)]
 
 mod examples;
+mod expressions;
 mod faults;
+mod fields;
 mod laws;
 mod names;
 mod scope;
