@@ -1,5 +1,6 @@
 -- Which fault is told of several.
 use Rattle.std.proofs.Common.{◌≡◌, ℕ, List, [], ◌∷◌, ◌++◌, ◌<◌, ◌≤◌, refl, ap, arith, Bool, true, false, ◌⊎◌}
+use Rattle.std.proofs.Common.{append_assoc}
 use Rattle.std.proofs.Common.{inl, inr, sym, length, suc, zero}
 use Rattle.std.proofs.lemmas.Option.{same_Some, none-some}
 use Rattle.std.specs.Prelude.{Contains, Option, Some, None, cond, IsTrue, nat_lt, nat_le, ◌==◌, ◌&&◌, ◌||◌}
@@ -162,3 +163,16 @@ pub told_of-among : (fs : List Fault) (f : Fault) → told_of None fs ≡ Some f
 told_of-among [] f e = absurd (none-some f e)
 told_of-among (x ∷ xs) f e =
     let all = told_of-is x f xs e in elim all.is_one [ inl p ↦ rw p (contains_here x xs) | inr p ↦ contains_later f x xs p ]
+
+-- ---- what is noted of one and then of what it holds
+pub told_then : (told : Option Fault) (a r : List Fault) → told_of (told_of told a) r ≡ told_of told (a ++ r)
+told_then told a r = sym (told_of-append told a r)
+
+pub told_one : (told : Option Fault) (a x r : List Fault) → told_of (told_of told a) (x ++ r) ≡ told_of told ((a ++ x) ++ r)
+told_one told a x r = rw (append_assoc a x r) (told_then told a (x ++ r))
+
+pub told_operands : (told : Option Fault) (a b x y r : List Fault) → told_of (told_of (told_of told a) b) (x ++ (y ++ r)) ≡ told_of told ((((a ++ b) ++ x) ++ y) ++ r)
+told_operands told a b x y r =
+    rw (append_assoc ((a ++ b) ++ x) y r)
+    (rw (append_assoc (a ++ b) x (y ++ r))
+    (rw (append_assoc a b (x ++ (y ++ r))) (rw (told_of-append told a (b ++ (x ++ (y ++ r)))) (told_then (told_of told a) b (x ++ (y ++ r))))))

@@ -1,7 +1,11 @@
 -- What the code holds, as data.
-use Rattle.std.specs.Prelude.{List, map, reverse}
-use Rattle.mc_ast.specs.Views.{struct_of, function_of}
+use Rattle.std.specs.Prelude.{List, map, flat_map, reverse}
+use denote.Bor.{Bor}
+use Rattle.mc_ast.specs.declared.trees.Expression.{Expression}
+use Rattle.mc_ast.specs.Views.{expression_of, struct_of, function_of}
 use Rattle.mc_types.specs.Tables.{Tables, Alias, Variable}
+use Rattle.mc_types.specs.Faults.{expression_faults}
+use Rattle.mc_types.specs.declared.faults.Fault.{Fault}
 use Rattle.mc_types.specs.declared.scope.Named.{Named}
 use Rattle.mc_types.specs.declared.tables.Meaning.{Meaning}
 use Rattle.mc_types.specs.declared.tables.NameTables.{NameTables}
@@ -19,3 +23,7 @@ alias_held a = record { name = a.name.now; meaning = a.meaning }
 
 abbrev pub tables_held : NameTables → Tables
 tables_held t = record { structs = map (λ s. struct_of s.now) t.structs; aliases = map alias_held t.aliases; functions = map (λ f. function_of f.now) t.functions }
+
+-- the faults of expressions that wait
+abbrev pub expressions_faults : Tables → List Variable → List (Bor Expression) → List Fault
+expressions_faults t vs es = flat_map (λ e. expression_faults t vs (expression_of e.now)) es

@@ -7,3 +7,4 @@ pub mod First
 pub mod Typing
 pub mod Examples
 pub mod Held
+pub mod Sizes

@@ -41,11 +41,12 @@ pub fn first_place(expression: &Expression) -> Place
 }
 
 impl<'s, 'a> Sight<'s, 'a> {
-    ghost use Rattle.std.specs.Prelude.{OnOk, [], ◌∷◌};
+    ghost use Rattle.std.specs.Prelude.{OnOk, [], ◌∷◌, ◌++◌, ◌+◌, ◌<◌};
     ghost use Rattle.mc_ast.specs.Views.{left_of};
     ghost use Rattle.mc_types.specs.Faults.{variable_type, variable_faults, left_type, left_faults, value_type, no_int, no_pointer, no_fit, expression_faults, behind_fields, field_faults};
     ghost use Rattle.mc_types.specs.First.{told_of};
-    ghost use Rattle.mc_types.specs.Held.{tables_held, variables_held};
+    ghost use Rattle.mc_types.specs.Held.{tables_held, variables_held, expressions_faults};
+    ghost use Rattle.mc_types.specs.Sizes.{expression_size, expressions_size};
 
     /// The type of a variable.
     pub fn variable_type(&self, name: &Name) -> VariableType
@@ -166,6 +167,55 @@ impl<'s, 'a> Sight<'s, 'a> {
         }
     }
 
+    /// Notes that operands are no `int`s, and keeps them for later.
+    fn visit_operands<'e>(&self, told: &mut Told, stack: &mut Stack<&'e Expression>, left: &'e Expression, right: &'e Expression) -> Result<(), AllocError>
+        ensures told { told.new.fault ≡ told_of (told_of told.old.fault (no_int (tables_held self.now.tables.now) (variables_held self.now.scope.now) (expression_of left.now))) (no_int (tables_held self.now.tables.now) (variables_held self.now.scope.now) (expression_of right.now)) }
+        ensures kept { OnOk result (stack.new ≡ left.entry ∷ right.entry ∷ stack.old) }
+    {
+        self.want_int(told, left);
+        self.want_int(told, right);
+        stack.push(right)?;
+        stack.push(left)?;
+        Ok(())
+    }
+
+    /// Notes the faults of an expression itself, and keeps what is in it for later.
+    fn visit<'e>(&self, told: &mut Told, stack: &mut Stack<&'e Expression>, current: &'e Expression) -> Result<(), AllocError>
+        ensures told { OnOk result (told_of told.new.fault (expressions_faults (tables_held self.now.tables.now) (variables_held self.now.scope.now) stack.new) ≡ told_of told.old.fault (expression_faults (tables_held self.now.tables.now) (variables_held self.now.scope.now) (expression_of current.now) ++ expressions_faults (tables_held self.now.tables.now) (variables_held self.now.scope.now) stack.old)) }
+        ensures less { OnOk result (expressions_size stack.new < expression_size (expression_of current.now) + expressions_size stack.old) }
+    {
+        match current {
+            Expression::Number(_, _) => Ok(()),
+            Expression::Null(_) => Ok(()),
+            Expression::Input(_) => Ok(()),
+            Expression::Value(left) => {
+                self.check_left(told, left);
+                Ok(())
+            }
+            Expression::Minus(_, inner) => {
+                self.want_int(told, inner);
+                stack.push(inner)?;
+                Ok(())
+            }
+            Expression::Parens(_, inner) => {
+                stack.push(inner)?;
+                Ok(())
+            }
+            Expression::Times(left, right) => {
+                self.visit_operands(told, stack, left, right)?;
+                Ok(())
+            }
+            Expression::Plus(left, right) => {
+                self.visit_operands(told, stack, left, right)?;
+                Ok(())
+            }
+            Expression::Less(left, right) => {
+                self.visit_operands(told, stack, left, right)?;
+                Ok(())
+            }
+        }
+    }
+
     /// Notes the faults of an expression.
     pub fn check_expression(&self, alloc: Global, told: &mut Told, expression: &Expression) -> Result<(), AllocError>
         ensures { OnOk result (told.new.fault ≡ told_of told.old.fault (expression_faults (tables_held self.now.tables.now) (variables_held self.now.scope.now) (expression_of expression.now))) }
@@ -173,41 +223,8 @@ impl<'s, 'a> Sight<'s, 'a> {
         let mut stack = Stack::new(alloc);
         stack.push(expression)?;
         while let Some(current) = stack.pop() {
-            match current {
-                Expression::Number(_, _) => {}
-                Expression::Null(_) => {}
-                Expression::Input(_) => {}
-                Expression::Value(left) => self.check_left(told, left),
-                Expression::Minus(_, inner) => {
-                    self.want_int(told, inner);
-                    stack.push(inner)?;
-                }
-                Expression::Parens(_, inner) => stack.push(inner)?,
-                Expression::Times(left, right) => {
-                    self.check_operands(told, left, right);
-                    stack.push(right)?;
-                    stack.push(left)?;
-                }
-                Expression::Plus(left, right) => {
-                    self.check_operands(told, left, right);
-                    stack.push(right)?;
-                    stack.push(left)?;
-                }
-                Expression::Less(left, right) => {
-                    self.check_operands(told, left, right);
-                    stack.push(right)?;
-                    stack.push(left)?;
-                }
-            }
+            self.visit(told, &mut stack, current)?;
         }
         Ok(())
-    }
-
-    /// Notes that operands are no `int`s.
-    pub fn check_operands(&self, told: &mut Told, left: &Expression, right: &Expression)
-        ensures { told.new.fault ≡ told_of (told_of told.old.fault (no_int (tables_held self.now.tables.now) (variables_held self.now.scope.now) (expression_of left.now))) (no_int (tables_held self.now.tables.now) (variables_held self.now.scope.now) (expression_of right.now)) }
-    {
-        self.want_int(told, left);
-        self.want_int(told, right);
     }
 }

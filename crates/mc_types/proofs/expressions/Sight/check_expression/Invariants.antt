@@ -1,15 +1,15 @@
-use Rattle.std.proofs.Common.{◌≡◌, map, flat_map, sum_by}
+use Rattle.std.proofs.Common.{◌≡◌}
 use Rattle.mc_ast.specs.Views.{expression_of}
 use Rattle.mc_types.specs.Faults.{expression_faults}
 use Rattle.mc_types.specs.First.{told_of}
-use Rattle.mc_types.specs.Held.{tables_held, variables_held}
-use Rattle.mc_types.proofs.Sizes.{expression_size}
+use Rattle.mc_types.specs.Held.{tables_held, variables_held, expressions_faults}
+use Rattle.mc_types.specs.Sizes.{expressions_size}
 use Rattle.mc_types.proofs.expressions.Sight.check_expression.Given as goal
 
 abbrev pub invariant-loop-current : goal.invariant-loop-current
 invariant-loop-current l =
-    told_of l.told.fault (flat_map (λ e. expression_faults (tables_held l.self.tables.now) (variables_held l.self.scope.now) (expression_of e.now)) l.stack)
-    ≡ told_of l.fn.told.fault (expression_faults (tables_held l.self.tables.now) (variables_held l.self.scope.now) (expression_of l.expression))
+    told_of l.told.fault (expressions_faults (tables_held l.self.tables.now) (variables_held l.self.scope.now) l.stack)
+    ≡ told_of l.initial.told.fault (expression_faults (tables_held l.self.tables.now) (variables_held l.self.scope.now) (expression_of l.expression))
 
 abbrev pub decreases-loop-current : goal.decreases-loop-current
-decreases-loop-current l = sum_by (λ e. expression_size (expression_of e.now)) l.stack
+decreases-loop-current l = expressions_size l.stack

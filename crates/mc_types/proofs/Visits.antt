@@ -1,0 +1,33 @@
+-- What a visit of an expression notes, and what it keeps for later.
+use Rattle.std.proofs.Common.{◌≡◌, ℕ, List, [], ◌∷◌, ◌++◌, ◌+◌, ◌<◌, suc, refl, ap, sym, arith, Option, Bor}
+use Rattle.mc_ast.specs.declared.trees.Expression.{Expression}
+use Rattle.mc_ast.specs.Views.{expression_of}
+use Rattle.mc_types.specs.Faults.{expression_faults, no_int}
+use Rattle.mc_types.specs.First.{told_of}
+use Rattle.mc_types.specs.Held.{expressions_faults}
+use Rattle.mc_types.specs.Sizes.{expression_size, expressions_size}
+use Rattle.mc_types.specs.Tables.{Tables, Variable}
+use Rattle.mc_types.specs.declared.faults.Fault.{Fault}
+use Rattle.mc_types.proofs.Orders.{told_then, told_operands}
+
+pub operands_told : (t : Tables) (vs : List Variable) (told told' : Option Fault) (stack stack' : List (Bor Expression)) (l r : Bor Expression) (a b : Expression)
+  → l.now ≡ a → r.now ≡ b
+  → told' ≡ told_of (told_of told (no_int t vs (expression_of l.now))) (no_int t vs (expression_of r.now))
+  → stack' ≡ l ∷ r ∷ stack
+  → told_of told' (expressions_faults t vs stack')
+  ≡ told_of told ((((no_int t vs (expression_of a) ++ no_int t vs (expression_of b)) ++ expression_faults t vs (expression_of a)) ++ expression_faults t vs (expression_of b)) ++ expressions_faults t vs stack)
+operands_told t vs told told' stack stack' l r a b left right noted kept =
+    rw (sym left)
+    (rw (sym right)
+    (rw noted
+    (rw kept
+    (told_operands told (no_int t vs (expression_of l.now)) (no_int t vs (expression_of r.now)) (expression_faults t vs (expression_of l.now)) (expression_faults t vs (expression_of r.now)) (expressions_faults t vs stack)))))
+
+pub operands_less : (stack stack' : List (Bor Expression)) (l r : Bor Expression) (a b : Expression)
+  → l.now ≡ a → r.now ≡ b → stack' ≡ l ∷ r ∷ stack
+  → expressions_size stack' < suc (expression_size (expression_of a) + expression_size (expression_of b)) + expressions_size stack
+operands_less stack stack' l r a b left right kept = rw (sym left) (rw (sym right) (rw kept (omega arith)))
+
+pub inner_less : (stack stack' : List (Bor Expression)) (l : Bor Expression) (a : Expression)
+  → l.now ≡ a → stack' ≡ l ∷ stack → expressions_size stack' < suc (expression_size (expression_of a)) + expressions_size stack
+inner_less stack stack' l a left kept = rw (sym left) (rw kept (omega arith))
