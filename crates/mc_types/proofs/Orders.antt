@@ -176,3 +176,6 @@ told_operands told a b x y r =
     rw (append_assoc ((a ++ b) ++ x) y r)
     (rw (append_assoc (a ++ b) x (y ++ r))
     (rw (append_assoc a b (x ++ (y ++ r))) (rw (told_of-append told a (b ++ (x ++ (y ++ r)))) (told_then (told_of told a) b (x ++ (y ++ r))))))
+
+pub told_three : (told : Option Fault) (a b c : List Fault) → told_of (told_of (told_of told a) b) c ≡ told_of told ((a ++ b) ++ c)
+told_three told a b c = rw (told_of-append told (a ++ b) c) (rw (told_of-append told a b) refl)

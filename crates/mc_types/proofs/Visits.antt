@@ -1,11 +1,15 @@
 -- What a visit of an expression notes, and what it keeps for later.
 use Rattle.std.proofs.Common.{◌≡◌, ℕ, List, [], ◌∷◌, ◌++◌, ◌+◌, ◌<◌, suc, refl, ap, sym, arith, Option, Bor}
 use Rattle.mc_ast.specs.declared.trees.Expression.{Expression}
-use Rattle.mc_ast.specs.Views.{expression_of}
-use Rattle.mc_types.specs.Faults.{expression_faults, no_int}
+use Rattle.std.proofs.Common.{append_assoc, length, map, drop, ◌≤◌}
+use Rattle.std.proofs.lemmas.List.{drop_all}
+use Rattle.mc_ast.specs.declared.trees.Condition.{Condition}
+use Rattle.mc_ast.specs.declared.trees.Parameter.{Parameter}
+use Rattle.mc_ast.specs.Views.{condition_of, expression_of}
+use Rattle.mc_types.specs.Faults.{argument_faults, condition_faults, expression_faults, no_int}
 use Rattle.mc_types.specs.First.{told_of}
-use Rattle.mc_types.specs.Held.{expressions_faults}
-use Rattle.mc_types.specs.Sizes.{expression_size, expressions_size}
+use Rattle.mc_types.specs.Held.{conditions_faults, expressions_faults}
+use Rattle.mc_types.specs.Sizes.{condition_size, conditions_size, expression_size, expressions_size}
 use Rattle.mc_types.specs.Tables.{Tables, Variable}
 use Rattle.mc_types.specs.declared.faults.Fault.{Fault}
 use Rattle.mc_types.proofs.Orders.{told_then, told_operands}
@@ -31,3 +35,29 @@ operands_less stack stack' l r a b left right kept = rw (sym left) (rw (sym righ
 pub inner_less : (stack stack' : List (Bor Expression)) (l : Bor Expression) (a : Expression)
   → l.now ≡ a → stack' ≡ l ∷ stack → expressions_size stack' < suc (expression_size (expression_of a)) + expressions_size stack
 inner_less stack stack' l a left kept = rw (sym left) (rw kept (omega arith))
+
+-- ---- conditions
+pub kept_told : (t : Tables) (vs : List Variable) (told : Option Fault) (stack stack' : List (Bor Condition)) (l r : Bor Condition) (a b : Condition)
+  → l.now ≡ a → r.now ≡ b → stack' ≡ l ∷ r ∷ stack
+  → told_of told (conditions_faults t vs stack') ≡ told_of told ((condition_faults t vs (condition_of a) ++ condition_faults t vs (condition_of b)) ++ conditions_faults t vs stack)
+kept_told t vs told stack stack' l r a b left right kept =
+    rw (sym left)
+    (rw (sym right) (rw kept (rw (append_assoc (condition_faults t vs (condition_of l.now)) (condition_faults t vs (condition_of r.now)) (conditions_faults t vs stack)) refl)))
+
+pub kept_less : (stack stack' : List (Bor Condition)) (l r : Bor Condition) (a b : Condition)
+  → l.now ≡ a → r.now ≡ b → stack' ≡ l ∷ r ∷ stack
+  → conditions_size stack' < suc (condition_size (condition_of a) + condition_size (condition_of b)) + conditions_size stack
+kept_less stack stack' l r a b left right kept = rw (sym left) (rw (sym right) (rw kept (omega arith)))
+
+pub inner_condition_less : (stack stack' : List (Bor Condition)) (l : Bor Condition) (a : Condition)
+  → l.now ≡ a → stack' ≡ l ∷ stack → conditions_size stack' < suc (condition_size (condition_of a)) + conditions_size stack
+inner_condition_less stack stack' l a left kept = rw (sym left) (rw kept (omega arith))
+
+-- ---- arguments
+pub no_arguments : (t : Tables) (vs : List Variable) (ps : List Parameter) → argument_faults t vs ps [] ≡ []
+no_arguments t vs [] = refl
+no_arguments t vs (p ∷ ps) = refl
+
+pub no_more_arguments : (t : Tables) (vs : List Variable) (ps : List Parameter) (es : List Expression) (i : ℕ)
+  → length es ≤ i → argument_faults t vs ps (map expression_of (drop i es)) ≡ []
+no_more_arguments t vs ps es i past = rw (drop_all i es past) (no_arguments t vs ps)

@@ -166,16 +166,16 @@ condition_faults t vs (either c d) = condition_faults t vs c ++ condition_faults
 
 -- ---- calls
 -- each argument fits its parameter
-abbrev pub argument_faults : Tables → List Variable → List Variable → List Expr → List Fault
+abbrev pub argument_faults : Tables → List Variable → List Parameter → List Expr → List Fault
 argument_faults t vs [] es = []
 argument_faults t vs (p ∷ ps) [] = []
-argument_faults t vs (p ∷ ps) (e ∷ es) = no_fit t vs p.type e ++ argument_faults t vs ps es
+argument_faults t vs (p ∷ ps) (e ∷ es) = no_fit t vs (variable_of t p.base p.declarator).type e ++ argument_faults t vs ps es
 
 -- the function is defined and has as many parameters
 abbrev pub callee_faults : Tables → List Variable → CallTree → Option FunctionTree → List Fault
 callee_faults t vs c None = unless false Unknown c.function.place
 callee_faults t vs c (Some f) =
-    unless (length c.arguments == length (parameters_of t f)) Arity c.function.place ++ argument_faults t vs (parameters_of t f) c.arguments
+    unless (length c.arguments == length (listed_parameters f.parameters)) Arity c.function.place ++ argument_faults t vs (listed_parameters f.parameters) c.arguments
 
 abbrev pub call_faults : Tables → List Variable → CallTree → List Fault
 call_faults t vs c = callee_faults t vs c (called_function t c.function.text) ++ flat_map (expression_faults t vs) c.arguments

@@ -1,6 +1,8 @@
 //! Typing of programs: what their names mean, and the first fault of a program that has one.
 #![tactic(auto)]
 
+mod calls;
+mod conditions;
 mod examples;
 mod expressions;
 mod faults;
