@@ -19,7 +19,7 @@ later_place n len true false p q = grind arith
 later_place n len false true p q = grind arith
 
 position_step : (b : Bool) (n len : ℕ)
-  → cond (nat_lt (cond (not b) (1 + n) 0) (suc len)) (Some (cond (not b) (1 + n) 0)) None ≡ cond b (Some 0) (option_map (λ i. suc i) (cond (nat_lt n len) (Some n) None))
+    → cond (nat_lt (cond (not b) (1 + n) 0) (suc len)) (Some (cond (not b) (1 + n) 0)) None ≡ cond b (Some 0) (option_map (λ i. suc i) (cond (nat_lt n len) (Some n) None))
 position_step true n len = let first : nat_lt 0 (suc len) ≡ true = grind arith in rw first refl
 position_step false n len = later_place n len _ _ refl refl
 
@@ -34,14 +34,14 @@ position-map p f (x ∷ xs) = rw (position-cons p (f x) (map f xs)) (rw (positio
 
 -- what is found is what stands at the place that is found
 found_step : {X Y : Type 0} (f : X → Y) (b : Bool) (x : X) (xs : List X) (rest : Option Y) (place : Option ℕ)
-  → rest ≡ option_and_then (λ i. option_map f (slice_get xs i)) place
-  → cond b (Some (f x)) rest ≡ option_and_then (λ i. option_map f (slice_get (x ∷ xs) i)) (cond b (Some 0) (option_map (λ i. suc i) place))
+    → rest ≡ option_and_then (λ i. option_map f (slice_get xs i)) place
+    → cond b (Some (f x)) rest ≡ option_and_then (λ i. option_map f (slice_get (x ∷ xs) i)) (cond b (Some 0) (option_map (λ i. suc i) place))
 found_step f true x xs rest place e = refl
 found_step f false x xs rest None e = e
 found_step f false x xs rest (Some i) e = e
 
 pub find-at : {X Y : Type 0} (p : Y → Bool) (f : X → Y) (xs : List X)
-  → find p (map f xs) ≡ option_and_then (λ i. option_map f (slice_get xs i)) (position (λ x. p (f x)) xs)
+    → find p (map f xs) ≡ option_and_then (λ i. option_map f (slice_get xs i)) (position (λ x. p (f x)) xs)
 find-at p f [] = refl
 find-at p f (x ∷ xs) =
     rw (position-cons (λ y. p (f y)) x xs) (found_step f (p (f x)) x xs (find p (map f xs)) (position (λ y. p (f y)) xs) (find-at p f xs))
@@ -78,16 +78,16 @@ find-read g p f xs o e = rw (find-map p f xs) (rw (sym e) (twice_seen g f o))
 pub type_in-here : (xs ys : List Variable) (name : List ℕ) (type : VariableType) → type_in xs name ≡ Some type → type_in (xs ++ ys) name ≡ Some type
 type_in-here xs ys name type e =
     rw (find-append (λ v. is_same v.name name) xs ys) (type_or_here (find (λ v. is_same v.name name) xs) (find (λ v. is_same v.name name) ys) type e) where
-  type_or_here : (o p : Option Variable) (type : VariableType) → option_map (λ v. v.type) o ≡ Some type → option_map (λ v. v.type) (option_or o p) ≡ Some type
-  type_or_here None p type e = absurd (none-some type e)
-  type_or_here (Some v) p type e = e
+      type_or_here : (o p : Option Variable) (type : VariableType) → option_map (λ v. v.type) o ≡ Some type → option_map (λ v. v.type) (option_or o p) ≡ Some type
+      type_or_here None p type e = absurd (none-some type e)
+      type_or_here (Some v) p type e = e
 
 pub type_in-later : (xs ys : List Variable) (name : List ℕ) → type_in xs name ≡ None → type_in (xs ++ ys) name ≡ type_in ys name
 type_in-later xs ys name e =
     rw (find-append (λ v. is_same v.name name) xs ys) (type_or_later (find (λ v. is_same v.name name) xs) (find (λ v. is_same v.name name) ys) e) where
-  type_or_later : (o p : Option Variable) → option_map (λ v. v.type) o ≡ None → option_map (λ v. v.type) (option_or o p) ≡ option_map (λ v. v.type) p
-  type_or_later None p e = refl
-  type_or_later (Some v) p e = absurd (none-some v.type (sym e))
+      type_or_later : (o p : Option Variable) → option_map (λ v. v.type) o ≡ None → option_map (λ v. v.type) (option_or o p) ≡ option_map (λ v. v.type) p
+      type_or_later None p e = refl
+      type_or_later (Some v) p e = absurd (none-some v.type (sym e))
 
 -- what is left at a place of a list
 pub drop_at : {X : Type 0} (xs : List X) (i : ℕ) (x : X) → i < length xs → x ≡ get_or xs i x → drop i xs ≡ x ∷ drop (i + 1) xs

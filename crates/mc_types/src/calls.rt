@@ -1,17 +1,20 @@
 // The faults of calls and of right sides.
+ghost use Rattle.std.specs.Prelude.{◌≡◌};
+ghost use Rattle.mc_ast.specs.Views.{function_of};
+ghost use Rattle.mc_types.specs.Tables.{listed_parameters};
+ghost use Rattle.mc_types.specs.Faults.{size_place};
+
 use crate::expressions::Sight;
 use crate::faults::FaultName;
 use crate::tables::NameTables;
 use crate::told::Told;
 use crate::types::{BaseType, ValueType, VariableType};
-use mc_ast::{Base, Call, Cast, Expression, Function, Malloc, Name, Parameter, Parameters, Returned, RightSide, Size};
+use mc_ast::{
+    Base, Call, Cast, Expression, Function, Malloc, Name, Parameter, Parameters, Returned,
+    RightSide, Size,
+};
 use mc_base::Place;
 use std::alloc::{AllocError, Global};
-
-ghost use Rattle.std.specs.Prelude.{◌≡◌};
-ghost use Rattle.mc_ast.specs.Views.{function_of};
-ghost use Rattle.mc_types.specs.Tables.{listed_parameters};
-ghost use Rattle.mc_types.specs.Faults.{size_place};
 
 /// The parameters of a function.
 pub fn parameters(function: &Function) -> &[Parameter]
@@ -114,14 +117,21 @@ impl<'s, 'a> Sight<'s, 'a> {
         for (i, argument) in arguments.iter().enumerate() {
             if i < parameters.len() {
                 let parameter = &parameters[i];
-                let wanted = self.tables.declared(&parameter.base, parameter.declarator.pointer);
+                let wanted = self
+                    .tables
+                    .declared(&parameter.base, parameter.declarator.pointer);
                 self.want_type(told, wanted, argument);
             }
         }
     }
 
     /// Notes the faults of expressions.
-    fn check_expressions(&self, alloc: Global, told: &mut Told, expressions: &[Expression]) -> Result<(), AllocError>
+    fn check_expressions(
+        &self,
+        alloc: Global,
+        told: &mut Told,
+        expressions: &[Expression],
+    ) -> Result<(), AllocError>
         ensures { OnOk result (told.new.fault ≡ told_of told.old.fault (flat_map (expression_faults (tables_held self.now.tables.now) (variables_held self.now.scope.now)) (map expression_of expressions.now))) }
     {
         for expression in expressions {
@@ -132,7 +142,7 @@ impl<'s, 'a> Sight<'s, 'a> {
 
     /// Notes that a called function is not there, or has other parameters.
     fn check_callee(&self, told: &mut Told, call: &Call, callee: Option<&Function>)
-        ensures { told.new.fault ≡ told_of told.old.fault (callee_faults (tables_held self.now.tables.now) (variables_held self.now.scope.now) (call_of call.now) (option_map function_of (option_copied callee))) }
+        ensures { told.new.fault ≡ told_of told.old.fault (callee_faults (tables_held self.now.tables.now) (variables_held self.now.scope.now) (call_of call.now) (option_map function_of (option_copied callee.entry))) }
     {
         match callee {
             None => told.note(FaultName::Unknown, call.function.place),
@@ -161,7 +171,7 @@ impl<'s, 'a> Sight<'s, 'a> {
 
     /// Whether the result of a called function fits where a type is wanted.
     fn call_fits(&self, wanted: VariableType, callee: Option<&Function>) -> bool
-        ensures { result ≡ call_fits (tables_held self.now.tables.now) wanted (option_map function_of (option_copied callee)) }
+        ensures { result ≡ call_fits (tables_held self.now.tables.now) wanted (option_map function_of (option_copied callee.entry)) }
     {
         match callee {
             None => true,
@@ -170,7 +180,13 @@ impl<'s, 'a> Sight<'s, 'a> {
     }
 
     /// Notes the faults of a call whose result is used.
-    fn check_result(&self, alloc: Global, told: &mut Told, wanted: VariableType, call: &Call) -> Result<(), AllocError>
+    fn check_result(
+        &self,
+        alloc: Global,
+        told: &mut Told,
+        wanted: VariableType,
+        call: &Call,
+    ) -> Result<(), AllocError>
         ensures { OnOk result (told.new.fault ≡ told_of told.old.fault (right_faults (tables_held self.now.tables.now) (variables_held self.now.scope.now) wanted (result_of (call_of call.now)))) }
     {
         self.check_call(alloc, told, call)?;
@@ -184,7 +200,13 @@ impl<'s, 'a> Sight<'s, 'a> {
     }
 
     /// Notes the faults of an expression that is used where a type is wanted.
-    fn check_value(&self, alloc: Global, told: &mut Told, wanted: VariableType, expression: &Expression) -> Result<(), AllocError>
+    fn check_value(
+        &self,
+        alloc: Global,
+        told: &mut Told,
+        wanted: VariableType,
+        expression: &Expression,
+    ) -> Result<(), AllocError>
         ensures { OnOk result (told.new.fault ≡ told_of told.old.fault (right_faults (tables_held self.now.tables.now) (variables_held self.now.scope.now) wanted (used (expression_of expression.now)))) }
     {
         self.check_expression(alloc, told, expression)?;
@@ -240,7 +262,13 @@ impl<'s, 'a> Sight<'s, 'a> {
     }
 
     /// Notes the faults of a right side where a type is wanted.
-    pub fn check_right(&self, alloc: Global, told: &mut Told, wanted: VariableType, right: &RightSide) -> Result<(), AllocError>
+    pub fn check_right(
+        &self,
+        alloc: Global,
+        told: &mut Told,
+        wanted: VariableType,
+        right: &RightSide,
+    ) -> Result<(), AllocError>
         ensures { OnOk result (told.new.fault ≡ told_of told.old.fault (right_faults (tables_held self.now.tables.now) (variables_held self.now.scope.now) wanted (right_of right.now))) }
     {
         match right {

@@ -34,7 +34,13 @@ impl<'s, 'a> Sight<'s, 'a> {
     }
 
     /// Notes that two expressions can't be compared so.
-    fn check_comparison(&self, told: &mut Told, comparison: Comparison, left: &Expression, right: &Expression)
+    fn check_comparison(
+        &self,
+        told: &mut Told,
+        comparison: Comparison,
+        left: &Expression,
+        right: &Expression,
+    )
         ensures { told.new.fault ≡ told_of told.old.fault (comparison_faults (tables_held self.now.tables.now) (variables_held self.now.scope.now) comparison (expression_of left.now) (expression_of right.now)) }
     {
         match comparison {
@@ -48,7 +54,14 @@ impl<'s, 'a> Sight<'s, 'a> {
     }
 
     /// Notes the faults of a comparison.
-    fn check_compared(&self, alloc: Global, told: &mut Told, comparison: Comparison, left: &Expression, right: &Expression) -> Result<(), AllocError>
+    fn check_compared(
+        &self,
+        alloc: Global,
+        told: &mut Told,
+        comparison: Comparison,
+        left: &Expression,
+        right: &Expression,
+    ) -> Result<(), AllocError>
         ensures { OnOk result (told.new.fault ≡ told_of told.old.fault (condition_faults (tables_held self.now.tables.now) (variables_held self.now.scope.now) (compare comparison (expression_of left.now) (expression_of right.now)))) }
     {
         self.check_expression(alloc, told, left)?;
@@ -58,7 +71,13 @@ impl<'s, 'a> Sight<'s, 'a> {
     }
 
     /// Notes the faults of a condition itself, and keeps what is in it for later.
-    fn visit_condition<'c>(&self, alloc: Global, told: &mut Told, stack: &mut Stack<&'c Condition>, current: &'c Condition) -> Result<(), AllocError>
+    fn visit_condition<'c>(
+        &self,
+        alloc: Global,
+        told: &mut Told,
+        stack: &mut Stack<&'c Condition>,
+        current: &'c Condition,
+    ) -> Result<(), AllocError>
         ensures told { OnOk result (told_of told.new.fault (conditions_faults (tables_held self.now.tables.now) (variables_held self.now.scope.now) stack.new) ≡ told_of told.old.fault (condition_faults (tables_held self.now.tables.now) (variables_held self.now.scope.now) (condition_of current.now) ++ conditions_faults (tables_held self.now.tables.now) (variables_held self.now.scope.now) stack.old)) }
         ensures less { OnOk result (conditions_size stack.new < condition_size (condition_of current.now) + conditions_size stack.old) }
     {
@@ -91,7 +110,12 @@ impl<'s, 'a> Sight<'s, 'a> {
     }
 
     /// Notes the faults of a condition.
-    pub fn check_condition(&self, alloc: Global, told: &mut Told, condition: &Condition) -> Result<(), AllocError>
+    pub fn check_condition(
+        &self,
+        alloc: Global,
+        told: &mut Told,
+        condition: &Condition,
+    ) -> Result<(), AllocError>
         ensures { OnOk result (told.new.fault ≡ told_of told.old.fault (condition_faults (tables_held self.now.tables.now) (variables_held self.now.scope.now) (condition_of condition.now))) }
     {
         let mut stack = Stack::new(alloc);
@@ -106,7 +130,11 @@ impl<'s, 'a> Sight<'s, 'a> {
 ghost use Rattle.std.specs.Prelude.{◌≡◌, ◌∷◌, OnOk};
 
 /// Keeps two conditions, the left one on top.
-fn keep_both<'c>(stack: &mut Stack<&'c Condition>, left: &'c Condition, right: &'c Condition) -> Result<(), AllocError>
+fn keep_both<'c>(
+    stack: &mut Stack<&'c Condition>,
+    left: &'c Condition,
+    right: &'c Condition,
+) -> Result<(), AllocError>
     ensures { OnOk result (stack.new ≡ left.entry ∷ right.entry ∷ stack.old) }
 {
     stack.push(right)?;

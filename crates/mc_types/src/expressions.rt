@@ -168,7 +168,13 @@ impl<'s, 'a> Sight<'s, 'a> {
     }
 
     /// Notes that operands are no `int`s, and keeps them for later.
-    fn visit_operands<'e>(&self, told: &mut Told, stack: &mut Stack<&'e Expression>, left: &'e Expression, right: &'e Expression) -> Result<(), AllocError>
+    fn visit_operands<'e>(
+        &self,
+        told: &mut Told,
+        stack: &mut Stack<&'e Expression>,
+        left: &'e Expression,
+        right: &'e Expression,
+    ) -> Result<(), AllocError>
         ensures told { told.new.fault ≡ told_of (told_of told.old.fault (no_int (tables_held self.now.tables.now) (variables_held self.now.scope.now) (expression_of left.now))) (no_int (tables_held self.now.tables.now) (variables_held self.now.scope.now) (expression_of right.now)) }
         ensures kept { OnOk result (stack.new ≡ left.entry ∷ right.entry ∷ stack.old) }
     {
@@ -180,7 +186,12 @@ impl<'s, 'a> Sight<'s, 'a> {
     }
 
     /// Notes the faults of an expression itself, and keeps what is in it for later.
-    fn visit<'e>(&self, told: &mut Told, stack: &mut Stack<&'e Expression>, current: &'e Expression) -> Result<(), AllocError>
+    fn visit<'e>(
+        &self,
+        told: &mut Told,
+        stack: &mut Stack<&'e Expression>,
+        current: &'e Expression,
+    ) -> Result<(), AllocError>
         ensures told { OnOk result (told_of told.new.fault (expressions_faults (tables_held self.now.tables.now) (variables_held self.now.scope.now) stack.new) ≡ told_of told.old.fault (expression_faults (tables_held self.now.tables.now) (variables_held self.now.scope.now) (expression_of current.now) ++ expressions_faults (tables_held self.now.tables.now) (variables_held self.now.scope.now) stack.old)) }
         ensures less { OnOk result (expressions_size stack.new < expression_size (expression_of current.now) + expressions_size stack.old) }
     {
@@ -217,7 +228,12 @@ impl<'s, 'a> Sight<'s, 'a> {
     }
 
     /// Notes the faults of an expression.
-    pub fn check_expression(&self, alloc: Global, told: &mut Told, expression: &Expression) -> Result<(), AllocError>
+    pub fn check_expression(
+        &self,
+        alloc: Global,
+        told: &mut Told,
+        expression: &Expression,
+    ) -> Result<(), AllocError>
         ensures { OnOk result (told.new.fault ≡ told_of told.old.fault (expression_faults (tables_held self.now.tables.now) (variables_held self.now.scope.now) (expression_of expression.now))) }
     {
         let mut stack = Stack::new(alloc);

@@ -13,7 +13,12 @@ impl<'a> NameTables<'a> {
     ghost use Rattle.mc_types.specs.Held.{tables_held};
 
     /// The type of the one of this name that is declared with a base.
-    fn declared_in(&self, base: &Base, declarators: &[Declarator], name: &Text) -> Option<VariableType>
+    fn declared_in(
+        &self,
+        base: &Base,
+        declarators: &[Declarator],
+        name: &Text,
+    ) -> Option<VariableType>
         ensures { result ≡ type_in (map (variable_of (tables_held self.now) base.now) declarators.now) name.now }
     {
         match find_declarator(declarators, name) {

@@ -43,4 +43,3 @@ returns-in_ok-visit_operands-in-Less-clause-told c =
 pub returns-in_ok-visit_operands-in-Less-clause-less : goal.returns-in_ok-visit_operands-in-Less-clause-less
 returns-in_ok-visit_operands-in-Less-clause-less c =
     rw c.in-Less.is (rw (less_seen c.in-Less.left c.in-Less.right) (operands_less c.args.stack.now c.visit_operands-in-Less.new.stack c.deref-in-Less.result c.deref-in-Less-2.result c.in-Less.left.value c.in-Less.right.value c.deref-in-Less.ensures c.deref-in-Less-2.ensures c.in_ok-visit_operands-in-Less.ensures.kept))
-

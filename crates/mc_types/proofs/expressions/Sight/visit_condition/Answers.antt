@@ -32,4 +32,3 @@ returns-in_ok-keep_both-in-Either-clause-told c =
     rw c.in-Either.is
     (rw (either_seen c.in-Either.left c.in-Either.right)
     (kept_told (tables_held c.args.self.now.tables.now) (variables_held c.args.self.now.scope.now) c.args.told.now.fault c.args.stack.now c.keep_both-in-Either.new.stack c.deref-in-Either.result c.deref-in-Either-2.result c.in-Either.left.value c.in-Either.right.value c.deref-in-Either.ensures c.deref-in-Either-2.ensures c.in_ok-keep_both-in-Either.ensures))
-
