@@ -21,7 +21,7 @@ use Rattle.mc_ast.specs.Trees.{Left, Expr, number, null, input, value, minus, pa
 use Rattle.mc_ast.specs.Trees.{InitialTree, DeclarationTree, SimpleTree, assign, add, subtract, increment, decrement, increment_first, decrement_first, call, Start, nothing, declares, performs, Head, Stmt, declaration, block, empty, simple, free, assert, assume, assume_shape, assert_shape, assert_empty, if_only, if_else, while_loop, do_loop, for_loop, break_loop, continue_loop, returns, Stmts, no_more, then, stmts_of, FieldTree, StructTree, AliasedTree, of_base, of_struct, TypedefTree, ParametersTree, unnamed, void, listed, BodyTree, FunctionTree, ItemTree, structure, typedef, function, UnitTree}
 use Rattle.mc_ast.specs.Names.{is_same, is_in}
 use Rattle.mc_types.specs.Types.{agree, fits, number_type, is_int, is_pointer, are_comparable, result_fits, allocates, is_declarable}
-use Rattle.mc_types.specs.Tables.{Variable, type_in, Tables, struct_number, is_alias, is_undefined, meaning_of, declared_type, variable_of, fields_of, parameters_of, listed_parameters, returned_type, same_type, is_defined, called_function, unit_structs, tables_of}
+use Rattle.mc_types.specs.Tables.{Variable, type_in, Tables, struct_number, alias_in, is_undefined, meaning_of, declared_type, variable_of, fields_of, parameters_of, listed_parameters, returned_type, same_type, is_defined, called_function, unit_structs, tables_of}
 use Rattle.mc_types.specs.Scopes.{Scope, visible, inside, declare, behind, behind_start}
 use Rattle.mc_types.specs.declared.types.VariableType.{VariableType}
 use Rattle.mc_types.specs.declared.types.VariableType.TheVariants.{Int, Pointer, Anything}
@@ -53,8 +53,8 @@ variable_faults vs name = unless (is_some (type_in vs name.text)) Unknown name.p
 abbrev pub is_known : Tables → Base → Option Place → Bool
 is_known t (Base.Int p) star = true
 is_known t (Base.Struct p name) star = is_none star || is_some (struct_number t.structs name.text)
-is_known t (Base.Alias name) None = is_alias t name.text
-is_known t (Base.Alias name) (Some star) = is_alias t name.text && not (is_undefined (meaning_of t (Base.Alias name)))
+is_known t (Base.Alias name) None = is_some (alias_in t.aliases name.text)
+is_known t (Base.Alias name) (Some star) = is_some (alias_in t.aliases name.text) && not (is_undefined (meaning_of t (Base.Alias name)))
 
 abbrev pub base_faults : Tables → Base → Option Place → List Fault
 base_faults t (Base.Int p) star = []
@@ -140,11 +140,11 @@ expression_faults t vs (number n p) = []
 expression_faults t vs (null p) = []
 expression_faults t vs (input p) = []
 expression_faults t vs (value l) = left_faults t vs l
-expression_faults t vs (minus p e) = expression_faults t vs e ++ no_int t vs e
+expression_faults t vs (minus p e) = no_int t vs e ++ expression_faults t vs e
 expression_faults t vs (parens p e) = expression_faults t vs e
-expression_faults t vs (times a b) = expression_faults t vs a ++ no_int t vs a ++ expression_faults t vs b ++ no_int t vs b
-expression_faults t vs (plus a b) = expression_faults t vs a ++ no_int t vs a ++ expression_faults t vs b ++ no_int t vs b
-expression_faults t vs (less a b) = expression_faults t vs a ++ no_int t vs a ++ expression_faults t vs b ++ no_int t vs b
+expression_faults t vs (times a b) = no_int t vs a ++ no_int t vs b ++ expression_faults t vs a ++ expression_faults t vs b
+expression_faults t vs (plus a b) = no_int t vs a ++ no_int t vs b ++ expression_faults t vs a ++ expression_faults t vs b
+expression_faults t vs (less a b) = no_int t vs a ++ no_int t vs b ++ expression_faults t vs a ++ expression_faults t vs b
 
 -- ---- conditions
 -- `==` and `!=` compare what is comparable, the others compare `int`s
@@ -166,16 +166,16 @@ condition_faults t vs (either c d) = condition_faults t vs c ++ condition_faults
 
 -- ---- calls
 -- each argument fits its parameter
-abbrev pub argument_faults : Tables → List Variable → List Variable → List Expr → List Fault
+abbrev pub argument_faults : Tables → List Variable → List Parameter → List Expr → List Fault
 argument_faults t vs [] es = []
 argument_faults t vs (p ∷ ps) [] = []
-argument_faults t vs (p ∷ ps) (e ∷ es) = no_fit t vs p.type e ++ argument_faults t vs ps es
+argument_faults t vs (p ∷ ps) (e ∷ es) = no_fit t vs (variable_of t p.base p.declarator).type e ++ argument_faults t vs ps es
 
 -- the function is defined and has as many parameters
 abbrev pub callee_faults : Tables → List Variable → CallTree → Option FunctionTree → List Fault
 callee_faults t vs c None = unless false Unknown c.function.place
 callee_faults t vs c (Some f) =
-    unless (length c.arguments == length (parameters_of t f)) Arity c.function.place ++ argument_faults t vs (parameters_of t f) c.arguments
+    unless (length c.arguments == length (listed_parameters f.parameters)) Arity c.function.place ++ argument_faults t vs (listed_parameters f.parameters) c.arguments
 
 abbrev pub call_faults : Tables → List Variable → CallTree → List Fault
 call_faults t vs c = callee_faults t vs c (called_function t c.function.text) ++ flat_map (expression_faults t vs) c.arguments

@@ -3,4 +3,8 @@ pub mod Tables
 pub mod Scopes
 pub mod Faults
 pub mod Calls
+pub mod First
 pub mod Typing
+pub mod Examples
+pub mod Held
+pub mod Sizes

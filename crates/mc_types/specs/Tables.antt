@@ -67,12 +67,15 @@ abbrev pub struct_meaning : Option StructId → BaseType
 struct_meaning None = BaseType.Undefined
 struct_meaning (Some s) = BaseType.Struct s
 
+-- what a name means that a typedef introduced, the first if there are several
+abbrev pub alias_in : List Alias → List ℕ → Option BaseType
+alias_in aliases name = option_map (λ alias. alias.meaning) (find (λ alias. is_same alias.name name) aliases)
+
 -- what a base means, with these structs and typedefs
 abbrev pub base_meaning : List StructTree → List Alias → Base → BaseType
 base_meaning structs aliases (Base.Int p) = BaseType.Typed Int
 base_meaning structs aliases (Base.Struct p name) = struct_meaning (struct_number structs name.text)
-base_meaning structs aliases (Base.Alias name) =
-    unwrap_or (option_map (λ alias. alias.meaning) (find (λ alias. is_same alias.name name.text) aliases)) (BaseType.Typed Anything)
+base_meaning structs aliases (Base.Alias name) = unwrap_or (alias_in aliases name.text) (BaseType.Typed Anything)
 
 -- the type of a name that is declared with a base that means this, and perhaps behind a `*`
 abbrev pub declared_type : BaseType → Option Place → VariableType
@@ -122,10 +125,6 @@ abbrev pub tables_of : UnitTree → Tables
 tables_of unit =
     record { structs = unit_structs unit; aliases = aliases_of (unit_structs unit) [] unit; functions = flat_map item_functions unit }
 
--- the name is one that a typedef introduced
-abbrev pub is_alias : Tables → List ℕ → Bool
-is_alias t name = list_any (λ alias. is_same alias.name name) t.aliases
-
 abbrev pub meaning_of : Tables → Base → BaseType
 meaning_of t base = base_meaning t.structs t.aliases base
 
@@ -134,8 +133,11 @@ abbrev pub variable_of : Tables → Base → Declarator → Variable
 variable_of t base d = record { name = d.name.text; place = d.name.place; type = declared_type (meaning_of t base) d.pointer }
 
 -- the fields of a struct
+abbrev pub variables_of : Tables → FieldTree → List Variable
+variables_of t field = map (variable_of t field.base) field.declarators
+
 abbrev pub fields_of : Tables → StructTree → List Variable
-fields_of t s = flat_map (λ field. map (variable_of t field.base) field.declarators) s.fields
+fields_of t s = flat_map (variables_of t) s.fields
 
 -- the parameters of a function
 abbrev pub listed_parameters : ParametersTree → List Parameter
