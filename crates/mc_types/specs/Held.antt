@@ -13,7 +13,7 @@ use Rattle.mc_types.specs.declared.tables.NameTables.{NameTables}
 
 -- the variables, of which the code has the innermost last
 abbrev pub variable_held : Named → Variable
-variable_held v = record { name = v.name.now; type = v.variable_type }
+variable_held v = record { name = v.name.now; place = v.place; type = v.variable_type }
 
 abbrev pub variables_held : List Named → List Variable
 variables_held vs = map variable_held (reverse vs)

@@ -1,12 +1,14 @@
 // The variables that are visible.
 use crate::names::is_same;
 use crate::types::VariableType;
+use mc_base::Place;
 use mc_lex::Text;
 
-/// A variable, field or parameter.
+/// A variable, field or parameter, with the place of its name.
 #[derive(Clone, Copy)]
 pub struct Named<'a> {
     pub name: &'a Text,
+    pub place: Place,
     pub variable_type: VariableType,
 }
 
