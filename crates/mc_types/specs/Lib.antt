@@ -8,3 +8,4 @@ pub mod Typing
 pub mod Examples
 pub mod Held
 pub mod Sizes
+pub mod Shapes

@@ -10,6 +10,7 @@ mod fields;
 mod laws;
 mod names;
 mod scope;
+mod simples;
 mod stack;
 mod tables;
 mod told;

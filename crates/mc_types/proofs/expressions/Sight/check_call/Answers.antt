@@ -10,5 +10,5 @@ pub returns : goal.returns
 returns c =
     rw c.in_ok-check_expressions.ensures
     (rw c.check_callee.ensures
-    (rw c.called_function-callee.ensures
-    (told_then c.args.told.now.fault (callee_faults (tables_held c.args.self.now.tables.now) (variables_held c.args.self.now.scope.now) (call_of c.args.call.now) (called_function (tables_held c.args.self.now.tables.now) c.args.call.now.function.text)) (flat_map (expression_faults (tables_held c.args.self.now.tables.now) (variables_held c.args.self.now.scope.now)) (expressions_of c.args.call.now.arguments.items)))))
+    (rw c.called_function-callee.ensures (rw c.as_slice.ensures.value
+    (told_then c.args.told.now.fault (callee_faults (tables_held c.args.self.now.tables.now) (variables_held c.args.self.now.scope.now) (call_of c.args.call.now) (called_function (tables_held c.args.self.now.tables.now) c.args.call.now.function.text)) (flat_map (expression_faults (tables_held c.args.self.now.tables.now) (variables_held c.args.self.now.scope.now)) (expressions_of c.args.call.now.arguments.items))))))
