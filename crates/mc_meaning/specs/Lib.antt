@@ -1,0 +1,5 @@
+pub mod Configs
+pub mod Values
+pub mod Moves
+pub mod Steps
+pub mod Examples

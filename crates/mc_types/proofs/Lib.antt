@@ -1,0 +1,6 @@
+pub mod Orders
+pub mod Wells
+pub mod Finds
+pub mod FieldLists
+pub mod Visits
+pub mod Seen

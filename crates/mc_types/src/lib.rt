@@ -1,0 +1,25 @@
+//! Typing of programs: what their names mean, and the first fault of a program that has one.
+#![tactic(auto)]
+
+mod calls;
+mod conditions;
+mod examples;
+mod expressions;
+mod faults;
+mod fields;
+mod laws;
+mod names;
+mod scope;
+mod simples;
+mod stack;
+mod tables;
+mod told;
+mod types;
+
+pub use examples::{
+    examples_of_calls, examples_of_entries, examples_of_recursion, examples_of_scopes,
+    examples_of_types, examples_well_typed,
+};
+pub use faults::{Fault, FaultName, TypeFault};
+pub use laws::{first_fault_is_told_once, well_typed_is_faultless};
+pub use types::{BaseType, ValueType, VariableType};
