@@ -1,0 +1,17 @@
+use Rattle.mc_ast.specs.declared.class.Class.TheVariants as Class
+use Rattle.mc_simple.proofs.Phrases.{same_at, then_same}
+use Rattle.mc_body.specs.Frames.{Around}
+use Rattle.mc_body.proofs.Unique.{class_of_mark}
+use Rattle.mc_body.proofs.Tokens.{of_class, if_ok_map}
+use Rattle.mc_body.proofs.StateTurns.{body_step_along, return_semicolon, return_value}
+use Rattle.mc_body.proofs.Seen.{return_seen}
+use Rattle.mc_body.proofs.inner.behind_return.Goals as goal
+
+pub returns-in-Semicolon : goal.returns-in-Semicolon
+returns-in-Semicolon c = λ aliases e. rw (c.taken.ensures, return_seen) (return_semicolon aliases c.args.place (Around aliases c.args.nest) (of_class c.args.token.now Class.Semicolon c.in-Semicolon.is c.requires))
+
+pub returns-in_default : goal.returns-in_default
+returns-in_default c = λ aliases e.
+    let other = return_value aliases c.args.place (Around aliases c.args.nest) {token = c.args.token.now} (λ m. c.in_default.not-Semicolon (class_of_mark c.args.class Class.Semicolon c.args.token.now tt c.requires m)) in
+    let new = c.new-reader.ensures aliases in
+    if_ok_map c.in_value.result (λ step h. body_step_along aliases step other (body_step_along aliases step (same_at c.args.token.now (then_same (record { forward = new.backward; backward = new.forward }))) h)) (c.in_value.ensures aliases e)

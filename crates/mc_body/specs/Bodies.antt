@@ -1,0 +1,27 @@
+-- What completes the statements of a function, of which some tokens are read.
+use Rattle.std.specs.Prelude.{ℕ, List, [], map}
+use Rattle.mc_lex.specs.declared.token.Token.{Token}
+use Rattle.mc_ast.specs.Names.{Tokens}
+use Rattle.mc_ast.specs.Trees.{Stmt}
+use Rattle.mc_ast.specs.Views.{statement_of}
+use Rattle.mc_ast.specs.Readers.{Takes, Closes, IsStuckAt}
+use Rattle.mc_simple.specs.Phrases.{Ended}
+use Rattle.mc_body.specs.Phrases.{Expects, expected_of}
+use Rattle.mc_body.specs.Frames.{InBlock}
+use Rattle.mc_body.specs.States.{AtState}
+use Rattle.mc_body.specs.declared.state.BodyReader.{BodyReader}
+use Rattle.mc_body.specs.declared.state.BodyStep.{BodyStep}
+
+-- the statements of a function with the `}` behind them
+abbrev pub Bodies : List (List ℕ) → Tokens → Tokens → List Stmt → Type 0
+Bodies aliases = InBlock aliases [] Ended
+
+-- the tokens complete what was read of a body
+abbrev pub CompletesBody : List (List ℕ) → BodyReader → Tokens → Tokens → List Stmt → Type 0
+CompletesBody aliases reader = Expects (expected_of reader.expected) (AtState aliases reader.nest reader.state)
+
+-- what a step of the reader says
+abbrev pub IsBodyStep : List (List ℕ) → (Tokens → Tokens → List Stmt → Type 0) → Token → BodyStep → Type 0
+IsBodyStep aliases now token (BodyStep.Taken reader) = Takes [] now (CompletesBody aliases reader) token
+IsBodyStep aliases now token (BodyStep.Closed ss) = Closes now token (map statement_of ss.items)
+IsBodyStep aliases now token BodyStep.Stuck = IsStuckAt now token

@@ -1,0 +1,5 @@
+mod Small
+mod SmallExpressions
+mod SmallSimples
+mod SmallStatements
+mod SmallUnits

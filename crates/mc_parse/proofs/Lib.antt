@@ -1,0 +1,15 @@
+pub mod AliasLemmas
+pub mod Threads
+pub mod Marks
+pub mod Bases
+pub mod DeclaratorLemmas
+pub mod FieldLemmas
+pub mod ParameterLemmas
+pub mod HeaderLemmas
+pub mod FunctionLemmas
+pub mod ItemLemmas
+pub mod UnitLemmas
+pub mod Ends
+pub mod Viable
+pub mod WholeLemmas
+pub mod PrefixLemmas

@@ -1,0 +1,65 @@
+-- What completes a function.
+use Rattle.std.specs.Prelude.{ℕ, List, ◌∷◌, Option, Some, codes}
+use Rattle.mc_base.specs.declared.plain.Place.{Place}
+use Rattle.mc_lex.specs.declared.token.Token.{Token}
+use Rattle.mc_ast.specs.declared.trees.Name.{Name}
+use Rattle.mc_ast.specs.declared.trees.Base.{Base}
+use Rattle.mc_ast.specs.declared.trees.Function.{Function}
+use Rattle.mc_ast.specs.declared.trees.Returned.{Returned}
+use Rattle.mc_ast.specs.Names.{Tokens, IsMark, IsName, name_of}
+use Rattle.mc_ast.specs.Trees.{ParametersTree, FunctionTree}
+use Rattle.mc_ast.specs.Views.{parameters_of, function_of}
+use Rattle.mc_ast.specs.Grammar.{IsStar, IsReturned, IsBody}
+use Rattle.mc_body.specs.Bodies.{CompletesBody}
+use Rattle.mc_parse.specs.declared.header.Header.{Header}
+use Rattle.mc_parse.specs.declared.header.HeaderReader.{HeaderReader}
+use Rattle.mc_parse.specs.declared.function.FunctionReader.{FunctionReader}
+use Rattle.mc_parse.specs.declared.step.Step.{Step}
+use Rattle.mc_parse.specs.Threads.{Then, Gives, StepIs}
+use Rattle.mc_parse.specs.Bases.{CompletesBase}
+use Rattle.mc_parse.specs.Parameters.{IsParametersEnd, CompletesParameters}
+
+-- what a function gives, its name, and a `(`
+pub data IsHeader (aliases : List (List ℕ)) : Tokens → Tokens → Header → Type 0 where
+  is_header : {returned : Returned} {name before : Token} {tokens rest : Tokens} → IsReturned aliases returned tokens (name ∷ before ∷ rest) → IsName name → IsMark (codes "(") before → IsHeader aliases tokens rest (record { returned = returned; name = name_of name })
+
+-- the same, behind the base of what it gives
+pub data IsHeaderOf (base : Base) : Tokens → Tokens → Header → Type 0 where
+  is_header_of : {pointer : Option Place} {name before : Token} {tokens rest : Tokens} → IsStar pointer tokens (name ∷ before ∷ rest) → IsName name → IsMark (codes "(") before → IsHeaderOf base tokens rest (record { returned = Returned.Value base pointer; name = name_of name })
+
+-- the same, behind what it gives
+pub data IsNamed (returned : Returned) : Tokens → Tokens → Header → Type 0 where
+  named : {name before : Token} {rest : Tokens} → IsName name → IsMark (codes "(") before → IsNamed returned (name ∷ before ∷ rest) rest (record { returned = returned; name = name_of name })
+
+-- the same, behind its name
+pub data IsOpened (returned : Returned) (name : Name) : Tokens → Tokens → Header → Type 0 where
+  opened : {before : Token} {rest : Tokens} → IsMark (codes "(") before → IsOpened returned name (before ∷ rest) rest (record { returned = returned; name = name })
+
+-- the tokens, up to the rest, complete what the reader has read to this head of a function
+abbrev pub CompletesHeader : List (List ℕ) → HeaderReader → Tokens → Tokens → Header → Type 0
+CompletesHeader aliases HeaderReader.Start = IsHeader aliases
+CompletesHeader aliases (HeaderReader.Base reader) = Then (CompletesBase aliases reader) IsHeaderOf
+CompletesHeader aliases (HeaderReader.Value base) = IsHeaderOf base
+CompletesHeader aliases (HeaderReader.Returned returned) = IsNamed returned
+CompletesHeader aliases (HeaderReader.Named returned name) = IsOpened returned name
+
+abbrev pub HeaderStepIs : List (List ℕ) → HeaderReader → Token → Step HeaderReader Header → Type 0
+HeaderStepIs aliases reader token step = StepIs (CompletesHeader aliases) (λ header. header) (CompletesHeader aliases reader) token step
+
+-- the body of a function with this head and these parameters, or the `;` of its prototype
+abbrev pub EndsFunction : List (List ℕ) → Option Place → Header → ParametersTree → Tokens → Tokens → FunctionTree → Type 0
+EndsFunction aliases fixed header parameters = Then (λ tokens rest body. IsBody aliases body tokens rest) (λ body. Gives (record { fixed = fixed; returned = header.returned; name = header.name; parameters = parameters; body = body }))
+
+-- the parameters and the body
+abbrev pub BehindHeader : List (List ℕ) → Option Place → Header → Tokens → Tokens → FunctionTree → Type 0
+BehindHeader aliases fixed header = Then (IsParametersEnd aliases) (λ parameters. EndsFunction aliases fixed header parameters)
+
+-- the tokens, up to the rest, complete what the reader has read to this function
+abbrev pub CompletesFunction : List (List ℕ) → FunctionReader → Tokens → Tokens → FunctionTree → Type 0
+CompletesFunction aliases (FunctionReader.Header fixed reader) = Then (CompletesHeader aliases reader) (λ header. BehindHeader aliases fixed header)
+CompletesFunction aliases (FunctionReader.Parameters fixed header reader) = Then (CompletesParameters aliases reader) (λ parameters. EndsFunction aliases fixed header parameters)
+CompletesFunction aliases (FunctionReader.Behind signature) = EndsFunction aliases signature.fixed signature.header (parameters_of signature.parameters)
+CompletesFunction aliases (FunctionReader.Body signature place reader) = Then (CompletesBody aliases reader) (λ ss. Gives (record { fixed = signature.fixed; returned = signature.header.returned; name = signature.header.name; parameters = parameters_of signature.parameters; body = Some (record { place = place; statements = ss }) }))
+
+abbrev pub FunctionStepIs : List (List ℕ) → FunctionReader → Token → Step FunctionReader Function → Type 0
+FunctionStepIs aliases reader token step = StepIs (CompletesFunction aliases) function_of (CompletesFunction aliases reader) token step

@@ -1,0 +1,9 @@
+pub mod Threads
+pub mod Bases
+pub mod Declarators
+pub mod Fields
+pub mod Parameters
+pub mod Functions
+pub mod Items
+pub mod Units
+pub mod Faults

@@ -1,0 +1,21 @@
+-- Readers made of readers, and what a step says.
+use Rattle.std.specs.Prelude.{◌≡◌, []}
+use Rattle.mc_lex.specs.declared.token.Token.{Token}
+use Rattle.mc_ast.specs.Names.{Tokens}
+use Rattle.mc_ast.specs.Readers.{Takes, Closes, IsStuckAt}
+use Rattle.mc_parse.specs.declared.step.Step.{Step}
+use Rattle.mc_parse.specs.declared.step.Step.TheVariants.{Taken, Closed, Stuck}
+
+-- the tokens begin with those of an `a`, and go on as the second says of it
+abbrev pub Then : {A X : Type 0} → (Tokens → Tokens → A → Type 0) → (A → Tokens → Tokens → X → Type 0) → Tokens → Tokens → X → Type 0
+Then {A} first second tokens rest x = (a : A) × (mid : Tokens) × first tokens mid a × second a mid rest x
+
+-- nothing more is read: it is this
+abbrev pub Gives : {X : Type 0} → X → Tokens → Tokens → X → Type 0
+Gives x tokens rest y = (rest ≡ tokens) × (y ≡ x)
+
+-- the step is that of a reader at this token: `completes` says what completes a reader, and `of` what it has read
+abbrev pub StepIs : {R T X : Type 0} → (R → Tokens → Tokens → X → Type 0) → (T → X) → (Tokens → Tokens → X → Type 0) → Token → Step R T → Type 0
+StepIs completes of now token (Taken reader) = Takes [] now (completes reader) token
+StepIs completes of now token (Closed t) = Closes now token (of t)
+StepIs completes of now token Stuck = IsStuckAt now token

@@ -1,0 +1,7 @@
+mod Orders
+mod Lexed
+mod Within
+mod WithinExpressions
+mod WithinSimples
+mod WithinStatements
+mod WithinUnits

@@ -1,0 +1,35 @@
+// Laws of printed programs.
+ghost use Rattle.mc_ast.specs.Trees.{UnitTree};
+ghost use Rattle.mc_printed.specs.Aside.{IsSameAside};
+ghost use Rattle.mc_printed.specs.Examples.{prototype_of};
+ghost use Rattle.mc_printed.specs.Texts.{IsReadAs, printed};
+ghost use Rattle.std.specs.Prelude.{◌≡◌, ◌++◌, ℕ, List, [], ◌∷◌, ◌↔◌, codes};
+
+use mc_ast::{printed_words_are_read, trees_are_unique};
+use mc_lex::readings_are_unique;
+
+/// What is printed of a program that was read is read again, and as nothing but the same program, its places aside.
+pub fn printed_programs_are_read()
+    ensures read { (text : List ℕ) (unit : UnitTree) → IsReadAs text unit → (other : UnitTree) × IsReadAs (printed unit) other × IsSameAside unit other }
+    ensures only { (text : List ℕ) (unit other : UnitTree) → IsReadAs text unit → IsReadAs (printed unit) other → IsSameAside unit other }
+{
+    printed_words_are_read();
+    readings_are_unique();
+    trees_are_unique();
+}
+
+/// The same text is printed of two programs that were read exactly where they are the same, their places aside.
+pub fn printing_tells_programs_apart()
+    ensures { (text another : List ℕ) (unit other : UnitTree) → IsReadAs text unit → IsReadAs another other → IsSameAside unit other ↔ (printed unit ≡ printed other) }
+{
+    printed_words_are_read();
+    readings_are_unique();
+    trees_are_unique();
+}
+
+/// Which small programs are the same, and what is printed of one.
+pub fn small_programs_are_printed()
+    ensures lines { IsSameAside (prototype_of 1 (codes "f")) (prototype_of 2 (codes "f")) }
+    ensures names { ¬ IsSameAside (prototype_of 1 (codes "f")) (prototype_of 1 (codes "g")) }
+    ensures text { printed (prototype_of 1 (codes "f")) ≡ codes "int f ( ) ;" ++ 10 ∷ [] }
+{}
