@@ -13,6 +13,7 @@ pub struct Meaning<'a> {
 }
 
 /// The structs, typedefs and functions of a program.
+#[derive(Drop)]
 pub struct NameTables<'a> {
     pub structs: Items<&'a Struct>,
     pub aliases: Items<Meaning<'a>>,

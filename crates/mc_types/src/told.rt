@@ -38,6 +38,7 @@ impl Fault {
 }
 
 /// The fault to be told of those found so far.
+#[derive(Drop)]
 pub struct Told {
     pub fault: Option<Fault>,
 }

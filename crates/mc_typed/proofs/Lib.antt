@@ -1,0 +1,11 @@
+pub mod Rows
+pub mod Agreements
+pub mod Repeats
+pub mod Members
+pub mod Graphs
+pub mod Recursions
+pub mod Orders
+pub mod Walks
+pub mod Commands
+pub mod Faults
+pub mod Bases

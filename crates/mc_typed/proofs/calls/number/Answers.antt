@@ -1,0 +1,13 @@
+use Rattle.std.proofs.Common.{sym, ◌∙◌}
+use Rattle.mc_ast.specs.Names.{is_same}
+use Rattle.mc_typed.proofs.Agreements.{place_none, place_some}
+use Rattle.mc_typed.proofs.Repeats.{tree_of}
+use Rattle.mc_typed.proofs.calls.number.Goals as goal
+
+pub returns-in-None : goal.returns-in-None
+returns-in-None c =
+    c.len.ensures ∙ place_none (λ f. is_same f.name.text c.args.name.now) tree_of c.args.tables.now.functions (rw (sym c.as_slice.ensures) c.in-None.ensures)
+
+pub returns-in-Some : goal.returns-in-Some
+returns-in-Some c =
+    place_some (λ f. is_same f.name.text c.args.name.now) tree_of c.args.tables.now.functions c.in-Some.place (rw (sym c.as_slice.ensures) c.in-Some.ensures)

@@ -1,0 +1,9 @@
+use Rattle.mc_typed.proofs.Graphs.{leads_answer}
+use Rattle.mc_typed.proofs.graph.leads.Goals as goal
+
+pub returns : goal.returns
+returns c =
+    leads_answer c.args.edges.now c.as_mut_slice-marks.result.now c.spread_all.new.marks c.args.count c.args.from c.args.to
+    (rw c.as_mut_slice-marks.ensures.value c.in_ok-list.ensures.long)
+    (rw c.as_mut_slice-marks.ensures.value c.in_ok-list.ensures.none)
+    c.requires.start c.spread_all.ensures.sound c.spread_all.ensures.kept c.spread_all.ensures.closed

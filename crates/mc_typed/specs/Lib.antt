@@ -1,0 +1,6 @@
+pub mod Collected
+pub mod Infos
+pub mod Graphs
+pub mod Told
+pub mod Bounds
+pub mod Programs

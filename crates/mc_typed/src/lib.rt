@@ -1,0 +1,28 @@
+//! Programs that are well typed, and shape commands that fit their definitions.
+#![tactic(auto)]
+
+mod binding;
+mod bodies;
+mod bound;
+mod calls;
+mod check;
+mod collect;
+mod functions;
+mod graph;
+mod infos;
+mod prototypes;
+mod ranks;
+mod recursion;
+mod repeated;
+mod shapes;
+mod structs;
+mod typed;
+
+pub use binding::bind;
+pub use bound::Bound;
+pub use check::check_types;
+pub use collect::collect_tables;
+pub use typed::Typed;
+
+#[cfg(test)]
+mod tests;

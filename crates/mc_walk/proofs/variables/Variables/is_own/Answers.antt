@@ -1,0 +1,13 @@
+use Rattle.std.proofs.Common.{List, is_some, ap, sym, ◌∙◌}
+use Rattle.mc_types.specs.Tables.{Variable, type_in}
+use Rattle.mc_walk.proofs.Parted.{own_held}
+use Rattle.mc_walk.proofs.variables.Variables.is_own.Goals as goal
+
+pub returns : goal.returns
+returns c =
+    c.is_some.ensures
+    ∙ ap is_some c.type_in.ensures
+    ∙ rw (sym c.self.view_is)
+    (rw c.deref.ensures.value
+    (rw (c.len.ensures ∙ c.self.inside.variables.ok.0)
+    (ap (λ (vs : List Variable). is_some (type_in vs c.args.name.now)) (own_held c.self.inside.heads c.self.inside.own c.self.inside.variables.items c.self.invariant))))

@@ -1,0 +1,15 @@
+//! A walk through the body of a function, part by part, with what is visible at each.
+#![tactic(auto)]
+
+mod laws;
+mod parts;
+mod tasks;
+mod variables;
+mod walking;
+
+pub use laws::{visits_give_calls, visits_give_faults, visits_give_uses};
+pub use parts::Part;
+pub use walking::Walk;
+
+#[cfg(test)]
+mod tests;
