@@ -18,7 +18,7 @@ use Rattle.mc_flow.specs.Steps.{field_count}
 use Rattle.mc_straight.specs.declared.tree.Program.{Program}
 use Rattle.mc_straight.specs.declared.tree.Stmt.{Stmt}
 use Rattle.mc_straight.specs.declared.tree.Stmt.TheVariants.{Declare, DeclareMalloc, Malloc, Load, Store, Free}
-use Rattle.mc_straight.specs.Spelling.{fields_of}
+use Rattle.mc_straight.specs.Typing.{fields_of}
 use Rattle.mc_straight.specs.Meaning as tree
 use Rattle.mc_straight.specs.Lowering.{point_id, the_struct, flow_var, flow_operand, points_of, flow_of}
 use Rattle.mc_straight.proofs.Placing.{Placed, placed_first}

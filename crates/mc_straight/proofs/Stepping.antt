@@ -18,7 +18,7 @@ use Rattle.mc_flow.specs.Values.{address}
 use Rattle.mc_flow.specs.Steps.{written, field_count}
 use Rattle.mc_straight.specs.declared.tree.Stmt.{Stmt}
 use Rattle.mc_straight.specs.declared.tree.Stmt.TheVariants.{Declare, DeclareMalloc, Malloc, Load, Store, Free, ReturnIfNull, ReturnZero}
-use Rattle.mc_straight.specs.Spelling.{fields_of}
+use Rattle.mc_straight.specs.Typing.{fields_of}
 use Rattle.mc_straight.specs.Meaning as tree
 use Rattle.mc_straight.specs.Lowering.{flow_var, flow_operand, point_id, the_struct, structs_of}
 

@@ -1,8 +1,8 @@
 pub mod Text
-pub mod Spelling
 pub mod Typing
-pub mod Reading
-pub mod Parts
 pub mod Meaning
-pub mod Program
 pub mod Lowering
+pub mod Straight
+pub mod Runs
+pub mod Reading
+pub mod Examples

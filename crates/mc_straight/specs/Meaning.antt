@@ -15,7 +15,7 @@ use Rattle.mc_flow.specs.Steps.{written}
 use Rattle.mc_straight.specs.declared.tree.Program.{Program}
 use Rattle.mc_straight.specs.declared.tree.Stmt.{Stmt}
 use Rattle.mc_straight.specs.declared.tree.Stmt.TheVariants.{Declare, DeclareMalloc, Malloc, Load, Store, Free, ReturnIfNull, ReturnZero}
-use Rattle.mc_straight.specs.Spelling.{fields_of}
+use Rattle.mc_straight.specs.Typing.{fields_of}
 
 -- what is left to do, the values of the variables declared so far, and what is allocated
 pub record Config : Type 0 where

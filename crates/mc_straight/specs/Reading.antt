@@ -1,228 +1,282 @@
--- How statements are read from tokens: what each reader of the code answers.
-use Rattle.std.specs.Prelude.{ℕ, zero, suc, ◌==◌, ◌&&◌, not, Bool, true, false, List, [], ◌∷◌, ◌++◌, pos, Option, Some, None, is_some, codes, drop, length, position, slice_index, nat_le, nat_lt, if◌then◌else◌}
-use Rattle.std.specs.Option.{option_map, option_and_then}
-use Rattle.std.specs.List.{list_any, list_all}
-use Rattle.std.specs.Char.{digit_value}
-use Rattle.std.specs.Str.{bytes_eq}
-use Rattle.std.specs.Str.Parse.{digits_value}
+-- How straight programs are read from trees: what each reader of the code answers.
+use Rattle.std.specs.Prelude.{ℕ, zero, suc, ◌==◌, ◌&&◌, Bool, true, false, List, [], ◌∷◌, pos, Option, Some, None, is_none, codes, position, slice_get, nat_le, if◌then◌else◌}
+use Rattle.std.specs.Option.{option_map, option_map_or, option_and_then}
 use Rattle.mc_base.specs.declared.ids.VarId.{VarId}
 use Rattle.mc_base.specs.declared.plain.Kind.{Kind}
 use Rattle.mc_base.specs.declared.plain.Kind.TheVariants.{Int, Ptr}
 use Rattle.mc_base.specs.declared.plain.Place.{Place}
 use Rattle.mc_base.specs.declared.plain.VarInfo.{VarInfo}
-use Rattle.mc_lex.specs.Bytes.{is_letter}
-use Rattle.mc_lex.specs.Numbers.{max_number}
-use Rattle.mc_lex.specs.declared.token.Token.{Token}
 use Rattle.mc_flow.specs.declared.instr.Operand.{Operand}
 use Rattle.mc_flow.specs.declared.instr.Operand.TheVariants.{Var, Const}
 use Rattle.mc_defs.specs.declared.shapes.FieldInfo.{FieldInfo}
 use Rattle.mc_defs.specs.declared.shapes.StructInfo.{StructInfo}
+use Rattle.mc_ast.specs.declared.trees.Name.{Name}
+use Rattle.mc_ast.specs.declared.trees.Base.{Base}
+use Rattle.mc_ast.specs.declared.trees.Comparison.{Comparison}
+use Rattle.mc_ast.specs.declared.trees.Comparison.TheVariants.{Equal, Unequal, Below, AtMost, Above, AtLeast}
+use Rattle.mc_ast.specs.declared.trees.Declarator.{Declarator}
+use Rattle.mc_ast.specs.declared.trees.Malloc.{Malloc as MallocTree}
+use Rattle.mc_ast.specs.declared.trees.Returned.{Returned}
+use Rattle.mc_ast.specs.declared.trees.Size.{Size}
+use Rattle.mc_ast.specs.Trees.{Left, Expr, number, null, value, Cond, compare, Right, expression, result_of, allocation, InitialTree, DeclarationTree, SimpleTree, assign, Stmt as Statement, declaration, simple, free, if_only, returns, FieldTree, StructTree, ParametersTree, unnamed, void, listed, BodyTree, FunctionTree, ItemTree, structure, typedef, function, UnitTree}
+use Rattle.mc_ast.specs.Names.{is_same}
+use Rattle.mc_meaning.specs.Moves.{base_place}
+use Rattle.mc_straight.specs.declared.tree.Program.{Program}
 use Rattle.mc_straight.specs.declared.tree.Stmt.{Stmt}
 use Rattle.mc_straight.specs.declared.tree.Stmt.TheVariants.{Declare, DeclareMalloc, Malloc, Load, Store, Free, ReturnIfNull, ReturnZero}
-use Rattle.mc_straight.specs.Spelling.{tag_of, fields_of, field_kind, kind_of, malloc_of}
-use Rattle.mc_straight.specs.Typing.{keywords, reserved}
+use Rattle.mc_straight.specs.Typing.{fields_of}
+use Rattle.mc_straight.specs.Straight.{next_of, with_next}
 
 infixl 10 ◌>>=◌
 abbrev pub ◌>>=◌ : {A B : Type 0} → Option A → (A → Option B) → Option B
 o >>= f = option_and_then f o
 
--- the first answer, or the second where there is none
-abbrev pub or_else : {A : Type 0} → Option A → Option A → Option A
-or_else None b = b
-or_else (Some x) b = Some x
+-- what is said of the one thing in a list
+abbrev pub of_one : {A B : Type 0} → (A → Option B) → List A → Option B
+of_one f [] = None
+of_one f (x ∷ []) = f x
+of_one f (x ∷ y ∷ xs) = None
 
--- the first token, and those behind it
-abbrev pub next_of : List Token → Option (Token × List Token)
-next_of [] = None
-next_of (t ∷ ts) = Some (t, ts)
+-- the answer, if a list is empty
+abbrev pub if_empty : {A B : Type 0} → Option B → List A → Option B
+if_empty o [] = o
+if_empty o (x ∷ xs) = None
 
--- what is behind these words
-abbrev pub expect_of : List Token → List (List ℕ) → Option (List Token)
-expect_of ts [] = Some ts
-expect_of [] (w ∷ ws) = None
-expect_of (t ∷ ts) (w ∷ ws) = if bytes_eq t.text w then expect_of ts ws else None
-
+-- ---- names
 abbrev pub same_kind : Kind → Kind → Bool
 same_kind Int Int = true
 same_kind Int Ptr = false
 same_kind Ptr Int = false
 same_kind Ptr Ptr = true
 
--- the word may be given to something
-abbrev pub is_name : List ℕ → Bool
-is_name w = is_letter (slice_index w 0) && not (list_any (λ k. bytes_eq k w) keywords) && not (list_any (λ r. bytes_eq r w) reserved)
+abbrev pub kind_of : List VarInfo → ℕ → Kind
+kind_of vars n = option_map_or (λ v. v.kind) (slice_get vars n) Int
 
 -- the variable of this name, if it is of this kind
-abbrev pub var_of : List VarInfo → Kind → List ℕ → Option VarId
-var_of vars kind w = do
-  n ← position (λ v. bytes_eq v.name w) vars
-  if same_kind (kind_of vars (record { 0 = n })) kind then Some (record { 0 = n }) else None
+abbrev pub read_variable : List VarInfo → Kind → List ℕ → Option VarId
+read_variable vars kind word = do
+  n ← position (λ v. is_same v.name word) vars
+  if same_kind (kind_of vars n) kind then Some (record { 0 = n }) else None
 
--- the field of this name
-abbrev pub field_of : Option StructInfo → List ℕ → Option ℕ
-field_of structure w = position (λ i. bytes_eq i.name w) (fields_of structure)
+-- the field of this name, and its kind
+abbrev pub read_field : Option StructInfo → List ℕ → Option ℕ
+read_field s word = position (λ i. is_same i.name word) (fields_of s)
 
--- what one digit or more write
-abbrev pub numeral_of : ℕ → List ℕ → Option ℕ
-numeral_of radix [] = None
-numeral_of radix (d ∷ ds) = if list_all (λ c. nat_lt (digit_value c) radix) (d ∷ ds) then Some (digits_value radix (d ∷ ds)) else None
+abbrev pub field_kind : Option StructInfo → ℕ → Kind
+field_kind s f = option_map_or (λ i. i.kind) (slice_get (fields_of s) f) Int
 
--- what a word spells as a number
-abbrev pub spelled_number : List ℕ → Option ℕ
-spelled_number w =
-    if bytes_eq w (codes "0") then Some 0
-    else (if slice_index w 0 == 48
-    then (if slice_index w 1 == 120 then numeral_of 16 (drop 2 w) else None)
-    else numeral_of 10 w)
+-- ---- types and values
+abbrev pub is_struct : Option StructInfo → List ℕ → Bool
+is_struct None word = false
+is_struct (Some s) word = is_same s.name word
 
--- the number, if a text may have it
-abbrev pub number_of : List ℕ → Option ℕ
-number_of w = spelled_number w >>= λ n. if nat_le n max_number then Some n else None
+abbrev pub read_type : Option StructInfo → Base → Option Place → Option Kind
+read_type s (Base.Int p) None = Some Int
+read_type s (Base.Int p) (Some star) = None
+read_type s (Base.Struct p name) None = None
+read_type s (Base.Struct p name) (Some star) = if is_struct s name.text then Some Ptr else None
+read_type s (Base.Alias name) star = None
 
--- null and numbers as operands
+abbrev pub is_struct_base : Option StructInfo → Base → Bool
+is_struct_base s (Base.Int p) = false
+is_struct_base s (Base.Struct p name) = is_struct s name.text
+is_struct_base s (Base.Alias name) = false
+
+abbrev pub is_struct_size : Option StructInfo → Size → Bool
+is_struct_size s (Size.OfType p base) = is_struct_base s base
+is_struct_size s (Size.OfParens p name) = false
+is_struct_size s (Size.OfValue p name) = false
+
+abbrev pub is_malloc : Option StructInfo → MallocTree → Bool
+is_malloc s m = is_none m.cast && is_struct_size s m.size
+
+-- a variable alone, of this kind
+abbrev pub read_alone : List VarInfo → Kind → Left → Option VarId
+read_alone vars kind l = if_empty (read_variable vars kind l.name.text) l.fields
+
 abbrev pub null_operand : Kind → Option Operand
 null_operand Int = None
 null_operand Ptr = Some (Const (pos 0))
 
 abbrev pub number_operand : Kind → ℕ → Option Operand
-number_operand Int n = Some (Const (pos n))
+number_operand Int n = if nat_le n 2147483647 then Some (Const (pos n)) else None
 number_operand Ptr zero = Some (Const (pos 0))
 number_operand Ptr (suc n) = None
 
-abbrev pub number_or_var : List VarInfo → Kind → List ℕ → Option ℕ → Option Operand
-number_or_var vars kind w (Some n) = number_operand kind n
-number_or_var vars kind w None = option_map Var (var_of vars kind w)
+abbrev pub read_stored : List VarInfo → Kind → Expr → Option Operand
+read_stored vars kind (number n p) = number_operand kind n
+read_stored vars kind (null p) = null_operand kind
+read_stored vars kind (value l) = option_map Var (read_alone vars kind l)
+read_stored vars kind _ = None
 
--- what is stored in a field of this kind
-abbrev pub operand_of : List VarInfo → Kind → List ℕ → Option Operand
-operand_of vars kind w = if bytes_eq w (codes "NULL") then null_operand kind else number_or_var vars kind w (number_of w)
+abbrev pub read_freed : List VarInfo → Expr → Option Operand
+read_freed vars (null p) = Some (Const (pos 0))
+read_freed vars (value l) = option_map Var (read_alone vars Ptr l)
+read_freed vars _ = None
 
--- what is freed
-abbrev pub freed_of : List VarInfo → List ℕ → Option Operand
-freed_of vars w = if bytes_eq w (codes "NULL") then Some (Const (pos 0)) else option_map Var (var_of vars Ptr w)
+-- ---- declarations
+-- `y->f`, read into a variable of this kind
+abbrev pub read_behind : Option StructInfo → List VarInfo → VarId → Kind → Place → Name → Name → Option Stmt
+read_behind s vars x kind place name field = do
+  y ← read_variable vars Ptr name.text
+  f ← read_field s field.text
+  if same_kind (field_kind s f) kind then Some (Load x y f place) else None
 
--- what is behind `= malloc(sizeof(struct S));`
-abbrev pub malloc_rest : Option StructInfo → List Token → Option (List Token)
-malloc_rest None ts = None
-malloc_rest (Some s) ts = expect_of ts (malloc_of s.name)
+abbrev pub read_load : Option StructInfo → List VarInfo → VarId → Kind → Place → Expr → Option Stmt
+read_load s vars x kind place (value l) = of_one (read_behind s vars x kind place l.name) l.fields
+read_load s vars x kind place _ = None
 
--- `int` or `struct S *`
-abbrev pub type_of_tokens : List ℕ → List Token → Option (Kind × List Token)
-type_of_tokens tag [] = None
-type_of_tokens tag (t ∷ ts) =
-    if bytes_eq t.text (codes "int") then Some (Int, ts)
-    else (if bytes_eq t.text (codes "struct") then option_map (λ rest. (Ptr, rest)) (expect_of ts (tag ∷ codes "*" ∷ [])) else None)
+abbrev pub if_pointer : Kind → Stmt → Option Stmt
+if_pointer Int a = None
+if_pointer Ptr a = Some a
 
--- a type and a name
-abbrev pub declarator_of : List ℕ → List Token → Option (Kind × List ℕ × List Token)
-declarator_of tag ts = do
-  k ← type_of_tokens tag ts
-  n ← next_of k.1
-  if is_name n.0.text then Some (k.0, n.0.text, n.1) else None
+-- what is declared and perhaps gets a value
+abbrev pub read_first : Option StructInfo → List VarInfo → VarId → Kind → Place → Option Right → Option Stmt
+read_first s vars x kind place None = if_pointer kind (Declare x place)
+read_first s vars x kind place (Some (expression e)) = read_load s vars x kind place e
+read_first s vars x kind place (Some (result_of c)) = None
+read_first s vars x kind place (Some (allocation m)) = if is_malloc s m then if_pointer kind (DeclareMalloc x place) else None
 
-abbrev pub declare_of : Option StructInfo → VarId → Place → List Token → Option (Stmt × List Token)
-declare_of None x place ts = None
-declare_of (Some s) x place ts = option_map (λ rest. (Declare x place, rest)) (expect_of ts (codes ";" ∷ []))
+abbrev pub read_item : Option StructInfo → List VarInfo → Base → InitialTree → Option (Stmt × List VarInfo)
+read_item s vars base item = do
+  kind ← read_type s base item.declarator.pointer
+  a ← read_first s (with_next vars kind item.declarator.name) (next_of vars) kind (base_place base) item.value
+  Some (a, with_next vars kind item.declarator.name)
 
-abbrev pub declare_malloc_of : Option StructInfo → VarId → Place → List Token → Option (Stmt × List Token)
-declare_malloc_of structure x place ts = option_map (λ rest. (DeclareMalloc x place, rest)) (malloc_rest structure ts)
+abbrev pub read_declaration : Option StructInfo → List VarInfo → DeclarationTree → Option (Stmt × List VarInfo)
+read_declaration s vars d = of_one (read_item s vars d.base) d.items
 
-abbrev pub load_of : Option StructInfo → List VarInfo → VarId → Kind → Place → List Token → Option (Stmt × List Token)
-load_of structure vars x kind place ts = do
-  a ← expect_of ts (codes "=" ∷ [])
-  base ← next_of a
-  y ← var_of vars Ptr base.0.text
-  b ← expect_of base.1 (codes "->" ∷ [])
-  name ← next_of b
-  f ← field_of structure name.0.text
-  rest ← expect_of name.1 (codes ";" ∷ [])
-  if same_kind (field_kind structure f) kind then Some (Load x y f place, rest) else None
+-- ---- other statements
+-- `x = malloc(sizeof(struct S));`
+abbrev pub read_malloc : Option StructInfo → List VarInfo → Name → Right → Option Stmt
+read_malloc s vars name (expression e) = None
+read_malloc s vars name (result_of c) = None
+read_malloc s vars name (allocation m) = if is_malloc s m then option_map (λ x. Malloc x name.place) (read_variable vars Ptr name.text) else None
 
--- what comes behind a declared variable
-abbrev pub initialiser_of : Option StructInfo → List VarInfo → VarId → Kind → Place → List Token → Option (Stmt × List Token)
-initialiser_of structure vars x Int place ts = load_of structure vars x Int place ts
-initialiser_of structure vars x Ptr place ts =
-    or_else (declare_of structure x place ts) (or_else (declare_malloc_of structure x place ts) (load_of structure vars x Ptr place ts))
+-- `y->f = a;`
+abbrev pub read_store_of : Option StructInfo → List VarInfo → Name → Name → Expr → Option Stmt
+read_store_of s vars name field e = do
+  y ← read_variable vars Ptr name.text
+  f ← read_field s field.text
+  a ← read_stored vars (field_kind s f) e
+  Some (Store y f a name.place)
 
-abbrev pub return_of : List Token → Option (Stmt × List Token)
-return_of ts = do
-  first ← next_of ts
-  rest ← expect_of ts (codes "return" ∷ codes "0" ∷ codes ";" ∷ [])
-  Some (ReturnZero first.0.place, rest)
+abbrev pub read_store : Option StructInfo → List VarInfo → Name → Right → Name → Option Stmt
+read_store s vars name (expression e) field = read_store_of s vars name field e
+read_store s vars name (result_of c) field = None
+read_store s vars name (allocation m) field = None
 
-abbrev pub return_if_null_of : List VarInfo → List Token → Option (Stmt × List Token)
-return_if_null_of vars ts = do
-  first ← next_of ts
-  a ← expect_of ts (codes "if" ∷ codes "(" ∷ [])
-  base ← next_of a
-  y ← var_of vars Ptr base.0.text
-  b ← expect_of base.1 (codes "==" ∷ codes "NULL" ∷ codes ")" ∷ [])
-  returned ← next_of b
-  rest ← expect_of b (codes "return" ∷ codes "0" ∷ codes ";" ∷ [])
-  Some (ReturnIfNull y (record { keyword = first.0.place; condition = base.0.place; returned = returned.0.place }), rest)
+abbrev pub read_assign : Option StructInfo → List VarInfo → Name → List Name → Right → Option Stmt
+read_assign s vars name [] right = read_malloc s vars name right
+read_assign s vars name (field ∷ []) right = read_store s vars name right field
+read_assign s vars name (field ∷ next ∷ fields) right = None
 
-abbrev pub free_of : List VarInfo → List Token → Option (Stmt × List Token)
-free_of vars ts = do
-  first ← next_of ts
-  a ← expect_of ts (codes "free" ∷ codes "(" ∷ [])
-  value ← next_of a
-  o ← freed_of vars value.0.text
-  rest ← expect_of value.1 (codes ")" ∷ codes ";" ∷ [])
-  Some (Free o first.0.place, rest)
+abbrev pub read_simple : Option StructInfo → List VarInfo → SimpleTree → Option Stmt
+read_simple s vars (assign l right) = read_assign s vars l.name l.fields right
+read_simple s vars _ = None
 
-abbrev pub store_of : Option StructInfo → List VarInfo → List Token → Option (Stmt × List Token)
-store_of structure vars ts = do
-  first ← next_of ts
-  y ← var_of vars Ptr first.0.text
-  a ← expect_of first.1 (codes "->" ∷ [])
-  name ← next_of a
-  f ← field_of structure name.0.text
-  b ← expect_of name.1 (codes "=" ∷ [])
-  value ← next_of b
-  o ← operand_of vars (field_kind structure f) value.0.text
-  rest ← expect_of value.1 (codes ";" ∷ [])
-  Some (Store y f o first.0.place, rest)
+abbrev pub is_zero : Option Right → Bool
+is_zero (Some (expression (number n p))) = n == 0
+is_zero _ = false
 
-abbrev pub assign_of : Option StructInfo → List VarInfo → List Token → Option (Stmt × List Token)
-assign_of structure vars ts = do
-  first ← next_of ts
-  x ← var_of vars Ptr first.0.text
-  rest ← malloc_rest structure first.1
-  Some (Malloc x first.0.place, rest)
+abbrev pub is_null_word : Expr → Bool
+is_null_word (null p) = true
+is_null_word _ = false
+
+-- the variable that is compared with `NULL`, and its place
+abbrev pub read_compared : List VarInfo → Expr → Option (VarId × Place)
+read_compared vars (value l) = option_map (λ y. (y, l.name.place)) (read_alone vars Ptr l)
+read_compared vars _ = None
+
+abbrev pub is_equality : Comparison → Bool
+is_equality Equal = true
+is_equality Unequal = false
+is_equality Below = false
+is_equality AtMost = false
+is_equality Above = false
+is_equality AtLeast = false
+
+abbrev pub read_test : List VarInfo → Cond → Option (VarId × Place)
+read_test vars (compare c a b) = if is_equality c && is_null_word b then read_compared vars a else None
+read_test vars _ = None
+
+-- the place of `return 0;`
+abbrev pub read_leave : Statement → Option Place
+read_leave (returns p right) = if is_zero right then Some p else None
+read_leave _ = None
+
+abbrev pub read_if : List VarInfo → Place → Cond → Statement → Option Stmt
+read_if vars p c a = do
+  tested ← read_test vars c
+  r ← read_leave a
+  Some (ReturnIfNull tested.0 (record { keyword = p; condition = tested.1; returned = r }))
 
 -- a statement that declares nothing
-abbrev pub command_of : Option StructInfo → List VarInfo → List Token → Option (Stmt × List Token)
-command_of structure vars ts =
-    or_else (return_of ts) (or_else (return_if_null_of vars ts) (or_else (free_of vars ts) (or_else (store_of structure vars ts) (assign_of structure vars ts))))
+abbrev pub read_other : Option StructInfo → List VarInfo → Statement → Option Stmt
+read_other s vars (simple x) = read_simple s vars x
+read_other s vars (free p e) = option_map (λ a. Free a p) (read_freed vars e)
+read_other s vars (if_only p c a) = read_if vars p c a
+read_other s vars (returns p right) = if is_zero right then Some (ReturnZero p) else None
+read_other s vars _ = None
 
--- a variable is declared, with what is behind its name
-abbrev pub declared_of : Option StructInfo → List VarInfo → Place → Kind × List ℕ × List Token → Option (Stmt × List VarInfo × List Token)
-declared_of structure vars place d =
-    if is_some (position (λ v. bytes_eq v.name d.1) vars) then None
-    else option_map (λ r. (r.0, vars ++ record { name = d.1; kind = d.0 } ∷ [], r.1))
-    (initialiser_of structure (vars ++ record { name = d.1; kind = d.0 } ∷ []) (record { 0 = length vars }) d.0 place d.2)
+-- a statement in short, and the variables behind it
+abbrev pub read_statement : Option StructInfo → List VarInfo → Statement → Option (Stmt × List VarInfo)
+read_statement s vars (declaration d) = read_declaration s vars d
+read_statement s vars a = option_map (λ x. (x, vars)) (read_other s vars a)
 
-abbrev pub by_declarator : Option StructInfo → List VarInfo → Place → List Token → Option (Kind × List ℕ × List Token) → Option (Stmt × List VarInfo × List Token)
-by_declarator structure vars place ts None = option_map (λ r. (r.0, vars, r.1)) (command_of structure vars ts)
-by_declarator structure vars place ts (Some d) = declared_of structure vars place d
+abbrev pub read_statements : Option StructInfo → List VarInfo → List Statement → Option (List Stmt × List VarInfo)
+read_statements s vars [] = Some ([], vars)
+read_statements s vars (a ∷ more) = do
+  first ← read_statement s vars a
+  others ← read_statements s first.1 more
+  Some (first.0 ∷ others.0, others.1)
 
--- a statement, the variables behind it, and the tokens behind it
-abbrev pub statement_of : Option StructInfo → List VarInfo → List Token → Option (Stmt × List VarInfo × List Token)
-statement_of structure vars ts = do
-  first ← next_of ts
-  by_declarator structure vars first.0.place ts (declarator_of (tag_of structure) ts)
+-- ---- a whole program
+abbrev pub read_declarator : Option StructInfo → Base → Declarator → Option FieldInfo
+read_declarator s base d = option_map (λ kind. record { name = d.name.text; kind = kind }) (read_type s base d.pointer)
 
--- a field: its kind and its name, and the tokens behind it
-abbrev pub field_of_tokens : List ℕ → List FieldInfo → List Token → Option (Kind × List ℕ × List Token)
-field_of_tokens tag fields ts = do
-  d ← declarator_of tag ts
-  rest ← expect_of d.2 (codes ";" ∷ [])
-  if is_some (position (λ f. bytes_eq f.name d.1) fields) then None else Some (d.0, d.1, rest)
+abbrev pub read_fields : Option StructInfo → List FieldTree → Option (List FieldInfo)
+read_fields s [] = Some []
+read_fields s (f ∷ fields) = do
+  info ← of_one (read_declarator s f.base) f.declarators
+  infos ← read_fields s fields
+  Some (info ∷ infos)
 
--- the name of a struct that begins here, and what is behind its `{`
-abbrev pub struct_name_of : List Token → Option (List ℕ × List Token)
-struct_name_of ts = do
-  a ← expect_of ts (codes "struct" ∷ [])
-  name ← next_of a
-  rest ← expect_of name.1 (codes "{" ∷ [])
-  if is_name name.0.text then Some (name.0.text, rest) else None
+-- a struct of this name, with no field yet
+abbrev pub named : List ℕ → StructInfo
+named name = record { name = name; fields = [] }
+
+abbrev pub read_struct : StructTree → Option StructInfo
+read_struct t = option_map (λ infos. record { name = t.name.text; fields = infos }) (read_fields (Some (named t.name.text)) t.fields)
+
+abbrev pub is_int_result : Returned → Bool
+is_int_result (Returned.Value (Base.Int p) None) = true
+is_int_result _ = false
+
+abbrev pub is_unnamed : ParametersTree → Bool
+is_unnamed unnamed = true
+is_unnamed (void p) = false
+is_unnamed (listed ps) = false
+
+abbrev pub is_main : FunctionTree → Bool
+is_main f = is_none f.fixed && is_int_result f.returned && is_same f.name.text (codes "main") && is_unnamed f.parameters
+
+abbrev pub read_body : Option StructInfo → Option BodyTree → Option Program
+read_body s None = None
+read_body s (Some body) = option_map (λ r. record { structure = s; vars = r.1; body = r.0 }) (read_statements s [] body.statements)
+
+abbrev pub read_main : Option StructInfo → ItemTree → Option Program
+read_main s (structure t) = None
+read_main s (typedef t) = None
+read_main s (function f) = if is_main f then read_body s f.body else None
+
+abbrev pub read_with : ItemTree → ItemTree → Option Program
+read_with (structure t) main = read_struct t >>= λ s. read_main (Some s) main
+read_with (typedef t) main = None
+read_with (function f) main = None
+
+abbrev pub read_unit : UnitTree → Option Program
+read_unit [] = None
+read_unit (main ∷ []) = read_main None main
+read_unit (first ∷ main ∷ []) = read_with first main
+read_unit (first ∷ second ∷ third ∷ more) = None

@@ -1,65 +1,29 @@
--- Which programs are well typed.
-use Rattle.std.specs.Prelude.{◌≡◌, ◌≢◌, ◌<◌, ℕ, suc, List, [], ◌∷◌, ◌++◌, pos, Option, Some, None, IsTrue, IsSome, All, codes, map, length, take, slice_get, slice_index}
-use Rattle.std.specs.Option.{option_map}
+-- Which straight programs are well typed.
+use Rattle.std.specs.Prelude.{◌≡◌, ◌<◌, ℕ, suc, List, [], ◌∷◌, pos, Option, Some, IsSome, length, slice_get}
+use Rattle.std.specs.Option.{option_map, option_map_or}
 use Rattle.mc_base.specs.declared.ids.VarId.{VarId}
 use Rattle.mc_base.specs.declared.plain.Kind.{Kind}
 use Rattle.mc_base.specs.declared.plain.Kind.TheVariants.{Int, Ptr}
 use Rattle.mc_base.specs.declared.plain.VarInfo.{VarInfo}
-use Rattle.mc_lex.specs.Bytes.{is_letter}
+use Rattle.mc_base.specs.Kinds.{InKind}
 use Rattle.mc_flow.specs.declared.instr.Operand.{Operand}
 use Rattle.mc_flow.specs.declared.instr.Operand.TheVariants.{Var, Const}
+use Rattle.mc_defs.specs.declared.shapes.FieldInfo.{FieldInfo}
 use Rattle.mc_defs.specs.declared.shapes.StructInfo.{StructInfo}
-use Rattle.mc_base.specs.Kinds.{InKind}
 use Rattle.mc_straight.specs.declared.tree.Program.{Program}
 use Rattle.mc_straight.specs.declared.tree.Stmt.{Stmt}
 use Rattle.mc_straight.specs.declared.tree.Stmt.TheVariants.{Declare, DeclareMalloc, Malloc, Load, Store, Free, ReturnIfNull, ReturnZero}
-use Rattle.mc_straight.specs.Spelling.{fields_of, name_of}
 
--- the keywords of C17
-abbrev pub keywords : List (List ℕ)
-keywords =
-    codes "auto" ∷ codes "break" ∷ codes "case" ∷ codes "char" ∷ codes "const" ∷ codes "continue" ∷ codes "default" ∷ codes "do"
-    ∷ codes "double" ∷ codes "else" ∷ codes "enum" ∷ codes "extern" ∷ codes "float" ∷ codes "for" ∷ codes "goto" ∷ codes "if"
-    ∷ codes "inline" ∷ codes "int" ∷ codes "long" ∷ codes "register" ∷ codes "restrict" ∷ codes "return" ∷ codes "short" ∷ codes "signed"
-    ∷ codes "sizeof" ∷ codes "static" ∷ codes "struct" ∷ codes "switch" ∷ codes "typedef" ∷ codes "union" ∷ codes "unsigned" ∷ codes "void"
-    ∷ codes "volatile" ∷ codes "while" ∷ codes "_Alignas" ∷ codes "_Alignof" ∷ codes "_Atomic" ∷ codes "_Bool" ∷ codes "_Complex" ∷ codes "_Generic"
-    ∷ codes "_Imaginary" ∷ codes "_Noreturn" ∷ codes "_Static_assert" ∷ codes "_Thread_local" ∷ []
-
--- the words that are no names though they are no keywords
-abbrev pub reserved : List (List ℕ)
-reserved =
-    codes "NULL" ∷ codes "malloc" ∷ codes "free" ∷ codes "input" ∷ codes "assert" ∷ codes "assume" ∷ codes "assume_shape" ∷ codes "assert_shape"
-    ∷ codes "assert_empty" ∷ []
-
--- a word that a program may give to something
-pub record IsName (w : List ℕ) : Type 0 where
-  pub begins : IsTrue (is_letter (slice_index w 0))
-  pub no_keyword : All (λ k. k ≢ w) keywords
-  pub not_reserved : All (λ r. r ≢ w) reserved
-
--- a name that none of these are
-pub record IsNew (seen : List (List ℕ)) (w : List ℕ) : Type 0 where
-  pub name : IsName w
-  pub unseen : All (λ s. s ≢ w) seen
-
--- each of the words is a name that is new behind those before it
-abbrev pub AreNew : List (List ℕ) → List (List ℕ) → Type 0
-AreNew seen [] = Unit {0}
-AreNew seen (w ∷ ws) = IsNew seen w × AreNew (seen ++ w ∷ []) ws
-
--- a struct has a field at least, and its fields have different names
-abbrev pub IsTypedStructure : Option StructInfo → Type 0
-IsTypedStructure None = Unit {0}
-IsTypedStructure (Some s) = IsName s.name × (0 < length s.fields) × AreNew [] (map (λ f. f.name) s.fields)
+abbrev pub fields_of : Option StructInfo → List FieldInfo
+fields_of structure = option_map_or (λ s. s.fields) structure []
 
 -- the variable is one of the first n, and of this kind
 abbrev pub IsVisible : List VarInfo → ℕ → Kind → VarId → Type 0
 IsVisible vars n kind x = (x.0 < n) × (option_map (λ v. v.kind) (slice_get vars x.0) ≡ Some kind)
 
--- the variable comes next behind the first n, has this kind, and a new name
+-- the variable comes next behind the first n, and has this kind
 abbrev pub IsDeclared : List VarInfo → ℕ → Kind → VarId → Type 0
-IsDeclared vars n kind x =
-    (x.0 ≡ n) × (option_map (λ v. v.kind) (slice_get vars x.0) ≡ Some kind) × IsNew (map (λ v. v.name) (take n vars)) (name_of vars x)
+IsDeclared vars n kind x = (x.0 ≡ n) × (option_map (λ v. v.kind) (slice_get vars x.0) ≡ Some kind)
 
 -- the struct has this field, of this kind
 abbrev pub HasField : Option StructInfo → ℕ → Kind → Type 0
@@ -100,5 +64,4 @@ IsTypedBody structure vars n (s ∷ body) = IsTypedStmt structure vars n s × Is
 
 -- the program is well typed
 pub record IsTyped (p : Program) : Type 0 where
-  pub structure : IsTypedStructure p.structure
   pub body : IsTypedBody p.structure p.vars 0 p.body

@@ -1,114 +1,138 @@
-// Texts that are straight programs or not, each worked out by hand.
-use crate::{is_blank, lower, parse, runs_match, text_is_read_once};
-use mc_lex::MAX_BYTES;
+// A straight program and its flow graph, and a program that is not straight, built by hand.
+use crate::{
+    every_form_is_read, is_blank, lower, runs_match, straight, trees_are_read_once, trees_run_alike,
+};
+use mc_ast::{
+    Base, Body, Comparison, Condition, Declaration, Declarator, Expression, Field, Function,
+    Initial, Item, LeftValue, Name, Parameters, Returned, RightSide, Simple, Statement, Struct,
+    Unit,
+};
+use mc_base::Place;
+use mc_lex::Text;
 use std::alloc::{AllocError, Global};
 use std::test::Fail;
 
-fn is_program(alloc: Global, text: &str) -> Result<bool, AllocError> {
-    if text.len() > MAX_BYTES {
-        return Ok(false);
-    }
-    let program = parse(alloc, text.as_bytes())?;
-    Ok(program.is_some())
+const HERE: Place = Place { line: 1, column: 1 };
+
+fn name(alloc: Global, text: &[u8]) -> Result<Name, AllocError> {
+    Ok(Name {
+        text: Text::of(alloc, text)?,
+        place: HERE,
+    })
 }
 
-static WHOLE: [(&'static str, bool); 14] = [
-    ("int main() { }", true),
-    ("int main(){return 0;}", true),
-    ("int main() { return 0; return 0; free(NULL); }", true),
-    ("struct s { int a; }; int main() { struct s *main; }", true),
-    (
-        "struct s { struct s *a; int s; }; int main() { struct s *s; int a = s->s; }",
-        true,
-    ),
-    ("", false),
-    ("int main() { return 0; } x", false),
-    ("int main(void) { return 0; }", false),
-    ("int main() { return 0x0; }", false),
-    ("// none\nint main() { return 0; }", false),
-    ("struct s { }; int main() { }", false),
-    ("struct s { int a; int a; }; int main() { }", false),
-    ("struct int { int a; }; int main() { }", false),
-    ("struct s { int a; struct t *b; }; int main() { }", false),
-];
+// `struct s { int a; };`
+fn structure(alloc: Global) -> Result<Item, AllocError> {
+    let a = Declarator {
+        pointer: None,
+        name: name(alloc, b"a")?,
+    };
+    let field = Field {
+        base: Base::Int(HERE),
+        declarators: vec![in alloc; a]?,
+    };
+    Ok(Item::Struct(Struct {
+        place: HERE,
+        name: name(alloc, b"s")?,
+        fields: vec![in alloc; field]?,
+    }))
+}
 
-// What stands between the braces of `main`, behind the struct `node`.
-static BODIES: [(&'static str, bool); 34] = [
-    (
-        "struct node *p = malloc(sizeof(struct node)); if (p == NULL) return 0; p->data = 1; free(p); return 0;",
-        true,
-    ),
-    (
-        "struct node *p; p = malloc(sizeof(struct node)); p->next = p; struct node *q = p->next; int x = q->data;",
-        true,
-    ),
-    ("struct node *p; p->data = 0x7fffffff;", true),
-    ("struct node *p; p->next = NULL;", true),
-    ("struct node *p; p->next = 0;", true),
-    ("struct node *p; p->next = 0x0;", true),
-    ("struct node *p; p->next = 1;", false),
-    ("struct node *p; p->data = NULL;", false),
-    ("struct node *p; p->data = 2147483648;", false),
-    ("struct node *p; p->data = -1;", false),
-    ("struct node *p = p->next;", true),
-    ("int x = x->data;", false),
-    ("int x = p->data; struct node *p;", false),
-    ("struct node *p; struct node *p;", false),
-    ("struct node *p; int p = p->data;", false),
-    ("struct node *p; int x = p->data; p->data = x;", true),
-    ("struct node *p; int x = p->data; p->next = x;", false),
-    ("struct node *p; int x = p->next;", false),
-    ("struct node *p; struct node *q = p->data;", false),
-    ("struct node *p; int x = p->other;", false),
-    ("struct node *p; int x = p->data; free(x);", false),
-    (
-        "struct node *p; int x = p->data; if (x == NULL) return 0;",
-        false,
-    ),
-    ("free(NULL);", true),
-    ("free(0);", false),
-    ("free(p);", false),
-    ("int x;", false),
-    ("struct node p;", false),
-    ("struct other *p;", false),
-    ("struct node *malloc;", false),
-    ("struct node *assert_empty;", false),
-    ("struct node *p; p = NULL;", false),
-    ("struct node *p; if (p == NULL) { return 0; }", false),
-    ("struct node *p; if (NULL == p) return 0;", false),
-    ("struct node *p; p = malloc(sizeof(*p));", false),
-];
+// `struct s *p;`
+fn declares(alloc: Global) -> Result<Statement, AllocError> {
+    let p = Declarator {
+        pointer: Some(HERE),
+        name: name(alloc, b"p")?,
+    };
+    let item = Initial {
+        declarator: p,
+        value: None,
+    };
+    Ok(Statement::Declaration(Declaration {
+        base: Base::Struct(HERE, name(alloc, b"s")?),
+        items: vec![in alloc; item]?,
+    }))
+}
 
-#[test]
-fn texts(rt: HostRuntime) -> Result<(), Fail> {
-    for (text, expected) in &WHOLE {
-        assert_eq!(rt; is_program(rt.alloc(), text)?, *expected, "{text}");
-    }
-    for (body, expected) in &BODIES {
-        let text = format!(in rt.alloc();
-            "struct node {{ int data; struct node *next; }}; int main() {{ {body} }}"
-        )?;
-        assert_eq!(rt; is_program(rt.alloc(), text.as_str())?, *expected, "{text}");
-    }
-    Ok(())
+fn number(value: u32) -> RightSide {
+    RightSide::Expression(Expression::Number(value, HERE))
+}
+
+// `p->a = 7;`
+fn stores(alloc: Global, value: u32) -> Result<Statement, AllocError> {
+    let left = LeftValue {
+        name: name(alloc, b"p")?,
+        fields: vec![in alloc; name(alloc, b"a")?]?,
+    };
+    Ok(Statement::Simple(Simple::Assign(left, number(value))))
+}
+
+// `p`
+fn pointer(alloc: Global) -> Result<Expression, AllocError> {
+    Ok(Expression::Value(LeftValue {
+        name: name(alloc, b"p")?,
+        fields: Vec::new(alloc),
+    }))
+}
+
+// `if (p == NULL) return 0;`
+fn leaves(alloc: Global, returned: u32) -> Result<Statement, AllocError> {
+    let test = Condition::Compare(Comparison::Equal, pointer(alloc)?, Expression::Null(HERE));
+    let inner = Statement::Return(HERE, Some(number(returned)));
+    Ok(Statement::If(HERE, test, Box::new(alloc, inner)?))
+}
+
+// `int main() { .. }`
+fn main_of(alloc: Global, statements: Vec<Statement>) -> Result<Item, AllocError> {
+    Ok(Item::Function(Function {
+        fixed: None,
+        returned: Returned::Value(Base::Int(HERE), None),
+        name: name(alloc, b"main")?,
+        parameters: Parameters::Empty,
+        body: Some(Body {
+            place: HERE,
+            statements,
+        }),
+    }))
+}
+
+// `struct s { int a; }; int main() { struct s *p; p->a = 7; p->a = 2; if (p == NULL) return 0; free(p); }`
+fn unit(alloc: Global, returned: u32) -> Result<Unit, AllocError> {
+    let mut statements = Vec::new(alloc);
+    statements.push(declares(alloc)?)?;
+    statements.push(stores(alloc, 7)?)?;
+    statements.push(stores(alloc, 2)?)?;
+    statements.push(leaves(alloc, returned)?)?;
+    statements.push(Statement::Free(HERE, pointer(alloc)?))?;
+    let mut items = Vec::new(alloc);
+    items.push(structure(alloc)?)?;
+    items.push(main_of(alloc, statements)?)?;
+    Ok(Unit { items })
 }
 
 #[test]
 fn flow_graph(rt: HostRuntime) -> Result<(), Fail> {
-    let text =
-        "struct s { int a; }; int main() { struct s *p; p->a = 7; p->a = 2; if (p == NULL) return 0; free(p); }";
-    if text.len() > MAX_BYTES {
-        return Err(Fail::from("too long"));
-    }
-    let program = parse(rt.alloc(), text.as_bytes())?.ok_or("no program")?;
+    let tree = unit(rt.alloc(), 0)?;
+    let program = straight(rt.alloc(), &tree)?.ok_or("not straight")?;
+    assert_eq!(rt; program.body.len(), 5);
     let flow = lower(rt.alloc(), &program)?;
     assert_eq!(rt; flow.points.len(), 10);
     assert_eq!(rt; flow.vars.len(), 2);
     assert_eq!(rt; flow.merges.len(), 1);
     assert_eq!(rt; flow.thresholds.as_slice(), [0, 2, 7].as_slice());
     assert_eq!(rt; flow.structs.list.len(), 1);
+    Ok(())
+}
+
+#[test]
+fn another_number_is_returned(rt: HostRuntime) -> Result<(), Fail> {
+    let tree = unit(rt.alloc(), 1)?;
+    let program = straight(rt.alloc(), &tree)?;
+    assert!(rt; program.is_none());
     runs_match();
-    text_is_read_once();
+    trees_run_alike();
+    trees_are_read_once();
+    every_form_is_read();
     assert!(rt; is_blank(b'\t'));
     Ok(())
 }
