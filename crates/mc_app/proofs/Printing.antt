@@ -5,15 +5,16 @@ use Rattle.std.proofs.lemmas.List.{take_all}
 use Rattle.mc_base.specs.declared.outside.FileFault.{FileFault}
 use Rattle.mc_base.specs.Outside.{Adds, AddsIfTold}
 use Rattle.mc_app.specs.declared.answer.Answer.{Answer}
-use Rattle.mc_app.specs.Answers.{Holds, IsWhyWords, PrintsPart, text_of}
+use Rattle.mc_app.specs.Printing.{text_of}
+use Rattle.mc_app.specs.Answers.{Holds, IsWhyWords, PrintsPart}
 
 -- how much of the bytes was added
 added : (old bytes new : List ℕ) (r : Result ⊤ FileFault) → Adds old bytes new r → (n : ℕ) × (new ≡ old ++ take n bytes)
 added old bytes new (Ok u) a = (length bytes, a ∙ ap (λ xs. old ++ xs) (sym (take_all (length bytes) bytes (let le : length bytes ≤ length bytes = omega arith in le))))
 added old bytes new (Err f) a = a
 
-pub part_of_answer : (holds : Holds) (words : List (List ℕ)) (a : Answer) (text : List ℕ) (old new : Option (List ℕ)) (r : Result ⊤ FileFault) → IsWhyWords holds words a → text ≡ text_of a → AddsIfTold old text new r → PrintsPart holds words old new
-part_of_answer holds words a text old new r why is adds = λ before told.
+pub part_of_answer : (holds : Holds) (words : List (List ℕ)) (a : Answer) (old new : Option (List ℕ)) (r : Result ⊤ FileFault) → IsWhyWords holds words a → AddsIfTold old (text_of a) new r → PrintsPart holds words old new
+part_of_answer holds words a old new r why adds = λ before told.
     let w = adds before told in
-    let n = added before text w.0 r w.2 in
-    (w.0, w.1, inr (a, n.0, why, n.1 ∙ ap (λ xs. before ++ take n.0 xs) is))
+    let n = added before (text_of a) w.0 r w.2 in
+    (w.0, w.1, inr (a, n.0, why, n.1))

@@ -1,51 +1,56 @@
 -- Causes, from those of the parts.
-use Rattle.std.proofs.Common.{◌≡◌, ◌≤◌, ◌^◌, ℕ, List, [], ◌∷◌, sym, ◌∙◌, subst, length, get_or, arith}
-use Rattle.std.specs.Prelude.{None, MatchOption, Some, Option, String, codes}
+use Rattle.std.proofs.Common.{◌≡◌, ℕ, List, [], ◌∷◌, ◌∙◌, subst, length, get_or, arith}
+use Rattle.std.specs.Prelude.{None, MatchOption, MatchResult, Some, Option, Result, Ok, Err, String}
 use Rattle.std.specs.declared.alloc.Global.{Global}
-use Rattle.mc_base.specs.Outside.{Told}
-use Rattle.mc_straight.specs.declared.tree.Program.{Program as Tree}
-use Rattle.mc_straight.specs.Program.{ReadsAs}
-use Rattle.mc_straight.specs.Lowering.{flow_of}
-use Rattle.mc_check.specs.Document.{IsValidDocument}
+use Rattle.mc_ast.specs.Trees.{UnitTree}
+use Rattle.mc_base.specs.Outside.{Told, Stays}
 use Rattle.mc_app.specs.declared.answer.Answer.{Answer}
 use Rattle.mc_app.specs.declared.answer.Answer.TheVariants.{Good, Words, Program, Definitions, Document}
-use Rattle.mc_app.specs.Answers.{Holds, Asks, IsProgram, IsWhy, IsWhyTree}
+use Rattle.mc_app.specs.declared.answer.ProgramFault.TheVariants.{Unread, Misfit, NotYet}
+use Rattle.mc_read.specs.declared.cause.Refusal.{Refusal}
+use Rattle.mc_read.specs.declared.cause.ReadFault.{ReadFault}
+use Rattle.mc_read.specs.declared.cause.ReadFault.TheVariants.{Refused, NoMemory}
+use Rattle.mc_read.specs.Programs.{IsReadAs}
+use Rattle.mc_read.specs.Refusals.{IsFault, IsRefused}
+use Rattle.mc_app.specs.Programs.{IsProgramHere, Reads, IsCertified}
+use Rattle.mc_app.specs.Answers.{Holds, IsWhy, IsWhyPlain, IsWhyUnit}
 
 -- a text is one program at most
 abbrev pub ReadOnce : Type 0
-ReadOnce = (text : List ℕ) (a b : Tree) → ReadsAs text a → ReadsAs text b → a ≡ b
+ReadOnce = (text : List ℕ) (one other : UnitTree) → IsReadAs text one → IsReadAs text other → one ≡ other
 
--- the text was read as this program
-abbrev pub IsTreeOf : Tree → List ℕ → Type 0
-IsTreeOf tree text = (length text ≤ 2 ^ 20) × ReadsAs text tree
+not_certified : ReadOnce → (text document : List ℕ) (unit : UnitTree) → IsProgramHere text unit → (IsCertified document unit → ⊥) → Reads (IsCertified document) text → ⊥
+not_certified once text document unit here none reads =
+    none (subst (λ (u : UnitTree). IsCertified document u) (once text reads.0 unit reads.1.1.read here.1.read) reads.2)
 
-program_of_tree : (tree : Tree) (text : List ℕ) → IsTreeOf tree text → IsProgram text
-program_of_tree tree text r = (r.0, (tree, r.1))
-
-pub why_of_tree : ReadOnce → (holds : Holds) (p d c : List ℕ) (tree : Tree) (a : Answer) → Told (holds p) (IsTreeOf tree) → IsWhyTree holds d c tree a → IsWhy holds p d c a
-why_of_tree once holds p d c tree Words read why = why
-why_of_tree once holds p d c tree Program read why = absurd why
-why_of_tree once holds p d c tree Definitions read why = (λ text h. program_of_tree tree text (read text h), why)
-why_of_tree once holds p d c tree Document read why = (
-  λ text h. program_of_tree tree text (read text h),
-  why.0,
-  λ text h document k valid. why.1 document k (subst (λ (t : Tree). IsValidDocument (flow_of t) document) (once text valid.0 tree valid.1 (read text h).1) valid.2),
-)
-why_of_tree once holds p d c tree Good read why = (λ text h. program_of_tree tree text (read text h), why.0, λ text h document k. (tree, (read text h).1, why.1 document k))
+-- from the program as it was read
+pub why_of_unit : ReadOnce → (holds : Holds) (p d c : List ℕ) (unit : UnitTree) (a : Answer) → Told (holds p) (λ text. IsProgramHere text unit) → IsWhyUnit holds d c unit a → IsWhy holds p d c a
+why_of_unit once holds p d c unit Words read why = absurd why.1
+why_of_unit once holds p d c unit (Program (Unread cause)) read why = absurd why.1
+why_of_unit once holds p d c unit (Program (Misfit refusal)) read why = (why.0, λ text h. (unit, read text h, why.1))
+why_of_unit once holds p d c unit (Program NotYet) read why = (why.0, λ text h. (unit, read text h, why.1))
+why_of_unit once holds p d c unit Definitions read why = (λ text h. (unit, read text h, tt), why)
+why_of_unit once holds p d c unit Document read why = (why.0, λ text h. (unit, read text h, why.1.0), λ text h document k. not_certified once text document unit (read text h) (why.1.1 document k))
+why_of_unit once holds p d c unit Good read why = (why.0, λ text h. (unit, read text h, why.1.0), λ text h document k. (unit, read text h, why.1.1 document k))
 
 -- what files hold has stayed
-pub stay_why : (old new : Holds) (d c : List ℕ) (tree : Tree) (a : Answer) → ((name : List ℕ) → new name ≡ old name) → IsWhyTree new d c tree a → IsWhyTree old d c tree a
-stay_why old new d c tree Words stays why = why
-stay_why old new d c tree Program stays why = why
-stay_why old new d c tree Definitions stays why = λ text h. why text (stays d ∙ h)
-stay_why old new d c tree Document stays why = (λ text h. why.0 text (stays d ∙ h), λ text h. why.1 text (stays c ∙ h))
-stay_why old new d c tree Good stays why = (λ text h. why.0 text (stays d ∙ h), λ text h. why.1 text (stays c ∙ h))
+pub stay_plain : (old new : Holds) (c : List ℕ) (unit : UnitTree) (a : Answer) → Stays old new → IsWhyPlain new c unit a → IsWhyPlain old c unit a
+stay_plain old new c unit Words stays why = why
+stay_plain old new c unit (Program (Unread cause)) stays why = why
+stay_plain old new c unit (Program (Misfit refusal)) stays why = why
+stay_plain old new c unit (Program NotYet) stays why = why
+stay_plain old new c unit Definitions stays why = why
+stay_plain old new c unit Document stays why = (why.0, λ document k. why.1 document (stays c ∙ k))
+stay_plain old new c unit Good stays why = (why.0, λ document k. why.1 document (stays c ∙ k))
 
--- the words name one program
-pub same_program : (words : List (List ℕ)) (p d c q e f : List ℕ) → Asks words p d c → Asks words q e f → p ≡ q
-same_program words p d c q e f a b =
-    let l : codes "check" ∷ p ∷ d ∷ c ∷ [] ≡ codes "check" ∷ q ∷ e ∷ f ∷ [] = sym a.spelled ∙ b.spelled in
-    cc
+pub stay_unit : (old new : Holds) (d c : List ℕ) (unit : UnitTree) (a : Answer) → Stays old new → IsWhyUnit new d c unit a → IsWhyUnit old d c unit a
+stay_unit old new d c unit Words stays why = absurd why.1
+stay_unit old new d c unit (Program (Unread cause)) stays why = absurd why.1
+stay_unit old new d c unit (Program (Misfit refusal)) stays why = (λ text h. why.0 text (stays d ∙ h), why.1)
+stay_unit old new d c unit (Program NotYet) stays why = (λ text h. why.0 text (stays d ∙ h), why.1)
+stay_unit old new d c unit Definitions stays why = λ text h. why text (stays d ∙ h)
+stay_unit old new d c unit Document stays why = (λ text h. why.0 text (stays d ∙ h), stay_plain old new c unit Document stays why.1)
+stay_unit old new d c unit Good stays why = (λ text h. why.0 text (stays d ∙ h), stay_plain old new c unit Good stays why.1)
 
 pub four : (ws : List (String Global)) (a b c d : String Global) → length ws ≡ 4 → a ≡ get_or ws 0 a → b ≡ get_or ws 1 b → c ≡ get_or ws 2 c → d ≡ get_or ws 3 d → ws ≡ a ∷ b ∷ c ∷ d ∷ []
 four [] a b c d h i j k l = absurd (omega arith)
@@ -63,9 +68,14 @@ pub at_some : {X : Type 0} (o : Option X) (x : X) (P : Type 0) (Q : X → Type 0
 at_some None x P Q e m = cc
 at_some (Some y) x P Q e m = let same : y ≡ x = cc in subst Q same m
 
--- the text was read as a program, or is none
-pub read_within : (text bytes : List ℕ) (o : Option Tree) → bytes ≡ text → length text ≤ 2 ^ 20
-    → MatchOption o ((tree : Tree) → ReadsAs bytes tree → ⊥) (ReadsAs bytes)
-    → MatchOption o (IsProgram text → ⊥) (λ tree. IsTreeOf tree text)
-read_within text bytes None same within read = λ is. read is.1.0 (subst (λ bs. ReadsAs bs is.1.0) (sym same) is.1.1)
-read_within text bytes (Some tree) same within read = (within, subst (λ bs. ReadsAs bs tree) same read)
+pub at_ok : {X Y : Type 0} (r : Result X Y) (x : X) (P : X → Type 0) (Q : Y → Type 0) → r ≡ Ok x → MatchResult r P Q → P x
+at_ok (Ok y) x P Q e m = let same : y ≡ x = cc in subst P same m
+at_ok (Err y) x P Q e m = cc
+
+pub at_err : {X Y : Type 0} (r : Result X Y) (y : Y) (P : X → Type 0) (Q : Y → Type 0) → r ≡ Err y → MatchResult r P Q → Q y
+at_err (Ok x) y P Q e m = cc
+at_err (Err x) y P Q e m = let same : x ≡ y = cc in subst Q same m
+
+pub refused_of : (text name : List ℕ) (told : ReadFault) (refusal : Refusal) → told ≡ Refused refusal → IsFault text name told → IsRefused text name refusal
+refused_of text name (Refused other) refusal e is = let same : other ≡ refusal = cc in subst (λ (r : Refusal). IsRefused text name r) same is
+refused_of text name NoMemory refusal e is = cc

@@ -1,17 +1,16 @@
 -- What words ask for, and why a check of a certificate ends as it does.
-use Rattle.std.specs.Prelude.{◌≡◌, ◌≤◌, ◌^◌, ◌++◌, ◌⊎◌, ℕ, List, [], ◌∷◌, Option, Some, None, IsTrue, codes, length, take}
-use Rattle.std.specs.List.{list_all}
-use Rattle.mc_straight.specs.declared.tree.Program.{Program as Tree}
-use Rattle.mc_straight.specs.Text.{is_blank}
-use Rattle.mc_straight.specs.Program.{ReadsAs}
-use Rattle.mc_straight.specs.Lowering.{flow_of}
-use Rattle.mc_check.specs.Document.{IsValidDocument}
-use Rattle.mc_base.specs.Outside.{Told}
+use Rattle.std.specs.Prelude.{◌≡◌, ◌++◌, ◌⊎◌, ℕ, List, [], ◌∷◌, Option, Some, Ok, codes, take}
+use Rattle.mc_ast.specs.Trees.{UnitTree}
+use Rattle.mc_base.specs.Outside.{Told, AddsIfTold}
+use Rattle.mc_app.specs.Programs.{Reads, IsProgram, IsUnread, HasMisfit, IsShort, IsNotShort, IsCertified, HasNoDefinitions}
+use Rattle.mc_app.specs.Printing.{text_of}
 use Rattle.mc_app.specs.declared.answer.Answer.{Answer}
 use Rattle.mc_app.specs.declared.answer.Answer.TheVariants.{Good, Words, Program, Definitions, Document}
+use Rattle.mc_app.specs.declared.answer.ProgramFault.TheVariants.{Unread, Misfit, NotYet}
 use Rattle.mc_app.specs.declared.answer.Status.{Status}
 use Rattle.mc_app.specs.declared.answer.Status.TheVariants as statuses
 
+-- the word begins with `-`
 abbrev pub BeginsWithDash : List ℕ → Type 0
 BeginsWithDash [] = ⊥
 BeginsWithDash (b ∷ bs) = b ≡ 45
@@ -23,52 +22,47 @@ pub record Asks (words : List (List ℕ)) (program definitions document : List �
   pub plain_definitions : BeginsWithDash definitions → ⊥
   pub plain_document : BeginsWithDash document → ⊥
 
-abbrev pub IsProgram : List ℕ → Type 0
-IsProgram text = (length text ≤ 2 ^ 20) × ((tree : Tree) × ReadsAs text tree)
-
--- nothing is defined
-abbrev pub HasNoDefinitions : List ℕ → Type 0
-HasNoDefinitions text = (length text ≤ 2 ^ 18) × IsTrue (list_all is_blank text)
-
--- the document is a valid certificate of the program's flow graph
-abbrev pub IsValidFor : List ℕ → List ℕ → Type 0
-IsValidFor text document = (tree : Tree) × ReadsAs text tree × IsValidDocument (flow_of tree) document
-
 -- what files hold, by name, where it is told
 abbrev pub Holds : Type 0
 Holds = List ℕ → Option (List ℕ)
 
+-- why this is answered for a program without definitions
+abbrev pub IsWhyPlain : Holds → List ℕ → UnitTree → Answer → Type 0
+IsWhyPlain holds c unit Words = ⊥
+IsWhyPlain holds c unit Definitions = ⊥
+IsWhyPlain holds c unit (Program (Unread cause)) = ⊥
+IsWhyPlain holds c unit (Program (Misfit refusal)) = HasMisfit refusal unit
+IsWhyPlain holds c unit (Program NotYet) = IsNotShort unit
+IsWhyPlain holds c unit Document = IsShort unit × Told (holds c) (λ document. IsCertified document unit → ⊥)
+IsWhyPlain holds c unit Good = IsShort unit × Told (holds c) (λ document. IsCertified document unit)
+
+-- the same, where the definitions are read first
+abbrev pub IsWhyUnit : Holds → List ℕ → List ℕ → UnitTree → Answer → Type 0
+IsWhyUnit holds d c unit Definitions = Told (holds d) (λ text. HasNoDefinitions text → ⊥)
+IsWhyUnit holds d c unit answer = Told (holds d) HasNoDefinitions × IsWhyPlain holds c unit answer
+
 -- why this is answered for files of these names
 abbrev pub IsWhy : Holds → List ℕ → List ℕ → List ℕ → Answer → Type 0
 IsWhy holds p d c Words = ⊥
-IsWhy holds p d c Program = Told (holds p) (λ text. IsProgram text → ⊥)
+IsWhy holds p d c (Program (Unread cause)) = Told (holds p) (λ text. IsUnread text cause)
 IsWhy holds p d c Definitions = Told (holds p) IsProgram × Told (holds d) (λ text. HasNoDefinitions text → ⊥)
-IsWhy holds p d c Document = Told (holds p) IsProgram × Told (holds d) HasNoDefinitions × Told (holds p) (λ text. Told (holds c) (λ document. IsValidFor text document → ⊥))
-IsWhy holds p d c Good = Told (holds p) IsProgram × Told (holds d) HasNoDefinitions × Told (holds p) (λ text. Told (holds c) (IsValidFor text))
+IsWhy holds p d c (Program (Misfit refusal)) = Told (holds d) HasNoDefinitions × Told (holds p) (Reads (HasMisfit refusal))
+IsWhy holds p d c (Program NotYet) = Told (holds d) HasNoDefinitions × Told (holds p) (Reads IsNotShort)
+IsWhy holds p d c Document = Told (holds d) HasNoDefinitions × Told (holds p) (Reads IsShort) × Told (holds p) (λ text. Told (holds c) (λ document. Reads (IsCertified document) text → ⊥))
+IsWhy holds p d c Good = Told (holds d) HasNoDefinitions × Told (holds p) (Reads IsShort) × Told (holds p) (λ text. Told (holds c) (λ document. Reads (IsCertified document) text))
 
--- the same, for this program
-abbrev pub IsWhyTree : Holds → List ℕ → List ℕ → Tree → Answer → Type 0
-IsWhyTree holds d c tree Words = ⊥
-IsWhyTree holds d c tree Program = ⊥
-IsWhyTree holds d c tree Definitions = Told (holds d) (λ text. HasNoDefinitions text → ⊥)
-IsWhyTree holds d c tree Document = Told (holds d) HasNoDefinitions × Told (holds c) (λ document. IsValidDocument (flow_of tree) document → ⊥)
-IsWhyTree holds d c tree Good = Told (holds d) HasNoDefinitions × Told (holds c) (λ document. IsValidDocument (flow_of tree) document)
-
+-- why this is answered for these words
 abbrev pub IsWhyWords : Holds → List (List ℕ) → Answer → Type 0
 IsWhyWords holds words Words = (p d c : List ℕ) → Asks words p d c → ⊥
 IsWhyWords holds words answer = (p : List ℕ) × (d : List ℕ) × (c : List ℕ) × Asks words p d c × IsWhy holds p d c answer
 
--- the answer of a status, where it has one
-abbrev pub answer_of : Status → Option Answer
-answer_of statuses.Good = Some Good
-answer_of statuses.Alarm = None
-answer_of statuses.Words = Some Words
-answer_of statuses.Program = Some Program
-answer_of statuses.Definitions = Some Definitions
-answer_of statuses.Limit = None
-answer_of statuses.Document = Some Document
-answer_of statuses.Device = None
-answer_of statuses.Memory = None
+-- the status of an answer
+abbrev pub status_of : Answer → Status
+status_of Good = statuses.Good
+status_of Words = statuses.Words
+status_of (Program fault) = statuses.Program
+status_of Definitions = statuses.Definitions
+status_of Document = statuses.Document
 
 -- the number of a status
 abbrev pub code_of : Status → ℕ
@@ -82,19 +76,20 @@ code_of statuses.Document = 6
 code_of statuses.Device = 7
 code_of statuses.Memory = 8
 
--- a status that a check of a certificate can have
-abbrev pub IsGiven : Status → Type 0
-IsGiven statuses.Alarm = ⊥
-IsGiven statuses.Limit = ⊥
-IsGiven s = Unit {0}
+-- the status is that of an answer that has its cause, and the answer's text was added to what was written
+pub record Answers (holds : Holds) (words : List (List ℕ)) (old new : Option (List ℕ)) (status : Status) : Type 0 where
+  pub answer : Answer
+  pub is_its : status ≡ status_of answer
+  pub why : IsWhyWords holds words answer
+  pub prints : AddsIfTold old (text_of answer) new (Ok tt)
 
--- what is printed with an answer
-abbrev pub text_of : Answer → List ℕ
-text_of Good = codes "safe\n"
-text_of Words = codes "words: refused\n"
-text_of Program = codes "program: NotYet\n"
-text_of Definitions = codes "definitions: NotYet\n"
-text_of Document = codes "refused\n"
+-- a call ends with an answer, or with the status of a fault; a check of a certificate has no other
+abbrev pub EndsWith : Holds → List (List ℕ) → (old new : Option (List ℕ)) → Status → Type 0
+EndsWith holds words old new statuses.Alarm = ⊥
+EndsWith holds words old new statuses.Limit = ⊥
+EndsWith holds words old new statuses.Device = Unit {0}
+EndsWith holds words old new statuses.Memory = Unit {0}
+EndsWith holds words old new status = Answers holds words old new status
 
 -- the text of an answer that has its cause, or the front of it, or nothing was added where this is told
 abbrev pub PrintsPart : Holds → List (List ℕ) → Option (List ℕ) → Option (List ℕ) → Type 0

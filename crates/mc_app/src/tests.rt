@@ -9,159 +9,209 @@ const PROGRAM: &str = "int main(){return 0;}";
 
 const DOCUMENT: &str = "[\"memcad\",1,\"certificate\"]\n[\"S1\"]\n[\"S2\"]\n[\"S17\"]\n[\"end\"]\n";
 
-// Programs and definitions, and the number that a check ends with beside the program's document.
-static TEXTS: [(&str, &str, u8); 12] = [
-    (PROGRAM, "", 0),
-    ("int main(){}", "", 0),
+// Programs and definitions, and what a check prints beside the program's document.
+static TEXTS: [(&str, &str, &str); 22] = [
+    (PROGRAM, "", "safe"),
+    ("int main(){}", "", "safe"),
     (
         "\tint main ( )\r\n{ return 0 ; return 0;\n} \n",
         " \t\r\n",
-        0,
+        "safe",
     ),
-    ("", "", 3),
-    ("intmain(){return 0;}", "", 3),
-    ("int main(){return 1;}", "", 3),
-    ("int main(){return 0}", "", 3),
-    ("int main(){return 0;", "", 3),
-    ("int main(){return 0;}}", "", 3),
-    ("int", "list", 3),
-    (PROGRAM, "list", 4),
-    (PROGRAM, "\u{c}", 4),
+    ("", "", "program: NoEntry at 1:1"),
+    ("intmain(){return 0;}", "", "program: Unexpected at 1:1"),
+    ("int main(){return 1;}", "", "program: NotYet"),
+    ("int main(){return 0}", "", "program: Unexpected at 1:20"),
+    ("int main(){return 0;", "", "program: Unexpected at 1:21"),
+    ("int main(){return 0;}}", "", "program: Unexpected at 1:22"),
+    ("int", "list", "program: Unexpected at 1:4"),
+    (
+        "int f() { return f(); }\nint main() { return f(); }",
+        "",
+        "program: Recursion at 1:18",
+    ),
+    (
+        "int main() { goto e; }",
+        "",
+        "program: LeftOut goto at 1:14",
+    ),
+    ("int main() { int $x; }", "", "program: BadByte at 1:18"),
+    (
+        "int main() { return 0; } /*",
+        "",
+        "program: OpenComment at 1:26",
+    ),
+    (
+        "int main() { int i = 0; while (i < 3) i = i + 1; return 0; }",
+        "",
+        "program: NotYet",
+    ),
+    (
+        "#include <stdlib.h>\n// It ends.\nint main() { /* here */ return 0; }",
+        "",
+        "safe",
+    ),
+    // Definitions are read behind the program and before its shape commands.
+    (
+        "int main() { goto e; }",
+        "list",
+        "program: LeftOut goto at 1:14",
+    ),
+    (
+        "int main() { int x; assume_shape(list, x); }",
+        "",
+        "program: Unknown at 1:34",
+    ),
+    (
+        "int main() { int x; assume_shape(list, x); }",
+        "list",
+        "definitions: NotYet",
+    ),
+    (
+        "int main() { int x; return x; }",
+        "list",
+        "definitions: NotYet",
+    ),
+    (PROGRAM, "list", "definitions: NotYet"),
+    (PROGRAM, "\u{c}", "definitions: NotYet"),
 ];
 
-// Documents, and the number that a check of the program ends with.
-static DOCUMENTS: [(&str, u8); 20] = [
+// Documents, and what a check of the program prints.
+static DOCUMENTS: [(&str, &str); 20] = [
     // Blanks, and a last line without its line feed.
     (
         "[ \"memcad\", 1 ,\"certificate\" ]\n[ \"S1\" ]\r\n\t[\"S2\"]\n[\"S17\"]\n[\"end\"]",
-        0,
+        "safe",
     ),
     // Without the end line.
-    ("", 6),
-    ("\n", 6),
-    ("[\"memcad\",1,\"certificate\"]\n", 6),
+    ("", "refused"),
+    ("\n", "refused"),
+    ("[\"memcad\",1,\"certificate\"]\n", "refused"),
     (
         "[\"memcad\",1,\"certificate\"]\n[\"S1\"]\n[\"S2\"]\n[\"S17\"]\n",
-        6,
+        "refused",
     ),
     // With more behind it, or an open branch.
     (
         "[\"memcad\",1,\"certificate\"]\n[\"S1\"]\n[\"S2\"]\n[\"S17\"]\n[\"end\"]\n[\"end\"]\n",
-        6,
+        "refused",
     ),
     (
         "[\"memcad\",1,\"certificate\"]\n[\"S1\"]\n[\"S2\"]\n[\"S17\"]\n[\"end\"]\n[\"S1\"]",
-        6,
+        "refused",
     ),
     (
         "[\"memcad\",1,\"certificate\"]\n[\"S1\"]\n[\"S2\"]\n[\"S17\"]\n[\"end\"]\n\n",
-        6,
+        "refused",
     ),
     (
         "[\"memcad\",1,\"certificate\"]\n[\"S1\"]\n[\"S2\"]\n[\"end\"]\n",
-        6,
+        "refused",
     ),
     // Lines that are none, or stand at the wrong place.
     (
         "[\"memcad\",1,\"certificate\"]\n[\"S1\"\n[\"S2\"]\n[\"S17\"]\n[\"end\"]\n",
-        6,
+        "refused",
     ),
     (
         "[\"memcad\",1,\"certificate\"]\n[\"S1\",7]\n[\"S2\"]\n[\"S17\"]\n[\"end\"]\n",
-        6,
+        "refused",
     ),
     (
         "[\"memcad\",1,\"certificate\"]\n[\"S1\"][\"S2\"]\n[\"S17\"]\n[\"end\"]\n",
-        6,
+        "refused",
     ),
     (
         "[\"memcad\",1,\"certificate\"]\n[\"S2\"]\n[\"S1\"]\n[\"S17\"]\n[\"end\"]\n",
-        6,
+        "refused",
     ),
     (
         "[\"memcad\",1,\"certificate\"]\n\n[\"S1\"]\n[\"S2\"]\n[\"S17\"]\n[\"end\"]\n",
-        6,
+        "refused",
     ),
     // Headers.
     (
         "[\"memcad\",9,\"certificate\"]\n[\"S1\"]\n[\"S2\"]\n[\"S17\"]\n[\"end\"]\n",
-        6,
+        "refused",
     ),
     (
         "[\"memcad\",1,\"chain\"]\n[\"S1\"]\n[\"S2\"]\n[\"S17\"]\n[\"end\"]\n",
-        6,
+        "refused",
     ),
-    ("[\"memcad\",1,\"chain\"]\n[\"end\"]\n", 6),
-    ("[\"S1\"]\n[\"S2\"]\n[\"S17\"]\n[\"end\"]\n", 6),
+    ("[\"memcad\",1,\"chain\"]\n[\"end\"]\n", "refused"),
+    ("[\"S1\"]\n[\"S2\"]\n[\"S17\"]\n[\"end\"]\n", "refused"),
     (
         "[\"memcad\",1,\"certificate\"]\n[\"memcad\",1,\"certificate\"]\n[\"S1\"]\n[\"S2\"]\n[\"S17\"]\n[\"end\"]\n",
-        6,
+        "refused",
     ),
     (
         "\n[\"memcad\",1,\"certificate\"]\n[\"S1\"]\n[\"S2\"]\n[\"S17\"]\n[\"end\"]\n",
-        6,
+        "refused",
     ),
 ];
 
 // Words beside files p, d and c that hold a program, no definitions and its document.
-static WORDS: [(&str, u8); 19] = [
-    ("check p d c", 0),
-    ("", 2),
-    ("check", 2),
-    ("check p d", 2),
-    ("check p d c c", 2),
-    ("p d c", 2),
-    ("analyse p d c", 2),
-    ("Check p d c", 2),
-    ("check -p d c", 2),
-    ("check p - c", 2),
-    ("check p d --c", 2),
-    ("check x x -", 2),
+static WORDS: [(&str, &str); 20] = [
+    ("check p d c", "safe"),
+    ("", "words: refused"),
+    ("check", "words: refused"),
+    ("check p d", "words: refused"),
+    ("check p d c c", "words: refused"),
+    ("p d c", "words: refused"),
+    ("analyse p d c", "words: refused"),
+    ("analyse p d", "words: refused"),
+    ("Check p d c", "words: refused"),
+    ("check -p d c", "words: refused"),
+    ("check p - c", "words: refused"),
+    ("check p d --c", "words: refused"),
+    ("check x x -", "words: refused"),
     // A missing file is a fault, unless what comes before it is refused.
-    ("check x d c", 7),
-    ("check p x c", 7),
-    ("check p d x", 7),
-    ("check d x c", 3),
-    ("check d x x", 3),
-    ("check p p x", 4),
-    ("check p d p", 6),
+    ("check x d c", ""),
+    ("check p x c", ""),
+    ("check p d x", ""),
+    ("check d x c", "program: NoEntry at 1:1"),
+    ("check d x x", "program: NoEntry at 1:1"),
+    ("check p p x", "definitions: NotYet"),
+    ("check p d p", "refused"),
 ];
 
 // Lengths of the program, calls on the files that fail, and what comes of it.
-static FAILING_CALLS: [(usize, u64, u8); 13] = [
-    (21, 1, 7),
-    (21, 2, 7),
-    (21, 3, 7),
-    (21, 4, 7),
-    (21, 5, 7),
-    (21, 6, 0),
-    (65_536, 3, 7),
-    (65_536, 6, 0),
+static FAILING_CALLS: [(usize, u64, &str); 13] = [
+    (21, 1, ""),
+    (21, 2, ""),
+    (21, 3, ""),
+    (21, 4, ""),
+    (21, 5, ""),
+    (21, 6, "safe"),
+    (65_536, 3, ""),
+    (65_536, 6, "safe"),
     // Its second piece, the definitions' size and the document.
-    (65_537, 3, 7),
-    (65_537, 4, 7),
-    (65_537, 5, 7),
-    (65_537, 6, 7),
-    (65_537, 7, 0),
+    (65_537, 3, ""),
+    (65_537, 4, ""),
+    (65_537, 5, ""),
+    (65_537, 6, ""),
+    (65_537, 7, "safe"),
 ];
 
-// Lengths of the program and of the definitions, and what comes of them.
-static LENGTHS: [(usize, usize, u8); 4] = [
-    (1_048_576, 262_144, 0),
-    (1_048_577, 262_145, 3),
-    (1_048_576, 262_145, 4),
-    (131_072, 65_537, 0),
+// Programs behind blanks, their lengths and those of the definitions, and what comes of them.
+static LENGTHS: [(&str, usize, usize, &str); 6] = [
+    (PROGRAM, 1_048_576, 262_144, "safe"),
+    (PROGRAM, 1_048_577, 262_145, "program: TooBig"),
+    (PROGRAM, 1_048_576, 262_145, "definitions: NotYet"),
+    (PROGRAM, 131_072, 65_537, "safe"),
+    ("", 1_048_576, 0, "program: NoEntry at 1:1"),
+    ("", 1_048_577, 0, "program: TooBig"),
 ];
 
-// What is printed before a call ends with a number.
-fn text(code: u8) -> &'static str {
-    match code {
-        0 => "safe\n",
-        2 => "words: refused\n",
-        3 => "program: NotYet\n",
-        4 => "definitions: NotYet\n",
-        6 => "refused\n",
-        _ => "",
+// The number of the status with which a call ends that printed this.
+fn code(printed: &str) -> u8 {
+    match printed {
+        "safe" => 0,
+        "words: refused" => 2,
+        "definitions: NotYet" => 4,
+        "refused" => 6,
+        "" => 7,
+        _ => 3,
     }
 }
 
@@ -188,32 +238,36 @@ fn files(
     Ok(MemFiles::new(alloc, files, vec![in alloc; failing]?))
 }
 
-// Whether a call of the words ends with this number, and prints its text and no more.
+// Whether a call of the words prints this line, or nothing, and ends with its status.
 fn ends(
     alloc: Global,
     words: &str,
     mut files: MemFiles,
     failing_write: u64,
-    code: u8,
+    printed: &str,
 ) -> Result<bool, AllocError> {
     let mut list = Vec::new(alloc);
     for word in words.split_whitespace() {
         list.push(String::from_str(alloc, word)?)?;
     }
+    let mut line = Vec::from_slice(alloc, printed.as_bytes())?;
+    if !printed.is_empty() {
+        line.push(b'\n')?;
+    }
     let mut out = MemSink::new(alloc, vec![in alloc; failing_write]?);
     let status = memcad(alloc, list.as_slice(), &mut files, &mut out);
-    Ok(status.code() == code && out.bytes() == text(code).as_bytes())
+    Ok(status.code() == code(printed) && out.bytes() == line.as_slice())
 }
 
 #[test]
 fn texts_are_judged(rt: HostRuntime) -> Result<(), Fail> {
     let alloc = rt.alloc();
-    for (program, definitions, code) in &TEXTS {
+    for (program, definitions, printed) in &TEXTS {
         let definitions = padded(alloc, definitions, 0)?;
         let files = files(alloc, padded(alloc, program, 0)?, definitions, DOCUMENT, 0)?;
         assert!(rt;
-            ends(alloc, "check p d c", files, 0, *code)?,
-            "{code}: {program}"
+            ends(alloc, "check p d c", files, 0, printed)?,
+            "{printed}: {program}"
         );
     }
     Ok(())
@@ -222,7 +276,7 @@ fn texts_are_judged(rt: HostRuntime) -> Result<(), Fail> {
 #[test]
 fn documents_are_judged(rt: HostRuntime) -> Result<(), Fail> {
     let alloc = rt.alloc();
-    for (document, code) in &DOCUMENTS {
+    for (document, printed) in &DOCUMENTS {
         let files = files(
             alloc,
             padded(alloc, PROGRAM, 0)?,
@@ -231,8 +285,8 @@ fn documents_are_judged(rt: HostRuntime) -> Result<(), Fail> {
             0,
         )?;
         assert!(rt;
-            ends(alloc, "check p d c", files, 0, *code)?,
-            "{code}: {document}"
+            ends(alloc, "check p d c", files, 0, printed)?,
+            "{printed}: {document}"
         );
     }
     Ok(())
@@ -241,7 +295,7 @@ fn documents_are_judged(rt: HostRuntime) -> Result<(), Fail> {
 #[test]
 fn words_are_followed(rt: HostRuntime) -> Result<(), Fail> {
     let alloc = rt.alloc();
-    for (words, code) in &WORDS {
+    for (words, printed) in &WORDS {
         let files = files(
             alloc,
             padded(alloc, PROGRAM, 0)?,
@@ -249,7 +303,10 @@ fn words_are_followed(rt: HostRuntime) -> Result<(), Fail> {
             DOCUMENT,
             0,
         )?;
-        assert!(rt; ends(alloc, words, files, 0, *code)?, "{code}: {words}");
+        assert!(rt;
+            ends(alloc, words, files, 0, printed)?,
+            "{printed}: {words}"
+        );
     }
     Ok(())
 }
@@ -257,11 +314,11 @@ fn words_are_followed(rt: HostRuntime) -> Result<(), Fail> {
 #[test]
 fn failing_calls_end_the_work(rt: HostRuntime) -> Result<(), Fail> {
     let alloc = rt.alloc();
-    for (len, failing, code) in &FAILING_CALLS {
+    for (len, failing, printed) in &FAILING_CALLS {
         let program = padded(alloc, PROGRAM, *len)?;
         let files = files(alloc, program, Vec::new(alloc), DOCUMENT, *failing)?;
         assert!(rt;
-            ends(alloc, "check p d c", files, 0, *code)?,
+            ends(alloc, "check p d c", files, 0, printed)?,
             "{len} bytes, call {failing}"
         );
     }
@@ -274,7 +331,7 @@ fn failing_calls_end_the_work(rt: HostRuntime) -> Result<(), Fail> {
             0,
         )?;
         assert!(rt;
-            ends(alloc, words, files, 1, 7)?,
+            ends(alloc, words, files, 1, "")?,
             "the write after {words} fails"
         );
     }
@@ -284,18 +341,18 @@ fn failing_calls_end_the_work(rt: HostRuntime) -> Result<(), Fail> {
 #[test]
 fn texts_have_limits(rt: HostRuntime) -> Result<(), Fail> {
     let alloc = rt.alloc();
-    for (program, definitions, code) in &LENGTHS {
+    for (program, len, definitions, printed) in &LENGTHS {
         let definitions = padded(alloc, "", *definitions)?;
         let files = files(
             alloc,
-            padded(alloc, PROGRAM, *program)?,
+            padded(alloc, program, *len)?,
             definitions,
             DOCUMENT,
             0,
         )?;
         assert!(rt;
-            ends(alloc, "check p d c", files, 0, *code)?,
-            "{code}: {program} bytes"
+            ends(alloc, "check p d c", files, 0, printed)?,
+            "{printed}: {len} bytes"
         );
     }
     Ok(())

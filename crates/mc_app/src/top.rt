@@ -1,8 +1,9 @@
 // The top call.
-ghost use Rattle.std.specs.Prelude.{◌≡◌, ◌<◌, ◌⊎◌, List, ℕ, Ok, IfSome, IfOk, map, string_bytes};
+ghost use Rattle.std.specs.Prelude.{◌≡◌, ◌<◌, ◌⊎◌, List, ℕ, IfOk, map, string_bytes};
 ghost use Rattle.mc_base.specs.Outside.{HasCause, Stays, Rose, AddsIfTold, Told};
-ghost use Rattle.mc_straight.specs.Program.{IsSafe};
-ghost use Rattle.mc_app.specs.Answers.{Asks, IsWhyWords, IsGiven, PrintsPart, answer_of, text_of};
+ghost use Rattle.mc_app.specs.Programs.{IsSafe};
+ghost use Rattle.mc_app.specs.Printing.{text_of};
+ghost use Rattle.mc_app.specs.Answers.{Asks, IsWhyWords, EndsWith, PrintsPart};
 ghost use Rattle.mc_app.specs.Faults.{fault_status};
 
 use crate::words::asked;
@@ -26,6 +27,14 @@ fn found<F: Files>(alloc: Global, words: &[String], files: &mut F) -> Result<Ans
     }
 }
 
+fn tell<K: Sink>(alloc: Global, answer: &Answer, out: &mut K) -> Result<(), FileFault>
+    ensures adds { AddsIfTold (K.written out.old) (text_of answer.now) (K.written out.new) result }
+    ensures cause { HasCause (K.faults out.old) (K.faults out.new) result }
+{
+    let text = answer.text(alloc)?;
+    out.write(&text)
+}
+
 fn status_of(fault: FileFault) -> Status
     ensures { result ≡ fault_status fault }
 {
@@ -44,20 +53,18 @@ pub fn memcad<F: Files, K: Sink>(
 ) -> Status
     // Where the answer is that all is well, no run of the program has a fault.
     ensures safe { result ≡ Status.Good → (p d c : List ℕ) → Asks (map string_bytes words.now) p d c → Told (F.holds files.old p) IsSafe }
-    // Each answer has its cause, and want of memory alone has none.
-    ensures why { IfSome (answer_of result) (IsWhyWords (F.holds files.old) (map string_bytes words.now)) }
-    ensures given { IsGiven result }
+    // Each answer has its cause and prints its text. A call without an answer has lacked memory, or the device failed.
+    ensures why { EndsWith (F.holds files.old) (map string_bytes words.now) (K.written out.old) (K.written out.new) result }
     ensures device { result ≡ Status.Device → Rose (F.faults files.old) (F.faults files.new) ⊎ Rose (K.faults out.old) (K.faults out.new) }
     ensures only_device { (F.faults files.old < F.faults files.new) ⊎ (K.faults out.old < K.faults out.new) → result ≡ Status.Device }
-    // An answer prints its text. Another status prints nothing, or the front of the text of an answer that has its cause.
-    ensures prints { IfSome (answer_of result) (λ a. AddsIfTold (K.written out.old) (text_of a) (K.written out.new) (Ok tt)) }
+    // Another status prints nothing, or the front of the text of an answer that has its cause.
     ensures prints_part { PrintsPart (F.holds files.old) (map string_bytes words.now) (K.written out.old) (K.written out.new) }
     // No file changes.
     ensures same { Stays (F.holds files.old) (F.holds files.new) }
 {
     match found(alloc, words, files) {
         Err(fault) => status_of(fault),
-        Ok(answer) => match out.write(answer.text()) {
+        Ok(answer) => match tell(alloc, &answer, out) {
             Err(fault) => status_of(fault),
             Ok(()) => answer.status(),
         },

@@ -1,32 +1,63 @@
 // Checks a certificate.
-ghost use Rattle.std.specs.Prelude.{◌≡◌, ◌↔◌, ◌≤◌, ◌^◌, IfOk, IfSome, IsTrue, MatchOption, List, length};
+ghost use Rattle.std.specs.Prelude.{◌≡◌, ◌↔◌, ◌≤◌, ◌^◌, [], IfOk, IsTrue, MatchResult, length};
 ghost use Rattle.std.specs.List.{list_all};
+ghost use Rattle.mc_ast.specs.Views.{unit_of};
 ghost use Rattle.mc_base.specs.Outside.{HasCause, Stays, Told};
+ghost use Rattle.mc_check.specs.Document.{IsValidDocument};
+ghost use Rattle.mc_flow.specs.Steps.{IsSafeFlow};
 ghost use Rattle.mc_straight.specs.Text.{is_blank};
-ghost use Rattle.mc_straight.specs.Program.{ReadsAs, IsSafe, IsSafeProgram};
 ghost use Rattle.mc_straight.specs.Typing.{IsTyped};
 ghost use Rattle.mc_straight.specs.Lowering.{flow_of};
-ghost use Rattle.mc_check.specs.Document.{IsValidDocument};
-ghost use Rattle.mc_app.specs.Answers.{HasNoDefinitions, IsProgram, IsWhy, IsWhyTree};
+ghost use Rattle.mc_types.specs.Shapes.{IsBound};
+ghost use Rattle.mc_app.specs.Programs.{HasNoDefinitions, IsProgramHere, IsSafe, IsSafeUnit, IsSound, IsUnread};
+ghost use Rattle.mc_app.specs.Answers.{IsWhy, IsWhyPlain, IsWhyUnit};
 
-use crate::Answer;
 use crate::contents::{text, whole};
 use crate::words::Command;
+use crate::{Answer, NoProgram, ProgramFault};
+use mc_ast::Unit;
 use mc_base::{FileFault, Files};
 use mc_flow::Defs;
 use mc_kernel::certified_is_safe;
-use mc_straight::{Program, lower, runs_match, text_is_read_once};
+use mc_read::{ReadFault, Refusal, programs_have_distinct_places, texts_are_read_once};
+use mc_straight::{Program, lower, straight, trees_are_read_once, trees_run_alike};
+use mc_typed::{Typed, bind};
+use mc_types::TypeFault;
 use std::alloc::{AllocError, Global};
 
-fn program<F: Files>(alloc: Global, files: &mut F, name: &str) -> Result<Option<Program>, FileFault>
-    ensures told { Told (F.holds files.old name.now) (λ text. IfOk result (λ o. MatchOption o (IsProgram text → ⊥) (λ t. (length text ≤ 2 ^ 20) × ReadsAs text t))) }
-    ensures typed { IfOk result (λ o. IfSome o IsTyped) }
+// How many bytes a program may have.
+const PROGRAM_BYTES: u64 = 1_048_576;
+
+// The program of a text, or why there is none.
+fn typed(alloc: Global, bytes: &[u8]) -> Result<Result<Typed, NoProgram>, AllocError>
+    requires { length bytes.now ≤ 2 ^ 20 }
+    ensures read { IfOk result (λ r. MatchResult r (λ t. IsProgramHere bytes.now (unit_of t.unit)) (IsUnread bytes.now)) }
+    ensures sound { IfOk result (λ r. IfOk r (λ t. IsSound (unit_of t.unit))) }
+{
+    programs_have_distinct_places();
+    match mc_read::read(alloc, bytes, b"main") {
+        Ok(typed) => Ok(Ok(typed)),
+        Err(ReadFault::Refused(refusal)) => Ok(Err(NoProgram::Refused(refusal))),
+        Err(ReadFault::NoMemory) => Err(AllocError),
+    }
+}
+
+fn program<F: Files>(
+    alloc: Global,
+    files: &mut F,
+    name: &str,
+) -> Result<Result<Typed, NoProgram>, FileFault>
+    ensures told { Told (F.holds files.old name.now) (λ text. IfOk result (λ r. MatchResult r (λ t. IsProgramHere text (unit_of t.unit)) (IsUnread text))) }
+    ensures sound { IfOk result (λ r. IfOk r (λ t. IsSound (unit_of t.unit))) }
     ensures same { Stays (F.holds files.old) (F.holds files.new) }
     ensures cause { HasCause (F.faults files.old) (F.faults files.new) result }
 {
-    match text(alloc, files, name, 1_048_576)? {
-        None => Ok(None),
-        Some(bytes) => Ok(mc_straight::parse(alloc, &bytes)?),
+    match text(alloc, files, name, PROGRAM_BYTES)? {
+        None => Ok(Err(NoProgram::TooBig)),
+        Some(bytes) => {
+            let read = typed(alloc, &bytes)?;
+            Ok(read)
+        }
     }
 }
 
@@ -47,15 +78,14 @@ fn has_no_definitions<F: Files>(alloc: Global, files: &mut F, name: &str) -> Res
     }
 }
 
-// Whether a document is valid for the program without definitions, which is safe then.
-fn certifies(alloc: Global, tree: &Program, document: &[u8]) -> Result<bool, AllocError>
-    requires { IsTyped tree.now }
-    ensures valid { IfOk result (λ b. IsTrue b ↔ IsValidDocument (flow_of tree.now) document.now) }
-    ensures safe { IfOk result (λ b. IsTrue b → IsSafeProgram tree.now) }
+// Whether a document is valid for the flow graph of a straight program without definitions, which is safe then.
+fn certifies(alloc: Global, short: &Program, document: &[u8]) -> Result<bool, AllocError>
+    requires { IsTyped short.now }
+    ensures valid { IfOk result (λ b. IsTrue b ↔ IsValidDocument (flow_of short.now) document.now) }
+    ensures safe { IfOk result (λ b. IsTrue b → IsSafeFlow (flow_of short.now) []) }
 {
     certified_is_safe();
-    runs_match();
-    let flow = lower(alloc, tree)?;
+    let flow = lower(alloc, short)?;
     let yes = mc_check::check(alloc, &flow, &Defs::new(alloc), document)?;
     Ok(yes)
 }
@@ -64,17 +94,69 @@ fn is_valid<F: Files>(
     alloc: Global,
     files: &mut F,
     name: &str,
-    tree: &Program,
+    short: &Program,
 ) -> Result<bool, FileFault>
-    requires { IsTyped tree.now }
-    ensures told { Told (F.holds files.old name.now) (λ document. IfOk result (λ b. IsTrue b ↔ IsValidDocument (flow_of tree.now) document)) }
-    ensures safe { IfOk result (λ b. IsTrue b → IsSafeProgram tree.now) }
+    requires { IsTyped short.now }
+    ensures told { Told (F.holds files.old name.now) (λ document. IfOk result (λ b. IsTrue b ↔ IsValidDocument (flow_of short.now) document)) }
+    ensures safe { IfOk result (λ b. IsTrue b → IsSafeFlow (flow_of short.now) []) }
     ensures same { Stays (F.holds files.old) (F.holds files.new) }
     ensures cause { HasCause (F.faults files.old) (F.faults files.new) result }
 {
     let document = whole(alloc, files, name)?;
-    let yes = certifies(alloc, tree, &document)?;
+    let yes = certifies(alloc, short, &document)?;
     Ok(yes)
+}
+
+// Checks a certificate of a program whose shape commands fit.
+fn certified<F: Files>(
+    alloc: Global,
+    files: &mut F,
+    document: &str,
+    unit: &Unit,
+) -> Result<Answer, FileFault>
+    requires sound { IsSound (unit_of unit.now) }
+    requires bound { IsBound (unit_of unit.now) [] }
+    ensures why { IfOk result (λ a. IsWhyPlain (F.holds files.old) document.now (unit_of unit.now) a) }
+    ensures safe { IfOk result (λ a. a ≡ Answer.Good → IsSafeUnit (unit_of unit.now)) }
+    ensures same { Stays (F.holds files.old) (F.holds files.new) }
+    ensures cause { HasCause (F.faults files.old) (F.faults files.new) result }
+{
+    trees_run_alike();
+    trees_are_read_once();
+    let Some(short) = straight(alloc, unit)? else {
+        return Ok(Answer::Program(ProgramFault::NotYet));
+    };
+    if is_valid(alloc, files, document, &short)? {
+        Ok(Answer::Good)
+    } else {
+        Ok(Answer::Document)
+    }
+}
+
+// Checks a certificate of a program without definitions.
+fn fitted<F: Files>(
+    alloc: Global,
+    files: &mut F,
+    document: &str,
+    typed: Typed,
+) -> Result<Answer, FileFault>
+    requires { IsSound (unit_of typed.unit) }
+    ensures why { IfOk result (λ a. IsWhyPlain (F.holds files.old) document.now (unit_of typed.unit) a) }
+    ensures safe { IfOk result (λ a. a ≡ Answer.Good → IsSafeUnit (unit_of typed.unit)) }
+    ensures same { Stays (F.holds files.old) (F.holds files.new) }
+    ensures cause { HasCause (F.faults files.old) (F.faults files.new) result }
+{
+    match bind(alloc, typed, Defs::new(alloc)) {
+        Ok(bound) => {
+            let answer = certified(alloc, files, document, bound.typed().unit())?;
+            Ok(answer)
+        }
+        Err(TypeFault::Refused(fault)) => {
+            let misfit = Refusal::of_typing(fault);
+            Ok(Answer::Program(ProgramFault::Misfit(misfit)))
+        }
+        Err(TypeFault::NoMemory) => Err(FileFault::NoMemory),
+    }
 }
 
 // Checks a certificate of a program.
@@ -83,22 +165,19 @@ fn judged<F: Files>(
     files: &mut F,
     definitions: &str,
     document: &str,
-    tree: &Program,
+    typed: Typed,
 ) -> Result<Answer, FileFault>
-    requires { IsTyped tree.now }
-    ensures why { IfOk result (λ a. IsWhyTree (F.holds files.old) definitions.now document.now tree.now a) }
-    ensures safe { IfOk result (λ a. a ≡ Answer.Good → IsSafeProgram tree.now) }
+    requires { IsSound (unit_of typed.unit) }
+    ensures why { IfOk result (λ a. IsWhyUnit (F.holds files.old) definitions.now document.now (unit_of typed.unit) a) }
+    ensures safe { IfOk result (λ a. a ≡ Answer.Good → IsSafeUnit (unit_of typed.unit)) }
     ensures same { Stays (F.holds files.old) (F.holds files.new) }
     ensures cause { HasCause (F.faults files.old) (F.faults files.new) result }
 {
     if !has_no_definitions(alloc, files, definitions)? {
         return Ok(Answer::Definitions);
     }
-    if is_valid(alloc, files, document, tree)? {
-        Ok(Answer::Good)
-    } else {
-        Ok(Answer::Document)
-    }
+    let answer = fitted(alloc, files, document, typed)?;
+    Ok(answer)
 }
 
 /// Checks the certificate that a command names.
@@ -112,11 +191,11 @@ pub fn answer<F: Files>(
     ensures same { Stays (F.holds files.old) (F.holds files.new) }
     ensures cause { HasCause (F.faults files.old) (F.faults files.new) result }
 {
-    text_is_read_once();
+    texts_are_read_once();
     match program(alloc, files, command.program)? {
-        None => Ok(Answer::Program),
-        Some(tree) => {
-            let answer = judged(alloc, files, command.definitions, command.document, &tree)?;
+        Err(fault) => Ok(Answer::Program(ProgramFault::Unread(fault))),
+        Ok(typed) => {
+            let answer = judged(alloc, files, command.definitions, command.document, typed)?;
             Ok(answer)
         }
     }

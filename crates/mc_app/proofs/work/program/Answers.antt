@@ -1,8 +1,12 @@
-use Rattle.std.proofs.Common.{◌∙◌}
-use Rattle.mc_app.proofs.Whys.{at_some, read_within}
+use Rattle.std.proofs.Common.{◌∙◌, ℕ, List, subst}
+use Rattle.std.specs.Prelude.{MatchResult}
+use Rattle.mc_ast.specs.Views.{unit_of}
+use Rattle.mc_app.specs.Programs.{IsProgramHere, IsUnread}
+use Rattle.mc_app.proofs.Whys.{at_some}
 use Rattle.mc_app.proofs.work.program.Goals as goal
 
-pub returns-in_ok-parse-in-Some-clause-told : goal.returns-in_ok-parse-in-Some-clause-told
-returns-in_ok-parse-in-Some-clause-told g c = λ bytes h.
+pub returns-in_ok-read-in-Some-clause-told : goal.returns-in_ok-read-in-Some-clause-told
+returns-in_ok-read-in-Some-clause-told g c = λ bytes h.
     let got = at_some c.in_ok-text.field-0 c.in-Some.bytes _ _ c.in-Some.is (c.in_ok-text.ensures.told bytes h) in
-    read_within bytes c.deref.result.now c.in_ok-parse-in-Some.field-0 (c.deref.ensures.value ∙ got.0) got.1 c.in_ok-parse-in-Some.ensures
+    let same = c.deref.ensures.value ∙ got.0 in
+    subst (λ (bs : List ℕ). MatchResult c.in_ok-read-in-Some.read (λ t. IsProgramHere bs (unit_of t.unit)) (IsUnread bs)) same c.in_ok-read-in-Some.ensures.read

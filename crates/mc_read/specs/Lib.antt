@@ -1,0 +1,4 @@
+pub mod Causes
+pub mod Programs
+pub mod Refusals
+pub mod Printing

@@ -1,0 +1,88 @@
+// Texts, and the programs or faults that they are.
+ghost use Rattle.std.specs.Prelude.{◌<◌, length};
+
+use super::tables;
+use mc_base::Place;
+use mc_lex::lex;
+use mc_parse::{ParseFault, parse};
+use std::alloc::{AllocError, Global};
+use std::test::Fail;
+
+fn show_place(out: &mut String, place: Place) -> Result<(), AllocError> {
+    let line = place.line;
+    let column = place.column;
+    write!(out, "{line}:{column}")
+}
+
+fn show_fault(alloc: Global, fault: &ParseFault) -> Result<String, AllocError> {
+    let mut out = String::new(alloc);
+    match fault {
+        ParseFault::Unexpected(place) => {
+            out.push_str("unexpected ")?;
+            show_place(&mut out, *place)?;
+        }
+        ParseFault::LeftOut(text, place) => {
+            out.push_str("left out ")?;
+            for byte in text.as_slice() {
+                out.push(char::from(*byte))?;
+            }
+            out.push(' ')?;
+            show_place(&mut out, *place)?;
+        }
+        ParseFault::NoMemory => out.push_str("no memory")?,
+    }
+    Ok(out)
+}
+
+fn show(alloc: Global, text: &str) -> Result<String, AllocError>
+    requires { length text.now < 1000 }
+{
+    let tokens = match lex(alloc, text.as_bytes()) {
+        Ok(tokens) => tokens,
+        Err(_) => return String::from_str(alloc, "no tokens"),
+    };
+    match parse(alloc, tokens.as_slice()) {
+        Ok(_) => String::from_str(alloc, "read"),
+        Err(fault) => show_fault(alloc, &fault),
+    }
+}
+
+#[test]
+fn outside(rt: HostRuntime) -> Result<(), Fail> {
+    for (text, want) in &tables::OUTSIDE {
+        assert!(rt; text.len() < 1000);
+        let found = show(rt.alloc(), text)?;
+        assert!(rt; found.as_str() == *want, "{text:?}: {found}");
+    }
+    Ok(())
+}
+
+#[test]
+fn left_outside(rt: HostRuntime) -> Result<(), Fail> {
+    for (text, want) in &tables::LEFT_OUTSIDE {
+        assert!(rt; text.len() < 1000);
+        let found = show(rt.alloc(), text)?;
+        assert!(rt; found.as_str() == *want, "{text:?}: {found}");
+    }
+    Ok(())
+}
+
+#[test]
+fn within(rt: HostRuntime) -> Result<(), Fail> {
+    for (text, want) in &tables::WITHIN {
+        assert!(rt; text.len() < 1000);
+        let found = show(rt.alloc(), text)?;
+        assert!(rt; found.as_str() == *want, "{text:?}: {found}");
+    }
+    Ok(())
+}
+
+#[test]
+fn left_within(rt: HostRuntime) -> Result<(), Fail> {
+    for (text, want) in &tables::LEFT_WITHIN {
+        assert!(rt; text.len() < 1000);
+        let found = show(rt.alloc(), text)?;
+        assert!(rt; found.as_str() == *want, "{text:?}: {found}");
+    }
+    Ok(())
+}
