@@ -22,12 +22,48 @@ fn told(alloc: Global, text: &str) -> Result<Vec<u8>, AllocError>
     Ok(out)
 }
 
-#[test]
-fn first_faults_are_told(rt: HostRuntime) -> Result<(), Fail> {
-    for (want, text) in &programs::PROGRAMS {
-        assert!(rt; text.len() < 1000);
-        let found = told(rt.alloc(), text)?;
-        assert!(rt; found.as_slice() == want.as_bytes(), "{want}: {text}");
+// The texts of a table of which something else is told.
+fn wrong<'a>(alloc: Global, table: &[(&'a str, &'a str)]) -> Result<Vec<&'a str>, AllocError> {
+    let mut wrong = Vec::new(alloc);
+    for (want, text) in table {
+        if text.len() >= 1000 || told(alloc, text)?.as_slice() != want.as_bytes() {
+            wrong.push(*text)?;
+        }
     }
+    Ok(wrong)
+}
+
+#[test]
+fn declarations(rt: HostRuntime) -> Result<(), Fail> {
+    let wrong = wrong(rt.alloc(), &programs::DECLARATIONS)?;
+    assert!(rt; wrong.is_empty(), "{wrong:?}");
+    Ok(())
+}
+
+#[test]
+fn variables(rt: HostRuntime) -> Result<(), Fail> {
+    let wrong = wrong(rt.alloc(), &programs::VARIABLES)?;
+    assert!(rt; wrong.is_empty(), "{wrong:?}");
+    Ok(())
+}
+
+#[test]
+fn values(rt: HostRuntime) -> Result<(), Fail> {
+    let wrong = wrong(rt.alloc(), &programs::VALUES)?;
+    assert!(rt; wrong.is_empty(), "{wrong:?}");
+    Ok(())
+}
+
+#[test]
+fn calls(rt: HostRuntime) -> Result<(), Fail> {
+    let wrong = wrong(rt.alloc(), &programs::CALLS)?;
+    assert!(rt; wrong.is_empty(), "{wrong:?}");
+    Ok(())
+}
+
+#[test]
+fn texts(rt: HostRuntime) -> Result<(), Fail> {
+    let wrong = wrong(rt.alloc(), &programs::TEXTS)?;
+    assert!(rt; wrong.is_empty(), "{wrong:?}");
     Ok(())
 }

@@ -1,6 +1,7 @@
 // Programs with their first fault and its place, worked out by hand from the rules; the first text is empty where there is no fault.
 
-pub static PROGRAMS: [(&'static str, &'static str); 185] = [
+/// Structs, typedefs, functions and their types.
+pub static DECLARATIONS: [(&'static str, &'static str); 42] = [
     (
         "Twice at 1:29",
         "struct s { int a; }; struct s { int b; }; int main() { return 0; }",
@@ -142,6 +143,10 @@ pub static PROGRAMS: [(&'static str, &'static str); 185] = [
         "",
         "typedef int I; I f(I a) { return a; } int main() { I x = f(2); return x; }",
     ),
+];
+
+/// Variables, where they are seen, and what operands take.
+pub static VARIABLES: [(&'static str, &'static str); 42] = [
     ("Unknown at 1:14", "int main() { x = 1; }"),
     ("", "int main() { int x = x; return x; }"),
     ("Unknown at 1:22", "int main() { int x = y, y; return x; }"),
@@ -259,6 +264,10 @@ pub static PROGRAMS: [(&'static str, &'static str); 185] = [
         "Unknown at 1:26",
         "int main() { int a; if (!x || !(a < 1)) ; }",
     ),
+];
+
+/// What variables and parameters are given, and allocations.
+pub static VALUES: [(&'static str, &'static str); 40] = [
     (
         "Mismatch at 2:31",
         "struct s { int a; struct s *n; };\nint main() { struct s *p; p = 1; }",
@@ -407,6 +416,10 @@ pub static PROGRAMS: [(&'static str, &'static str); 185] = [
         "BadSizeof at 1:82",
         "typedef struct s S; struct s { int a; }; typedef S *P; int main() { P p = malloc(sizeof(P)); return 0; }",
     ),
+];
+
+/// Calls, jumps, shape commands and recursion.
+pub static CALLS: [(&'static str, &'static str); 41] = [
     (
         "Arity at 1:48",
         "int f(int a) { return a; } int main() { return f(); }",
@@ -532,6 +545,10 @@ pub static PROGRAMS: [(&'static str, &'static str); 185] = [
         "",
         "int f() { return 0; } int g() { return f(); } int h() { int x = f(); return g(); } int main() { int x = h(); return g(); }",
     ),
+];
+
+/// Entries, and texts that are no programs.
+pub static TEXTS: [(&'static str, &'static str); 20] = [
     ("NoEntry at 1:1", "int f() { return 0; }"),
     ("NoEntry at 1:1", ""),
     ("NoEntry at 1:1", " \n\t"),
