@@ -19,10 +19,10 @@ use Rattle.mc_simple.specs.Declarations.{BehindInitials, behind_initials, Behind
 use Rattle.mc_simple.proofs.Phrases.{SameAt, takes_along, closes_along, stuck_along, next_takes, next_stuck, either_left, either_right}
 use Rattle.mc_simple.proofs.Tokens.{mark_no_name, no_mark}
 
-pub declaration_step_along : (aliases : List (List ℕ)) {now other : Tokens → Tokens → DeclarationTree → Type 0} {token : Token} (step : DeclarationStep) → SameAt now other token → IsDeclarationStep aliases other token step → IsDeclarationStep aliases now token step
-declaration_step_along aliases (DeclarationStep.Taken reader) s h = takes_along s h
-declaration_step_along aliases (DeclarationStep.Closed d) s h = closes_along s h
-declaration_step_along aliases DeclarationStep.Stuck s h = stuck_along s h
+pub declaration_step_along : {now other behind : Tokens → Tokens → DeclarationTree → Type 0} {token : Token} (step : DeclarationStep) → SameAt now other token → IsDeclarationStep other behind token step → IsDeclarationStep now behind token step
+declaration_step_along DeclarationStep.Taken s h = takes_along s h
+declaration_step_along (DeclarationStep.Closed d) s h = closes_along s h
+declaration_step_along DeclarationStep.Stuck s h = stuck_along s h
 
 module _ (aliases : List (List ℕ)) (base : Base) (is : List InitialTree) {token : Token} where
   -- at a declarator
@@ -97,5 +97,5 @@ pub declarator_other : (aliases : List (List ℕ)) (base : Base) (is : List Init
 declarator_other aliases base is d no_mark_here = either_left (next_stuck no_mark_here)
 
 -- with one more item
-pub one_item : (aliases : List (List ℕ)) (base : Base) (before after : List Initial) (i : Initial) (token : Token) (step : DeclarationStep) → after ≡ before ++ i ∷ [] → IsDeclarationStep aliases (BehindInitials aliases base (map initial_of after)) token step → IsDeclarationStep aliases (BehindInitial aliases base (map initial_of before) (initial_of i)) token step
-one_item aliases base before after i token step is h = subst (λ items. IsDeclarationStep aliases (BehindInitials aliases base items) token step) (ap (map initial_of) is ∙ map-append initial_of before (i ∷ [])) h
+pub one_item : (aliases : List (List ℕ)) (base : Base) (before after : List Initial) (i : Initial) {behind : Tokens → Tokens → DeclarationTree → Type 0} (token : Token) (step : DeclarationStep) → after ≡ before ++ i ∷ [] → IsDeclarationStep (BehindInitials aliases base (map initial_of after)) behind token step → IsDeclarationStep (BehindInitial aliases base (map initial_of before) (initial_of i)) behind token step
+one_item aliases base before after i {behind} token step is h = subst (λ items. IsDeclarationStep (BehindInitials aliases base items) behind token step) (ap (map initial_of) is ∙ map-append initial_of before (i ∷ [])) h

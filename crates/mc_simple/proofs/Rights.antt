@@ -23,10 +23,10 @@ use Rattle.mc_simple.proofs.Sums.{unary_begins, sums_stuck, close_begins_none, w
 use Rattle.mc_simple.proofs.Bases.{base_alias, base_stuck}
 use Rattle.mc_simple.proofs.Allocations.{cast_star, cast_close, cast_stuck}
 
-pub right_step_along : (aliases : List (List ℕ)) {now other : Tokens → Tokens → Right → Type 0} {token : Token} (step : RightStep) → SameAt now other token → IsRightStep aliases other token step → IsRightStep aliases now token step
-right_step_along aliases (RightStep.Taken reader) s h = takes_along s h
-right_step_along aliases (RightStep.Found right) s h = finds_along s h
-right_step_along aliases RightStep.Stuck s h = stuck_along s h
+pub right_step_along : {now other behind : Tokens → Tokens → Right → Type 0} {token : Token} (step : RightStep) → SameAt now other token → IsRightStep other behind token step → IsRightStep now behind token step
+right_step_along RightStep.Taken s h = takes_along s h
+right_step_along (RightStep.Found right) s h = finds_along s h
+right_step_along RightStep.Stuck s h = stuck_along s h
 
 either_bool : (b c d : Bool) → (IsTrue c → IsTrue d) → IsTrue (b || c) → IsTrue (b || d)
 either_bool true c d f h = h

@@ -18,10 +18,10 @@ use Rattle.mc_simple.specs.Simples.{simple_marks, changed_first, changed_by, Sim
 use Rattle.mc_simple.proofs.Phrases.{SameAt, takes_along, finds_along, stuck_along, next_takes, next_stuck, either_left, either_right, ended_finds}
 use Rattle.mc_simple.proofs.Tokens.{mark_no_name}
 
-pub simple_step_along : (aliases : List (List ℕ)) {now other : Tokens → Tokens → SimpleTree → Type 0} {token : Token} (step : SimpleStep) → SameAt now other token → IsSimpleStep aliases other token step → IsSimpleStep aliases now token step
-simple_step_along aliases (SimpleStep.Taken reader) s h = takes_along s h
-simple_step_along aliases (SimpleStep.Found simple) s h = finds_along s h
-simple_step_along aliases SimpleStep.Stuck s h = stuck_along s h
+pub simple_step_along : {now other behind : Tokens → Tokens → SimpleTree → Type 0} {token : Token} (step : SimpleStep) → SameAt now other token → IsSimpleStep other behind token step → IsSimpleStep now behind token step
+simple_step_along SimpleStep.Taken s h = takes_along s h
+simple_step_along (SimpleStep.Found simple) s h = finds_along s h
+simple_step_along SimpleStep.Stuck s h = stuck_along s h
 
 -- the first token
 pub simple_name : (aliases : List (List ℕ)) {token : Token} → IsName token → Takes [] (Simples aliases) (BehindSimpleName aliases (name_of token)) token

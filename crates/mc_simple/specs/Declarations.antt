@@ -49,8 +49,15 @@ CompletesDeclarationState aliases base is (DeclarationState.Value d reader) = In
 abbrev pub CompletesDeclaration : List (List ℕ) → DeclarationReader → Tokens → Tokens → DeclarationTree → Type 0
 CompletesDeclaration aliases reader = CompletesDeclarationState aliases reader.base (map initial_of reader.items.items) reader.state
 
--- what a step of the reader says
-abbrev pub IsDeclarationStep : List (List ℕ) → (Tokens → Tokens → DeclarationTree → Type 0) → Token → DeclarationStep → Type 0
-IsDeclarationStep aliases now token (DeclarationStep.Taken reader) = Takes [] now (CompletesDeclaration aliases reader) token
-IsDeclarationStep aliases now token (DeclarationStep.Closed d) = Closes now token (declaration_of d)
-IsDeclarationStep aliases now token DeclarationStep.Stuck = IsStuckAt now token
+-- what a step of the reader says, of what completes it now and behind the token
+abbrev pub IsDeclarationStep : (now behind : Tokens → Tokens → DeclarationTree → Type 0) → Token → DeclarationStep → Type 0
+IsDeclarationStep now behind token DeclarationStep.Taken = Takes [] now behind token
+IsDeclarationStep now behind token (DeclarationStep.Closed d) = Closes now token (declaration_of d)
+IsDeclarationStep now behind token DeclarationStep.Stuck = IsStuckAt now token
+
+-- the reader is before a value
+abbrev pub IsBeforeValue : DeclarationState → Type 0
+IsBeforeValue DeclarationState.Start = Unit {0}
+IsBeforeValue (DeclarationState.Pointer place) = Unit {0}
+IsBeforeValue (DeclarationState.Named declarator) = Unit {0}
+IsBeforeValue (DeclarationState.Value declarator reader) = ⊥

@@ -90,8 +90,22 @@ CompletesRightState aliases (RightState.Done right) = Ended (right_of right)
 abbrev pub CompletesRight : List (List ℕ) → RightReader → Tokens → Tokens → Right → Type 0
 CompletesRight aliases reader = CompletesRightState aliases reader.state
 
--- what a step of the reader says
-abbrev pub IsRightStep : List (List ℕ) → (Tokens → Tokens → Right → Type 0) → Token → RightStep → Type 0
-IsRightStep aliases now token (RightStep.Taken reader) = Takes right_marks now (CompletesRight aliases reader) token
-IsRightStep aliases now token (RightStep.Found right) = Finds now token (right_of right)
-IsRightStep aliases now token RightStep.Stuck = IsStuckAt now token
+-- what a step of the reader says, of what completes it now and behind the token
+abbrev pub IsRightStep : (now behind : Tokens → Tokens → Right → Type 0) → Token → RightStep → Type 0
+IsRightStep now behind token RightStep.Taken = Takes right_marks now behind token
+IsRightStep now behind token (RightStep.Found right) = Finds now token (right_of right)
+IsRightStep now behind token RightStep.Stuck = IsStuckAt now token
+
+-- the reader is within no expression and no call
+abbrev pub IsOutside : RightState → Type 0
+IsOutside RightState.Start = Unit {0}
+IsOutside (RightState.Named name) = Unit {0}
+IsOutside (RightState.Opened place) = Unit {0}
+IsOutside (RightState.OpenedAlias place name) = Unit {0}
+IsOutside (RightState.OpenedStar place name star) = Unit {0}
+IsOutside (RightState.Enclosed place name) = Unit {0}
+IsOutside (RightState.Parens place reader) = ⊥
+IsOutside (RightState.Sum reader) = ⊥
+IsOutside (RightState.Call reader) = ⊥
+IsOutside (RightState.Allocation reader) = Unit {0}
+IsOutside (RightState.Done right) = Unit {0}

@@ -85,8 +85,22 @@ CompletesSimpleState aliases (SimpleState.Done simple) = Ended (simple_of simple
 abbrev pub CompletesSimple : List (List ℕ) → SimpleReader → Tokens → Tokens → SimpleTree → Type 0
 CompletesSimple aliases reader = CompletesSimpleState aliases reader.state
 
--- what a step of the reader says
-abbrev pub IsSimpleStep : List (List ℕ) → (Tokens → Tokens → SimpleTree → Type 0) → Token → SimpleStep → Type 0
-IsSimpleStep aliases now token (SimpleStep.Taken reader) = Takes simple_marks now (CompletesSimple aliases reader) token
-IsSimpleStep aliases now token (SimpleStep.Found simple) = Finds now token (simple_of simple)
-IsSimpleStep aliases now token SimpleStep.Stuck = IsStuckAt now token
+-- what a step of the reader says, of what completes it now and behind the token
+abbrev pub IsSimpleStep : (now behind : Tokens → Tokens → SimpleTree → Type 0) → Token → SimpleStep → Type 0
+IsSimpleStep now behind token SimpleStep.Taken = Takes simple_marks now behind token
+IsSimpleStep now behind token (SimpleStep.Found simple) = Finds now token (simple_of simple)
+IsSimpleStep now behind token SimpleStep.Stuck = IsStuckAt now token
+
+-- the reader is before a value and the arguments of a call
+abbrev pub IsBeforeValue : SimpleState → Type 0
+IsBeforeValue SimpleState.Start = Unit {0}
+IsBeforeValue (SimpleState.First change place) = Unit {0}
+IsBeforeValue (SimpleState.FirstLeft change place left) = Unit {0}
+IsBeforeValue (SimpleState.FirstArrow change place left) = Unit {0}
+IsBeforeValue (SimpleState.Named name) = Unit {0}
+IsBeforeValue (SimpleState.Left left) = Unit {0}
+IsBeforeValue (SimpleState.Arrow left) = Unit {0}
+IsBeforeValue (SimpleState.Assign left reader) = ⊥
+IsBeforeValue (SimpleState.ChangeBy change left reader) = ⊥
+IsBeforeValue (SimpleState.Call reader) = ⊥
+IsBeforeValue (SimpleState.Done simple) = Unit {0}

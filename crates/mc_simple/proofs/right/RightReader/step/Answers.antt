@@ -1,36 +1,30 @@
-use Rattle.mc_ast.specs.Views.{right_of}
-use Rattle.mc_simple.proofs.Phrases.{ended_finds}
+use Rattle.mc_simple.proofs.Phrases.{finds_along, takes_more, then_moves, then_closes, then_finds, then_stuck, then_same_at, ended_finds}
+use Rattle.mc_simple.proofs.Rights.{right_step_along, as_takes, parens_takes}
 use Rattle.mc_simple.proofs.right.RightReader.step.Goals as goal
 
-pub returns-in-Start : goal.returns-in-Start
-returns-in-Start c = λ aliases e. rw c.in-Start.is (c.start.ensures aliases)
+pub returns-in-Taken : goal.returns-in-Taken
+returns-in-Taken c = λ aliases e. rw c.in-Sum.is (as_takes (rw c.in-Taken.is at c.in_ok-step-in-Sum.ensures))
 
-pub returns-in-Named : goal.returns-in-Named
-returns-in-Named c = λ aliases e. rw c.in-Named.is (c.behind_name.ensures aliases)
+pub returns-in-Found : goal.returns-in-Found
+returns-in-Found c = λ aliases e. rw c.in-Sum.is (finds_along (then_finds (rw c.in-Found.is at c.in_ok-step-in-Sum.ensures)) (ended_finds _))
 
-pub returns-in-Opened : goal.returns-in-Opened
-returns-in-Opened c = λ aliases e. rw c.in-Opened.is (c.opened.ensures aliases e)
+pub returns-in-Stuck : goal.returns-in-Stuck
+returns-in-Stuck c = λ aliases e. rw c.in-Sum.is (then_stuck (rw c.in-Stuck.is at c.in_ok-step-in-Sum.ensures))
 
-pub returns-in-OpenedAlias : goal.returns-in-OpenedAlias
-returns-in-OpenedAlias c = λ aliases e. rw c.in-OpenedAlias.is (c.opened_alias.ensures aliases)
+pub returns-in-Taken-2 : goal.returns-in-Taken-2
+returns-in-Taken-2 c = λ aliases e. rw c.in-Parens.is (takes_more (then_moves (parens_takes _ (rw c.in-Taken-2.is at c.in_ok-step-in-Parens.ensures))))
 
-pub returns-in-OpenedStar : goal.returns-in-OpenedStar
-returns-in-OpenedStar c = λ aliases e. rw c.in-OpenedStar.is (c.opened_star.ensures aliases)
+pub returns-in_ok-step-in-Found-2 : goal.returns-in_ok-step-in-Found-2
+returns-in_ok-step-in-Found-2 c = λ aliases e. rw c.in-Parens.is (right_step_along _ (then_same_at (then_finds (rw c.in-Found-2.is at c.in_ok-step-in-Parens.ensures))) (c.in_ok-step-in-Found-2.ensures aliases))
 
-pub returns-in-Enclosed : goal.returns-in-Enclosed
-returns-in-Enclosed c = λ aliases e. rw c.in-Enclosed.is (c.enclosed.ensures aliases)
+pub returns-in-Stuck-2 : goal.returns-in-Stuck-2
+returns-in-Stuck-2 c = λ aliases e. rw c.in-Parens.is (then_stuck (then_stuck (rw c.in-Stuck-2.is at c.in_ok-step-in-Parens.ensures)))
 
-pub returns-in-Parens : goal.returns-in-Parens
-returns-in-Parens c = λ aliases e. rw c.in-Parens.is (c.in_parens.ensures aliases)
+pub returns-in-Taken-3 : goal.returns-in-Taken-3
+returns-in-Taken-3 c = λ aliases e. rw c.in-Call.is (takes_more (then_moves (rw c.in-Taken-3.is at c.in_ok-step-in-Call.ensures)))
 
-pub returns-in-Sum : goal.returns-in-Sum
-returns-in-Sum c = λ aliases e. rw c.in-Sum.is (c.in_sum.ensures aliases)
+pub returns-in-Closed : goal.returns-in-Closed
+returns-in-Closed c = λ aliases e. rw c.in-Call.is (takes_more (then_closes (rw c.in-Closed.is at c.in_ok-step-in-Call.ensures)))
 
-pub returns-in-Call : goal.returns-in-Call
-returns-in-Call c = λ aliases e. rw c.in-Call.is (c.in_call.ensures aliases)
-
-pub returns-in-Allocation : goal.returns-in-Allocation
-returns-in-Allocation c = λ aliases e. rw c.in-Allocation.is (c.in_allocation.ensures aliases e)
-
-pub returns-in-Done : goal.returns-in-Done
-returns-in-Done c = λ aliases e. rw c.in-Done.is (ended_finds (right_of c.in-Done.right))
+pub returns-in-Stuck-3 : goal.returns-in-Stuck-3
+returns-in-Stuck-3 c = λ aliases e. rw c.in-Call.is (then_stuck (rw c.in-Stuck-3.is at c.in_ok-step-in-Call.ensures))

@@ -1,36 +1,36 @@
-use Rattle.mc_ast.specs.Views.{simple_of}
-use Rattle.mc_simple.proofs.Phrases.{ended_finds}
+use Rattle.mc_ast.specs.Views.{left_of}
+use Rattle.mc_ast.specs.Trees.{assign}
+use Rattle.mc_simple.specs.Simples.{changed_by}
+use Rattle.mc_simple.proofs.Phrases.{takes_more, then_moves, then_closes, then_stuck, made_takes, made_finds}
+use Rattle.mc_simple.proofs.Rights.{in_right}
 use Rattle.mc_simple.proofs.simple.SimpleReader.step.Goals as goal
 
-pub returns-in-Start : goal.returns-in-Start
-returns-in-Start c = λ aliases e. rw c.in-Start.is (c.start.ensures aliases)
+pub returns-in-Taken : goal.returns-in-Taken
+returns-in-Taken c = λ aliases e. rw c.in-Assign.is (made_takes (assign (left_of c.in-Assign.left)) (λ h. h) (rw c.in-Taken.is at (c.in_ok-step-in-Assign.ensures aliases e)))
 
-pub returns-in-First : goal.returns-in-First
-returns-in-First c = λ aliases e. rw c.in-First.is (c.first.ensures aliases)
+pub returns-in-Found : goal.returns-in-Found
+returns-in-Found c = λ aliases e. rw (c.in-Assign.is, c.taken-left.ensures) (made_finds (assign (left_of c.in-Assign.left)) (rw c.in-Found.is at (c.in_ok-step-in-Assign.ensures aliases e)))
 
-pub returns-in-FirstLeft : goal.returns-in-FirstLeft
-returns-in-FirstLeft c = λ aliases e. rw c.in-FirstLeft.is (c.first_left.ensures aliases)
+pub returns-in-Stuck : goal.returns-in-Stuck
+returns-in-Stuck c = λ aliases e. rw c.in-Assign.is (then_stuck (rw c.in-Stuck.is at (c.in_ok-step-in-Assign.ensures aliases e)))
 
-pub returns-in-FirstArrow : goal.returns-in-FirstArrow
-returns-in-FirstArrow c = λ aliases e. rw c.in-FirstArrow.is (c.first_arrow.ensures aliases)
+pub returns-in-Taken-2 : goal.returns-in-Taken-2
+returns-in-Taken-2 c = λ aliases e. rw c.in-ChangeBy.is (made_takes (changed_by c.in-ChangeBy.change (left_of c.in-ChangeBy.left)) (in_right c.args.token.now) (rw c.in-Taken-2.is at c.in_ok-step-in-ChangeBy.ensures))
 
-pub returns-in-Named : goal.returns-in-Named
-returns-in-Named c = λ aliases e. rw c.in-Named.is (c.behind_name.ensures aliases)
+pub returns-in-Found-2 : goal.returns-in-Found-2
+returns-in-Found-2 c = λ aliases e. rw (c.in-ChangeBy.is, c.changed_by-simple.ensures, c.taken-left-in-Found.ensures) (made_finds (changed_by c.in-ChangeBy.change (left_of c.in-ChangeBy.left)) (rw c.in-Found-2.is at c.in_ok-step-in-ChangeBy.ensures))
 
-pub returns-in-Left : goal.returns-in-Left
-returns-in-Left c = λ aliases e. rw c.in-Left.is (c.behind_left.ensures aliases)
+pub returns-in-Stuck-2 : goal.returns-in-Stuck-2
+returns-in-Stuck-2 c = λ aliases e. rw c.in-ChangeBy.is (then_stuck (rw c.in-Stuck-2.is at c.in_ok-step-in-ChangeBy.ensures))
 
-pub returns-in-Arrow : goal.returns-in-Arrow
-returns-in-Arrow c = λ aliases e. rw c.in-Arrow.is (c.behind_arrow.ensures aliases)
+pub returns-in-Taken-3 : goal.returns-in-Taken-3
+returns-in-Taken-3 c = λ aliases e. rw c.in-Call.is (takes_more (then_moves (rw c.in-Taken-3.is at c.in_ok-step-in-Call.ensures)))
 
-pub returns-in-Assign : goal.returns-in-Assign
-returns-in-Assign c = λ aliases e. rw c.in-Assign.is (c.in_assign.ensures aliases e)
+pub returns-in-Closed : goal.returns-in-Closed
+returns-in-Closed c = λ aliases e. rw c.in-Call.is (takes_more (then_closes (rw c.in-Closed.is at c.in_ok-step-in-Call.ensures)))
 
-pub returns-in-ChangeBy : goal.returns-in-ChangeBy
-returns-in-ChangeBy c = λ aliases e. rw c.in-ChangeBy.is (c.in_change.ensures aliases)
+pub returns-in-Stuck-3 : goal.returns-in-Stuck-3
+returns-in-Stuck-3 c = λ aliases e. rw c.in-Call.is (then_stuck (rw c.in-Stuck-3.is at c.in_ok-step-in-Call.ensures))
 
-pub returns-in-Call : goal.returns-in-Call
-returns-in-Call c = λ aliases e. rw c.in-Call.is (c.in_call.ensures aliases)
-
-pub returns-in-Done : goal.returns-in-Done
-returns-in-Done c = λ aliases e. rw c.in-Done.is (ended_finds (simple_of c.in-Done.simple))
+pub returns-in_default : goal.returns-in_default
+returns-in_default c = λ aliases e. c.step_before_value.ensures aliases

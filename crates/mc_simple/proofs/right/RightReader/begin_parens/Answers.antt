@@ -1,0 +1,12 @@
+use Rattle.mc_simple.proofs.Phrases.{takes_more, then_moves, then_finds, then_stuck, then_same_at}
+use Rattle.mc_simple.proofs.Rights.{right_step_along, parens_takes}
+use Rattle.mc_simple.proofs.right.RightReader.begin_parens.Goals as goal
+
+pub returns-in-Taken : goal.returns-in-Taken
+returns-in-Taken c = λ aliases. takes_more (then_moves (parens_takes _ (rw c.in-Taken.is at c.in_ok-step.ensures)))
+
+pub returns-in_ok-step-in-Found : goal.returns-in_ok-step-in-Found
+returns-in_ok-step-in-Found c = λ aliases. right_step_along _ (then_same_at (then_finds (rw c.in-Found.is at c.in_ok-step.ensures))) (c.in_ok-step-in-Found.ensures aliases)
+
+pub returns-in-Stuck : goal.returns-in-Stuck
+returns-in-Stuck c = λ aliases. then_stuck (then_stuck (rw c.in-Stuck.is at c.in_ok-step.ensures))

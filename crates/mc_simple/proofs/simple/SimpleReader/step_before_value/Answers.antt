@@ -1,0 +1,28 @@
+use Rattle.std.proofs.Common.{◌∙◌, sym}
+use Rattle.mc_ast.specs.Views.{simple_of}
+use Rattle.mc_simple.proofs.Phrases.{ended_finds}
+use Rattle.mc_simple.proofs.simple.SimpleReader.step_before_value.Goals as goal
+
+pub returns-in-Start : goal.returns-in-Start
+returns-in-Start c = λ aliases. rw (sym c.replace.ensures.value ∙ c.in-Start.is) (c.start.ensures aliases)
+
+pub returns-in-First : goal.returns-in-First
+returns-in-First c = λ aliases. rw (sym c.replace.ensures.value ∙ c.in-First.is) (c.first.ensures aliases)
+
+pub returns-in-FirstLeft : goal.returns-in-FirstLeft
+returns-in-FirstLeft c = λ aliases. rw (sym c.replace.ensures.value ∙ c.in-FirstLeft.is) (c.first_left.ensures aliases)
+
+pub returns-in-FirstArrow : goal.returns-in-FirstArrow
+returns-in-FirstArrow c = λ aliases. rw (sym c.replace.ensures.value ∙ c.in-FirstArrow.is) (c.first_arrow.ensures aliases)
+
+pub returns-in-Named : goal.returns-in-Named
+returns-in-Named c = λ aliases. rw (sym c.replace.ensures.value ∙ c.in-Named.is) (c.named.ensures aliases)
+
+pub returns-in-Left : goal.returns-in-Left
+returns-in-Left c = λ aliases. rw (sym c.replace.ensures.value ∙ c.in-Left.is) (c.behind_left.ensures aliases)
+
+pub returns-in-Arrow : goal.returns-in-Arrow
+returns-in-Arrow c = λ aliases. rw (sym c.replace.ensures.value ∙ c.in-Arrow.is) (c.behind_arrow.ensures aliases)
+
+pub returns-in-Done : goal.returns-in-Done
+returns-in-Done c = λ aliases. rw (sym c.replace.ensures.value ∙ c.in-Done.is) (ended_finds (simple_of c.in-Done.simple))
