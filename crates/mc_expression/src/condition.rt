@@ -11,10 +11,10 @@ ghost use Rattle.mc_expression.specs.Turns.{InTurn, Moves};
 use crate::expression::{ExpressionReader, ExpressionStep};
 use crate::makes::{both_of, either_of, enclosed_of, not_of, parens_of};
 use crate::primary::{Primary, PrimaryStep, variable};
-use crate::stack::Stack;
 use mc_ast::{Class, Comparison, Condition, Expression};
 use mc_base::Place;
 use mc_lex::Token;
+use mc_stack::Stack;
 use std::alloc::{AllocError, Global};
 use std::mem;
 

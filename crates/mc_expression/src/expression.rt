@@ -10,10 +10,10 @@ ghost use Rattle.mc_expression.specs.Expressions.{AtOperand, AtSpot, AtSum, Behi
 
 use crate::makes::{less_of, minus_of, parens_of, plus_of, times_of};
 use crate::primary::{Primary, PrimaryStep, variable};
-use crate::stack::Stack;
 use mc_ast::{Class, Expression, LeftValue, Name};
 use mc_base::Place;
 use mc_lex::Token;
+use mc_stack::Stack;
 use std::alloc::{AllocError, Global};
 use std::mem;
 

@@ -15,9 +15,11 @@ fn told(alloc: Global, text: &str) -> Result<Vec<u8>, AllocError>
 {
     let mut out = Vec::new(alloc);
     match read(alloc, text.as_bytes(), b"main") {
-        Ok(_) => {}
-        Err(ReadFault::Refused(refusal)) => refusal.print(alloc, &mut out)?,
-        Err(ReadFault::NoMemory) => out.extend_from_slice(b"no memory")?,
+        Ok(_program) => {}
+        Err(fault) => match fault {
+            ReadFault::Refused(refusal) => refusal.print(alloc, &mut out)?,
+            ReadFault::NoMemory => out.extend_from_slice(b"no memory")?,
+        },
     }
     Ok(out)
 }

@@ -18,8 +18,8 @@ use Rattle.mc_simple.proofs.Phrases.{SameAt, takes_along, closes_along, stuck_al
 use Rattle.mc_simple.proofs.Tokens.{no_mark}
 use Rattle.mc_simple.proofs.Sums.{sums_stuck, close_begins_none}
 
-pub call_step_along : {now other behind : Tokens → Tokens → CallTree → Type 0} {token : Token} (step : CallStep) → SameAt now other token → IsCallStep other behind token step → IsCallStep now behind token step
-call_step_along CallStep.Taken s h = takes_along s h
+pub call_step_along : {now other : Tokens → Tokens → CallTree → Type 0} {token : Token} (step : CallStep) → SameAt now other token → IsCallStep other token step → IsCallStep now token step
+call_step_along (CallStep.Taken reader) s h = takes_along s h
 call_step_along (CallStep.Closed call) s h = closes_along s h
 call_step_along CallStep.Stuck s h = stuck_along s h
 
@@ -45,10 +45,10 @@ arguments_stuck name es no_comma no_close tokens rest y (behind_arguments no_mor
 arguments_stuck name es no_comma no_close tokens rest y (behind_arguments (one_more comma sum more) close) = no_comma comma
 
 -- an argument is there, and the token shows what follows it
-pub argument_more : (name : Name) (before after : List Expression) (e : Expression) {behind : Tokens → Tokens → CallTree → Type 0} {token : Token} (step : CallStep) → after ≡ before ++ e ∷ [] → IsCallStep (BehindArguments name (expressions_of after)) behind token step → IsCallStep (BehindArgument name (expressions_of before) (expression_of e)) behind token step
-argument_more name before after e {behind} {token} step is h =
+pub argument_found : (name : Name) (before after : List Expression) (e : Expression) {first : Tokens → Tokens → Expr → Type 0} {token : Token} (step : CallStep) → after ≡ before ++ e ∷ [] → Finds first token (expression_of e) → IsCallStep (BehindArguments name (expressions_of after)) token step → IsCallStep (InTurn first (BehindArgument name (expressions_of before))) token step
+argument_found name before after e {first} {token} step is found h =
     let all : expressions_of after ≡ expressions_of before ++ expression_of e ∷ [] = ap expressions_of is ∙ map-append expression_of before (e ∷ []) in
-    subst (λ es. IsCallStep (BehindArguments name es) behind token step) all h
+    call_step_along step (then_finds found) (subst (λ es. IsCallStep (BehindArguments name es) token step) all h)
 
 -- no mark of an expression stands behind an argument
 pub arguments_end : (name : Name) (es : List Expr) {token : Token} {tokens rest : Tokens} {y : CallTree} → BehindArguments name es (token ∷ tokens) rest y → IsTrue (is_in expression_marks token.text) → ⊥

@@ -43,8 +43,8 @@ CompletesArguments name es (CallState.Argument reader) = InTurn (CompletesExpres
 abbrev pub CompletesCall : CallReader → Tokens → Tokens → CallTree → Type 0
 CompletesCall reader = CompletesArguments reader.function (expressions_of reader.arguments.items) reader.state
 
--- what a step of the reader says, of what completes it now and behind the token
-abbrev pub IsCallStep : (now behind : Tokens → Tokens → CallTree → Type 0) → Token → CallStep → Type 0
-IsCallStep now behind token CallStep.Taken = Takes [] now behind token
-IsCallStep now behind token (CallStep.Closed call) = Closes now token (call_of call)
-IsCallStep now behind token CallStep.Stuck = IsStuckAt now token
+-- what a step of the reader says
+abbrev pub IsCallStep : (Tokens → Tokens → CallTree → Type 0) → Token → CallStep → Type 0
+IsCallStep now token (CallStep.Taken reader) = Takes [] now (CompletesCall reader) token
+IsCallStep now token (CallStep.Closed call) = Closes now token (call_of call)
+IsCallStep now token CallStep.Stuck = IsStuckAt now token

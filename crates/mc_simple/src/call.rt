@@ -2,16 +2,16 @@
 ghost use Rattle.std.specs.Prelude.{◌≡◌, IfOk};
 ghost use Rattle.mc_ast.specs.Classes.{IsClass};
 ghost use Rattle.mc_ast.specs.Readers.{IsSame, CanEnd};
-ghost use Rattle.mc_simple.specs.Calls.{Sums, BehindCallParens, FirstArgument, BehindArgument, CompletesCall, IsCallStep};
-ghost use Rattle.mc_ast.specs.Views.{expression_of, expressions_of};
+ghost use Rattle.mc_simple.specs.Calls.{BehindCallParens, FirstArgument, BehindArgument, BehindArguments, CompletesCall, IsCallStep};
+ghost use Rattle.mc_ast.specs.Views.{expressions_of};
 ghost use Rattle.mc_expression.specs.Turns.{InTurn};
+ghost use Rattle.mc_expression.specs.Expressions.{CompletesExpression};
 ghost use Rattle.mc_simple.specs.declared.call.CallReader.{CallReader};
 
 use mc_ast::{Call, Class, Expression, Name};
 use mc_expression::{ExpressionReader, ExpressionStep, expressions_can_end};
-use mc_lex::{Text, Token};
+use mc_lex::Token;
 use std::alloc::{AllocError, Global};
-use std::mem;
 
 /// Reads a call behind its `(`.
 #[derive(Drop)]
@@ -33,7 +33,7 @@ enum CallState {
 /// What a token does to a call.
 #[derive(Drop)]
 pub enum CallStep {
-    Taken,
+    Taken(CallReader),
     Closed(Call),
     Stuck,
 }
@@ -52,90 +52,99 @@ impl CallReader {
     }
 
     /// Takes a token.
-    pub fn step(&mut self, token: &Token, class: Class) -> Result<CallStep, AllocError>
+    pub fn step(self, token: &Token, class: Class) -> Result<CallStep, AllocError>
         requires { IsClass token.now class }
-        ensures { IfOk result (IsCallStep (CompletesCall self.old) (CompletesCall self.new) token.now) }
+        ensures { IfOk result (IsCallStep (CompletesCall self) token.now) }
     {
-        match &mut self.state {
-            CallState::First => self.first(token, class),
-            CallState::Argument(reader) => match reader.step(token, class)? {
-                ExpressionStep::Taken => Ok(CallStep::Taken),
-                ExpressionStep::Found(argument) => {
-                    let step = self.behind_argument(argument, token, class)?;
-                    Ok(step)
-                }
-                ExpressionStep::Stuck => Ok(CallStep::Stuck),
-            },
+        let CallReader {
+            alloc,
+            function,
+            arguments,
+            state,
+        } = self;
+        match state {
+            CallState::First => first(alloc, function, arguments, token, class),
+            CallState::Argument(reader) => in_argument(
+                alloc, function, arguments, reader, token, class,
+            ),
         }
     }
+}
 
-    /// At the first argument or the `)`.
-    fn first(&mut self, token: &Token, class: Class) -> Result<CallStep, AllocError>
-        requires { IsClass token.now class }
-        ensures { IfOk result (IsCallStep (FirstArgument self.old.function (expressions_of self.old.arguments.items)) (CompletesCall self.new) token.now) }
-    {
-        match class {
-            Class::CloseParen => Ok(CallStep::Closed(self.whole())),
-            _ => {
-                let step = self.begin_argument(token, class)?;
-                Ok(step)
-            }
+fn first(
+    alloc: Global,
+    function: Name,
+    arguments: Vec<Expression>,
+    token: &Token,
+    class: Class,
+) -> Result<CallStep, AllocError>
+    requires { IsClass token.now class }
+    ensures { IfOk result (IsCallStep (FirstArgument function (expressions_of arguments.items)) token.now) }
+{
+    match class {
+        Class::CloseParen => Ok(CallStep::Closed(Call {
+            function,
+            arguments,
+        })),
+        _ => {
+            let reader = ExpressionReader::new(alloc);
+            let step = in_argument(alloc, function, arguments, reader, token, class)?;
+            Ok(step)
         }
     }
+}
 
-    /// At the first token of an argument.
-    fn begin_argument(&mut self, token: &Token, class: Class) -> Result<CallStep, AllocError>
-        requires { IsClass token.now class }
-        ensures { IfOk result (IsCallStep (InTurn Sums (BehindArgument self.old.function (expressions_of self.old.arguments.items))) (CompletesCall self.new) token.now) }
-    {
-        let mut reader = ExpressionReader::new(self.alloc);
-        match reader.step(token, class)? {
-            ExpressionStep::Taken => {
-                self.state = CallState::Argument(reader);
-                Ok(CallStep::Taken)
-            }
-            ExpressionStep::Found(argument) => {
-                let step = self.behind_argument(argument, token, class)?;
-                Ok(step)
-            }
-            ExpressionStep::Stuck => Ok(CallStep::Stuck),
+fn in_argument(
+    alloc: Global,
+    function: Name,
+    mut arguments: Vec<Expression>,
+    mut reader: ExpressionReader,
+    token: &Token,
+    class: Class,
+) -> Result<CallStep, AllocError>
+    requires { IsClass token.now class }
+    ensures { IfOk result (IsCallStep (InTurn (CompletesExpression reader) (BehindArgument function (expressions_of arguments.items))) token.now) }
+{
+    match reader.step(token, class)? {
+        ExpressionStep::Taken => Ok(CallStep::Taken(CallReader {
+            alloc,
+            function,
+            arguments,
+            state: CallState::Argument(reader),
+        })),
+        ExpressionStep::Found(argument) => {
+            arguments.push(argument)?;
+            Ok(behind_argument(alloc, function, arguments, token, class))
         }
+        ExpressionStep::Stuck => Ok(CallStep::Stuck),
     }
+}
 
-    /// Behind an argument.
-    fn behind_argument(
-        &mut self,
-        argument: Expression,
-        token: &Token,
-        class: Class,
-    ) -> Result<CallStep, AllocError>
-        requires { IsClass token.now class }
-        ensures { IfOk result (IsCallStep (BehindArgument self.old.function (expressions_of self.old.arguments.items) (expression_of argument)) (CompletesCall self.new) token.now) }
-    {
-        self.arguments.push(argument)?;
-        match class {
-            Class::Comma => {
-                let reader = ExpressionReader::new(self.alloc);
-                self.state = CallState::Argument(reader);
-                Ok(CallStep::Taken)
-            }
-            Class::CloseParen => Ok(CallStep::Closed(self.whole())),
-            _ => Ok(CallStep::Stuck),
+fn behind_argument(
+    alloc: Global,
+    function: Name,
+    arguments: Vec<Expression>,
+    token: &Token,
+    class: Class,
+) -> CallStep
+    requires { IsClass token.now class }
+    ensures { IsCallStep (BehindArguments function (expressions_of arguments.items)) token.now result }
+{
+    match class {
+        Class::Comma => {
+            let reader = ExpressionReader::new(alloc);
+            CallStep::Taken(CallReader {
+                alloc,
+                function,
+                arguments,
+                state: CallState::Argument(reader),
+            })
         }
-    }
-
-    /// The whole call.
-    fn whole(&mut self) -> Call
-        ensures { result ≡ record { function = self.old.function; arguments = self.old.arguments } }
-    {
-        let nameless = Name {
-            text: Text::new(self.alloc),
-            place: self.function.place,
-        };
-        Call {
-            function: mem::replace(&mut self.function, nameless),
-            arguments: mem::replace(&mut self.arguments, Vec::new(self.alloc)),
-        }
+        Class::CloseParen => CallStep::Closed(Call {
+            function,
+            arguments,
+        }),
+        _ => CallStep::Stuck,
     }
 }
 

@@ -3,16 +3,18 @@ ghost use Rattle.std.specs.Prelude.{◌≡◌, ℕ, List, IfOk, map};
 ghost use Rattle.mc_ast.specs.Classes.{IsClass};
 ghost use Rattle.mc_ast.specs.Names.{is_in, IsName, name_of};
 ghost use Rattle.mc_ast.specs.Readers.{IsSame, CanEnd};
-ghost use Rattle.mc_simple.specs.Declarations.{BehindBase, BehindComma, BehindDeclarator, BehindInitial, BehindInitials, CompletesDeclaration, IsBeforeValue, IsDeclarationStep};
+ghost use Rattle.mc_simple.specs.Declarations.{BehindBase, BehindComma, BehindDeclarator, BehindInitial, BehindInitials, CompletesDeclaration, IsDeclarationMove, IsDeclarationStep};
+ghost use Rattle.mc_simple.specs.Rights.{CompletesRight};
 ghost use Rattle.mc_simple.specs.Phrases.{Next};
-ghost use Rattle.mc_ast.specs.Views.{initial_of, right_of};
+ghost use Rattle.mc_ast.specs.Views.{initial_of};
+ghost use Rattle.mc_expression.specs.Turns.{InTurn};
 ghost use Rattle.mc_simple.specs.declared.declaration.DeclarationReader.{DeclarationReader};
 
-use crate::right::{RightReader, RightStep};
-use mc_ast::{Base, Class, Declaration, Declarator, Initial, Name, RightSide, name_at};
+use crate::right::{RightMove, RightReader};
+use mc_ast::{Base, Class, Declaration, Declarator, Initial, name_at};
 use mc_base::Place;
 use mc_expression::expressions_can_end;
-use mc_lex::{Text, Token};
+use mc_lex::Token;
 use std::alloc::{AllocError, Global};
 use std::mem;
 
@@ -46,6 +48,15 @@ pub enum DeclarationStep {
     Stuck,
 }
 
+/// The same, with the reader behind the token.
+#[derive(Drop)]
+pub enum DeclarationMove {
+    Taken(DeclarationReader),
+    /// The declaration, whose `;` the token is.
+    Closed(Declaration),
+    Stuck,
+}
+
 impl DeclarationReader {
     /// Behind the base.
     pub fn behind_base(alloc: Global, base: Base) -> DeclarationReader
@@ -69,165 +80,197 @@ impl DeclarationReader {
         requires { IsClass token.now class }
         ensures { (aliases : List (List ℕ)) → is_in aliases token.now.text ≡ alias → IfOk result (IsDeclarationStep (CompletesDeclaration aliases self.old) (CompletesDeclaration aliases self.new) token.now) }
     {
-        match &mut self.state {
-            DeclarationState::Value(declarator, reader) => {
-                match reader.step(token, class, alias)? {
-                    RightStep::Taken => Ok(DeclarationStep::Taken),
-                    RightStep::Found(right) => {
-                        let declarator = taken(self.alloc, declarator);
-                        let step = self.behind_value(declarator, right, token, class)?;
-                        Ok(step)
-                    }
-                    RightStep::Stuck => Ok(DeclarationStep::Stuck),
-                }
-            }
-            _ => self.step_before_value(token, class),
-        }
-    }
-
-    /// Takes a token before a value.
-    fn step_before_value(
-        &mut self,
-        token: &Token,
-        class: Class,
-    ) -> Result<DeclarationStep, AllocError>
-        requires class { IsClass token.now class }
-        requires before { IsBeforeValue self.old.state }
-        ensures { (aliases : List (List ℕ)) → IfOk result (IsDeclarationStep (CompletesDeclaration aliases self.old) (CompletesDeclaration aliases self.new) token.now) }
-    {
-        match mem::replace(&mut self.state, DeclarationState::Start) {
-            DeclarationState::Start => self.start(token, class),
-            DeclarationState::Pointer(place) => self.behind_star(place, token, class),
-            DeclarationState::Named(declarator) => {
-                self.behind_declarator(declarator, token, class)
-            }
-            DeclarationState::Value(_, _) => unreachable!(),
-        }
-    }
-
-    fn start(&mut self, token: &Token, class: Class) -> Result<DeclarationStep, AllocError>
-        requires { IsClass token.now class }
-        ensures { (aliases : List (List ℕ)) → IfOk result (IsDeclarationStep (BehindComma aliases self.old.base (map initial_of self.old.items.items)) (CompletesDeclaration aliases self.new) token.now) }
-    {
-        match class {
-            Class::Star => {
-                self.state = DeclarationState::Pointer(token.place);
+        let alloc = self.alloc;
+        let place = Place { line: 0, column: 0 };
+        let fresh = DeclarationReader::behind_base(alloc, Base::Int(place));
+        let reader = mem::replace(self, fresh);
+        let step = reader.moved(token, class, alias)?;
+        match step {
+            DeclarationMove::Taken(next) => {
+                *self = next;
                 Ok(DeclarationStep::Taken)
             }
-            Class::Name => {
-                let name = name_at(self.alloc, token)?;
-                self.state = DeclarationState::Named(Declarator {
-                    pointer: None,
-                    name,
-                });
-                Ok(DeclarationStep::Taken)
-            }
-            _ => Ok(DeclarationStep::Stuck),
+            DeclarationMove::Closed(made) => Ok(DeclarationStep::Closed(made)),
+            DeclarationMove::Stuck => Ok(DeclarationStep::Stuck),
         }
     }
 
-    fn behind_star(
-        &mut self,
-        place: Place,
+    // The same, by value.
+    pub fn moved(
+        self,
         token: &Token,
         class: Class,
-    ) -> Result<DeclarationStep, AllocError>
+        alias: bool,
+    ) -> Result<DeclarationMove, AllocError>
         requires { IsClass token.now class }
-        ensures { (aliases : List (List ℕ)) → IfOk result (IsDeclarationStep (Next IsName (λ name. BehindDeclarator aliases self.old.base (map initial_of self.old.items.items) (record { pointer = Some place; name = name_of name }))) (CompletesDeclaration aliases self.new) token.now) }
+        ensures { (aliases : List (List ℕ)) → is_in aliases token.now.text ≡ alias → IfOk result (IsDeclarationMove aliases (CompletesDeclaration aliases self) token.now) }
     {
-        match class {
-            Class::Name => {
-                let name = name_at(self.alloc, token)?;
-                self.state = DeclarationState::Named(Declarator {
-                    pointer: Some(place),
-                    name,
-                });
-                Ok(DeclarationStep::Taken)
-            }
-            _ => Ok(DeclarationStep::Stuck),
-        }
-    }
-
-    fn behind_declarator(
-        &mut self,
-        declarator: Declarator,
-        token: &Token,
-        class: Class,
-    ) -> Result<DeclarationStep, AllocError>
-        requires { IsClass token.now class }
-        ensures { (aliases : List (List ℕ)) → IfOk result (IsDeclarationStep (BehindDeclarator aliases self.old.base (map initial_of self.old.items.items) declarator) (CompletesDeclaration aliases self.new) token.now) }
-    {
-        match class {
-            Class::Assign => {
-                let reader = RightReader::new(self.alloc);
-                self.state = DeclarationState::Value(declarator, reader);
-                Ok(DeclarationStep::Taken)
-            }
-            _ => {
-                self.items.push(Initial {
-                    declarator,
-                    value: None,
-                })?;
-                Ok(self.behind_initial(token, class))
-            }
-        }
-    }
-
-    fn behind_value(
-        &mut self,
-        declarator: Declarator,
-        right: RightSide,
-        token: &Token,
-        class: Class,
-    ) -> Result<DeclarationStep, AllocError>
-        requires { IsClass token.now class }
-        ensures { (aliases : List (List ℕ)) → IfOk result (IsDeclarationStep (BehindInitial aliases self.old.base (map initial_of self.old.items.items) (record { declarator = declarator; value = Some (right_of right) })) (CompletesDeclaration aliases self.new) token.now) }
-    {
-        self.items.push(Initial {
-            declarator,
-            value: Some(right),
-        })?;
-        Ok(self.behind_initial(token, class))
-    }
-
-    fn behind_initial(&mut self, token: &Token, class: Class) -> DeclarationStep
-        requires { IsClass token.now class }
-        ensures { (aliases : List (List ℕ)) → IsDeclarationStep (BehindInitials aliases self.old.base (map initial_of self.old.items.items)) (CompletesDeclaration aliases self.new) token.now result }
-    {
-        match class {
-            Class::Comma => {
-                self.state = DeclarationState::Start;
-                DeclarationStep::Taken
-            }
-            Class::Semicolon => DeclarationStep::Closed(self.whole(token.place)),
-            _ => DeclarationStep::Stuck,
-        }
-    }
-
-    /// The whole declaration, up to its `;` at this place.
-    fn whole(&mut self, end: Place) -> Declaration
-        ensures { result ≡ record { base = self.old.base; items = self.old.items } }
-    {
-        Declaration {
-            base: mem::replace(&mut self.base, Base::Int(end)),
-            items: mem::replace(&mut self.items, Vec::new(self.alloc)),
+        let DeclarationReader {
+            alloc,
+            base,
+            items,
+            state,
+        } = self;
+        match state {
+            DeclarationState::Start => start(alloc, base, items, token, class),
+            DeclarationState::Pointer(place) => behind_star(
+                alloc, base, items, place, token, class,
+            ),
+            DeclarationState::Named(declarator) => behind_declarator(
+                alloc, base, items, declarator, token, class,
+            ),
+            DeclarationState::Value(declarator, reader) => in_value(
+                alloc, base, items, declarator, reader, token, class, alias,
+            ),
         }
     }
 }
 
-/// The declarator, taken out of where it waits.
-fn taken(alloc: Global, declarator: &mut Declarator) -> Declarator
-    ensures { result ≡ declarator.old }
+fn start(
+    alloc: Global,
+    base: Base,
+    items: Vec<Initial>,
+    token: &Token,
+    class: Class,
+) -> Result<DeclarationMove, AllocError>
+    requires { IsClass token.now class }
+    ensures { (aliases : List (List ℕ)) → IfOk result (IsDeclarationMove aliases (BehindComma aliases base (map initial_of items.items)) token.now) }
 {
-    let name = Name {
-        text: Text::new(alloc),
-        place: declarator.name.place,
-    };
-    let nameless = Declarator {
-        pointer: None,
-        name,
-    };
-    mem::replace(declarator, nameless)
+    match class {
+        Class::Star => Ok(DeclarationMove::Taken(DeclarationReader {
+            alloc,
+            base,
+            items,
+            state: DeclarationState::Pointer(token.place),
+        })),
+        Class::Name => {
+            let name = name_at(alloc, token)?;
+            let declarator = Declarator {
+                pointer: None,
+                name,
+            };
+            Ok(DeclarationMove::Taken(DeclarationReader {
+                alloc,
+                base,
+                items,
+                state: DeclarationState::Named(declarator),
+            }))
+        }
+        _ => Ok(DeclarationMove::Stuck),
+    }
+}
+
+fn behind_star(
+    alloc: Global,
+    base: Base,
+    items: Vec<Initial>,
+    place: Place,
+    token: &Token,
+    class: Class,
+) -> Result<DeclarationMove, AllocError>
+    requires { IsClass token.now class }
+    ensures { (aliases : List (List ℕ)) → IfOk result (IsDeclarationMove aliases (Next IsName (λ name. BehindDeclarator aliases base (map initial_of items.items) (record { pointer = Some place; name = name_of name }))) token.now) }
+{
+    match class {
+        Class::Name => {
+            let name = name_at(alloc, token)?;
+            let declarator = Declarator {
+                pointer: Some(place),
+                name,
+            };
+            Ok(DeclarationMove::Taken(DeclarationReader {
+                alloc,
+                base,
+                items,
+                state: DeclarationState::Named(declarator),
+            }))
+        }
+        _ => Ok(DeclarationMove::Stuck),
+    }
+}
+
+fn behind_declarator(
+    alloc: Global,
+    base: Base,
+    mut items: Vec<Initial>,
+    declarator: Declarator,
+    token: &Token,
+    class: Class,
+) -> Result<DeclarationMove, AllocError>
+    requires { IsClass token.now class }
+    ensures { (aliases : List (List ℕ)) → IfOk result (IsDeclarationMove aliases (BehindDeclarator aliases base (map initial_of items.items) declarator) token.now) }
+{
+    match class {
+        Class::Assign => {
+            let reader = RightReader::new(alloc);
+            Ok(DeclarationMove::Taken(DeclarationReader {
+                alloc,
+                base,
+                items,
+                state: DeclarationState::Value(declarator, reader),
+            }))
+        }
+        _ => {
+            items.push(Initial {
+                declarator,
+                value: None,
+            })?;
+            Ok(behind_initial(alloc, base, items, token, class))
+        }
+    }
+}
+
+fn in_value(
+    alloc: Global,
+    base: Base,
+    mut items: Vec<Initial>,
+    declarator: Declarator,
+    reader: RightReader,
+    token: &Token,
+    class: Class,
+    alias: bool,
+) -> Result<DeclarationMove, AllocError>
+    requires { IsClass token.now class }
+    ensures { (aliases : List (List ℕ)) → is_in aliases token.now.text ≡ alias → IfOk result (IsDeclarationMove aliases (InTurn (CompletesRight aliases reader) (λ r. BehindInitial aliases base (map initial_of items.items) (record { declarator = declarator; value = Some r }))) token.now) }
+{
+    match reader.moved(token, class, alias)? {
+        RightMove::Taken(reader) => Ok(DeclarationMove::Taken(DeclarationReader {
+            alloc,
+            base,
+            items,
+            state: DeclarationState::Value(declarator, reader),
+        })),
+        RightMove::Found(right) => {
+            items.push(Initial {
+                declarator,
+                value: Some(right),
+            })?;
+            Ok(behind_initial(alloc, base, items, token, class))
+        }
+        RightMove::Stuck => Ok(DeclarationMove::Stuck),
+    }
+}
+
+fn behind_initial(
+    alloc: Global,
+    base: Base,
+    items: Vec<Initial>,
+    token: &Token,
+    class: Class,
+) -> DeclarationMove
+    requires { IsClass token.now class }
+    ensures { (aliases : List (List ℕ)) → IsDeclarationMove aliases (BehindInitials aliases base (map initial_of items.items)) token.now result }
+{
+    match class {
+        Class::Comma => DeclarationMove::Taken(DeclarationReader {
+            alloc,
+            base,
+            items,
+            state: DeclarationState::Start,
+        }),
+        Class::Semicolon => DeclarationMove::Closed(Declaration { base, items }),
+        _ => DeclarationMove::Stuck,
+    }
 }
 
 /// Every reader can come to the end of a declaration.

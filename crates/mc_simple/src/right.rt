@@ -3,7 +3,8 @@ ghost use Rattle.std.specs.Prelude.{◌≡◌, ℕ, List, IfOk};
 ghost use Rattle.mc_ast.specs.Classes.{IsClass};
 ghost use Rattle.mc_ast.specs.Names.{is_in, IsName};
 ghost use Rattle.mc_ast.specs.Readers.{IsSame, CanEnd};
-ghost use Rattle.mc_simple.specs.Rights.{Rights, AsExpression, AsCall, AsAllocation, InParens, BehindTimes, BehindRightName, BehindRightParens, BehindParensAlias, BehindParensStar, BehindEnclosed, ClosingParens, named, CompletesRight, IsOutside, IsRightStep};
+ghost use Rattle.mc_simple.specs.Rights.{Rights, AsExpression, AsCall, AsAllocation, InParens, BehindTimes, BehindRightName, BehindRightParens, BehindParensAlias, BehindParensStar, BehindEnclosed, ClosingParens, named, CompletesRight, IsRightMove, IsRightStep};
+ghost use Rattle.mc_simple.specs.Calls.{CompletesCall};
 ghost use Rattle.mc_simple.specs.Allocations.{InCast, CompletesAllocation};
 ghost use Rattle.mc_base.specs.declared.plain.Place.{Place};
 ghost use Rattle.mc_ast.specs.Views.{expression_of};
@@ -57,6 +58,14 @@ pub enum RightStep {
     Stuck,
 }
 
+/// The same, with the reader behind the token.
+#[derive(Drop)]
+pub enum RightMove {
+    Taken(RightReader),
+    Found(RightSide),
+    Stuck,
+}
+
 impl RightReader {
     pub fn new(alloc: Global) -> RightReader
         ensures { (aliases : List (List ℕ)) → IsSame (CompletesRight aliases result) (Rights aliases) }
@@ -77,350 +86,220 @@ impl RightReader {
         requires { IsClass token.now class }
         ensures { (aliases : List (List ℕ)) → is_in aliases token.now.text ≡ alias → IfOk result (IsRightStep (CompletesRight aliases self.old) (CompletesRight aliases self.new) token.now) }
     {
-        match &mut self.state {
-            RightState::Sum(reader) => match reader.step(token, class)? {
-                ExpressionStep::Taken => Ok(RightStep::Taken),
-                ExpressionStep::Found(sum) => Ok(RightStep::Found(RightSide::Expression(sum))),
-                ExpressionStep::Stuck => Ok(RightStep::Stuck),
-            },
-            RightState::Parens(place, reader) => {
-                let place = *place;
-                match reader.step(token, class)? {
-                    ExpressionStep::Taken => Ok(RightStep::Taken),
-                    ExpressionStep::Found(inner) => {
-                        let step = self.behind_parens(place, inner, token, class)?;
-                        Ok(step)
-                    }
-                    ExpressionStep::Stuck => Ok(RightStep::Stuck),
-                }
+        let alloc = self.alloc;
+        let reader = mem::replace(self, RightReader::new(alloc));
+        let step = reader.moved(token, class, alias)?;
+        match step {
+            RightMove::Taken(next) => {
+                *self = next;
+                Ok(RightStep::Taken)
             }
-            RightState::Call(reader) => match reader.step(token, class)? {
-                CallStep::Taken => Ok(RightStep::Taken),
-                CallStep::Closed(call) => {
-                    self.state = RightState::Done(RightSide::Call(call));
-                    Ok(RightStep::Taken)
-                }
-                CallStep::Stuck => Ok(RightStep::Stuck),
-            },
-            _ => self.step_outside(token, class, alias),
+            RightMove::Found(made) => Ok(RightStep::Found(made)),
+            RightMove::Stuck => Ok(RightStep::Stuck),
         }
     }
 
-    /// Takes a token outside expressions and calls.
-    fn step_outside(
-        &mut self,
-        token: &Token,
-        class: Class,
-        alias: bool,
-    ) -> Result<RightStep, AllocError>
-        requires class { IsClass token.now class }
-        requires outside { IsOutside self.old.state }
-        ensures { (aliases : List (List ℕ)) → is_in aliases token.now.text ≡ alias → IfOk result (IsRightStep (CompletesRight aliases self.old) (CompletesRight aliases self.new) token.now) }
-    {
-        match mem::replace(&mut self.state, RightState::Start) {
-            RightState::Start => self.start(token, class),
-            RightState::Named(name) => self.behind_name(name, token, class),
-            RightState::Opened(place) => self.opened(place, token, class, alias),
-            RightState::OpenedAlias(place, name) => self.opened_alias(place, name, token, class),
-            RightState::OpenedStar(place, name, star) => {
-                self.opened_star(place, name, star, token, class)
-            }
-            RightState::Enclosed(place, name) => self.enclosed(place, name, token, class),
-            RightState::Allocation(reader) => self.in_allocation(reader, token, class, alias),
-            RightState::Done(right) => Ok(RightStep::Found(right)),
-            RightState::Parens(_, _) => unreachable!(),
-            RightState::Sum(_) => unreachable!(),
-            RightState::Call(_) => unreachable!(),
-        }
-    }
-
-    fn start(&mut self, token: &Token, class: Class) -> Result<RightStep, AllocError>
+    // The same, by value.
+    pub fn moved(self, token: &Token, class: Class, alias: bool) -> Result<RightMove, AllocError>
         requires { IsClass token.now class }
-        ensures { (aliases : List (List ℕ)) → IfOk result (IsRightStep (Rights aliases) (CompletesRight aliases self.new) token.now) }
+        ensures { (aliases : List (List ℕ)) → is_in aliases token.now.text ≡ alias → IfOk result (IsRightMove aliases (CompletesRight aliases self) token.now) }
     {
-        match class {
-            Class::Name => {
-                let name = name_at(self.alloc, token)?;
-                self.state = RightState::Named(name);
-                Ok(RightStep::Taken)
-            }
-            Class::OpenParen => {
-                self.state = RightState::Opened(token.place);
-                Ok(RightStep::Taken)
-            }
-            Class::Malloc => {
-                self.state = RightState::Allocation(AllocationReader::Malloc(None, token.place));
-                Ok(RightStep::Taken)
-            }
-            _ => {
-                let reader = ExpressionReader::new(self.alloc);
-                let step = self.begin_sum(reader, token, class)?;
-                Ok(step)
-            }
+        let RightReader { alloc, state } = self;
+        match state {
+            RightState::Start => start(alloc, token, class),
+            RightState::Named(name) => behind_name(alloc, name, token, class),
+            RightState::Opened(place) => opened(alloc, place, token, class, alias),
+            RightState::OpenedAlias(place, name) => opened_alias(alloc, place, name, token, class),
+            RightState::OpenedStar(place, name, star) => opened_star(
+                alloc, place, name, star, token, class,
+            ),
+            RightState::Enclosed(place, name) => enclosed(alloc, place, name, token, class),
+            RightState::Parens(place, reader) => in_parens(alloc, place, reader, token, class),
+            RightState::Sum(reader) => in_sum(alloc, reader, token, class),
+            RightState::Call(reader) => in_call(alloc, reader, token, class),
+            RightState::Allocation(reader) => in_allocation(alloc, reader, token, class, alias),
+            RightState::Done(right) => Ok(RightMove::Found(right)),
         }
     }
+}
 
-    fn behind_name(
-        &mut self,
-        name: Name,
-        token: &Token,
-        class: Class,
-    ) -> Result<RightStep, AllocError>
-        requires { IsClass token.now class }
-        ensures { (aliases : List (List ℕ)) → IfOk result (IsRightStep (BehindRightName name) (CompletesRight aliases self.new) token.now) }
-    {
-        match class {
-            Class::OpenParen => {
-                let reader = CallReader::new(self.alloc, name);
-                self.state = RightState::Call(reader);
-                Ok(RightStep::Taken)
-            }
-            _ => {
-                let reader = ExpressionReader::behind_name(self.alloc, name);
-                let step = self.begin_sum(reader, token, class)?;
-                Ok(step)
-            }
+fn start(alloc: Global, token: &Token, class: Class) -> Result<RightMove, AllocError>
+    requires { IsClass token.now class }
+    ensures { (aliases : List (List ℕ)) → IfOk result (IsRightMove aliases (Rights aliases) token.now) }
+{
+    match class {
+        Class::Name => {
+            let name = name_at(alloc, token)?;
+            Ok(RightMove::Taken(RightReader {
+                alloc,
+                state: RightState::Named(name),
+            }))
+        }
+        Class::OpenParen => Ok(RightMove::Taken(RightReader {
+            alloc,
+            state: RightState::Opened(token.place),
+        })),
+        Class::Malloc => Ok(RightMove::Taken(RightReader {
+            alloc,
+            state: RightState::Allocation(AllocationReader::Malloc(None, token.place)),
+        })),
+        _ => {
+            let reader = ExpressionReader::new(alloc);
+            let step = in_sum(alloc, reader, token, class)?;
+            Ok(step)
         }
     }
+}
 
-    fn opened(
-        &mut self,
-        place: Place,
-        token: &Token,
-        class: Class,
-        alias: bool,
-    ) -> Result<RightStep, AllocError>
-        requires { IsClass token.now class }
-        ensures { (aliases : List (List ℕ)) → is_in aliases token.now.text ≡ alias → IfOk result (IsRightStep (BehindRightParens aliases place) (CompletesRight aliases self.new) token.now) }
-    {
-        match class {
-            Class::Int => {
-                let step = self.in_cast(place, token, class, alias)?;
-                Ok(step)
-            }
-            Class::Struct => {
-                let step = self.in_cast(place, token, class, alias)?;
-                Ok(step)
-            }
-            Class::Name => {
-                let step = self.opened_name(place, token, alias)?;
-                Ok(step)
-            }
-            _ => {
-                let reader = ExpressionReader::new(self.alloc);
-                let step = self.begin_parens(place, reader, token, class)?;
-                Ok(step)
-            }
+fn behind_name(
+    alloc: Global,
+    name: Name,
+    token: &Token,
+    class: Class,
+) -> Result<RightMove, AllocError>
+    requires { IsClass token.now class }
+    ensures { (aliases : List (List ℕ)) → IfOk result (IsRightMove aliases (BehindRightName name) token.now) }
+{
+    match class {
+        Class::OpenParen => {
+            let reader = CallReader::new(alloc, name);
+            Ok(RightMove::Taken(RightReader {
+                alloc,
+                state: RightState::Call(reader),
+            }))
+        }
+        _ => {
+            let reader = ExpressionReader::behind_name(alloc, name);
+            let step = in_sum(alloc, reader, token, class)?;
+            Ok(step)
         }
     }
+}
 
-    fn opened_name(
-        &mut self,
-        place: Place,
-        token: &Token,
-        alias: bool,
-    ) -> Result<RightStep, AllocError>
-        requires { IsName token.now }
-        ensures { (aliases : List (List ℕ)) → is_in aliases token.now.text ≡ alias → IfOk result (IsRightStep (BehindRightParens aliases place) (CompletesRight aliases self.new) token.now) }
-    {
-        let name = name_at(self.alloc, token)?;
-        if alias {
-            self.state = RightState::OpenedAlias(place, name);
-            Ok(RightStep::Taken)
-        } else {
-            let reader = ExpressionReader::behind_name(self.alloc, name);
-            self.state = RightState::Parens(place, reader);
-            Ok(RightStep::Taken)
+fn opened(
+    alloc: Global,
+    place: Place,
+    token: &Token,
+    class: Class,
+    alias: bool,
+) -> Result<RightMove, AllocError>
+    requires { IsClass token.now class }
+    ensures { (aliases : List (List ℕ)) → is_in aliases token.now.text ≡ alias → IfOk result (IsRightMove aliases (BehindRightParens aliases place) token.now) }
+{
+    match class {
+        Class::Int => {
+            let step = in_cast(alloc, place, token, class, alias)?;
+            Ok(step)
+        }
+        Class::Struct => {
+            let step = in_cast(alloc, place, token, class, alias)?;
+            Ok(step)
+        }
+        Class::Name => {
+            let step = opened_name(alloc, place, token, alias)?;
+            Ok(step)
+        }
+        _ => {
+            let reader = ExpressionReader::new(alloc);
+            let step = in_parens(alloc, place, reader, token, class)?;
+            Ok(step)
         }
     }
+}
 
-    fn in_cast(
-        &mut self,
-        place: Place,
-        token: &Token,
-        class: Class,
-        alias: bool,
-    ) -> Result<RightStep, AllocError>
-        requires { IsClass token.now class }
-        ensures { (aliases : List (List ℕ)) → is_in aliases token.now.text ≡ alias → IfOk result (IsRightStep (AsAllocation (InCast aliases place)) (CompletesRight aliases self.new) token.now) }
-    {
-        let reader = AllocationReader::Base(place, BaseReader::Start);
-        let step = self.in_allocation(reader, token, class, alias)?;
-        Ok(step)
+fn opened_name(
+    alloc: Global,
+    place: Place,
+    token: &Token,
+    alias: bool,
+) -> Result<RightMove, AllocError>
+    requires { IsName token.now }
+    ensures { (aliases : List (List ℕ)) → is_in aliases token.now.text ≡ alias → IfOk result (IsRightMove aliases (BehindRightParens aliases place) token.now) }
+{
+    let name = name_at(alloc, token)?;
+    if alias {
+        Ok(RightMove::Taken(RightReader {
+            alloc,
+            state: RightState::OpenedAlias(place, name),
+        }))
+    } else {
+        let reader = ExpressionReader::behind_name(alloc, name);
+        Ok(RightMove::Taken(RightReader {
+            alloc,
+            state: RightState::Parens(place, reader),
+        }))
     }
+}
 
-    fn opened_alias(
-        &mut self,
-        place: Place,
-        name: Name,
-        token: &Token,
-        class: Class,
-    ) -> Result<RightStep, AllocError>
-        requires { IsClass token.now class }
-        ensures { (aliases : List (List ℕ)) → IfOk result (IsRightStep (BehindParensAlias aliases place name) (CompletesRight aliases self.new) token.now) }
-    {
-        match class {
-            Class::Star => {
-                self.state = RightState::OpenedStar(place, name, token.place);
-                Ok(RightStep::Taken)
-            }
-            Class::CloseParen => {
-                self.state = RightState::Enclosed(place, name);
-                Ok(RightStep::Taken)
-            }
-            _ => {
-                let reader = ExpressionReader::behind_name(self.alloc, name);
-                let step = self.begin_parens(place, reader, token, class)?;
-                Ok(step)
-            }
+fn in_cast(
+    alloc: Global,
+    place: Place,
+    token: &Token,
+    class: Class,
+    alias: bool,
+) -> Result<RightMove, AllocError>
+    requires { IsClass token.now class }
+    ensures { (aliases : List (List ℕ)) → is_in aliases token.now.text ≡ alias → IfOk result (IsRightMove aliases (AsAllocation (InCast aliases place)) token.now) }
+{
+    let reader = AllocationReader::Base(place, BaseReader::Start);
+    let step = in_allocation(alloc, reader, token, class, alias)?;
+    Ok(step)
+}
+
+fn opened_alias(
+    alloc: Global,
+    place: Place,
+    name: Name,
+    token: &Token,
+    class: Class,
+) -> Result<RightMove, AllocError>
+    requires { IsClass token.now class }
+    ensures { (aliases : List (List ℕ)) → IfOk result (IsRightMove aliases (BehindParensAlias aliases place name) token.now) }
+{
+    match class {
+        Class::Star => Ok(RightMove::Taken(RightReader {
+            alloc,
+            state: RightState::OpenedStar(place, name, token.place),
+        })),
+        Class::CloseParen => Ok(RightMove::Taken(RightReader {
+            alloc,
+            state: RightState::Enclosed(place, name),
+        })),
+        _ => {
+            let reader = ExpressionReader::behind_name(alloc, name);
+            let step = in_parens(alloc, place, reader, token, class)?;
+            Ok(step)
         }
     }
+}
 
-    fn opened_star(
-        &mut self,
-        place: Place,
-        name: Name,
-        star: Place,
-        token: &Token,
-        class: Class,
-    ) -> Result<RightStep, AllocError>
-        requires { IsClass token.now class }
-        ensures { (aliases : List (List ℕ)) → IfOk result (IsRightStep (BehindParensStar aliases place name star) (CompletesRight aliases self.new) token.now) }
-    {
-        match class {
-            Class::CloseParen => {
-                let cast = Cast {
-                    place,
-                    base: Base::Alias(name),
-                    pointer: Some(star),
-                };
-                self.state = RightState::Allocation(AllocationReader::Cast(cast));
-                Ok(RightStep::Taken)
-            }
-            _ => {
-                let reader = behind_times(self.alloc, name, star)?;
-                let step = self.begin_parens(place, reader, token, class)?;
-                Ok(step)
-            }
+fn opened_star(
+    alloc: Global,
+    place: Place,
+    name: Name,
+    star: Place,
+    token: &Token,
+    class: Class,
+) -> Result<RightMove, AllocError>
+    requires { IsClass token.now class }
+    ensures { (aliases : List (List ℕ)) → IfOk result (IsRightMove aliases (BehindParensStar aliases place name star) token.now) }
+{
+    match class {
+        Class::CloseParen => {
+            let cast = Cast {
+                place,
+                base: Base::Alias(name),
+                pointer: Some(star),
+            };
+            Ok(RightMove::Taken(RightReader {
+                alloc,
+                state: RightState::Allocation(AllocationReader::Cast(cast)),
+            }))
         }
-    }
-
-    fn enclosed(
-        &mut self,
-        place: Place,
-        name: Name,
-        token: &Token,
-        class: Class,
-    ) -> Result<RightStep, AllocError>
-        requires { IsClass token.now class }
-        ensures { (aliases : List (List ℕ)) → IfOk result (IsRightStep (BehindEnclosed aliases place name) (CompletesRight aliases self.new) token.now) }
-    {
-        match class {
-            Class::Malloc => {
-                let cast = Cast {
-                    place,
-                    base: Base::Alias(name),
-                    pointer: None,
-                };
-                let reader = AllocationReader::Malloc(Some(cast), token.place);
-                self.state = RightState::Allocation(reader);
-                Ok(RightStep::Taken)
-            }
-            _ => {
-                let value = named(self.alloc, name);
-                let operand = parens(self.alloc, place, value)?;
-                let reader = ExpressionReader::behind_operand(self.alloc, operand);
-                let step = self.begin_sum(reader, token, class)?;
-                Ok(step)
-            }
-        }
-    }
-
-    /// At the first token of an expression in parentheses that this reader does not know yet.
-    fn begin_parens(
-        &mut self,
-        place: Place,
-        mut reader: ExpressionReader,
-        token: &Token,
-        class: Class,
-    ) -> Result<RightStep, AllocError>
-        requires { IsClass token.now class }
-        ensures { (aliases : List (List ℕ)) → IfOk result (IsRightStep (AsExpression (InParens place (CompletesExpression reader))) (CompletesRight aliases self.new) token.now) }
-    {
-        match reader.step(token, class)? {
-            ExpressionStep::Taken => {
-                self.state = RightState::Parens(place, reader);
-                Ok(RightStep::Taken)
-            }
-            ExpressionStep::Found(inner) => {
-                let step = self.behind_parens(place, inner, token, class)?;
-                Ok(step)
-            }
-            ExpressionStep::Stuck => Ok(RightStep::Stuck),
-        }
-    }
-
-    fn behind_parens(
-        &mut self,
-        place: Place,
-        inner: Expression,
-        token: &Token,
-        class: Class,
-    ) -> Result<RightStep, AllocError>
-        requires { IsClass token.now class }
-        ensures { (aliases : List (List ℕ)) → IfOk result (IsRightStep (AsExpression (ClosingParens place (expression_of inner))) (CompletesRight aliases self.new) token.now) }
-    {
-        match class {
-            Class::CloseParen => {
-                let operand = parens(self.alloc, place, inner)?;
-                let reader = ExpressionReader::behind_operand(self.alloc, operand);
-                self.state = RightState::Sum(reader);
-                Ok(RightStep::Taken)
-            }
-            _ => Ok(RightStep::Stuck),
-        }
-    }
-
-    /// At the first token of an expression that this reader does not know yet.
-    fn begin_sum(
-        &mut self,
-        mut reader: ExpressionReader,
-        token: &Token,
-        class: Class,
-    ) -> Result<RightStep, AllocError>
-        requires { IsClass token.now class }
-        ensures { (aliases : List (List ℕ)) → IfOk result (IsRightStep (AsExpression (CompletesExpression reader)) (CompletesRight aliases self.new) token.now) }
-    {
-        match reader.step(token, class)? {
-            ExpressionStep::Taken => {
-                self.state = RightState::Sum(reader);
-                Ok(RightStep::Taken)
-            }
-            ExpressionStep::Found(sum) => Ok(RightStep::Found(RightSide::Expression(sum))),
-            ExpressionStep::Stuck => Ok(RightStep::Stuck),
-        }
-    }
-
-    fn in_allocation(
-        &mut self,
-        reader: AllocationReader,
-        token: &Token,
-        class: Class,
-        alias: bool,
-    ) -> Result<RightStep, AllocError>
-        requires { IsClass token.now class }
-        ensures { (aliases : List (List ℕ)) → is_in aliases token.now.text ≡ alias → IfOk result (IsRightStep (AsAllocation (CompletesAllocation aliases reader)) (CompletesRight aliases self.new) token.now) }
-    {
-        match reader.step(self.alloc, token, class, alias)? {
-            AllocationStep::Taken(reader) => {
-                self.state = RightState::Allocation(reader);
-                Ok(RightStep::Taken)
-            }
-            AllocationStep::Closed(malloc) => {
-                self.state = RightState::Done(RightSide::Malloc(malloc));
-                Ok(RightStep::Taken)
-            }
-            AllocationStep::Stuck => Ok(RightStep::Stuck),
+        _ => {
+            let reader = behind_times(alloc, name, star)?;
+            let step = in_parens(alloc, place, reader, token, class)?;
+            Ok(step)
         }
     }
 }
@@ -440,6 +319,148 @@ fn behind_times(alloc: Global, name: Name, star: Place) -> Result<ExpressionRead
         ExpressionStep::Taken => Ok(reader),
         ExpressionStep::Found(_) => unreachable!(),
         ExpressionStep::Stuck => unreachable!(),
+    }
+}
+
+fn enclosed(
+    alloc: Global,
+    place: Place,
+    name: Name,
+    token: &Token,
+    class: Class,
+) -> Result<RightMove, AllocError>
+    requires { IsClass token.now class }
+    ensures { (aliases : List (List ℕ)) → IfOk result (IsRightMove aliases (BehindEnclosed aliases place name) token.now) }
+{
+    match class {
+        Class::Malloc => {
+            let cast = Cast {
+                place,
+                base: Base::Alias(name),
+                pointer: None,
+            };
+            Ok(RightMove::Taken(RightReader {
+                alloc,
+                state: RightState::Allocation(AllocationReader::Malloc(Some(cast), token.place)),
+            }))
+        }
+        _ => {
+            let value = named(alloc, name);
+            let operand = parens(alloc, place, value)?;
+            let reader = ExpressionReader::behind_operand(alloc, operand);
+            let step = in_sum(alloc, reader, token, class)?;
+            Ok(step)
+        }
+    }
+}
+
+fn in_parens(
+    alloc: Global,
+    place: Place,
+    mut reader: ExpressionReader,
+    token: &Token,
+    class: Class,
+) -> Result<RightMove, AllocError>
+    requires { IsClass token.now class }
+    ensures { (aliases : List (List ℕ)) → IfOk result (IsRightMove aliases (AsExpression (InParens place (CompletesExpression reader))) token.now) }
+{
+    match reader.step(token, class)? {
+        ExpressionStep::Taken => Ok(RightMove::Taken(RightReader {
+            alloc,
+            state: RightState::Parens(place, reader),
+        })),
+        ExpressionStep::Found(inner) => {
+            let step = behind_parens(alloc, place, inner, token, class)?;
+            Ok(step)
+        }
+        ExpressionStep::Stuck => Ok(RightMove::Stuck),
+    }
+}
+
+fn behind_parens(
+    alloc: Global,
+    place: Place,
+    inner: Expression,
+    token: &Token,
+    class: Class,
+) -> Result<RightMove, AllocError>
+    requires { IsClass token.now class }
+    ensures { (aliases : List (List ℕ)) → IfOk result (IsRightMove aliases (AsExpression (ClosingParens place (expression_of inner))) token.now) }
+{
+    match class {
+        Class::CloseParen => {
+            let operand = parens(alloc, place, inner)?;
+            let reader = ExpressionReader::behind_operand(alloc, operand);
+            Ok(RightMove::Taken(RightReader {
+                alloc,
+                state: RightState::Sum(reader),
+            }))
+        }
+        _ => Ok(RightMove::Stuck),
+    }
+}
+
+fn in_sum(
+    alloc: Global,
+    mut reader: ExpressionReader,
+    token: &Token,
+    class: Class,
+) -> Result<RightMove, AllocError>
+    requires { IsClass token.now class }
+    ensures { (aliases : List (List ℕ)) → IfOk result (IsRightMove aliases (AsExpression (CompletesExpression reader)) token.now) }
+{
+    match reader.step(token, class)? {
+        ExpressionStep::Taken => Ok(RightMove::Taken(RightReader {
+            alloc,
+            state: RightState::Sum(reader),
+        })),
+        ExpressionStep::Found(sum) => Ok(RightMove::Found(RightSide::Expression(sum))),
+        ExpressionStep::Stuck => Ok(RightMove::Stuck),
+    }
+}
+
+fn in_call(
+    alloc: Global,
+    reader: CallReader,
+    token: &Token,
+    class: Class,
+) -> Result<RightMove, AllocError>
+    requires { IsClass token.now class }
+    ensures { (aliases : List (List ℕ)) → IfOk result (IsRightMove aliases (AsCall (CompletesCall reader)) token.now) }
+{
+    match reader.step(token, class)? {
+        CallStep::Taken(reader) => Ok(RightMove::Taken(RightReader {
+            alloc,
+            state: RightState::Call(reader),
+        })),
+        CallStep::Closed(call) => Ok(RightMove::Taken(RightReader {
+            alloc,
+            state: RightState::Done(RightSide::Call(call)),
+        })),
+        CallStep::Stuck => Ok(RightMove::Stuck),
+    }
+}
+
+fn in_allocation(
+    alloc: Global,
+    reader: AllocationReader,
+    token: &Token,
+    class: Class,
+    alias: bool,
+) -> Result<RightMove, AllocError>
+    requires { IsClass token.now class }
+    ensures { (aliases : List (List ℕ)) → is_in aliases token.now.text ≡ alias → IfOk result (IsRightMove aliases (AsAllocation (CompletesAllocation aliases reader)) token.now) }
+{
+    match reader.step(alloc, token, class, alias)? {
+        AllocationStep::Taken(reader) => Ok(RightMove::Taken(RightReader {
+            alloc,
+            state: RightState::Allocation(reader),
+        })),
+        AllocationStep::Closed(malloc) => Ok(RightMove::Taken(RightReader {
+            alloc,
+            state: RightState::Done(RightSide::Malloc(malloc)),
+        })),
+        AllocationStep::Stuck => Ok(RightMove::Stuck),
     }
 }
 

@@ -5,18 +5,22 @@ ghost use Rattle.mc_ast.specs.Classes.{IsClass};
 ghost use Rattle.mc_ast.specs.Names.{is_in, IsName, name_of};
 ghost use Rattle.mc_ast.specs.Grammar.{IsSimple};
 ghost use Rattle.mc_ast.specs.Readers.{IsSame, CanEnd};
-ghost use Rattle.mc_simple.specs.Simples.{Simples, InFirst, InLeft, BehindSimpleName, just, with_field, changed_first, changed_by, CompletesSimple, IsBeforeValue, IsSimpleStep};
-ghost use Rattle.mc_simple.specs.Phrases.{Next};
+ghost use Rattle.mc_simple.specs.Simples.{Simples, InFirst, InLeft, BehindSimpleName, just, with_field, changed_first, changed_by, CompletesSimple, IsSimpleMove, IsSimpleStep};
+ghost use Rattle.mc_simple.specs.Rights.{CompletesRight};
+ghost use Rattle.mc_simple.specs.Calls.{CompletesCall};
+ghost use Rattle.mc_simple.specs.Phrases.{Ended, Next};
+ghost use Rattle.mc_ast.specs.Trees.{assign, call};
 ghost use Rattle.mc_ast.specs.Views.{left_of, simple_of, expression_of};
+ghost use Rattle.mc_expression.specs.Turns.{InTurn};
+ghost use Rattle.mc_expression.specs.Expressions.{CompletesExpression};
 ghost use Rattle.mc_simple.specs.declared.simple.SimpleReader.{SimpleReader};
-ghost use Rattle.mc_simple.specs.declared.simple.SimpleStep.TheVariants as SimpleStep;
 
 use crate::call::{CallReader, CallStep};
-use crate::right::{RightReader, RightStep};
+use crate::right::{RightMove, RightReader};
 use mc_ast::{Class, Expression, LeftValue, Name, Simple, name_at};
 use mc_base::Place;
 use mc_expression::{ExpressionReader, ExpressionStep, expressions_can_end};
-use mc_lex::{Text, Token};
+use mc_lex::Token;
 use std::alloc::{AllocError, Global};
 use std::mem;
 
@@ -65,6 +69,14 @@ pub enum SimpleStep {
     Stuck,
 }
 
+/// The same, with the reader behind the token.
+#[derive(Drop)]
+pub enum SimpleMove {
+    Taken(SimpleReader),
+    Found(Simple),
+    Stuck,
+}
+
 impl SimpleReader {
     pub fn new(alloc: Global) -> SimpleReader
         ensures { (aliases : List (List ℕ)) → IsSame (CompletesSimple aliases result) (Simples aliases) }
@@ -96,232 +108,290 @@ impl SimpleReader {
         ensures { (aliases : List (List ℕ)) → is_in aliases token.now.text ≡ alias → IfOk result (IsSimpleStep (CompletesSimple aliases self.old) (CompletesSimple aliases self.new) token.now) }
     {
         let alloc = self.alloc;
-        match &mut self.state {
-            SimpleState::Assign(left, reader) => match reader.step(token, class, alias)? {
-                RightStep::Taken => Ok(SimpleStep::Taken),
-                RightStep::Found(right) => {
-                    let left = taken(alloc, left);
-                    Ok(SimpleStep::Found(Simple::Assign(left, right)))
-                }
-                RightStep::Stuck => Ok(SimpleStep::Stuck),
-            },
-            SimpleState::ChangeBy(change, left, reader) => {
-                let change = *change;
-                match reader.step(token, class)? {
-                    ExpressionStep::Taken => Ok(SimpleStep::Taken),
-                    ExpressionStep::Found(by) => {
-                        let left = taken(alloc, left);
-                        let simple = changed_by(change, left, by);
-                        Ok(SimpleStep::Found(simple))
-                    }
-                    ExpressionStep::Stuck => Ok(SimpleStep::Stuck),
-                }
-            }
-            SimpleState::Call(reader) => match reader.step(token, class)? {
-                CallStep::Taken => Ok(SimpleStep::Taken),
-                CallStep::Closed(call) => {
-                    self.state = SimpleState::Done(Simple::Call(call));
-                    Ok(SimpleStep::Taken)
-                }
-                CallStep::Stuck => Ok(SimpleStep::Stuck),
-            },
-            _ => self.step_before_value(token, class),
-        }
-    }
-
-    /// Takes a token before a value or the arguments of a call.
-    fn step_before_value(&mut self, token: &Token, class: Class) -> Result<SimpleStep, AllocError>
-        requires class { IsClass token.now class }
-        requires before { IsBeforeValue self.old.state }
-        ensures { (aliases : List (List ℕ)) → IfOk result (IsSimpleStep (CompletesSimple aliases self.old) (CompletesSimple aliases self.new) token.now) }
-    {
-        match mem::replace(&mut self.state, SimpleState::Start) {
-            SimpleState::Start => self.start(token, class),
-            SimpleState::First(change, place) => self.first(change, place, token, class),
-            SimpleState::FirstLeft(change, place, left) => {
-                Ok(self.first_left(change, place, left, token, class))
-            }
-            SimpleState::FirstArrow(change, place, left) => {
-                self.first_arrow(change, place, left, token, class)
-            }
-            SimpleState::Named(name) => Ok(self.named(name, token, class)),
-            SimpleState::Left(left) => Ok(self.behind_left(left, token, class)),
-            SimpleState::Arrow(left) => self.behind_arrow(left, token, class),
-            SimpleState::Done(simple) => Ok(SimpleStep::Found(simple)),
-            SimpleState::Assign(_, _) => unreachable!(),
-            SimpleState::ChangeBy(_, _, _) => unreachable!(),
-            SimpleState::Call(_) => unreachable!(),
-        }
-    }
-
-    fn start(&mut self, token: &Token, class: Class) -> Result<SimpleStep, AllocError>
-        requires { IsClass token.now class }
-        ensures { (aliases : List (List ℕ)) → IfOk result (IsSimpleStep (Simples aliases) (CompletesSimple aliases self.new) token.now) }
-    {
-        match class {
-            Class::Name => {
-                let name = name_at(self.alloc, token)?;
-                self.state = SimpleState::Named(name);
+        let reader = mem::replace(self, SimpleReader::new(alloc));
+        let step = reader.moved(token, class, alias)?;
+        match step {
+            SimpleMove::Taken(next) => {
+                *self = next;
                 Ok(SimpleStep::Taken)
             }
-            Class::PlusPlus => {
-                self.state = SimpleState::First(Change::Increment, token.place);
-                Ok(SimpleStep::Taken)
-            }
-            Class::MinusMinus => {
-                self.state = SimpleState::First(Change::Decrement, token.place);
-                Ok(SimpleStep::Taken)
-            }
-            _ => Ok(SimpleStep::Stuck),
+            SimpleMove::Found(made) => Ok(SimpleStep::Found(made)),
+            SimpleMove::Stuck => Ok(SimpleStep::Stuck),
         }
     }
 
-    fn first(
-        &mut self,
-        change: Change,
-        place: Place,
-        token: &Token,
-        class: Class,
-    ) -> Result<SimpleStep, AllocError>
+    // The same, by value.
+    pub fn moved(self, token: &Token, class: Class, alias: bool) -> Result<SimpleMove, AllocError>
         requires { IsClass token.now class }
-        ensures { (aliases : List (List ℕ)) → IfOk result (IsSimpleStep (Next IsName (λ name. InFirst change place (just (name_of name)))) (CompletesSimple aliases self.new) token.now) }
+        ensures { (aliases : List (List ℕ)) → is_in aliases token.now.text ≡ alias → IfOk result (IsSimpleMove aliases (CompletesSimple aliases self) token.now) }
     {
-        match class {
-            Class::Name => {
-                let name = name_at(self.alloc, token)?;
-                let left = just(self.alloc, name);
-                self.state = SimpleState::FirstLeft(change, place, left);
-                Ok(SimpleStep::Taken)
-            }
-            _ => Ok(SimpleStep::Stuck),
-        }
-    }
-
-    fn first_left(
-        &mut self,
-        change: Change,
-        place: Place,
-        left: LeftValue,
-        token: &Token,
-        class: Class,
-    ) -> SimpleStep
-        requires { IsClass token.now class }
-        ensures { (aliases : List (List ℕ)) → IsSimpleStep (InFirst change place (left_of left)) (CompletesSimple aliases self.new) token.now result }
-    {
-        match class {
-            Class::Arrow => {
-                self.state = SimpleState::FirstArrow(change, place, left);
-                SimpleStep::Taken
-            }
-            _ => {
-                let simple = changed_first(change, place, left);
-                SimpleStep::Found(simple)
-            }
-        }
-    }
-
-    fn first_arrow(
-        &mut self,
-        change: Change,
-        place: Place,
-        left: LeftValue,
-        token: &Token,
-        class: Class,
-    ) -> Result<SimpleStep, AllocError>
-        requires { IsClass token.now class }
-        ensures { (aliases : List (List ℕ)) → IfOk result (IsSimpleStep (Next IsName (λ name. InFirst change place (with_field (left_of left) (name_of name)))) (CompletesSimple aliases self.new) token.now) }
-    {
-        match class {
-            Class::Name => {
-                let name = name_at(self.alloc, token)?;
-                let longer = with_field(left, name)?;
-                self.state = SimpleState::FirstLeft(change, place, longer);
-                Ok(SimpleStep::Taken)
-            }
-            _ => Ok(SimpleStep::Stuck),
-        }
-    }
-
-    fn named(&mut self, name: Name, token: &Token, class: Class) -> SimpleStep
-        requires { IsClass token.now class }
-        ensures { (aliases : List (List ℕ)) → IsSimpleStep (BehindSimpleName aliases name) (CompletesSimple aliases self.new) token.now result }
-    {
-        match class {
-            Class::OpenParen => {
-                let reader = CallReader::new(self.alloc, name);
-                self.state = SimpleState::Call(reader);
-                SimpleStep::Taken
-            }
-            _ => {
-                let left = just(self.alloc, name);
-                self.behind_left(left, token, class)
-            }
-        }
-    }
-
-    fn behind_left(&mut self, left: LeftValue, token: &Token, class: Class) -> SimpleStep
-        requires { IsClass token.now class }
-        ensures { (aliases : List (List ℕ)) → IsSimpleStep (InLeft aliases (left_of left)) (CompletesSimple aliases self.new) token.now result }
-    {
-        match class {
-            Class::Arrow => self.go_on(SimpleState::Arrow(left)),
-            Class::Assign => {
-                let reader = RightReader::new(self.alloc);
-                self.go_on(SimpleState::Assign(left, reader))
-            }
-            Class::PlusAssign => {
-                let reader = ExpressionReader::new(self.alloc);
-                self.go_on(SimpleState::ChangeBy(Change::Increment, left, reader))
-            }
-            Class::MinusAssign => {
-                let reader = ExpressionReader::new(self.alloc);
-                self.go_on(SimpleState::ChangeBy(Change::Decrement, left, reader))
-            }
-            Class::PlusPlus => self.go_on(SimpleState::Done(Simple::Increment(left))),
-            Class::MinusMinus => self.go_on(SimpleState::Done(Simple::Decrement(left))),
-            _ => SimpleStep::Stuck,
-        }
-    }
-
-    /// Goes on in this state.
-    fn go_on(&mut self, state: SimpleState) -> SimpleStep
-        ensures taken { result ≡ SimpleStep.Taken }
-        ensures state { self.new.state ≡ state }
-    {
-        self.state = state;
-        SimpleStep::Taken
-    }
-
-    fn behind_arrow(
-        &mut self,
-        left: LeftValue,
-        token: &Token,
-        class: Class,
-    ) -> Result<SimpleStep, AllocError>
-        requires { IsClass token.now class }
-        ensures { (aliases : List (List ℕ)) → IfOk result (IsSimpleStep (Next IsName (λ name. InLeft aliases (with_field (left_of left) (name_of name)))) (CompletesSimple aliases self.new) token.now) }
-    {
-        match class {
-            Class::Name => {
-                let name = name_at(self.alloc, token)?;
-                let longer = with_field(left, name)?;
-                self.state = SimpleState::Left(longer);
-                Ok(SimpleStep::Taken)
-            }
-            _ => Ok(SimpleStep::Stuck),
+        let SimpleReader { alloc, state } = self;
+        match state {
+            SimpleState::Start => start(alloc, token, class),
+            SimpleState::First(change, place) => first(alloc, change, place, token, class),
+            SimpleState::FirstLeft(change, place, left) => Ok(first_left(
+                alloc, change, place, left, token, class,
+            )),
+            SimpleState::FirstArrow(change, place, left) => first_arrow(
+                alloc, change, place, left, token, class,
+            ),
+            SimpleState::Named(name) => Ok(behind_name(alloc, name, token, class)),
+            SimpleState::Left(left) => Ok(behind_left(alloc, left, token, class)),
+            SimpleState::Arrow(left) => behind_arrow(alloc, left, token, class),
+            SimpleState::Assign(left, reader) => in_assign(
+                alloc, left, reader, token, class, alias,
+            ),
+            SimpleState::ChangeBy(change, left, reader) => in_change(
+                alloc, change, left, reader, token, class,
+            ),
+            SimpleState::Call(reader) => in_call(alloc, reader, token, class),
+            SimpleState::Done(simple) => Ok(SimpleMove::Found(simple)),
         }
     }
 }
 
-/// The variable or field, taken out of where it waits.
-fn taken(alloc: Global, left: &mut LeftValue) -> LeftValue
-    ensures { result ≡ left.old }
+fn start(alloc: Global, token: &Token, class: Class) -> Result<SimpleMove, AllocError>
+    requires { IsClass token.now class }
+    ensures { (aliases : List (List ℕ)) → IfOk result (IsSimpleMove aliases (Simples aliases) token.now) }
 {
-    let name = Name {
-        text: Text::new(alloc),
-        place: left.name.place,
-    };
-    mem::replace(left, just(alloc, name))
+    match class {
+        Class::Name => {
+            let name = name_at(alloc, token)?;
+            Ok(SimpleMove::Taken(SimpleReader {
+                alloc,
+                state: SimpleState::Named(name),
+            }))
+        }
+        Class::PlusPlus => Ok(SimpleMove::Taken(SimpleReader {
+            alloc,
+            state: SimpleState::First(Change::Increment, token.place),
+        })),
+        Class::MinusMinus => Ok(SimpleMove::Taken(SimpleReader {
+            alloc,
+            state: SimpleState::First(Change::Decrement, token.place),
+        })),
+        _ => Ok(SimpleMove::Stuck),
+    }
+}
+
+fn first(
+    alloc: Global,
+    change: Change,
+    place: Place,
+    token: &Token,
+    class: Class,
+) -> Result<SimpleMove, AllocError>
+    requires { IsClass token.now class }
+    ensures { (aliases : List (List ℕ)) → IfOk result (IsSimpleMove aliases (Next IsName (λ name. InFirst change place (just (name_of name)))) token.now) }
+{
+    match class {
+        Class::Name => {
+            let name = name_at(alloc, token)?;
+            let left = just(alloc, name);
+            Ok(SimpleMove::Taken(SimpleReader {
+                alloc,
+                state: SimpleState::FirstLeft(change, place, left),
+            }))
+        }
+        _ => Ok(SimpleMove::Stuck),
+    }
+}
+
+fn first_left(
+    alloc: Global,
+    change: Change,
+    place: Place,
+    left: LeftValue,
+    token: &Token,
+    class: Class,
+) -> SimpleMove
+    requires { IsClass token.now class }
+    ensures { (aliases : List (List ℕ)) → IsSimpleMove aliases (InFirst change place (left_of left)) token.now result }
+{
+    match class {
+        Class::Arrow => SimpleMove::Taken(SimpleReader {
+            alloc,
+            state: SimpleState::FirstArrow(change, place, left),
+        }),
+        _ => {
+            let simple = changed_first(change, place, left);
+            SimpleMove::Found(simple)
+        }
+    }
+}
+
+fn first_arrow(
+    alloc: Global,
+    change: Change,
+    place: Place,
+    left: LeftValue,
+    token: &Token,
+    class: Class,
+) -> Result<SimpleMove, AllocError>
+    requires { IsClass token.now class }
+    ensures { (aliases : List (List ℕ)) → IfOk result (IsSimpleMove aliases (Next IsName (λ name. InFirst change place (with_field (left_of left) (name_of name)))) token.now) }
+{
+    match class {
+        Class::Name => {
+            let name = name_at(alloc, token)?;
+            let longer = with_field(left, name)?;
+            Ok(SimpleMove::Taken(SimpleReader {
+                alloc,
+                state: SimpleState::FirstLeft(change, place, longer),
+            }))
+        }
+        _ => Ok(SimpleMove::Stuck),
+    }
+}
+
+fn behind_name(alloc: Global, name: Name, token: &Token, class: Class) -> SimpleMove
+    requires { IsClass token.now class }
+    ensures { (aliases : List (List ℕ)) → IsSimpleMove aliases (BehindSimpleName aliases name) token.now result }
+{
+    match class {
+        Class::OpenParen => {
+            let reader = CallReader::new(alloc, name);
+            SimpleMove::Taken(SimpleReader {
+                alloc,
+                state: SimpleState::Call(reader),
+            })
+        }
+        _ => {
+            let left = just(alloc, name);
+            behind_left(alloc, left, token, class)
+        }
+    }
+}
+
+fn behind_left(alloc: Global, left: LeftValue, token: &Token, class: Class) -> SimpleMove
+    requires { IsClass token.now class }
+    ensures { (aliases : List (List ℕ)) → IsSimpleMove aliases (InLeft aliases (left_of left)) token.now result }
+{
+    match class {
+        Class::Arrow => SimpleMove::Taken(SimpleReader {
+            alloc,
+            state: SimpleState::Arrow(left),
+        }),
+        Class::Assign => {
+            let reader = RightReader::new(alloc);
+            SimpleMove::Taken(SimpleReader {
+                alloc,
+                state: SimpleState::Assign(left, reader),
+            })
+        }
+        Class::PlusAssign => {
+            let reader = ExpressionReader::new(alloc);
+            SimpleMove::Taken(SimpleReader {
+                alloc,
+                state: SimpleState::ChangeBy(Change::Increment, left, reader),
+            })
+        }
+        Class::MinusAssign => {
+            let reader = ExpressionReader::new(alloc);
+            SimpleMove::Taken(SimpleReader {
+                alloc,
+                state: SimpleState::ChangeBy(Change::Decrement, left, reader),
+            })
+        }
+        Class::PlusPlus => SimpleMove::Taken(SimpleReader {
+            alloc,
+            state: SimpleState::Done(Simple::Increment(left)),
+        }),
+        Class::MinusMinus => SimpleMove::Taken(SimpleReader {
+            alloc,
+            state: SimpleState::Done(Simple::Decrement(left)),
+        }),
+        _ => SimpleMove::Stuck,
+    }
+}
+
+fn behind_arrow(
+    alloc: Global,
+    left: LeftValue,
+    token: &Token,
+    class: Class,
+) -> Result<SimpleMove, AllocError>
+    requires { IsClass token.now class }
+    ensures { (aliases : List (List ℕ)) → IfOk result (IsSimpleMove aliases (Next IsName (λ name. InLeft aliases (with_field (left_of left) (name_of name)))) token.now) }
+{
+    match class {
+        Class::Name => {
+            let name = name_at(alloc, token)?;
+            let longer = with_field(left, name)?;
+            Ok(SimpleMove::Taken(SimpleReader {
+                alloc,
+                state: SimpleState::Left(longer),
+            }))
+        }
+        _ => Ok(SimpleMove::Stuck),
+    }
+}
+
+fn in_assign(
+    alloc: Global,
+    left: LeftValue,
+    reader: RightReader,
+    token: &Token,
+    class: Class,
+    alias: bool,
+) -> Result<SimpleMove, AllocError>
+    requires { IsClass token.now class }
+    ensures { (aliases : List (List ℕ)) → is_in aliases token.now.text ≡ alias → IfOk result (IsSimpleMove aliases (InTurn (CompletesRight aliases reader) (λ r. Ended (assign (left_of left) r))) token.now) }
+{
+    match reader.moved(token, class, alias)? {
+        RightMove::Taken(reader) => Ok(SimpleMove::Taken(SimpleReader {
+            alloc,
+            state: SimpleState::Assign(left, reader),
+        })),
+        RightMove::Found(right) => Ok(SimpleMove::Found(Simple::Assign(left, right))),
+        RightMove::Stuck => Ok(SimpleMove::Stuck),
+    }
+}
+
+fn in_change(
+    alloc: Global,
+    change: Change,
+    left: LeftValue,
+    mut reader: ExpressionReader,
+    token: &Token,
+    class: Class,
+) -> Result<SimpleMove, AllocError>
+    requires { IsClass token.now class }
+    ensures { (aliases : List (List ℕ)) → IfOk result (IsSimpleMove aliases (InTurn (CompletesExpression reader) (λ e. Ended (changed_by change (left_of left) e))) token.now) }
+{
+    match reader.step(token, class)? {
+        ExpressionStep::Taken => Ok(SimpleMove::Taken(SimpleReader {
+            alloc,
+            state: SimpleState::ChangeBy(change, left, reader),
+        })),
+        ExpressionStep::Found(by) => {
+            let simple = changed_by(change, left, by);
+            Ok(SimpleMove::Found(simple))
+        }
+        ExpressionStep::Stuck => Ok(SimpleMove::Stuck),
+    }
+}
+
+fn in_call(
+    alloc: Global,
+    reader: CallReader,
+    token: &Token,
+    class: Class,
+) -> Result<SimpleMove, AllocError>
+    requires { IsClass token.now class }
+    ensures { (aliases : List (List ℕ)) → IfOk result (IsSimpleMove aliases (InTurn (CompletesCall reader) (λ c. Ended (call c))) token.now) }
+{
+    match reader.step(token, class)? {
+        CallStep::Taken(reader) => Ok(SimpleMove::Taken(SimpleReader {
+            alloc,
+            state: SimpleState::Call(reader),
+        })),
+        CallStep::Closed(call) => Ok(SimpleMove::Taken(SimpleReader {
+            alloc,
+            state: SimpleState::Done(Simple::Call(call)),
+        })),
+        CallStep::Stuck => Ok(SimpleMove::Stuck),
+    }
 }
 
 fn just(alloc: Global, name: Name) -> LeftValue

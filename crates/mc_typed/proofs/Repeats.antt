@@ -1,8 +1,10 @@
 -- What stands among what was before it.
-use Rattle.std.proofs.Common.{◌≡◌, ℕ, List, [], ◌∷◌, ◌+◌, ◌<◌, refl, ap, sym, ◌∙◌, map, get_or, length, drop, take, reverse, Bool, true, false, ◌||◌, not, Bor}
+use Rattle.std.proofs.Common.{◌≡◌, ◌++◌, ℕ, suc, cond, List, [], ◌∷◌, ◌+◌, ◌<◌, refl, ap, sym, ◌∙◌, map, get_or, length, drop, take, reverse, Bool, true, false, ◌||◌, not, Bor}
 use Rattle.std.proofs.lemmas.List.{reverse-append, take_more}
 use Rattle.std.proofs.lemmas.List.Folds.{list_any-append}
-use Rattle.std.specs.Prelude.{Option}
+use Rattle.std.proofs.lemmas.Cmp.{nat_list_eq_equiv}
+use Rattle.std.specs.Prelude.{Option, Some, None, position, option_map, is_none}
+use Rattle.mc_names.proofs.Positions.{position-cons}
 use Rattle.std.specs.List.{list_any}
 use Rattle.mc_ast.specs.declared.trees.Name.{Name}
 use Rattle.mc_ast.specs.declared.trees.Function.{Function}
@@ -49,17 +51,26 @@ before_next f xs i x below is =
     rw (take_more xs i x below) (rw (sym is) (rw (reverse-append (take i xs) (x ∷ [])) refl))
 
 -- ---- names
-abbrev pub text_of : Bor Name → List ℕ
-text_of n = n.now.text
+found_step : (b others : Bool) (place : Option ℕ) → is_none place ≡ not others → is_none (cond b (Some 0) (option_map (λ i. suc i) place)) ≡ not (b || others)
+found_step true others place e = refl
+found_step false others None e = e
+found_step false others (Some i) e = e
 
-pub next_name : (told : Option Fault) (names : List (Bor Name)) (i : ℕ) (x : Bor Name) (among : Bool)
-    → i < length names → x ≡ get_or names i x → among ≡ list_any (λ n. is_same x.now.text n.now.text) (take i names)
-    → told_of (told_of told (unless (not among) Twice x.now.place)) (repeated (before text_of names (i + 1)) (names_held (drop (i + 1) names))) ≡ told_of told (repeated (before text_of names i) (names_held (drop i names)))
-next_name told names i x among below is found =
+-- a name has a place where it stands among the others
+found_among : (names : List (List ℕ)) (name : List ℕ) → is_none (position (λ n. is_same n name) names) ≡ not (list_any (is_same name) names)
+found_among [] name = refl
+found_among (n ∷ names) name =
+    rw (position-cons (λ m. is_same m name) n names)
+    (rw (nat_list_eq_equiv.symm name n) (found_step (is_same n name) (list_any (is_same name) names) (position (λ m. is_same m name) names) (found_among names name)))
+
+pub next_name : (told : Option Fault) (names : List (Bor Name)) (seen : List (List ℕ)) (i : ℕ) (x : Bor Name) (absent : Bool)
+    → i < length names → x ≡ get_or names i x → absent ≡ is_none (position (λ n. is_same n x.now.text) seen)
+    → told_of (told_of told (unless absent Twice x.now.place)) (repeated (reverse (seen ++ x.now.text ∷ [])) (names_held (drop (i + 1) names))) ≡ told_of told (repeated (reverse seen) (names_held (drop i names)))
+next_name told names seen i x absent below is found =
     rw (drop_at names i x below is)
-    (rw (before_next text_of names i x below is)
-    (rw (any_before (is_same x.now.text) text_of names i)
-    (rw (sym found) (sym (told_append told (unless (not among) Twice x.now.place) (repeated (x.now.text ∷ before text_of names i) (names_held (drop (i + 1) names))))))))
+    (rw (reverse-append seen (x.now.text ∷ []))
+    (rw (any_reversed (is_same x.now.text) seen)
+    (rw (sym (found ∙ found_among seen x.now.text)) (sym (told_append told (unless absent Twice x.now.place) (repeated (x.now.text ∷ reverse seen) (names_held (drop (i + 1) names))))))))
 
 -- ---- functions
 abbrev pub tree_of : Bor Function → FunctionTree

@@ -145,11 +145,11 @@ pub fn check_tables(
     ensures { OnOk result (told.new.fault ≡ told_of told.old.fault (table_faults (map item_of items.now) (tables_held tables.now))) }
 {
     let structs = struct_names(alloc, tables.structs.as_slice())?;
-    check_repeated(told, structs.as_slice());
+    check_repeated(alloc, told, structs.as_slice())?;
     let aliases = alias_names(alloc, items)?;
-    check_repeated(told, aliases.as_slice());
+    check_repeated(alloc, told, aliases.as_slice())?;
     let functions = defined_names(alloc, tables.functions.as_slice())?;
-    check_repeated(told, functions.as_slice());
+    check_repeated(alloc, told, functions.as_slice())?;
     check_prototypes(told, tables);
     Ok(())
 }
