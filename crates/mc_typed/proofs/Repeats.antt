@@ -1,8 +1,10 @@
 -- What stands among what was before it.
-use Rattle.std.proofs.Common.{◌≡◌, ℕ, List, [], ◌∷◌, ◌+◌, ◌<◌, refl, ap, sym, ◌∙◌, map, get_or, length, drop, take, reverse, Bool, true, false, ◌||◌, not, Bor}
-use Rattle.std.proofs.lemmas.List.{reverse-append, take_more}
+use Rattle.std.proofs.Common.{◌≡◌, ◌++◌, ℕ, suc, cond, List, [], ◌∷◌, ◌+◌, ◌<◌, refl, ap, sym, ◌∙◌, map, get_or, length, drop, reverse, Bool, true, false, ◌||◌, not, Bor}
+use Rattle.std.proofs.lemmas.List.{reverse-append}
 use Rattle.std.proofs.lemmas.List.Folds.{list_any-append}
-use Rattle.std.specs.Prelude.{Option}
+use Rattle.std.proofs.lemmas.Cmp.{nat_list_eq_equiv}
+use Rattle.std.specs.Prelude.{Option, Some, None, filter, position, option_map, is_some}
+use Rattle.mc_names.proofs.Positions.{position-cons}
 use Rattle.std.specs.List.{list_any}
 use Rattle.mc_ast.specs.declared.trees.Name.{Name}
 use Rattle.mc_ast.specs.declared.trees.Function.{Function}
@@ -16,10 +18,6 @@ use Rattle.mc_types.specs.declared.faults.Fault.{Fault}
 use Rattle.mc_types.specs.declared.faults.FaultName.TheVariants.{Twice, Mismatch}
 use Rattle.mc_typed.specs.Collected.{names_held, functions_held}
 use Rattle.mc_typed.proofs.Rows.{drop_at, told_append}
-
--- what was before, the last first
-abbrev pub before : {X Y : Type 0} → (X → Y) → List X → ℕ → List Y
-before f xs i = map f (reverse (take i xs))
 
 or_swap : (a b : Bool) → (a || b) ≡ (b || a)
 or_swap true true = refl
@@ -41,35 +39,64 @@ any_reversed p (x ∷ xs) =
     rw (reverse-append (x ∷ []) xs)
     (list_any-append p (reverse xs) (x ∷ []) ∙ ap (λ b. b || (p x || false)) (any_reversed p xs) ∙ or_swap (list_any p xs) (p x || false) ∙ ap (λ b. b || list_any p xs) (or_none (p x)))
 
-pub any_before : {X Y : Type 0} (p : Y → Bool) (f : X → Y) (xs : List X) (i : ℕ) → list_any p (before f xs i) ≡ list_any (λ x. p (f x)) (take i xs)
-any_before p f xs i = any_mapped p f (reverse (take i xs)) ∙ any_reversed (λ x. p (f x)) (take i xs)
-
-pub before_next : {X Y : Type 0} (f : X → Y) (xs : List X) (i : ℕ) (x : X) → i < length xs → x ≡ get_or xs i x → before f xs (i + 1) ≡ f x ∷ before f xs i
-before_next f xs i x below is =
-    rw (take_more xs i x below) (rw (sym is) (rw (reverse-append (take i xs) (x ∷ [])) refl))
+any_seen : {X Y : Type 0} (p : Y → Bool) (f : X → Y) (xs : List X) → list_any p (map f (reverse xs)) ≡ list_any (λ x. p (f x)) xs
+any_seen p f xs = any_mapped p f (reverse xs) ∙ any_reversed (λ x. p (f x)) xs
 
 -- ---- names
-abbrev pub text_of : Bor Name → List ℕ
-text_of n = n.now.text
+found_step : (b others : Bool) (place : Option ℕ) → is_some place ≡ others → is_some (cond b (Some 0) (option_map (λ i. suc i) place)) ≡ (b || others)
+found_step true others place e = refl
+found_step false others None e = e
+found_step false others (Some i) e = e
 
-pub next_name : (told : Option Fault) (names : List (Bor Name)) (i : ℕ) (x : Bor Name) (among : Bool)
-    → i < length names → x ≡ get_or names i x → among ≡ list_any (λ n. is_same x.now.text n.now.text) (take i names)
-    → told_of (told_of told (unless (not among) Twice x.now.place)) (repeated (before text_of names (i + 1)) (names_held (drop (i + 1) names))) ≡ told_of told (repeated (before text_of names i) (names_held (drop i names)))
-next_name told names i x among below is found =
+-- a name has a place where it stands among the others
+found_among : (names : List (List ℕ)) (name : List ℕ) → is_some (position (λ n. is_same n name) names) ≡ list_any (is_same name) names
+found_among [] name = refl
+found_among (n ∷ names) name =
+    rw (position-cons (λ m. is_same m name) n names)
+    (rw (nat_list_eq_equiv.symm name n) (found_step (is_same n name) (list_any (is_same name) names) (position (λ m. is_same m name) names) (found_among names name)))
+
+not_not : (b : Bool) → not (not b) ≡ b
+not_not true = refl
+not_not false = refl
+
+pub next_name : (told : Option Fault) (names : List (Bor Name)) (seen : List (List ℕ)) (i : ℕ) (x : Bor Name) (absent : Bool)
+    → i < length names → x ≡ get_or names i x → is_some (position (λ n. is_same n x.now.text) seen) ≡ not absent
+    → told_of (told_of told (unless absent Twice x.now.place)) (repeated (reverse (seen ++ x.now.text ∷ [])) (names_held (drop (i + 1) names))) ≡ told_of told (repeated (reverse seen) (names_held (drop i names)))
+next_name told names seen i x absent below is found =
+    let new : not (list_any (is_same x.now.text) seen) ≡ absent = ap not (sym (found_among seen x.now.text) ∙ found) ∙ not_not absent in
     rw (drop_at names i x below is)
-    (rw (before_next text_of names i x below is)
-    (rw (any_before (is_same x.now.text) text_of names i)
-    (rw (sym found) (sym (told_append told (unless (not among) Twice x.now.place) (repeated (x.now.text ∷ before text_of names i) (names_held (drop (i + 1) names))))))))
+    (rw (reverse-append seen (x.now.text ∷ []))
+    (rw (any_reversed (is_same x.now.text) seen)
+    (rw new (sym (told_append told (unless absent Twice x.now.place) (repeated (x.now.text ∷ reverse seen) (names_held (drop (i + 1) names))))))))
 
 -- ---- functions
 abbrev pub tree_of : Bor Function → FunctionTree
 tree_of f = function_of f.now
 
-pub next_function : (t : Tables) (told : Option Fault) (fs : List (Bor Function)) (i : ℕ) (x : Bor Function) (other : Bool)
-    → i < length fs → x ≡ get_or fs i x → other ≡ list_any (λ f. is_other t (function_of x.now) (function_of f.now)) (take i fs)
-    → told_of (told_of told (unless (not other) Mismatch x.now.name.place)) (prototype_faults t (before tree_of fs (i + 1)) (functions_held (drop (i + 1) fs))) ≡ told_of told (prototype_faults t (before tree_of fs i) (functions_held (drop i fs)))
-next_function t told fs i x other below is found =
+-- one of those that another test leaves out does not pass
+any_step : {X : Type 0} (p : X → Bool) (x : X) (some all : List X) (b : Bool) → (b ≡ false → p x ≡ false) → list_any p some ≡ list_any p all → list_any p (cond b (x ∷ some) some) ≡ (p x || list_any p all)
+any_step p x some all true fails same = ap (λ b. p x || b) same
+any_step p x some all false fails same = rw (fails refl) same
+
+any_filter : {X : Type 0} (p q : X → Bool) → ((x : X) → q x ≡ false → p x ≡ false) → (xs : List X) → list_any p (filter q xs) ≡ list_any p xs
+any_filter p q fails [] = refl
+any_filter p q fails (x ∷ xs) = any_step p x (filter q xs) xs (q x) (fails x) (any_filter p q fails xs)
+
+-- a function differs from one of its name, and from no other
+other_name : (t : Tables) (f g : FunctionTree) → is_same g.name.text f.name.text ≡ false → is_other t f g ≡ false
+other_name t f g e = rw (nat_list_eq_equiv.symm f.name.text g.name.text) (rw e refl)
+
+any_named : (t : Tables) (f : FunctionTree) (fs : List (Bor Function))
+    → list_any (λ g. is_other t f (function_of g.now)) (filter (λ g. is_same g.now.name.text f.name.text) fs) ≡ list_any (λ g. is_other t f (function_of g.now)) fs
+any_named t f fs = any_filter (λ g. is_other t f (function_of g.now)) (λ g. is_same g.now.name.text f.name.text) (λ g e. other_name t f (function_of g.now) e) fs
+
+pub next_function : (t : Tables) (told : Option Fault) (fs seen others : List (Bor Function)) (i : ℕ) (x : Bor Function) (other : Bool)
+    → i < length fs → x ≡ get_or fs i x → others ≡ filter (λ f. is_same f.now.name.text x.now.name.text) seen
+    → other ≡ list_any (λ f. is_other t (function_of x.now) (function_of f.now)) others
+    → told_of (told_of told (unless (not other) Mismatch x.now.name.place)) (prototype_faults t (map tree_of (reverse (seen ++ x ∷ []))) (functions_held (drop (i + 1) fs))) ≡ told_of told (prototype_faults t (map tree_of (reverse seen)) (functions_held (drop i fs)))
+next_function t told fs seen others i x other below is named found =
+    let any : list_any (is_other t (function_of x.now)) (map tree_of (reverse seen)) ≡ other =
+    any_seen (is_other t (function_of x.now)) tree_of seen ∙ sym (found ∙ ap (list_any (λ f. is_other t (function_of x.now) (function_of f.now))) named ∙ any_named t (function_of x.now) seen) in
     rw (drop_at fs i x below is)
-    (rw (before_next tree_of fs i x below is)
-    (rw (any_before (is_other t (function_of x.now)) tree_of fs i)
-    (rw (sym found) (sym (told_append told (unless (not other) Mismatch x.now.name.place) (prototype_faults t (tree_of x ∷ before tree_of fs i) (functions_held (drop (i + 1) fs))))))))
+    (rw (reverse-append seen (x ∷ []))
+    (rw any (sym (told_append told (unless (not other) Mismatch x.now.name.place) (prototype_faults t (tree_of x ∷ map tree_of (reverse seen)) (functions_held (drop (i + 1) fs)))))))

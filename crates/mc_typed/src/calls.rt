@@ -1,7 +1,6 @@
 // The calls of a program, by the numbers of its functions.
-ghost use Rattle.std.specs.Prelude.{◌≡◌, ◌++◌, IfOk, OnOk, map, flat_map, option_map, position};
+ghost use Rattle.std.specs.Prelude.{◌≡◌, ◌++◌, IfOk, OnOk, map, flat_map, option_map};
 ghost use Rattle.std.specs.Option.{option_copied};
-ghost use Rattle.mc_ast.specs.Names.{is_same};
 ghost use Rattle.mc_ast.specs.Views.{function_of, item_of, right_of, simple_of};
 ghost use Rattle.mc_types.specs.Calls.{item_sites, maybe_right_calls, right_calls, simple_calls};
 ghost use Rattle.mc_types.specs.Held.{tables_held};
@@ -15,7 +14,7 @@ use crate::graph::Edge;
 use mc_ast::{Function, Item, Name, RightSide, Simple};
 use mc_base::Items;
 use mc_lex::Text;
-use mc_types::{NameTables, is_same};
+use mc_types::NameTables;
 use mc_walk::{Part, Walk, visits_give_calls};
 use std::alloc::{AllocError, Global};
 
@@ -91,18 +90,11 @@ fn body_calls<'a>(
     Ok(names)
 }
 
-/// The place of the first function of this name.
-fn function_place(functions: &[&Function], name: &Text) -> Option<usize>
-    ensures { result ≡ position (λ f. is_same f.now.name.text name.now) functions.now }
-{
-    functions.iter().position(|f| is_same(&f.name.text, name))
-}
-
 /// The number of a name: that of the first function of this name, and one past all where there is none.
 fn number(tables: &NameTables, name: &Text) -> usize
     ensures { result ≡ number_in (tables_held tables.now).functions name.now }
 {
-    match function_place(tables.functions.as_slice(), name) {
+    match tables.functions.place(name) {
         None => tables.functions.len(),
         Some(place) => place,
     }

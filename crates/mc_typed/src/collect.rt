@@ -8,8 +8,9 @@ ghost use Rattle.mc_types.specs.Tables.{alias_meaning, aliased_meaning, aliases_
 ghost use Rattle.mc_typed.specs.Collected.{at_most_one, structs_held, functions_held};
 
 use mc_ast::{Aliased, Declarator, Function, Item, Struct, Typedef, Unit};
-use mc_base::{Items, Place};
-use mc_types::{BaseType, Meaning, NameTables};
+use mc_base::Place;
+use mc_names::Table;
+use mc_types::{Aliases, BaseType, Functions, Meaning, NameTables};
 use std::alloc::{AllocError, Global};
 
 /// The struct that an item defines.
@@ -27,10 +28,10 @@ fn item_struct(item: &Item) -> Option<&Struct>
 }
 
 /// The structs of a program, in the order of its text.
-fn collect_structs<'a>(alloc: Global, items: &'a [Item]) -> Result<Items<&'a Struct>, AllocError>
+fn collect_structs<'a>(alloc: Global, items: &'a [Item]) -> Result<Table<'a, Struct>, AllocError>
     ensures { IfOk result (λ list. structs_held list ≡ unit_structs (map item_of items.now)) }
 {
-    let mut structs = Items::new(alloc);
+    let mut structs = Table::new(alloc);
     for item in items {
         if let Some(tree) = item_struct(item) {
             structs.push(tree)?;
@@ -54,10 +55,10 @@ fn item_function(item: &Item) -> Option<&Function>
 fn collect_functions<'a>(
     alloc: Global,
     items: &'a [Item],
-) -> Result<Items<&'a Function>, AllocError>
+) -> Result<Table<'a, Function>, AllocError>
     ensures { IfOk result (λ list. functions_held list ≡ flat_map item_functions (map item_of items.now)) }
 {
-    let mut functions = Items::new(alloc);
+    let mut functions = Table::new(alloc);
     for item in items {
         if let Some(function) = item_function(item) {
             functions.push(function)?;
@@ -128,8 +129,8 @@ pub fn collect_tables<'a>(alloc: Global, unit: &'a Unit) -> Result<NameTables<'a
     let items = unit.items.as_slice();
     let mut tables = NameTables {
         structs: collect_structs(alloc, items)?,
-        aliases: Items::new(alloc),
-        functions: collect_functions(alloc, items)?,
+        aliases: Aliases::new(alloc),
+        functions: Functions::of(alloc, collect_functions(alloc, items)?)?,
     };
     add_aliases(&mut tables, items)?;
     Ok(tables)

@@ -60,7 +60,7 @@ fn check_function<'a>(
     check_returned(told, tables, function);
     check_parameters(told, tables, parameters);
     let names = parameter_names(alloc, parameters)?;
-    check_repeated(told, names.as_slice());
+    check_repeated(alloc, told, names.as_slice())?;
     check_body(alloc, told, tables, function)?;
     Ok(())
 }

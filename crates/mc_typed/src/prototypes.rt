@@ -13,6 +13,7 @@ use crate::repeated::check_repeated;
 use crate::structs::add_names;
 use mc_ast::{Function, Item, Name, Parameter, Struct};
 use mc_base::Items;
+use mc_names::Groups;
 use mc_types::{FaultName, NameTables, Told, VariableType, is_same, parameters};
 use std::alloc::{AllocError, Global};
 
@@ -71,25 +72,29 @@ fn is_other(tables: &NameTables, left: &Function, right: &Function) -> bool
         && !same_type(tables, left, right)
 }
 
-/// Whether a function differs from one of these with its name.
-fn differs(tables: &NameTables, function: &Function, before: &[&Function]) -> bool
-    ensures { result ≡ list_any (λ f. is_other (tables_held tables.now) (function_of function.now) (function_of f.now)) before.now }
+/// Whether a function differs from one of these.
+fn differs(tables: &NameTables, function: &Function, others: &[&Function]) -> bool
+    ensures { result ≡ list_any (λ f. is_other (tables_held tables.now) (function_of function.now) (function_of f.now)) others.now }
 {
-    before.iter().any(|other| is_other(tables, function, other))
+    others.iter().any(|other| is_other(tables, function, other))
 }
 
 /// Notes each function that differs from one of its name before it.
-fn check_prototypes(told: &mut Told, tables: &NameTables)
-    ensures { told.new.fault ≡ told_of told.old.fault (prototype_faults (tables_held tables.now) [] (tables_held tables.now).functions) }
+fn check_prototypes(alloc: Global, told: &mut Told, tables: &NameTables) -> Result<(), AllocError>
+    ensures { OnOk result (told.new.fault ≡ told_of told.old.fault (prototype_faults (tables_held tables.now) [] (tables_held tables.now).functions)) }
 {
     let functions = tables.functions.as_slice();
-    for (i, function) in functions.iter().enumerate() {
+    let mut before = Groups::new(alloc);
+    for function in functions {
+        let others = before.named(&function.name.text);
         told.unless(
-            !differs(tables, function, &functions[..i]),
+            !differs(tables, function, others),
             FaultName::Mismatch,
             function.name.place,
         );
+        before.push(*function)?;
     }
+    Ok(())
 }
 
 /// The names of structs.
@@ -145,11 +150,10 @@ pub fn check_tables(
     ensures { OnOk result (told.new.fault ≡ told_of told.old.fault (table_faults (map item_of items.now) (tables_held tables.now))) }
 {
     let structs = struct_names(alloc, tables.structs.as_slice())?;
-    check_repeated(told, structs.as_slice());
+    check_repeated(alloc, told, structs.as_slice())?;
     let aliases = alias_names(alloc, items)?;
-    check_repeated(told, aliases.as_slice());
+    check_repeated(alloc, told, aliases.as_slice())?;
     let functions = defined_names(alloc, tables.functions.as_slice())?;
-    check_repeated(told, functions.as_slice());
-    check_prototypes(told, tables);
-    Ok(())
+    check_repeated(alloc, told, functions.as_slice())?;
+    check_prototypes(alloc, told, tables)
 }

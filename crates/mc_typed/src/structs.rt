@@ -86,7 +86,7 @@ pub fn check_struct(
 {
     check_fields(told, tables, tree.fields.as_slice());
     let names = collect_field_names(alloc, tree.fields.as_slice())?;
-    check_repeated(told, names.as_slice());
+    check_repeated(alloc, told, names.as_slice())?;
     Ok(())
 }
 

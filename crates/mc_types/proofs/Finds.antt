@@ -1,36 +1,16 @@
 -- What is found in lists.
-use Rattle.std.proofs.Common.{◌≡◌, ℕ, zero, suc, List, [], ◌∷◌, ◌++◌, ◌+◌, refl, ap, sym, Bool, true, false, cond, not, map, length, ◌<◌, arith, nat_lt}
+use Rattle.std.proofs.Common.{◌≡◌, ℕ, suc, List, [], ◌∷◌, ◌++◌, ◌+◌, refl, ap, sym, Bool, true, false, cond, map, length, ◌<◌, arith, ◌&&◌}
 use Rattle.std.proofs.Common.{get_or, drop}
 use Rattle.std.proofs.lemmas.Option.{none-some}
 use Rattle.std.proofs.lemmas.List.Folds.{find-append}
 use Rattle.std.proofs.Math.Seq.{drop-cons}
+use Rattle.mc_names.proofs.Positions.{position-cons}
 use Rattle.mc_ast.specs.Names.{is_same}
 use Rattle.mc_types.specs.Tables.{Variable, type_in}
 use Rattle.mc_types.specs.declared.types.VariableType.{VariableType}
 use Rattle.std.specs.Option.{option_or}
-use Rattle.std.specs.List.{prefix_len}
 use Rattle.std.proofs.Common.{Bor}
-use Rattle.std.specs.Prelude.{option_copied, Option, Some, None, position, find, slice_get, option_map, option_and_then}
-
-later_place : (n len : ℕ) (b c : Bool) → nat_lt (1 + n) (suc len) ≡ b → nat_lt n len ≡ c → cond b (Some (1 + n)) None ≡ option_map (λ i. suc i) (cond c (Some n) None)
-later_place n len true true p q = ap (λ i. Some i) (omega arith)
-later_place n len false false p q = refl
-later_place n len true false p q = grind arith
-later_place n len false true p q = grind arith
-
-position_step : (b : Bool) (n len : ℕ)
-    → cond (nat_lt (cond (not b) (1 + n) 0) (suc len)) (Some (cond (not b) (1 + n) 0)) None ≡ cond b (Some 0) (option_map (λ i. suc i) (cond (nat_lt n len) (Some n) None))
-position_step true n len = let first : nat_lt 0 (suc len) ≡ true = grind arith in rw first refl
-position_step false n len = later_place n len _ _ refl refl
-
--- the first place, at the head or behind it
-pub position-cons : {X : Type 0} (p : X → Bool) (x : X) (xs : List X) → position p (x ∷ xs) ≡ cond (p x) (Some 0) (option_map (λ i. suc i) (position p xs))
-position-cons p x xs = position_step (p x) (prefix_len (λ y. not (p y)) xs) (length xs)
-
--- a place in a list whose elements are seen otherwise
-pub position-map : {X Y : Type 0} (p : Y → Bool) (f : X → Y) (xs : List X) → position p (map f xs) ≡ position (λ x. p (f x)) xs
-position-map p f [] = refl
-position-map p f (x ∷ xs) = rw (position-cons p (f x) (map f xs)) (rw (position-cons (λ y. p (f y)) x xs) (ap (λ o. cond (p (f x)) (Some 0) (option_map (λ i. suc i) o)) (position-map p f xs)))
+use Rattle.std.specs.Prelude.{option_copied, Option, Some, None, position, find, filter, slice_get, option_map, option_and_then}
 
 -- what is found is what stands at the place that is found
 found_step : {X Y : Type 0} (f : X → Y) (b : Bool) (x : X) (xs : List X) (rest : Option Y) (place : Option ℕ)
@@ -45,6 +25,16 @@ pub find-at : {X Y : Type 0} (p : Y → Bool) (f : X → Y) (xs : List X)
 find-at p f [] = refl
 find-at p f (x ∷ xs) =
     rw (position-cons (λ y. p (f y)) x xs) (found_step f (p (f x)) x xs (find p (map f xs)) (position (λ y. p (f y)) xs) (find-at p f xs))
+
+-- what is found among those that pass another test
+filter_step : {X Y : Type 0} (q : Y → Bool) (f : X → Y) (x : X) (b : Bool) (some : List X) (rest : Option Y)
+    → rest ≡ find q (map f some) → cond (b && q (f x)) (Some (f x)) rest ≡ find q (map f (cond b (x ∷ some) some))
+filter_step q f x true some rest e = ap (λ o. cond (q (f x)) (Some (f x)) o) e
+filter_step q f x false some rest e = e
+
+pub find-filter : {X Y : Type 0} (p q : Y → Bool) (f : X → Y) (xs : List X) → find (λ y. p y && q y) (map f xs) ≡ find q (map f (filter (λ x. p (f x)) xs))
+find-filter p q f [] = refl
+find-filter p q f (x ∷ xs) = filter_step q f x (p (f x)) (filter (λ y. p (f y)) xs) (find (λ y. p y && q y) (map f xs)) (find-filter p q f xs)
 
 -- the same in two cases
 pub find-none : {X Y : Type 0} (p : Y → Bool) (f : X → Y) (xs : List X) → None ≡ position (λ x. p (f x)) xs → None ≡ find p (map f xs)

@@ -1,9 +1,9 @@
 // The faults of conditions.
 use crate::expressions::{Sight, first_place};
 use crate::faults::FaultName;
-use crate::stack::Stack;
 use crate::told::Told;
 use mc_ast::{Comparison, Condition, Expression};
+use mc_stack::Stack;
 use std::alloc::{AllocError, Global};
 
 impl<'s, 'a> Sight<'s, 'a> {

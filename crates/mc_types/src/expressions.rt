@@ -1,12 +1,12 @@
 // The types and the faults of expressions.
 use crate::faults::FaultName;
 use crate::scope::{Named, type_in};
-use crate::stack::Stack;
 use crate::tables::NameTables;
 use crate::told::Told;
 use crate::types::{ValueType, VariableType};
 use mc_ast::{Expression, LeftValue, Name};
 use mc_base::Place;
+use mc_stack::Stack;
 use std::alloc::{AllocError, Global};
 
 /// What names mean at one point of a program.

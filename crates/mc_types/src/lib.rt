@@ -1,21 +1,23 @@
 //! Typing of programs: what their names mean, and the first fault of a program that has one.
 #![tactic(auto)]
 
+mod aliases;
 mod calls;
 mod conditions;
 mod examples;
 mod expressions;
 mod faults;
 mod fields;
+mod functions;
 mod laws;
 mod names;
 mod scope;
 mod simples;
-mod stack;
 mod tables;
 mod told;
 mod types;
 
+pub use aliases::Aliases;
 pub use calls::parameters;
 pub use examples::{
     examples_of_calls, examples_of_entries, examples_of_recursion, examples_of_scopes,
@@ -23,10 +25,10 @@ pub use examples::{
 };
 pub use expressions::Sight;
 pub use faults::{Fault, FaultName, TypeFault};
+pub use functions::Functions;
 pub use laws::{first_fault_is_told_once, well_typed_is_faultless};
 pub use names::is_same;
 pub use scope::{Named, type_in};
-pub use stack::Stack;
 pub use tables::{Meaning, NameTables};
 pub use told::Told;
 pub use types::{BaseType, ValueType, VariableType};

@@ -1,9 +1,11 @@
 // What the names of a program mean.
-use crate::names::is_same;
+use crate::aliases::Aliases;
+use crate::functions::Functions;
 use crate::types::{BaseType, VariableType};
 use mc_ast::{Base, Function, Struct};
-use mc_base::{Items, Place, StructId};
+use mc_base::{Place, StructId};
 use mc_lex::Text;
+use mc_names::Table;
 
 /// What a typedef made of a name.
 #[derive(Clone, Copy)]
@@ -15,75 +17,41 @@ pub struct Meaning<'a> {
 /// The structs, typedefs and functions of a program.
 #[derive(Drop)]
 pub struct NameTables<'a> {
-    pub structs: Items<&'a Struct>,
-    pub aliases: Items<Meaning<'a>>,
-    pub functions: Items<&'a Function>,
+    pub structs: Table<'a, Struct>,
+    pub aliases: Aliases<'a>,
+    pub functions: Functions<'a>,
 }
 
 impl<'a> NameTables<'a> {
-    ghost use Rattle.std.specs.Prelude.{◌≡◌, ◌&&◌, position, find, map, option_map};
+    ghost use Rattle.std.specs.Prelude.{◌≡◌, option_map};
     ghost use Rattle.std.specs.Option.{option_copied};
-    ghost use Rattle.mc_ast.specs.Names.{is_same};
     ghost use Rattle.mc_ast.specs.Views.{function_of};
-    ghost use Rattle.mc_types.specs.Tables.{struct_number, called_function, is_defined, meaning_of, alias_in, declared_type};
+    ghost use Rattle.mc_types.specs.Tables.{struct_number, called_function, meaning_of, alias_in, declared_type};
     ghost use Rattle.mc_types.specs.Faults.{is_known};
     ghost use Rattle.mc_types.specs.Held.{tables_held};
-
-    /// The place of the struct with this name.
-    fn struct_place(&self, name: &Text) -> Option<usize>
-        ensures { result ≡ position (λ s. is_same s.now.name.text name.now) self.now.structs }
-    {
-        self.structs
-            .as_slice()
-            .iter()
-            .position(|s| is_same(&s.name.text, name))
-    }
 
     /// The number of the struct with this name.
     pub fn struct_number(&self, name: &Text) -> Option<StructId>
         ensures { result ≡ struct_number (tables_held self.now).structs name.now }
     {
-        match self.struct_place(name) {
+        match self.structs.place(name) {
             None => None,
             Some(place) => Some(StructId(place as u64)),
         }
-    }
-
-    /// The place of the function that a call of this name calls.
-    fn function_place(&self, name: &Text) -> Option<usize>
-        ensures { result ≡ position (λ f. is_defined (function_of f.now) && is_same f.now.name.text name.now) self.now.functions }
-    {
-        self.functions
-            .as_slice()
-            .iter()
-            .position(|f| f.body.is_some() && is_same(&f.name.text, name))
     }
 
     /// The function that a call of this name calls.
     pub fn called_function(&self, name: &Text) -> Option<&'a Function>
         ensures { option_map function_of (option_copied result) ≡ called_function (tables_held self.now) name.now }
     {
-        match self.function_place(name) {
-            None => None,
-            Some(place) => self.functions.get(place).copied(),
-        }
-    }
-
-    /// The typedef that introduced this name.
-    fn find_alias(&self, name: &Text) -> Option<&Meaning<'a>>
-        ensures { option_copied result ≡ find (λ a. is_same a.name.now name.now) self.now.aliases }
-    {
-        self.aliases
-            .as_slice()
-            .iter()
-            .find(|a| is_same(a.name, name))
+        self.functions.called(name)
     }
 
     /// What this name means, if a typedef introduced it.
     fn alias(&self, name: &Text) -> Option<BaseType>
         ensures { result ≡ alias_in (tables_held self.now).aliases name.now }
     {
-        match self.find_alias(name) {
+        match self.aliases.find(name) {
             None => None,
             Some(found) => Some(found.meaning),
         }

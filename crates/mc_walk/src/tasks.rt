@@ -9,7 +9,7 @@ ghost use Rattle.mc_walk.specs.Tasks.{items_steps, pending, tasks_steps};
 use crate::parts::Part;
 use crate::variables::Marks;
 use mc_ast::{Base, Condition, Declarator, Initial, Simple, Statement};
-use mc_types::Stack;
+use mc_stack::Stack;
 use std::alloc::AllocError;
 
 /// A task of a walk.

@@ -4,9 +4,10 @@ use mc_ast::{
     Base, Body, Condition, Declaration, Declarator, Expression, ForHead, ForStart, Function,
     Initial, Name, Parameter, Parameters, Returned, Statement,
 };
-use mc_base::{Items, Place};
+use mc_base::Place;
 use mc_lex::Text;
-use mc_types::NameTables;
+use mc_names::Table;
+use mc_types::{Aliases, Functions, NameTables};
 use std::alloc::{AllocError, Global};
 use std::test::Fail;
 
@@ -139,9 +140,9 @@ fn walks_in_text_order(rt: HostRuntime) -> Result<(), Fail> {
     let alloc = rt.alloc();
     let function = function(alloc)?;
     let tables = NameTables {
-        structs: Items::new(alloc),
-        aliases: Items::new(alloc),
-        functions: Items::new(alloc),
+        structs: Table::new(alloc),
+        aliases: Aliases::new(alloc),
+        functions: Functions::of(alloc, Table::new(alloc))?,
     };
     let mut walk = Walk::new(alloc, &tables, &function)?;
     let mut trace = Vec::new(alloc);

@@ -6,7 +6,8 @@ use mc_ast::{
     Base, Condition, Declarator, ForHead, ForStart, Function, Parameter, Parameters, Statement,
 };
 use mc_lex::Text;
-use mc_types::{NameTables, Named, Stack};
+use mc_stack::Stack;
+use mc_types::{NameTables, Named};
 use std::alloc::{AllocError, Global};
 
 /// A walk through the body of a function.

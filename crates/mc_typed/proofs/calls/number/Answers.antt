@@ -1,4 +1,4 @@
-use Rattle.std.proofs.Common.{sym, ◌∙◌}
+use Rattle.std.proofs.Common.{◌∙◌}
 use Rattle.mc_ast.specs.Names.{is_same}
 use Rattle.mc_typed.proofs.Agreements.{place_none, place_some}
 use Rattle.mc_typed.proofs.Repeats.{tree_of}
@@ -6,8 +6,8 @@ use Rattle.mc_typed.proofs.calls.number.Goals as goal
 
 pub returns-in-None : goal.returns-in-None
 returns-in-None c =
-    c.len.ensures ∙ place_none (λ f. is_same f.name.text c.args.name.now) tree_of c.args.tables.now.functions (rw (sym c.as_slice.ensures) c.in-None.ensures)
+    c.len.ensures ∙ place_none (λ f. is_same f.name.text c.args.name.now) tree_of c.args.tables.now.functions c.in-None.ensures
 
 pub returns-in-Some : goal.returns-in-Some
 returns-in-Some c =
-    place_some (λ f. is_same f.name.text c.args.name.now) tree_of c.args.tables.now.functions c.in-Some.place (rw (sym c.as_slice.ensures) c.in-Some.ensures)
+    place_some (λ f. is_same f.name.text c.args.name.now) tree_of c.args.tables.now.functions c.in-Some.place c.in-Some.ensures

@@ -15,5 +15,5 @@ returns c =
     (body_faults (tables_held c.args.tables.now) (function_of c.args.function.now) (function_of c.args.function.now).body)
     c.check_returned.ensures
     (rw c.parameters-parameters.ensures at c.check_parameters.ensures)
-    (rw c.parameters-parameters.ensures at (rw c.in_ok-names.ensures at (rw c.as_slice.ensures at c.check_repeated.ensures)))
+    (rw c.parameters-parameters.ensures at (rw c.in_ok-names.ensures at (rw c.as_slice.ensures at c.in_ok-check_repeated.ensures)))
     c.in_ok-check_body.ensures

@@ -1,8 +1,10 @@
-use Rattle.std.proofs.Common.{◌∙◌}
+use Rattle.std.proofs.Common.{◌∙◌, ap, sym}
+use Rattle.std.specs.Prelude.{is_some}
 use Rattle.mc_typed.proofs.Repeats.{next_name}
 use Rattle.mc_typed.proofs.repeated.check_repeated.Goals as goal
 
-pub loop-i-preserved : goal.loop-i-preserved
-loop-i-preserved c =
-    rw c.unless.ensures
-    (next_name c.loop-i.told.fault c.args.names.now c.loop-i.i c.index-names-i.result c.is_among.result c.loop-i-test.true c.index-names-i.is c.is_among.ensures ∙ c.loop-i.invariant)
+pub loop-name-preserved : goal.loop-name-preserved
+loop-name-preserved c =
+    rw c.in_ok-push.ensures.ok
+    (rw c.unless.ensures
+    (next_name c.loop-name.told.fault c.args.names.now c.loop-name.before c.loop-name.name-index c.name-item.result c.is_none.result c.loop-name-test.true c.name-item.is (ap is_some (sym c.place.ensures) ∙ c.is_none.ensures) ∙ c.loop-name.invariant))

@@ -10,7 +10,7 @@ pub returns : goal.returns
 returns c =
     let types = c.check_fields.ensures in
     let listed = c.in_ok-names.ensures in
-    let names = c.check_repeated.ensures in
+    let names = c.in_ok-check_repeated.ensures in
     let whole = c.as_slice.ensures.value in
     let again = c.as_slice-2.ensures.value in
     let given = c.as_slice-3.ensures in

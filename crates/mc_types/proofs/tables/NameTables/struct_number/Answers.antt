@@ -1,8 +1,8 @@
-use Rattle.std.proofs.Common.{refl, ap, sym, Option, option_map, ℕ}
+use Rattle.std.proofs.Common.{ap, Option, option_map, ℕ}
 use Rattle.mc_base.specs.declared.ids.StructId.{StructId}
 use Rattle.mc_ast.specs.Names.{is_same}
 use Rattle.mc_ast.specs.Views.{struct_of}
-use Rattle.mc_types.proofs.Finds.{position-map}
+use Rattle.mc_names.proofs.Positions.{position-map}
 use Rattle.mc_types.proofs.tables.NameTables.struct_number.Goals as goal
 
 abbrev numbered : Option ℕ → Option StructId

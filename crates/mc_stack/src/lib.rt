@@ -1,4 +1,6 @@
-// Stacks, of which contracts see the items, the top first.
+//! Stacks, of which contracts see the items, the top first.
+#![tactic(auto)]
+
 ghost use Rattle.std.specs.Prelude.{◌≡◌, ◌∷◌, ◌↔◌, [], MatchOption, OnOk, IsTrue};
 
 use std::alloc::{AllocError, Global};
@@ -51,3 +53,6 @@ impl<T: Drop> Stack<T> {
         Ok(())
     }
 }
+
+#[cfg(test)]
+mod tests;
