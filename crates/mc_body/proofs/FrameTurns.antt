@@ -17,9 +17,10 @@ use Rattle.mc_simple.proofs.Phrases.{SameAt}
 use Rattle.std.proofs.lemmas.List.{reverse-append, map-append}
 use Rattle.mc_body.specs.Phrases.{AgreeAt, Expects, Statements}
 use Rattle.mc_body.specs.Frames.{InBlock, BehindFirst, only, otherwise, Inside, Behind, AtStart, frames_of, body_of}
-use Rattle.mc_body.specs.Bodies.{IsBodyStep}
+use Rattle.mc_body.specs.Bodies.{CompletesBody, IsBodyStep}
 use Rattle.mc_body.specs.declared.frames.Frame.{Frame}
 use Rattle.mc_body.specs.declared.frames.Nest.{Nest}
+use Rattle.mc_body.specs.declared.state.BodyReader.{BodyReader}
 use Rattle.mc_body.specs.declared.state.BodyStep.{BodyStep}
 use Rattle.mc_body.proofs.Unique.{class_of_mark}
 use Rattle.mc_body.proofs.LineTurns as lines
@@ -119,10 +120,10 @@ module _ (aliases : List (List ℕ)) where
       go tokens rest y (otherwise w t h) = absurd (isnt w)
 
 -- where a statement begins in a nest with one frame more
-pub start_within : (aliases : List (List ℕ)) (nest outer : Nest) (frame : Frame) (classes : List Class) (token : Token) (step : BodyStep) → frames_of nest ≡ frame ∷ frames_of outer → nest.body ≡ outer.body → IsBodyStep aliases (Expects classes (AtStart aliases (frames_of nest) (body_of nest))) token step → IsBodyStep aliases (Expects classes (AtStart aliases (frame ∷ frames_of outer) (body_of outer))) token step
-start_within aliases nest outer frame classes token step frames body h =
-    subst (λ (b : List Stmt). IsBodyStep aliases (Expects classes (AtStart aliases (frame ∷ frames_of outer) b)) token step) (ap (λ b. map statement_of b.items) body)
-    (subst (λ (fs : List Frame). IsBodyStep aliases (Expects classes (AtStart aliases fs (body_of nest))) token step) frames h)
+pub start_within : (aliases : List (List ℕ)) (reader : BodyReader) (nest outer : Nest) (frame : Frame) (classes : List Class) (token : Token) (step : BodyStep) → frames_of nest ≡ frame ∷ frames_of outer → nest.body ≡ outer.body → IsBodyStep (Expects classes (AtStart aliases (frames_of nest) (body_of nest))) (CompletesBody aliases reader) token step → IsBodyStep (Expects classes (AtStart aliases (frame ∷ frames_of outer) (body_of outer))) (CompletesBody aliases reader) token step
+start_within aliases reader nest outer frame classes token step frames body h =
+    subst (λ (b : List Stmt). IsBodyStep (Expects classes (AtStart aliases (frame ∷ frames_of outer) b)) (CompletesBody aliases reader) token step) (ap (λ b. map statement_of b.items) body)
+    (subst (λ (fs : List Frame). IsBodyStep (Expects classes (AtStart aliases fs (body_of nest))) (CompletesBody aliases reader) token step) frames h)
 
 pub later_within : (aliases : List (List ℕ)) (nest outer : Nest) (frame : Frame) (token : Token) {now : Tokens → Tokens → List Stmt → Type 0} → frames_of nest ≡ frame ∷ frames_of outer → nest.body ≡ outer.body → Takes [] now (AtStart aliases (frame ∷ frames_of outer) (body_of outer)) token → Takes [] now (AtStart aliases (frames_of nest) (body_of nest)) token
 later_within aliases nest outer frame token {now} frames body h =
@@ -148,8 +149,8 @@ turn_along aliases items more frame body s {now} {later} {token} e a b = agree_a
 pub body_closed : (aliases : List (List ℕ)) (items : List Frame) (body : List Stmt) (token : Token) → IsMark (codes "}") token → items ≡ [] → Closes (AtStart aliases (reverse items) body) token body
 body_closed aliases items body token is e = subst (λ (fs : List Frame). Closes (AtStart aliases (reverse fs) body) token body) (sym e) (body_close aliases body is)
 
-pub frame_closed : (aliases : List (List ℕ)) (items more : List Frame) (frame : Frame) (body : List Stmt) (token : Token) (step : BodyStep) → items ≡ more ++ frame ∷ [] → IsBodyStep aliases (AtStart aliases (frame ∷ reverse more) body) token step → IsBodyStep aliases (AtStart aliases (reverse items) body) token step
-frame_closed aliases items more frame body token step e h = subst (λ (fs : List Frame). IsBodyStep aliases (AtStart aliases fs body) token step) (sym (ap reverse e ∙ innermost more frame)) h
+pub frame_closed : (aliases : List (List ℕ)) (reader : BodyReader) (items more : List Frame) (frame : Frame) (body : List Stmt) (token : Token) (step : BodyStep) → items ≡ more ++ frame ∷ [] → IsBodyStep (AtStart aliases (frame ∷ reverse more) body) (CompletesBody aliases reader) token step → IsBodyStep (AtStart aliases (reverse items) body) (CompletesBody aliases reader) token step
+frame_closed aliases reader items more frame body token step e h = subst (λ (fs : List Frame). IsBodyStep (AtStart aliases fs body) (CompletesBody aliases reader) token step) (sym (ap reverse e ∙ innermost more frame)) h
 
 pub block_closed : (aliases : List (List ℕ)) (frames : List Frame) (place : Place) (before : Vec Statement Global) (body : List Stmt) (s : Stmt) (token : Token) → IsMark (codes "}") token → s ≡ block place (stmts_of (map statement_of before.items)) → Takes [] (AtStart aliases (Frame.Block place before ∷ frames) body) (Behind aliases frames body s) token
 block_closed aliases frames place before body s token is whole =

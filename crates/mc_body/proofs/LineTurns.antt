@@ -22,10 +22,10 @@ use Rattle.mc_body.specs.Lines.{DeclarationLine, SimpleLine, BehindName, token_o
 use Rattle.mc_body.specs.declared.line.LineStep.{LineStep}
 use Rattle.mc_body.proofs.Unique.{class_of_mark, class_of_word, class_of_name}
 
-pub line_step_along : (aliases : List (List ℕ)) {now other : Tokens → Tokens → Start → Type 0} {token : Token} (step : LineStep) → SameAt now other token → IsLineStep aliases other token step → IsLineStep aliases now token step
-line_step_along aliases (LineStep.Taken reader) s h = takes_along s h
-line_step_along aliases (LineStep.Closed start) s h = closes_along s h
-line_step_along aliases LineStep.Stuck s h = stuck_along s h
+pub line_step_along : (later : Tokens → Tokens → Start → Type 0) {now other : Tokens → Tokens → Start → Type 0} {token : Token} (step : LineStep) → SameAt now other token → IsLineStep other later token step → IsLineStep now later token step
+line_step_along later LineStep.Taken s h = takes_along s h
+line_step_along later (LineStep.Closed start) s h = closes_along s h
+line_step_along later LineStep.Stuck s h = stuck_along s h
 
 -- with which tokens declarations and simple statements begin
 pub declaration_opens : {aliases : List (List ℕ)} {d : DeclarationTree} {token : Token} {tokens rest : Tokens} (class : Class) → IsClass token class → IsDeclaration aliases d (token ∷ tokens) rest → (class ≡ Class.Int) ⊎ ((class ≡ Class.Struct) ⊎ (class ≡ Class.Name))

@@ -17,17 +17,18 @@ use Rattle.mc_simple.specs.Simples.{Simples}
 use Rattle.mc_simple.proofs.Phrases.{SameAt, takes_along, closes_along, stuck_along, then_takes, then_stuck, next_takes, next_stuck, either_left, either_right}
 use Rattle.mc_body.specs.Phrases.{Conditions}
 use Rattle.mc_body.specs.States.{BehindValue, BehindReturn, BehindLast, AtLast, BehindForCondition, AtForCondition, BehindPurpose}
-use Rattle.mc_body.specs.Bodies.{IsBodyStep}
+use Rattle.mc_body.specs.Bodies.{CompletesBody, IsBodyStep}
 use Rattle.mc_body.specs.declared.state.Purpose.{Purpose}
+use Rattle.mc_body.specs.declared.state.BodyReader.{BodyReader}
 use Rattle.mc_body.specs.declared.state.BodyStep.{BodyStep}
 use Rattle.mc_body.proofs.Unique.{IsMarks, class_of_mark}
 use Rattle.mc_body.proofs.Tokens.{first_is, rejects}
 use Rattle.mc_body.proofs.LineTurns as lines
 
-pub body_step_along : (aliases : List (List ℕ)) {now other : Tokens → Tokens → List Stmt → Type 0} {token : Token} (step : BodyStep) → SameAt now other token → IsBodyStep aliases other token step → IsBodyStep aliases now token step
-body_step_along aliases (BodyStep.Taken reader) s h = takes_along s h
-body_step_along aliases (BodyStep.Closed ss) s h = closes_along s h
-body_step_along aliases BodyStep.Stuck s h = stuck_along s h
+pub body_step_along : (aliases : List (List ℕ)) (reader : BodyReader) {now other : Tokens → Tokens → List Stmt → Type 0} {token : Token} (step : BodyStep) → SameAt now other token → IsBodyStep other (CompletesBody aliases reader) token step → IsBodyStep now (CompletesBody aliases reader) token step
+body_step_along aliases reader BodyStep.Taken s h = takes_along s h
+body_step_along aliases reader (BodyStep.Closed ss) s h = closes_along s h
+body_step_along aliases reader BodyStep.Stuck s h = stuck_along s h
 
 -- the marks behind which a part ends
 data IsEnd : Class → Type 0 where

@@ -21,7 +21,7 @@ abbrev pub CompletesBody : List (List ℕ) → BodyReader → Tokens → Tokens 
 CompletesBody aliases reader = Expects (expected_of reader.expected) (AtState aliases reader.nest reader.state)
 
 -- what a step of the reader says
-abbrev pub IsBodyStep : List (List ℕ) → (Tokens → Tokens → List Stmt → Type 0) → Token → BodyStep → Type 0
-IsBodyStep aliases now token (BodyStep.Taken reader) = Takes [] now (CompletesBody aliases reader) token
-IsBodyStep aliases now token (BodyStep.Closed ss) = Closes now token (map statement_of ss.items)
-IsBodyStep aliases now token BodyStep.Stuck = IsStuckAt now token
+abbrev pub IsBodyStep : (Tokens → Tokens → List Stmt → Type 0) → (Tokens → Tokens → List Stmt → Type 0) → Token → BodyStep → Type 0
+IsBodyStep now behind token BodyStep.Taken = Takes [] now behind token
+IsBodyStep now behind token (BodyStep.Closed ss) = Closes now token (map statement_of ss.items)
+IsBodyStep now behind token BodyStep.Stuck = IsStuckAt now token

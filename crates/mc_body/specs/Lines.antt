@@ -47,7 +47,7 @@ CompletesLine aliases (LineReader.Declaration reader) = DeclarationLine (Complet
 CompletesLine aliases (LineReader.Simple reader) = SimpleLine (CompletesSimple aliases reader)
 
 -- what a step of the reader says
-abbrev pub IsLineStep : List (List ℕ) → (Tokens → Tokens → Start → Type 0) → Token → LineStep → Type 0
-IsLineStep aliases now token (LineStep.Taken reader) = Takes [] now (CompletesLine aliases reader) token
-IsLineStep aliases now token (LineStep.Closed start) = Closes now token (start_of start)
-IsLineStep aliases now token LineStep.Stuck = IsStuckAt now token
+abbrev pub IsLineStep : (Tokens → Tokens → Start → Type 0) → (Tokens → Tokens → Start → Type 0) → Token → LineStep → Type 0
+IsLineStep now behind token LineStep.Taken = Takes [] now behind token
+IsLineStep now behind token (LineStep.Closed start) = Closes now token (start_of start)
+IsLineStep now behind token LineStep.Stuck = IsStuckAt now token

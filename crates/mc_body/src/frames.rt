@@ -42,20 +42,11 @@ impl Nest {
         }
     }
 
-    /// The nest with this frame within.
-    pub fn within(self, frame: Frame) -> Result<Nest, AllocError>
-        ensures { IfOk result (λ nest. (frames_of nest ≡ frame ∷ frames_of self) × (nest.body ≡ self.body)) }
+    /// Puts this frame within.
+    pub fn enter(&mut self, frame: Frame) -> Result<(), AllocError>
+        ensures { IfOk result (λ done. (frames_of self.new ≡ frame ∷ frames_of self.old) × (self.new.body ≡ self.old.body)) }
     {
-        let Nest {
-            alloc,
-            mut frames,
-            body,
-        } = self;
-        frames.push(frame)?;
-        Ok(Nest {
-            alloc,
-            frames,
-            body,
-        })
+        self.frames.push(frame)?;
+        Ok(())
     }
 }

@@ -1,162 +1,195 @@
 // What the readers within a statement do with a token.
-ghost use Rattle.std.specs.Prelude.{◌≡◌, ℕ, List, None, IfOk};
-ghost use Rattle.std.specs.Option.{option_map};
+ghost use Rattle.std.specs.Prelude.{◌≡◌, ℕ, List, [], ◌∷◌, Option, None, IfOk};
+ghost use Rattle.mc_ast.specs.declared.class.Class.TheVariants as Class;
 ghost use Rattle.mc_ast.specs.Classes.{IsClass};
 ghost use Rattle.mc_ast.specs.Names.{is_in};
 ghost use Rattle.mc_ast.specs.Readers.{IsSame};
-ghost use Rattle.mc_ast.specs.Views.{condition_of, simple_of, start_of, statement_of};
+ghost use Rattle.mc_ast.specs.Views.{condition_of, expression_of, right_of, start_of, statement_of};
+ghost use Rattle.mc_ast.specs.declared.trees.Condition.{Condition};
+ghost use Rattle.mc_ast.specs.declared.trees.ForStart.{ForStart};
+ghost use Rattle.mc_body.specs.declared.line.LineReader.{LineReader};
+ghost use Rattle.mc_body.specs.declared.shape.ShapeReader.{ShapeReader};
 ghost use Rattle.mc_body.specs.declared.state.BodyStep.TheVariants as BodyStep;
+ghost use Rattle.mc_body.specs.declared.state.LinePurpose.{LinePurpose};
+ghost use Rattle.mc_body.specs.declared.state.Purpose.{Purpose};
 ghost use Rattle.mc_body.specs.declared.state.State.TheVariants as State;
 ghost use Rattle.mc_body.specs.Bodies.{CompletesBody, IsBodyStep};
-ghost use Rattle.mc_body.specs.Frames.{Around};
-ghost use Rattle.mc_body.specs.States.{AtState, BehindLast, BehindLine, BehindPurpose, line_of};
+ghost use Rattle.mc_body.specs.Frames.{Around, AtStart, body_of, frames_of};
+ghost use Rattle.mc_body.specs.Phrases.{Expects};
+ghost use Rattle.mc_body.specs.States.{AtState, BehindFreed, BehindLine, BehindPurpose, BehindValue, line_of};
 
-use crate::frames::{Frame, Nest};
+use crate::frames::Frame;
 use crate::line::{LineReader, LineStep};
 use crate::makes::do_of;
 use crate::phrase::Phrase;
-use crate::shape::{ShapeReader, ShapeStep};
+use crate::shape::{Command, ShapeReader, ShapeStep};
 use crate::state::{BodyReader, BodyStep, LinePurpose, Purpose, State};
 use crate::step::expect;
-use mc_ast::{Class, Condition, ForHead, ForStart, Statement};
+use mc_ast::{Class, Condition, Expression, ForHead, ForStart, RightSide, Statement};
 use mc_base::Place;
 use mc_expression::{ConditionReader, ConditionStep, ExpressionReader, ExpressionStep};
 use mc_lex::Token;
 use mc_simple::{RightReader, RightStep, SimpleReader, SimpleStep};
 use std::alloc::AllocError;
-
-/// The step to this state.
-fn taken(nest: Nest, state: State) -> BodyStep
-    ensures { (result ≡ BodyStep.Taken (record { nest = nest; expected = None; state = state })) }
-{
-    BodyStep::Taken(BodyReader {
-        nest,
-        expected: None,
-        state,
-    })
-}
+use std::mem;
 
 /// Within the parentheses of a `free`.
 pub fn in_freed(
-    nest: Nest,
-    place: Place,
-    reader: ExpressionReader,
+    reader: &mut BodyReader,
     token: &Token,
     class: Class,
 ) -> Result<BodyStep, AllocError>
-    requires { IsClass token.now class }
-    ensures { (aliases : List (List ℕ)) → IfOk result (IsBodyStep aliases (AtState aliases nest (State.Freed place reader)) token.now) }
+    requires kind { IsClass token.now class }
+    requires ready { reader.old.expected ≡ None }
+    ensures { (place : Place) (freed : ExpressionReader) → reader.old.state ≡ State.Freed place freed → (aliases : List (List ℕ)) → IfOk result (IsBodyStep (AtState aliases reader.old.nest reader.old.state) (CompletesBody aliases reader.new) token.now) }
 {
-    let step = reader.step(token, class)?;
-    match step {
-        ExpressionStep::Taken(reader) => Ok(taken(nest, State::Freed(place, reader))),
-        ExpressionStep::Found(freed) => {
-            let state = State::Behind(Statement::Free(place, freed));
-            Ok(expect(nest, Phrase::CloseSemicolon, state, token, class))
+    match &mut reader.state {
+        State::Freed(place, inner) => {
+            let place = *place;
+            let step = inner.step(token, class)?;
+            match step {
+                ExpressionStep::Taken => Ok(BodyStep::Taken),
+                ExpressionStep::Found(freed) => Ok(behind_freed(
+                    reader, place, freed, token, class,
+                )),
+                ExpressionStep::Stuck => Ok(BodyStep::Stuck),
+            }
         }
-        ExpressionStep::Stuck => Ok(BodyStep::Stuck),
+        _ => Ok(BodyStep::Stuck),
     }
+}
+
+/// Behind the expression of a `free`.
+fn behind_freed(
+    reader: &mut BodyReader,
+    place: Place,
+    freed: Expression,
+    token: &Token,
+    class: Class,
+) -> BodyStep
+    requires { IsClass token.now class }
+    ensures { (aliases : List (List ℕ)) → IsBodyStep (BehindFreed place (Around aliases reader.old.nest) (expression_of freed)) (CompletesBody aliases reader.new) token.now result }
+{
+    reader.state = State::Behind(Statement::Free(place, freed));
+    expect(reader, Phrase::CloseSemicolon, token, class)
 }
 
 /// Within a condition.
 pub fn in_condition(
-    nest: Nest,
-    purpose: Purpose,
-    reader: ConditionReader,
+    reader: &mut BodyReader,
     token: &Token,
     class: Class,
 ) -> Result<BodyStep, AllocError>
-    requires { IsClass token.now class }
-    ensures { (aliases : List (List ℕ)) → IfOk result (IsBodyStep aliases (AtState aliases nest (State.Condition purpose reader)) token.now) }
+    requires kind { IsClass token.now class }
+    requires ready { reader.old.expected ≡ None }
+    ensures { (purpose : Purpose) (condition : ConditionReader) → reader.old.state ≡ State.Condition purpose condition → (aliases : List (List ℕ)) → IfOk result (IsBodyStep (AtState aliases reader.old.nest reader.old.state) (CompletesBody aliases reader.new) token.now) }
 {
-    let step = reader.step(token, class)?;
-    match step {
-        ConditionStep::Taken(reader) => Ok(taken(nest, State::Condition(purpose, reader))),
-        ConditionStep::Found(condition) => behind_purpose(nest, purpose, condition, token, class),
-        ConditionStep::Stuck => Ok(BodyStep::Stuck),
+    match &mut reader.state {
+        State::Condition(purpose, inner) => {
+            let step = inner.step(token, class)?;
+            match step {
+                ConditionStep::Taken => Ok(BodyStep::Taken),
+                ConditionStep::Found(condition) => {
+                    let purpose = mem::replace(purpose, Purpose::Assert(token.place));
+                    behind_purpose(reader, purpose, condition, token, class)
+                }
+                ConditionStep::Stuck => Ok(BodyStep::Stuck),
+            }
+        }
+        _ => Ok(BodyStep::Stuck),
     }
 }
 
 /// Behind a condition.
 fn behind_purpose(
-    nest: Nest,
+    reader: &mut BodyReader,
     purpose: Purpose,
     condition: Condition,
     token: &Token,
     class: Class,
 ) -> Result<BodyStep, AllocError>
     requires { IsClass token.now class }
-    ensures { (aliases : List (List ℕ)) → IfOk result (IsBodyStep aliases (BehindPurpose aliases purpose (Around aliases nest) (condition_of condition)) token.now) }
+    ensures { (aliases : List (List ℕ)) → IfOk result (IsBodyStep (BehindPurpose aliases purpose (Around aliases reader.old.nest) (condition_of condition)) (CompletesBody aliases reader.new) token.now) }
 {
     match purpose {
         Purpose::Assert(place) => {
-            let state = State::Behind(Statement::Assert(place, condition));
-            Ok(expect(nest, Phrase::CloseSemicolon, state, token, class))
+            reader.state = State::Behind(Statement::Assert(place, condition));
+            Ok(expect(reader, Phrase::CloseSemicolon, token, class))
         }
         Purpose::Assume(place) => {
-            let state = State::Behind(Statement::Assume(place, condition));
-            Ok(expect(nest, Phrase::CloseSemicolon, state, token, class))
+            reader.state = State::Behind(Statement::Assume(place, condition));
+            Ok(expect(reader, Phrase::CloseSemicolon, token, class))
         }
-        Purpose::If(place) => {
-            let nest = nest.within(Frame::If(place, condition))?;
-            Ok(expect(nest, Phrase::Close, State::Start, token, class))
-        }
-        Purpose::While(place) => {
-            let nest = nest.within(Frame::While(place, condition))?;
-            Ok(expect(nest, Phrase::Close, State::Start, token, class))
-        }
+        Purpose::If(place) => enter(reader, Frame::If(place, condition), token, class),
+        Purpose::While(place) => enter(reader, Frame::While(place, condition), token, class),
         Purpose::Do(place, part) => {
-            let statement = do_of(nest.alloc, place, part, condition)?;
-            Ok(expect(
-                nest,
-                Phrase::CloseSemicolon,
-                State::Behind(statement),
-                token,
-                class,
-            ))
+            let statement = do_of(reader.nest.alloc, place, part, condition)?;
+            reader.state = State::Behind(statement);
+            Ok(expect(reader, Phrase::CloseSemicolon, token, class))
         }
         Purpose::For(place, start) => {
-            let state = State::ForLast(place, start, Some(condition));
-            Ok(expect(nest, Phrase::Semicolon, state, token, class))
+            reader.state = State::ForLast(place, start, Some(condition));
+            Ok(expect(reader, Phrase::Semicolon, token, class))
         }
     }
+}
+
+/// At the `)` behind which a statement begins in this frame.
+fn enter(
+    reader: &mut BodyReader,
+    frame: Frame,
+    token: &Token,
+    class: Class,
+) -> Result<BodyStep, AllocError>
+    requires { IsClass token.now class }
+    ensures { (aliases : List (List ℕ)) → IfOk result (IsBodyStep (Expects (Class.CloseParen ∷ []) (AtStart aliases (frame ∷ frames_of reader.old.nest) (body_of reader.old.nest))) (CompletesBody aliases reader.new) token.now) }
+{
+    reader.nest.enter(frame)?;
+    reader.state = State::Start;
+    Ok(expect(reader, Phrase::Close, token, class))
 }
 
 /// Within a line.
 pub fn in_line(
-    nest: Nest,
-    purpose: LinePurpose,
-    reader: LineReader,
+    reader: &mut BodyReader,
     token: &Token,
     class: Class,
     alias: bool,
 ) -> Result<BodyStep, AllocError>
-    requires { IsClass token.now class }
-    ensures { (aliases : List (List ℕ)) → is_in aliases token.now.text ≡ alias → IfOk result (IsBodyStep aliases (AtState aliases nest (State.Line purpose reader)) token.now) }
+    requires kind { IsClass token.now class }
+    requires ready { reader.old.expected ≡ None }
+    ensures { (purpose : LinePurpose) (line : LineReader) → reader.old.state ≡ State.Line purpose line → (aliases : List (List ℕ)) → is_in aliases token.now.text ≡ alias → IfOk result (IsBodyStep (AtState aliases reader.old.nest reader.old.state) (CompletesBody aliases reader.new) token.now) }
 {
-    let step = reader.step(nest.alloc, token, class, alias)?;
-    match step {
-        LineStep::Taken(reader) => Ok(taken(nest, State::Line(purpose, reader))),
-        LineStep::Closed(start) => Ok(BodyStep::Taken(behind_line(nest, purpose, start))),
-        LineStep::Stuck => Ok(BodyStep::Stuck),
+    let alloc = reader.nest.alloc;
+    match &mut reader.state {
+        State::Line(purpose, inner) => {
+            let purpose = *purpose;
+            let step = inner.step(alloc, token, class, alias)?;
+            match step {
+                LineStep::Taken => Ok(BodyStep::Taken),
+                LineStep::Closed(start) => Ok(behind_line(reader, purpose, start)),
+                LineStep::Stuck => Ok(BodyStep::Stuck),
+            }
+        }
+        _ => Ok(BodyStep::Stuck),
     }
 }
 
 /// Behind a line.
-fn behind_line(nest: Nest, purpose: LinePurpose, start: ForStart) -> BodyReader
-    ensures { (aliases : List (List ℕ)) → IsSame (CompletesBody aliases result) (BehindLine aliases purpose (Around aliases nest) (start_of start)) }
+fn behind_line(reader: &mut BodyReader, purpose: LinePurpose, start: ForStart) -> BodyStep
+    requires { reader.old.expected ≡ None }
+    ensures step { result ≡ BodyStep.Taken }
+    ensures same { (aliases : List (List ℕ)) → IsSame (CompletesBody aliases reader.new) (BehindLine aliases purpose (Around aliases reader.old.nest) (start_of start)) }
 {
     match purpose {
-        LinePurpose::Statement(place) => BodyReader {
-            nest,
-            expected: None,
-            state: State::Behind(line_statement(place, start)),
-        },
-        LinePurpose::For(place) => BodyReader {
-            nest,
-            expected: None,
-            state: State::ForCondition(place, start),
-        },
+        LinePurpose::Statement(place) => {
+            reader.state = State::Behind(line_statement(place, start));
+            BodyStep::Taken
+        }
+        LinePurpose::For(place) => {
+            reader.state = State::ForCondition(place, start);
+            BodyStep::Taken
+        }
     }
 }
 
@@ -173,73 +206,96 @@ fn line_statement(place: Place, start: ForStart) -> Statement
 
 /// Behind `return`.
 pub fn behind_return(
-    nest: Nest,
+    reader: &mut BodyReader,
     place: Place,
     token: &Token,
     class: Class,
     alias: bool,
 ) -> Result<BodyStep, AllocError>
-    requires { IsClass token.now class }
-    ensures { (aliases : List (List ℕ)) → is_in aliases token.now.text ≡ alias → IfOk result (IsBodyStep aliases (AtState aliases nest (State.Return place)) token.now) }
+    requires kind { IsClass token.now class }
+    requires ready { reader.old.expected ≡ None }
+    ensures { (aliases : List (List ℕ)) → is_in aliases token.now.text ≡ alias → IfOk result (IsBodyStep (AtState aliases reader.old.nest (State.Return place)) (CompletesBody aliases reader.new) token.now) }
 {
     match class {
         Class::Semicolon => {
-            let statement = Statement::Return(place, None);
-            Ok(taken(nest, State::Behind(statement)))
+            reader.state = State::Behind(Statement::Return(place, None));
+            Ok(BodyStep::Taken)
         }
         _ => {
-            let reader = RightReader::new(nest.alloc);
-            in_value(nest, place, reader, token, class, alias)
+            reader.state = State::Value(place, RightReader::new(reader.nest.alloc));
+            in_value(reader, token, class, alias)
         }
     }
 }
 
 /// Within the value of a `return`.
 pub fn in_value(
-    nest: Nest,
-    place: Place,
-    reader: RightReader,
+    reader: &mut BodyReader,
     token: &Token,
     class: Class,
     alias: bool,
 ) -> Result<BodyStep, AllocError>
-    requires { IsClass token.now class }
-    ensures { (aliases : List (List ℕ)) → is_in aliases token.now.text ≡ alias → IfOk result (IsBodyStep aliases (AtState aliases nest (State.Value place reader)) token.now) }
+    requires kind { IsClass token.now class }
+    requires ready { reader.old.expected ≡ None }
+    ensures { (place : Place) (value : RightReader) → reader.old.state ≡ State.Value place value → (aliases : List (List ℕ)) → is_in aliases token.now.text ≡ alias → IfOk result (IsBodyStep (AtState aliases reader.old.nest reader.old.state) (CompletesBody aliases reader.new) token.now) }
 {
-    let step = reader.step(token, class, alias)?;
-    match step {
-        RightStep::Taken(reader) => Ok(taken(nest, State::Value(place, reader))),
-        RightStep::Found(value) => {
-            let state = State::Behind(Statement::Return(place, Some(value)));
-            Ok(expect(nest, Phrase::Semicolon, state, token, class))
+    match &mut reader.state {
+        State::Value(place, inner) => {
+            let place = *place;
+            let step = inner.step(token, class, alias)?;
+            match step {
+                RightStep::Taken => Ok(BodyStep::Taken),
+                RightStep::Found(value) => Ok(behind_value(reader, place, value, token, class)),
+                RightStep::Stuck => Ok(BodyStep::Stuck),
+            }
         }
-        RightStep::Stuck => Ok(BodyStep::Stuck),
+        _ => Ok(BodyStep::Stuck),
     }
+}
+
+/// Behind the value of a `return`.
+fn behind_value(
+    reader: &mut BodyReader,
+    place: Place,
+    value: RightSide,
+    token: &Token,
+    class: Class,
+) -> BodyStep
+    requires { IsClass token.now class }
+    ensures { (aliases : List (List ℕ)) → IsBodyStep (BehindValue place (Around aliases reader.old.nest) (right_of value)) (CompletesBody aliases reader.new) token.now result }
+{
+    reader.state = State::Behind(Statement::Return(place, Some(value)));
+    expect(reader, Phrase::Semicolon, token, class)
 }
 
 /// At the condition of a `for`.
 pub fn at_for_condition(
-    nest: Nest,
+    reader: &mut BodyReader,
     place: Place,
     start: ForStart,
     token: &Token,
     class: Class,
 ) -> Result<BodyStep, AllocError>
-    requires { IsClass token.now class }
-    ensures { (aliases : List (List ℕ)) → IfOk result (IsBodyStep aliases (AtState aliases nest (State.ForCondition place start)) token.now) }
+    requires kind { IsClass token.now class }
+    requires ready { reader.old.expected ≡ None }
+    ensures { (aliases : List (List ℕ)) → IfOk result (IsBodyStep (AtState aliases reader.old.nest (State.ForCondition place start)) (CompletesBody aliases reader.new) token.now) }
 {
     match class {
-        Class::Semicolon => Ok(taken(nest, State::ForLast(place, start, None))),
+        Class::Semicolon => {
+            reader.state = State::ForLast(place, start, None);
+            Ok(BodyStep::Taken)
+        }
         _ => {
-            let reader = ConditionReader::new(nest.alloc);
-            in_condition(nest, Purpose::For(place, start), reader, token, class)
+            let inner = ConditionReader::new(reader.nest.alloc);
+            reader.state = State::Condition(Purpose::For(place, start), inner);
+            in_condition(reader, token, class)
         }
     }
 }
 
 /// At the last part of a `for`.
 pub fn at_last(
-    nest: Nest,
+    reader: &mut BodyReader,
     place: Place,
     start: ForStart,
     condition: Option<Condition>,
@@ -247,8 +303,9 @@ pub fn at_last(
     class: Class,
     alias: bool,
 ) -> Result<BodyStep, AllocError>
-    requires { IsClass token.now class }
-    ensures { (aliases : List (List ℕ)) → is_in aliases token.now.text ≡ alias → IfOk result (IsBodyStep aliases (AtState aliases nest (State.ForLast place start condition)) token.now) }
+    requires kind { IsClass token.now class }
+    requires ready { reader.old.expected ≡ None }
+    ensures { (aliases : List (List ℕ)) → is_in aliases token.now.text ≡ alias → IfOk result (IsBodyStep (AtState aliases reader.old.nest (State.ForLast place start condition)) (CompletesBody aliases reader.new) token.now) }
 {
     match class {
         Class::CloseParen => {
@@ -258,77 +315,77 @@ pub fn at_last(
                 condition,
                 last: None,
             };
-            behind_last(nest, head, token, class)
+            enter(reader, Frame::For(head), token, class)
         }
         _ => {
-            let reader = SimpleReader::new(nest.alloc);
-            in_last(nest, place, start, condition, reader, token, class, alias)
+            let inner = SimpleReader::new(reader.nest.alloc);
+            reader.state = State::Last(place, start, condition, inner);
+            in_last(reader, token, class, alias)
         }
     }
 }
 
 /// Within the last part of a `for`.
 pub fn in_last(
-    nest: Nest,
-    place: Place,
-    start: ForStart,
-    condition: Option<Condition>,
-    reader: SimpleReader,
+    reader: &mut BodyReader,
     token: &Token,
     class: Class,
     alias: bool,
 ) -> Result<BodyStep, AllocError>
-    requires { IsClass token.now class }
-    ensures { (aliases : List (List ℕ)) → is_in aliases token.now.text ≡ alias → IfOk result (IsBodyStep aliases (AtState aliases nest (State.Last place start condition reader)) token.now) }
+    requires kind { IsClass token.now class }
+    requires ready { reader.old.expected ≡ None }
+    ensures { (place : Place) (start : ForStart) (condition : Option Condition) (last : SimpleReader) → reader.old.state ≡ State.Last place start condition last → (aliases : List (List ℕ)) → is_in aliases token.now.text ≡ alias → IfOk result (IsBodyStep (AtState aliases reader.old.nest reader.old.state) (CompletesBody aliases reader.new) token.now) }
 {
-    let step = reader.step(token, class, alias)?;
-    match step {
-        SimpleStep::Taken(reader) => Ok(taken(nest, State::Last(place, start, condition, reader))),
-        SimpleStep::Found(last) => {
-            let head = ForHead {
-                place,
-                start,
-                condition,
-                last: Some(last),
-            };
-            behind_last(nest, head, token, class)
+    match &mut reader.state {
+        State::Last(place, start, condition, inner) => {
+            let step = inner.step(token, class, alias)?;
+            match step {
+                SimpleStep::Taken => Ok(BodyStep::Taken),
+                SimpleStep::Found(last) => {
+                    let head = ForHead {
+                        place: *place,
+                        start: mem::replace(start, ForStart::Nothing),
+                        condition: mem::replace(condition, None),
+                        last: Some(last),
+                    };
+                    enter(reader, Frame::For(head), token, class)
+                }
+                SimpleStep::Stuck => Ok(BodyStep::Stuck),
+            }
         }
-        SimpleStep::Stuck => Ok(BodyStep::Stuck),
+        _ => Ok(BodyStep::Stuck),
     }
-}
-
-/// Behind the last part of a `for`.
-fn behind_last(
-    nest: Nest,
-    head: ForHead,
-    token: &Token,
-    class: Class,
-) -> Result<BodyStep, AllocError>
-    requires { IsClass token.now class }
-    ensures { (aliases : List (List ℕ)) → IfOk result (IsBodyStep aliases (BehindLast aliases head.place (start_of head.start) (option_map condition_of head.condition) (Around aliases nest) (option_map simple_of head.last)) token.now) }
-{
-    let nest = nest.within(Frame::For(head))?;
-    Ok(expect(nest, Phrase::Close, State::Start, token, class))
 }
 
 /// Within a shape command.
 pub fn in_shape(
-    nest: Nest,
-    reader: ShapeReader,
+    reader: &mut BodyReader,
     token: &Token,
     class: Class,
 ) -> Result<BodyStep, AllocError>
-    requires { IsClass token.now class }
-    ensures { (aliases : List (List ℕ)) → IfOk result (IsBodyStep aliases (AtState aliases nest (State.Shape reader)) token.now) }
+    requires kind { IsClass token.now class }
+    requires ready { reader.old.expected ≡ None }
+    ensures { (shape : ShapeReader) → reader.old.state ≡ State.Shape shape → (aliases : List (List ℕ)) → IfOk result (IsBodyStep (AtState aliases reader.old.nest reader.old.state) (CompletesBody aliases reader.new) token.now) }
 {
-    let step = reader.step(nest.alloc, token, class)?;
-    match step {
-        ShapeStep::Taken(reader) => Ok(taken(nest, State::Shape(reader))),
-        ShapeStep::Closed(statement) => Ok(BodyStep::Taken(BodyReader {
-            nest,
-            expected: Some(Phrase::Semicolon),
-            state: State::Behind(statement),
-        })),
-        ShapeStep::Stuck => Ok(BodyStep::Stuck),
+    let alloc = reader.nest.alloc;
+    match &mut reader.state {
+        State::Shape(inner) => {
+            let start = ShapeReader::Predicate(Command::Assume, token.place);
+            let shape = mem::replace(inner, start);
+            let step = shape.step(alloc, token, class)?;
+            match step {
+                ShapeStep::Taken(next) => {
+                    *inner = next;
+                    Ok(BodyStep::Taken)
+                }
+                ShapeStep::Closed(statement) => {
+                    reader.expected = Some(Phrase::Semicolon);
+                    reader.state = State::Behind(statement);
+                    Ok(BodyStep::Taken)
+                }
+                ShapeStep::Stuck => Ok(BodyStep::Stuck),
+            }
+        }
+        _ => Ok(BodyStep::Stuck),
     }
 }

@@ -6,6 +6,8 @@ ghost use Rattle.mc_ast.specs.Views.{simple_of};
 ghost use Rattle.mc_ast.specs.declared.trees.Base.TheVariants as Base;
 ghost use Rattle.mc_simple.specs.Declarations.{BehindBase, CompletesDeclaration};
 ghost use Rattle.mc_simple.specs.Simples.{CompletesSimple};
+ghost use Rattle.mc_simple.specs.declared.simple.SimpleReader.{SimpleReader};
+ghost use Rattle.mc_body.specs.declared.known.TypeName.{TypeName};
 ghost use Rattle.mc_body.specs.declared.line.LineReader.TheVariants as LineReader;
 ghost use Rattle.mc_body.specs.Lines.{BehindSimple, CompletesLine, DeclarationLine, IsLineStep, SimpleLine};
 ghost use Rattle.mc_body.specs.Phrases.{Starts};
@@ -16,6 +18,7 @@ use mc_base::Place;
 use mc_lex::Token;
 use mc_simple::{DeclarationReader, DeclarationStep, SimpleReader, SimpleStep};
 use std::alloc::{AllocError, Global};
+use std::mem;
 
 /// Reads a declaration, or a simple statement with its `;`, or a `;` alone, token by token.
 #[derive(Drop)]
@@ -34,7 +37,7 @@ pub enum LineReader {
 #[derive(Drop)]
 pub enum LineStep {
     /// It takes it.
-    Taken(LineReader),
+    Taken,
     /// The line ends with the token.
     Closed(ForStart),
     /// No text has this token here.
@@ -44,79 +47,117 @@ pub enum LineStep {
 impl LineReader {
     /// Takes a token, or answers why not.
     pub fn step(
-        self,
+        &mut self,
         alloc: Global,
         token: &Token,
         class: Class,
         alias: bool,
     ) -> Result<LineStep, AllocError>
         requires { IsClass token.now class }
-        ensures { (aliases : List (List ℕ)) → is_in aliases token.now.text ≡ alias → IfOk result (IsLineStep aliases (CompletesLine aliases self) token.now) }
+        ensures { (aliases : List (List ℕ)) → is_in aliases token.now.text ≡ alias → IfOk result (IsLineStep (CompletesLine aliases self.old) (CompletesLine aliases self.new) token.now) }
     {
         match self {
-            LineReader::Start => at_line(alloc, token, class, alias),
-            LineReader::Struct(place) => behind_struct(alloc, place, token, class),
-            LineReader::Alias(known) => behind_alias(alloc, known, token, class, alias),
-            LineReader::Declaration(reader) => in_declaration(reader, token, class, alias),
-            LineReader::Simple(reader) => in_simple(reader, token, class, alias),
+            LineReader::Start => at_line(self, alloc, token, class, alias),
+            LineReader::Struct(place) => {
+                let place = *place;
+                behind_struct(self, alloc, place, token, class)
+            }
+            LineReader::Alias(_) => behind_alias(self, alloc, token, class, alias),
+            LineReader::Declaration(inner) => in_declaration(inner, token, class, alias),
+            LineReader::Simple(inner) => in_simple(inner, token, class, alias),
         }
     }
 }
 
 /// The first token of a line.
-fn at_line(alloc: Global, token: &Token, class: Class, alias: bool) -> Result<LineStep, AllocError>
+fn at_line(
+    line: &mut LineReader,
+    alloc: Global,
+    token: &Token,
+    class: Class,
+    alias: bool,
+) -> Result<LineStep, AllocError>
     requires { IsClass token.now class }
-    ensures { (aliases : List (List ℕ)) → is_in aliases token.now.text ≡ alias → IfOk result (IsLineStep aliases (Starts aliases) token.now) }
+    ensures { (aliases : List (List ℕ)) → is_in aliases token.now.text ≡ alias → IfOk result (IsLineStep (Starts aliases) (CompletesLine aliases line.new) token.now) }
 {
     match class {
         Class::Semicolon => Ok(LineStep::Closed(ForStart::Nothing)),
         Class::Int => {
             let reader = DeclarationReader::behind_base(alloc, Base::Int(token.place));
-            Ok(LineStep::Taken(LineReader::Declaration(reader)))
+            *line = LineReader::Declaration(reader);
+            Ok(LineStep::Taken)
         }
-        Class::Struct => Ok(LineStep::Taken(LineReader::Struct(token.place))),
-        Class::Name => at_name(alloc, token, alias),
-        _ => in_simple(SimpleReader::new(alloc), token, class, alias),
+        Class::Struct => {
+            *line = LineReader::Struct(token.place);
+            Ok(LineStep::Taken)
+        }
+        Class::Name => at_name(line, alloc, token, alias),
+        _ => perform(line, SimpleReader::new(alloc), token, class, alias),
     }
 }
 
 /// A name with which a line begins.
-fn at_name(alloc: Global, token: &Token, alias: bool) -> Result<LineStep, AllocError>
+fn at_name(
+    line: &mut LineReader,
+    alloc: Global,
+    token: &Token,
+    alias: bool,
+) -> Result<LineStep, AllocError>
     requires { IsName token.now }
-    ensures { (aliases : List (List ℕ)) → is_in aliases token.now.text ≡ alias → IfOk result (IsLineStep aliases (Starts aliases) token.now) }
+    ensures { (aliases : List (List ℕ)) → is_in aliases token.now.text ≡ alias → IfOk result (IsLineStep (Starts aliases) (CompletesLine aliases line.new) token.now) }
 {
     let name = name_at(alloc, token)?;
     if alias {
-        Ok(LineStep::Taken(LineReader::Alias(TypeName { name })))
+        *line = LineReader::Alias(TypeName { name });
+        Ok(LineStep::Taken)
     } else {
-        let reader = SimpleReader::behind_name(alloc, name);
-        Ok(LineStep::Taken(LineReader::Simple(reader)))
+        *line = LineReader::Simple(SimpleReader::behind_name(alloc, name));
+        Ok(LineStep::Taken)
     }
 }
 
 /// Behind `struct`.
 fn behind_struct(
+    line: &mut LineReader,
     alloc: Global,
     place: Place,
     token: &Token,
     class: Class,
 ) -> Result<LineStep, AllocError>
     requires { IsClass token.now class }
-    ensures { (aliases : List (List ℕ)) → IfOk result (IsLineStep aliases (CompletesLine aliases (LineReader.Struct place)) token.now) }
+    ensures { (aliases : List (List ℕ)) → IfOk result (IsLineStep (CompletesLine aliases (LineReader.Struct place)) (CompletesLine aliases line.new) token.now) }
 {
     match class {
         Class::Name => {
             let name = name_at(alloc, token)?;
             let reader = DeclarationReader::behind_base(alloc, Base::Struct(place, name));
-            Ok(LineStep::Taken(LineReader::Declaration(reader)))
+            *line = LineReader::Declaration(reader);
+            Ok(LineStep::Taken)
         }
         _ => Ok(LineStep::Stuck),
     }
 }
 
-/// Behind a name that a typedef introduced: a `*` or a name goes on with a declaration, all else with a simple
-/// statement.
+/// Behind a name that a typedef introduced.
 fn behind_alias(
+    line: &mut LineReader,
+    alloc: Global,
+    token: &Token,
+    class: Class,
+    alias: bool,
+) -> Result<LineStep, AllocError>
+    requires { IsClass token.now class }
+    ensures { (known : TypeName) → line.old ≡ LineReader.Alias known → (aliases : List (List ℕ)) → is_in aliases token.now.text ≡ alias → IfOk result (IsLineStep (CompletesLine aliases line.old) (CompletesLine aliases line.new) token.now) }
+{
+    match mem::replace(line, LineReader::Start) {
+        LineReader::Alias(known) => behind_known(line, alloc, known, token, class, alias),
+        _ => Ok(LineStep::Stuck),
+    }
+}
+
+/// The same: a `*` or a name goes on with a declaration, all else with a simple statement.
+fn behind_known(
+    line: &mut LineReader,
     alloc: Global,
     known: TypeName,
     token: &Token,
@@ -124,22 +165,21 @@ fn behind_alias(
     alias: bool,
 ) -> Result<LineStep, AllocError>
     requires { IsClass token.now class }
-    ensures { (aliases : List (List ℕ)) → is_in aliases token.now.text ≡ alias → IfOk result (IsLineStep aliases (CompletesLine aliases (LineReader.Alias known)) token.now) }
+    ensures { (aliases : List (List ℕ)) → is_in aliases token.now.text ≡ alias → IfOk result (IsLineStep (CompletesLine aliases (LineReader.Alias known)) (CompletesLine aliases line.new) token.now) }
 {
     match class {
-        Class::Name => declare(alloc, known.name, token, class, alias),
-        Class::Star => declare(alloc, known.name, token, class, alias),
-        _ => in_simple(
-            SimpleReader::behind_name(alloc, known.name),
-            token,
-            class,
-            alias,
-        ),
+        Class::Name => declare(line, alloc, known.name, token, class, alias),
+        Class::Star => declare(line, alloc, known.name, token, class, alias),
+        _ => {
+            let reader = SimpleReader::behind_name(alloc, known.name);
+            perform(line, reader, token, class, alias)
+        }
     }
 }
 
 /// Behind the name of a type with which a declaration begins.
 fn declare(
+    line: &mut LineReader,
     alloc: Global,
     name: Name,
     token: &Token,
@@ -147,25 +187,44 @@ fn declare(
     alias: bool,
 ) -> Result<LineStep, AllocError>
     requires { IsClass token.now class }
-    ensures { (aliases : List (List ℕ)) → is_in aliases token.now.text ≡ alias → IfOk result (IsLineStep aliases (DeclarationLine (BehindBase aliases (Base.Alias name))) token.now) }
+    ensures { (aliases : List (List ℕ)) → is_in aliases token.now.text ≡ alias → IfOk result (IsLineStep (DeclarationLine (BehindBase aliases (Base.Alias name))) (CompletesLine aliases line.new) token.now) }
 {
-    let reader = DeclarationReader::behind_base(alloc, Base::Alias(name));
-    in_declaration(reader, token, class, alias)
+    let mut reader = DeclarationReader::behind_base(alloc, Base::Alias(name));
+    let step = in_declaration(&mut reader, token, class, alias)?;
+    *line = LineReader::Declaration(reader);
+    Ok(step)
 }
 
-/// Within a declaration.
-fn in_declaration(
-    reader: DeclarationReader,
+/// Where this reader goes on with a simple statement.
+fn perform(
+    line: &mut LineReader,
+    reader: SimpleReader,
     token: &Token,
     class: Class,
     alias: bool,
 ) -> Result<LineStep, AllocError>
     requires { IsClass token.now class }
-    ensures { (aliases : List (List ℕ)) → is_in aliases token.now.text ≡ alias → IfOk result (IsLineStep aliases (DeclarationLine (CompletesDeclaration aliases reader)) token.now) }
+    ensures { (aliases : List (List ℕ)) → is_in aliases token.now.text ≡ alias → IfOk result (IsLineStep (SimpleLine (CompletesSimple aliases reader)) (CompletesLine aliases line.new) token.now) }
+{
+    let mut reader = reader;
+    let step = in_simple(&mut reader, token, class, alias)?;
+    *line = LineReader::Simple(reader);
+    Ok(step)
+}
+
+/// Within a declaration.
+fn in_declaration(
+    reader: &mut DeclarationReader,
+    token: &Token,
+    class: Class,
+    alias: bool,
+) -> Result<LineStep, AllocError>
+    requires { IsClass token.now class }
+    ensures { (aliases : List (List ℕ)) → is_in aliases token.now.text ≡ alias → IfOk result (IsLineStep (DeclarationLine (CompletesDeclaration aliases reader.old)) (DeclarationLine (CompletesDeclaration aliases reader.new)) token.now) }
 {
     let step = reader.step(token, class, alias)?;
     match step {
-        DeclarationStep::Taken(reader) => Ok(LineStep::Taken(LineReader::Declaration(reader))),
+        DeclarationStep::Taken => Ok(LineStep::Taken),
         DeclarationStep::Closed(declaration) => Ok(LineStep::Closed(ForStart::Declaration(
             declaration,
         ))),
@@ -175,26 +234,26 @@ fn in_declaration(
 
 /// Within a simple statement.
 fn in_simple(
-    reader: SimpleReader,
+    reader: &mut SimpleReader,
     token: &Token,
     class: Class,
     alias: bool,
 ) -> Result<LineStep, AllocError>
     requires { IsClass token.now class }
-    ensures { (aliases : List (List ℕ)) → is_in aliases token.now.text ≡ alias → IfOk result (IsLineStep aliases (SimpleLine (CompletesSimple aliases reader)) token.now) }
+    ensures { (aliases : List (List ℕ)) → is_in aliases token.now.text ≡ alias → IfOk result (IsLineStep (SimpleLine (CompletesSimple aliases reader.old)) (SimpleLine (CompletesSimple aliases reader.new)) token.now) }
 {
     let step = reader.step(token, class, alias)?;
     match step {
-        SimpleStep::Taken(reader) => Ok(LineStep::Taken(LineReader::Simple(reader))),
+        SimpleStep::Taken => Ok(LineStep::Taken),
         SimpleStep::Found(simple) => Ok(behind_simple(simple, token, class)),
         SimpleStep::Stuck => Ok(LineStep::Stuck),
     }
 }
 
-/// Behind a simple statement.
+/// Behind a simple statement, at its `;`.
 fn behind_simple(simple: Simple, token: &Token, class: Class) -> LineStep
     requires { IsClass token.now class }
-    ensures { (aliases : List (List ℕ)) → IsLineStep aliases (BehindSimple (simple_of simple)) token.now result }
+    ensures { (aliases : List (List ℕ)) (reader : SimpleReader) → IsLineStep (BehindSimple (simple_of simple)) (SimpleLine (CompletesSimple aliases reader)) token.now result }
 {
     match class {
         Class::Semicolon => LineStep::Closed(ForStart::Simple(simple)),

@@ -1,12 +1,12 @@
 // What becomes of a whole statement.
-ghost use Rattle.std.specs.Prelude.{◌≡◌, ℕ, List, IfOk};
+ghost use Rattle.std.specs.Prelude.{◌≡◌, ℕ, List, None, IfOk};
 ghost use Rattle.mc_ast.specs.Classes.{IsClass};
 ghost use Rattle.mc_ast.specs.Names.{is_in};
 ghost use Rattle.mc_ast.specs.Trees.{Stmt};
 ghost use Rattle.mc_ast.specs.Views.{condition_of, statement_of};
 ghost use Rattle.mc_body.specs.declared.frames.Frame.{Frame};
 ghost use Rattle.mc_body.specs.declared.settle.Settled.TheVariants as Settled;
-ghost use Rattle.mc_body.specs.Bodies.{IsBodyStep};
+ghost use Rattle.mc_body.specs.Bodies.{CompletesBody, IsBodyStep};
 ghost use Rattle.mc_body.specs.Frames.{Around, Behind, BehindFirst, Inside};
 ghost use Rattle.mc_body.specs.Phrases.{AgreeAt};
 ghost use Rattle.mc_body.specs.Turns.{AtSettled, AtTurn};
@@ -22,6 +22,7 @@ use mc_base::Place;
 use mc_expression::ConditionReader;
 use mc_lex::Token;
 use std::alloc::{AllocError, Global};
+use std::mem;
 
 /// What becomes of a statement in a frame.
 #[derive(Drop)]
@@ -46,23 +47,31 @@ pub enum Settled {
 
 /// Behind a whole statement.
 pub fn behind(
-    nest: Nest,
+    reader: &mut BodyReader,
     statement: Statement,
     token: &Token,
     class: Class,
     alias: bool,
 ) -> Result<BodyStep, AllocError>
-    requires { IsClass token.now class }
-    ensures { (aliases : List (List ℕ)) → is_in aliases token.now.text ≡ alias → IfOk result (IsBodyStep aliases (Around aliases nest (statement_of statement)) token.now) }
+    requires kind { IsClass token.now class }
+    requires ready { reader.old.expected ≡ None }
+    ensures { (aliases : List (List ℕ)) → is_in aliases token.now.text ≡ alias → IfOk result (IsBodyStep (Around aliases reader.old.nest (statement_of statement)) (CompletesBody aliases reader.new) token.now) }
 {
+    let empty = Nest::new(reader.nest.alloc);
+    let nest = mem::replace(&mut reader.nest, empty);
     let settled = settle(nest, statement, token, class)?;
     match settled {
-        Settled::Start(nest) => at_start(nest, token, class, alias),
-        Settled::Else(nest) => Ok(behind_else(nest, token, class)),
+        Settled::Start(nest) => {
+            reader.nest = nest;
+            at_start(reader, token, class, alias)
+        }
+        Settled::Else(nest) => {
+            reader.nest = nest;
+            Ok(behind_else(reader, token, class))
+        }
         Settled::Do(nest, place, part) => {
-            let reader = ConditionReader::new(nest.alloc);
-            let state = State::Condition(Purpose::Do(place, part), reader);
-            Ok(expect(nest, Phrase::WhileOpen, state, token, class))
+            reader.nest = nest;
+            Ok(behind_do(reader, place, part, token, class))
         }
     }
 }
@@ -98,21 +107,21 @@ fn settle(
                 match turn {
                     Turn::Whole(whole) => statement = whole,
                     Turn::Start(frame) => {
-                        let nest = Nest {
+                        let mut nest = Nest {
                             alloc,
                             frames,
                             body,
-                        }
-                        .within(frame)?;
+                        };
+                        nest.enter(frame)?;
                         return Ok(Settled::Start(nest));
                     }
                     Turn::Else(frame) => {
-                        let nest = Nest {
+                        let mut nest = Nest {
                             alloc,
                             frames,
                             body,
-                        }
-                        .within(frame)?;
+                        };
+                        nest.enter(frame)?;
                         return Ok(Settled::Else(nest));
                     }
                     Turn::Do(place, part) => {
@@ -184,16 +193,32 @@ fn first_part(
 }
 
 /// At an `else`.
-fn behind_else(nest: Nest, token: &Token, class: Class) -> BodyStep
-    requires { IsClass token.now class }
-    ensures { (aliases : List (List ℕ)) → IsBodyStep aliases (AtSettled aliases (Settled.Else nest)) token.now result }
+fn behind_else(reader: &mut BodyReader, token: &Token, class: Class) -> BodyStep
+    requires kind { IsClass token.now class }
+    requires ready { reader.old.expected ≡ None }
+    ensures { (aliases : List (List ℕ)) → IsBodyStep (AtSettled aliases (Settled.Else reader.old.nest)) (CompletesBody aliases reader.new) token.now result }
 {
     match class {
-        Class::Else => BodyStep::Taken(BodyReader {
-            nest,
-            expected: None,
-            state: State::Start,
-        }),
+        Class::Else => {
+            reader.state = State::Start;
+            BodyStep::Taken
+        }
         _ => BodyStep::Stuck,
     }
+}
+
+/// Behind the body of a `do`.
+fn behind_do(
+    reader: &mut BodyReader,
+    place: Place,
+    part: Statement,
+    token: &Token,
+    class: Class,
+) -> BodyStep
+    requires { IsClass token.now class }
+    ensures { (aliases : List (List ℕ)) → IsBodyStep (AtSettled aliases (Settled.Do reader.old.nest place part)) (CompletesBody aliases reader.new) token.now result }
+{
+    let inner = ConditionReader::new(reader.nest.alloc);
+    reader.state = State::Condition(Purpose::Do(place, part), inner);
+    expect(reader, Phrase::WhileOpen, token, class)
 }

@@ -19,7 +19,7 @@ use mc_simple::{RightReader, SimpleReader, declarations_can_end, rights_can_end,
 use std::alloc::{AllocError, Global};
 
 /// What a line is for.
-#[derive(Drop)]
+#[derive(Clone, Copy, Drop)]
 pub enum LinePurpose {
     /// A statement, at its first token.
     Statement(Place),
@@ -77,7 +77,7 @@ pub struct BodyReader {
 #[derive(Drop)]
 pub enum BodyStep {
     /// It takes it.
-    Taken(BodyReader),
+    Taken,
     /// The body ends with the token.
     Closed(Vec<Statement>),
     /// No text has this token here.
@@ -97,18 +97,13 @@ impl BodyReader {
     }
 
     /// Takes a token, or answers why not. `alias` says whether a typedef introduced the token's text.
-    pub fn step(self, token: &Token, class: Class, alias: bool) -> Result<BodyStep, AllocError>
+    pub fn step(&mut self, token: &Token, class: Class, alias: bool) -> Result<BodyStep, AllocError>
         requires { IsClass token.now class }
-        ensures { (aliases : List (List ℕ)) → is_in aliases token.now.text ≡ alias → IfOk result (IsBodyStep aliases (CompletesBody aliases self) token.now) }
+        ensures { (aliases : List (List ℕ)) → is_in aliases token.now.text ≡ alias → IfOk result (IsBodyStep (CompletesBody aliases self.old) (CompletesBody aliases self.new) token.now) }
     {
-        let BodyReader {
-            nest,
-            expected,
-            state,
-        } = self;
-        match expected {
-            Some(phrase) => Ok(expect(nest, phrase, state, token, class)),
-            None => at_state(nest, state, token, class, alias),
+        match self.expected {
+            Some(phrase) => Ok(expect(self, phrase, token, class)),
+            None => at_state(self, token, class, alias),
         }
     }
 }

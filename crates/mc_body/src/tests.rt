@@ -31,7 +31,7 @@ fn count(alloc: Global, text: &str) -> Result<Option<usize>, LexFault>
     let mut reader = BodyReader::new(alloc);
     for token in &tokens {
         match reader.step(token, classify(token), is_type(token))? {
-            BodyStep::Taken(next) => reader = next,
+            BodyStep::Taken => {}
             BodyStep::Closed(statements) => return Ok(Some(statements.len())),
             BodyStep::Stuck => return Ok(None),
         }

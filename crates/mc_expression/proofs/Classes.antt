@@ -2,13 +2,11 @@
 use Rattle.mc_lex.specs.Numbers.{Spells, as_zero, as_decimal, as_hexadecimal}
 use Rattle.std.specs.Str.Parse.{digits_value}
 use Rattle.mc_ast.specs.declared.trees.Comparison.{Comparison}
-use Rattle.std.proofs.Common.{◌≡◌, ◌≢◌, ℕ, List, [], ◌∷◌, Bool, true, false, cond, Option, Some, None, refl, ap, sym, ◌∙◌, subst, IsTrue, arith}
+use Rattle.std.proofs.Common.{◌≡◌, ◌≢◌, ℕ, List, [], ◌∷◌, cond, refl, ap, sym, ◌∙◌}
 use Rattle.std.specs.Prelude.{codes, slice_index}
 use Rattle.mc_lex.specs.declared.token.Token.{Token}
 use Rattle.mc_lex.specs.declared.token.TokenKind.{TokenKind}
-use Rattle.mc_lex.specs.declared.token.TokenKind.TheVariants as TokenKind
 use Rattle.mc_ast.specs.declared.class.Class.{Class}
-use Rattle.mc_ast.specs.declared.class.Class.TheVariants as Class
 use Rattle.mc_ast.specs.declared.trees.Comparison.TheVariants.{Equal, Unequal, Below, AtMost, Above, AtLeast}
 use Rattle.mc_ast.specs.Names.{IsMark, IsWord, IsName, IsNumber, is_in, is_same, is_reserved, mark_of}
 use Rattle.mc_ast.specs.Classes.{IsClass, grammar_marks, grammar_words}

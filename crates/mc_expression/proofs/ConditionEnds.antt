@@ -1,19 +1,17 @@
 -- Every condition that is begun can be completed.
-use Rattle.std.proofs.Common.{◌≡◌, ℕ, List, [], ◌∷◌, ◌++◌, refl, sym, subst}
+use Rattle.std.proofs.Common.{List, [], ◌∷◌, ◌++◌, refl}
 use Rattle.std.specs.Prelude.{codes}
 use Rattle.mc_base.specs.declared.plain.Place.{Place}
 use Rattle.mc_ast.specs.Trees.{Expr, null, value, parens, Cond, plain, compare, negation, enclosed, both, either}
-use Rattle.mc_ast.specs.Names.{Tokens, IsMark, name_of}
-use Rattle.mc_ast.specs.Grammar.{IsLeft, named, none, IsSum, sum_of, product, IsTerm, no_factor, no_term, IsOne, plain_one, no_both, no_either}
+use Rattle.mc_ast.specs.Names.{Tokens, name_of}
+use Rattle.mc_ast.specs.Grammar.{named, none, sum_of, product, no_factor, no_term, plain_one, no_both, no_either}
 use Rattle.mc_ast.specs.Readers.{CanEnd}
 use Rattle.mc_expression.specs.declared.condition.ConditionPending.{ConditionPending}
 use Rattle.mc_expression.specs.declared.condition.ConditionGroup.{ConditionGroup}
 use Rattle.mc_expression.specs.declared.condition.ConditionSpot.{ConditionSpot}
-use Rattle.mc_expression.specs.declared.condition.ConditionSpot.TheVariants as ConditionSpot
 use Rattle.mc_expression.specs.declared.condition.ConditionReader.{ConditionReader}
-use Rattle.mc_expression.specs.Turns.{InTurn, in_turn, Marked, marked}
-use Rattle.mc_expression.specs.Expressions.{BehindOperand}
-use Rattle.mc_expression.specs.Conditions.{denied, both_of, either_of, IsDenied, denied_variable, IsOperand, Joins, joins, MaybeCompared, alone, BehindParens, BehindClose, BehindCondition, AtConditionOperand, AtConditionSpot, CompletesCondition}
+use Rattle.mc_expression.specs.Turns.{in_turn, marked}
+use Rattle.mc_expression.specs.Conditions.{denied, both_of, either_of, denied_variable, IsOperand, Joins, joins, MaybeCompared, alone, BehindParens, BehindClose, BehindCondition, AtConditionSpot, CompletesCondition}
 use Rattle.mc_expression.proofs.Ends.{somewhere, mark_token, word_token, is_mark, x_is_name, null_reads, turn_ends, primary_can_end, expression_can_end}
 
 abbrev joined : ConditionPending → Cond → Cond

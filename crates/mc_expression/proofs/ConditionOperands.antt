@@ -1,35 +1,28 @@
 -- How operands of conditions begin.
-use Rattle.std.proofs.Common.{◌≡◌, ℕ, List, [], ◌∷◌, Option, Some, None, refl, ap, sym, ◌∙◌, subst}
+use Rattle.std.proofs.Common.{◌≡◌, List, [], ◌∷◌, Option, Some, None, refl, sym, ◌∙◌, subst}
 use Rattle.std.specs.Prelude.{codes}
 use Rattle.mc_base.specs.declared.plain.Place.{Place}
 use Rattle.mc_lex.specs.declared.token.Token.{Token}
 use Rattle.mc_ast.specs.declared.class.Class.{Class}
-use Rattle.mc_ast.specs.declared.class.Class.TheVariants as Class
 use Rattle.mc_ast.specs.declared.trees.LeftValue.{LeftValue}
 use Rattle.mc_ast.specs.declared.trees.Condition.{Condition}
 use Rattle.mc_ast.specs.Trees.{Left, Expr, value, input, parens, Cond, plain, compare, negation, enclosed, both, either}
 use Rattle.mc_ast.specs.Views.{left_of}
 use Rattle.mc_ast.specs.Names.{Tokens, IsMark, IsWord, IsName, name_of}
 use Rattle.mc_ast.specs.Classes.{IsClass}
-use Rattle.mc_ast.specs.Grammar.{Fields, IsLeft, named, IsUnary, negative, numeral, null_word, input_call, variable, in_parens, IsTerm, product, IsSum, sum_of, IsProper, IsBang, bang_bang, bang_variable, bang_input, bang_parens, IsOne, plain_one, comparison, negated, condition_parens, Boths, no_both, one_more, IsBoth, all_of, Eithers, no_either, or_else, IsCondition, any_of}
-use Rattle.mc_ast.specs.Readers.{IsStuckAt, IsSame}
+use Rattle.mc_ast.specs.Grammar.{Fields, named, negative, numeral, null_word, input_call, variable, in_parens, product, IsSum, sum_of, IsProper, IsBang, bang_bang, bang_variable, bang_input, bang_parens, IsOne, plain_one, comparison, negated, condition_parens, Boths, no_both, one_more, all_of, Eithers, no_either, or_else, IsCondition, any_of}
+use Rattle.mc_ast.specs.Readers.{IsStuckAt}
 use Rattle.mc_expression.specs.declared.primary.Primary.{Primary}
-use Rattle.mc_expression.specs.declared.primary.Primary.TheVariants as Primary
-use Rattle.mc_expression.specs.declared.expression.ExpressionReader.{ExpressionReader}
 use Rattle.mc_expression.specs.declared.condition.ConditionPending.{ConditionPending}
 use Rattle.mc_expression.specs.declared.condition.ConditionGroup.{ConditionGroup}
-use Rattle.mc_expression.specs.Turns.{InTurn, in_turn, Marked, marked, Moves}
+use Rattle.mc_expression.specs.Turns.{InTurn, in_turn, marked, Moves}
 use Rattle.mc_expression.specs.Primaries.{CompletesPrimary, behind_left, behind_input}
-use Rattle.mc_expression.specs.Expressions.{BehindOperand, CompletesExpression}
-use Rattle.mc_expression.specs.Conditions.{IsDenied, denied_bang, denied_variable, denied_input, denied_parens, IsOperand, Joins, joins, MaybeCompared, alone, compared, BehindParens, BehindCondition, AtConditionOperand, BeginsDenied}
+use Rattle.mc_expression.specs.Expressions.{BehindOperand}
+use Rattle.mc_expression.specs.Conditions.{nothing, IsDenied, denied_bang, denied_variable, denied_input, denied_parens, IsOperand, Joins, joins, MaybeCompared, alone, compared, BehindParens, BehindCondition, AtConditionOperand, BeginsDenied}
 use Rattle.mc_expression.proofs.Classes.{bang_is, before_is, name_is, input_is}
 use Rattle.mc_expression.proofs.Marks.{clash, mark_number, mark_word, mark_name, word_name}
 use Rattle.mc_expression.proofs.Operands.{StartsNone, no_unary}
 use Rattle.mc_expression.proofs.Turns.{SameAt}
-
--- nothing waits
-abbrev pub nothing : ConditionPending
-nothing = record { either = None; both = None; bangs = [] }
 
 -- no expression begins with `!`
 bang_starts_none : StartsNone Class.Bang

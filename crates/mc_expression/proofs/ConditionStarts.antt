@@ -7,8 +7,7 @@ use Rattle.mc_ast.specs.Readers.{IsSame}
 use Rattle.mc_expression.specs.declared.condition.ConditionPending.{ConditionPending}
 use Rattle.mc_expression.specs.declared.condition.ConditionGroup.{ConditionGroup}
 use Rattle.mc_expression.specs.Turns.{in_turn}
-use Rattle.mc_expression.specs.Conditions.{joins, AtConditionOperand}
-use Rattle.mc_expression.proofs.ConditionOperands.{nothing}
+use Rattle.mc_expression.specs.Conditions.{nothing, joins, AtConditionOperand}
 
 condition_forward : {tokens rest : Tokens} {x : Cond} → AtConditionOperand [] nothing tokens rest x → IsCondition x tokens rest
 condition_forward {rest = rest} {x = x} (in_turn o (joins {b = b} {d = d} {mid = mid} bs es (r, q))) =

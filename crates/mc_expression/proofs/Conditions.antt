@@ -1,29 +1,25 @@
 -- How conditions go on.
-use Rattle.std.proofs.Common.{◌≡◌, ℕ, List, [], ◌∷◌, Bool, true, false, ◌||◌, Option, Some, None, refl, ap, sym, ◌∙◌, subst, IsTrue, ◌⊎◌, inl, inr}
+use Rattle.std.proofs.Common.{◌≡◌, ℕ, List, [], ◌∷◌, Bool, true, false, ◌||◌, Some, None, refl, sym, subst, IsTrue, ◌⊎◌, inl, inr}
 use Rattle.std.specs.Prelude.{codes}
-use Rattle.mc_base.specs.declared.plain.Place.{Place}
 use Rattle.mc_lex.specs.declared.token.Token.{Token}
 use Rattle.mc_ast.specs.declared.class.Class.{Class}
-use Rattle.mc_ast.specs.declared.class.Class.TheVariants as Class
 use Rattle.mc_ast.specs.declared.trees.Condition.{Condition}
 use Rattle.mc_ast.specs.declared.trees.Comparison.{Comparison}
 use Rattle.mc_ast.specs.declared.trees.Comparison.TheVariants.{Equal, Unequal, Below, AtMost, Above, AtLeast}
-use Rattle.mc_ast.specs.Trees.{Expr, Cond, plain, compare, negation, enclosed, both, either}
+use Rattle.mc_ast.specs.Trees.{Expr, Cond, plain, compare, both, either}
 use Rattle.mc_ast.specs.Views.{condition_of}
 use Rattle.mc_ast.specs.Names.{Tokens, IsMark, is_in, is_same, mark_of}
-use Rattle.mc_ast.specs.Classes.{IsClass}
-use Rattle.mc_ast.specs.Grammar.{IsSum, IsOne, Boths, no_both, one_more, IsBoth, all_of, Eithers, no_either, or_else, IsCondition}
+use Rattle.mc_ast.specs.Grammar.{IsSum, Boths, no_both, one_more, all_of, Eithers, no_either, or_else}
 use Rattle.mc_ast.specs.Readers.{Takes, Finds, IsStuckAt, IsSame}
 use Rattle.mc_expression.specs.declared.condition.ConditionPending.{ConditionPending}
 use Rattle.mc_expression.specs.declared.condition.ConditionGroup.{ConditionGroup}
 use Rattle.mc_expression.specs.declared.condition.ConditionSpot.{ConditionSpot}
 use Rattle.mc_expression.specs.declared.condition.ConditionStep.{ConditionStep}
-use Rattle.mc_expression.specs.declared.condition.ConditionStep.TheVariants as ConditionStep
-use Rattle.mc_expression.specs.Turns.{InTurn, in_turn, Marked, marked, Moves}
+use Rattle.mc_expression.specs.Turns.{InTurn, in_turn, marked}
 use Rattle.mc_expression.specs.Primaries.{primary_marks}
 use Rattle.mc_expression.specs.Expressions.{expression_marks}
 use Rattle.mc_expression.specs.Conditions as Specs
-use Rattle.mc_expression.specs.Conditions.{denied, Joins, joins, MaybeCompared, alone, compared, BehindClose, BehindCondition, AtConditionOperand, AtConditionSpot, AtEither, CompletesCondition, StepsCondition, IsEnclosed, condition_marks}
+use Rattle.mc_expression.specs.Conditions.{denied, Joins, joins, MaybeCompared, alone, compared, BehindClose, BehindCondition, AtConditionOperand, AtConditionSpot, AtEither, StepsCondition, IsEnclosed, condition_marks}
 use Rattle.mc_expression.proofs.Classes.{compare_is}
 use Rattle.mc_expression.proofs.Marks.{clash, not_in, is_of, known_more}
 use Rattle.mc_expression.proofs.Turns.{SameAt, same_takes, same_finds, same_stuck, EndsAt}
@@ -109,10 +105,10 @@ close_takes_at all gs below g w spot token e f m s =
     let Q : List ConditionGroup → Type 0 = λ b. Takes condition_marks (AtEither (g ∷ gs) w) (AtConditionSpot spot b g.outer) token in
     subst P (sym e) (subst Q (sym f) (close_takes g gs w spot token m s))
 
-pub steps_same : {now other : Tokens → Tokens → Cond → Type 0} {token : Token} (step : ConditionStep) → SameAt now other token → StepsCondition other token step → StepsCondition now token step
-steps_same (ConditionStep.Taken r) s t = same_takes s t
-steps_same (ConditionStep.Found e) s t = same_finds s t
-steps_same ConditionStep.Stuck s t = same_stuck s t
+pub steps_same : {now other : Tokens → Tokens → Cond → Type 0} {token : Token} (behind : Tokens → Tokens → Cond → Type 0) (step : ConditionStep) → SameAt now other token → StepsCondition other behind token step → StepsCondition now behind token step
+steps_same behind ConditionStep.Taken s t = same_takes s t
+steps_same behind (ConditionStep.Found e) s t = same_finds s t
+steps_same behind ConditionStep.Stuck s t = same_stuck s t
 
 -- comparisons
 compare_known : (k : Comparison) → is_in condition_marks (mark_of k) ≡ true

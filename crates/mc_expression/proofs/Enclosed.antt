@@ -13,7 +13,7 @@ use Rattle.mc_expression.specs.declared.condition.ConditionPending.{ConditionPen
 use Rattle.mc_expression.specs.declared.condition.ConditionSpot.TheVariants as ConditionSpot
 use Rattle.mc_expression.specs.Turns.{InTurn, in_turn}
 use Rattle.mc_expression.specs.Expressions.{BehindOperand, CompletesExpression}
-use Rattle.mc_expression.specs.Conditions.{Joins, MaybeCompared, BehindParens, BehindClose, BehindCondition, AtConditionSpot, IsEnclosed}
+use Rattle.mc_expression.specs.Conditions.{Joins, BehindParens, BehindClose, BehindCondition, AtConditionSpot, IsEnclosed}
 
 turn_forward : {X Y : Type 0} {first other : Tokens → Tokens → X → Type 0} {next : X → Tokens → Tokens → Y → Type 0} {tokens rest : Tokens} {y : Y} → IsSame first other → InTurn first next tokens rest y → InTurn other next tokens rest y
 turn_forward {tokens = tokens} s (in_turn {x = x} {mid = mid} f n) = in_turn (s.forward tokens mid x f) n

@@ -1,23 +1,21 @@
 -- Every expression that is begun can be completed.
-use Rattle.std.proofs.Common.{◌≡◌, ℕ, List, [], ◌∷◌, ◌++◌, append_assoc, refl, sym, subst}
+use Rattle.std.proofs.Common.{ℕ, List, [], ◌∷◌, ◌++◌, append_assoc, refl, sym, subst}
 use Rattle.std.specs.Prelude.{codes}
 use Rattle.mc_base.specs.declared.plain.Place.{Place}
 use Rattle.mc_lex.specs.declared.token.Token.{Token}
 use Rattle.mc_lex.specs.declared.token.TokenKind.TheVariants as TokenKind
-use Rattle.mc_ast.specs.Trees.{Left, Expr, parens, null, input, value}
-use Rattle.mc_ast.specs.Names.{Tokens, IsMark, IsWord, IsName}
-use Rattle.mc_ast.specs.Grammar.{Fields, none, IsUnary, null_word, no_factor, no_term}
+use Rattle.mc_ast.specs.Trees.{Expr, parens, null, input}
+use Rattle.mc_ast.specs.Names.{Tokens, IsMark, IsName}
+use Rattle.mc_ast.specs.Grammar.{none, IsUnary, null_word, no_factor, no_term}
 use Rattle.mc_ast.specs.Readers.{CanEnd}
 use Rattle.mc_expression.specs.declared.primary.Primary.{Primary}
-use Rattle.mc_expression.specs.declared.primary.Primary.TheVariants as Primary
 use Rattle.mc_expression.specs.declared.expression.Pending.{Pending}
 use Rattle.mc_expression.specs.declared.expression.Group.{Group}
 use Rattle.mc_expression.specs.declared.expression.Spot.{Spot}
-use Rattle.mc_expression.specs.declared.expression.Spot.TheVariants as Spot
 use Rattle.mc_expression.specs.declared.expression.ExpressionReader.{ExpressionReader}
-use Rattle.mc_expression.specs.Turns.{InTurn, in_turn, Marked, marked}
+use Rattle.mc_expression.specs.Turns.{InTurn, in_turn, marked}
 use Rattle.mc_expression.specs.Primaries.{CompletesPrimary, behind_left, behind_arrow, behind_input, behind_open}
-use Rattle.mc_expression.specs.Expressions.{negated, product_of, sum_of, GoesOn, goes_on, Behind, AtOperand, AtSpot, CompletesExpression}
+use Rattle.mc_expression.specs.Expressions.{negated, product_of, sum_of, GoesOn, goes_on, Behind, AtSpot, CompletesExpression}
 
 abbrev pub somewhere : Place
 somewhere = record { line = 1; column = 1 }

@@ -1,32 +1,23 @@
 -- How expressions go on.
-use Rattle.std.proofs.Common.{◌≡◌, ℕ, List, [], ◌∷◌, ◌++◌, Bool, true, false, Option, Some, None, refl, ap, sym, ◌∙◌, subst, IsTrue, ◌⊎◌, inl, inr, arith}
+use Rattle.std.proofs.Common.{◌≡◌, List, [], ◌∷◌, Some, None, refl, sym, subst, IsTrue, ◌⊎◌, inl, inr}
 use Rattle.std.specs.Prelude.{codes}
-use Rattle.mc_base.specs.declared.plain.Place.{Place}
 use Rattle.mc_lex.specs.declared.token.Token.{Token}
 use Rattle.mc_ast.specs.declared.trees.Expression.{Expression}
-use Rattle.mc_ast.specs.declared.trees.LeftValue.{LeftValue}
-use Rattle.mc_ast.specs.Trees.{Left, Expr, number, null, input, value, minus, parens, times, plus, less}
-use Rattle.mc_ast.specs.Views.{expression_of, left_of}
-use Rattle.mc_ast.specs.Names.{Tokens, IsMark, IsWord, IsName, IsNumber, name_of, is_in}
-use Rattle.mc_ast.specs.Grammar.{Fields, IsLeft, named, IsUnary, negative, numeral, null_word, input_call, variable, in_parens, Factors, no_factor, factor, IsTerm, product, Terms, no_term, added, taken, IsSum, sum_of}
-use Rattle.mc_ast.specs.Readers.{Takes, Finds, IsStuckAt, IsSame}
-use Rattle.mc_expression.specs.declared.primary.Primary.TheVariants as Primary
+use Rattle.mc_ast.specs.Trees.{Expr, parens, times}
+use Rattle.mc_ast.specs.Views.{expression_of}
+use Rattle.mc_ast.specs.Names.{Tokens, IsMark, is_in}
+use Rattle.mc_ast.specs.Grammar.{Factors, no_factor, factor, product, Terms, no_term, added, taken}
+use Rattle.mc_ast.specs.Readers.{Takes, Finds, IsStuckAt}
 use Rattle.mc_expression.specs.declared.expression.Summed.{Summed}
-use Rattle.mc_expression.specs.declared.expression.Summed.TheVariants as Summed
 use Rattle.mc_expression.specs.declared.expression.Pending.{Pending}
 use Rattle.mc_expression.specs.declared.expression.Group.{Group}
 use Rattle.mc_expression.specs.declared.expression.ExpressionStep.{ExpressionStep}
-use Rattle.mc_expression.specs.declared.expression.ExpressionStep.TheVariants as ExpressionStep
-use Rattle.mc_expression.specs.Turns.{InTurn, in_turn, Marked, marked, Moves}
-use Rattle.mc_expression.specs.Primaries.{CompletesPrimary, behind_left, behind_input, primary_marks}
+use Rattle.mc_expression.specs.Turns.{InTurn, in_turn, marked}
+use Rattle.mc_expression.specs.Primaries.{primary_marks}
 use Rattle.mc_expression.specs.Expressions as Specs
-use Rattle.mc_expression.specs.Expressions.{negated, product_of, GoesOn, goes_on, Behind, AtSum, AtOperand, BehindOperand, BehindName, expression_marks, CompletesExpression, StepsExpression}
+use Rattle.mc_expression.specs.Expressions.{nothing, negated, product_of, GoesOn, goes_on, Behind, AtSum, AtOperand, BehindOperand, BehindName, expression_marks, StepsExpression}
 use Rattle.mc_expression.proofs.Marks.{clash, not_in, is_of, known_more}
 use Rattle.mc_expression.proofs.Turns.{SameAt, same_takes, same_finds, same_stuck, EndsAt}
-
--- nothing waits
-abbrev pub nothing : Pending
-nothing = record { sum = None; factor = None; minuses = [] }
 
 pub behind_ends : (gs : List Group) (s : Expr) (token : Token) (tokens rest : Tokens) (e : Expr) → (IsMark (codes ")") token → ⊥) → Behind gs s (token ∷ tokens) rest e → rest ≡ token ∷ tokens
 behind_ends [] s token tokens rest e other h = h.0
@@ -120,20 +111,15 @@ close_takes_at all gs below g s x token e f h c =
 pub close_finds_at : (all : List Group) (s : Expr) (token : Token) → all ≡ [] → IsMark (codes ")") token → Finds (AtSum all s) token s
 close_finds_at all s token e c = let P : List Group → Type 0 = λ a. Finds (AtSum a s) token s in subst P (sym e) (close_finds s token c)
 
-pub steps_same : {now other : Tokens → Tokens → Expr → Type 0} {token : Token} (step : ExpressionStep) → SameAt now other token → StepsExpression other token step → StepsExpression now token step
-steps_same (ExpressionStep.Taken r) s t = same_takes s t
-steps_same (ExpressionStep.Found e) s t = same_finds s t
-steps_same ExpressionStep.Stuck s t = same_stuck s t
+pub steps_same : {now other : Tokens → Tokens → Expr → Type 0} {token : Token} (behind : Tokens → Tokens → Expr → Type 0) (step : ExpressionStep) → SameAt now other token → StepsExpression other behind token step → StepsExpression now behind token step
+steps_same behind ExpressionStep.Taken s t = same_takes s t
+steps_same behind (ExpressionStep.Found e) s t = same_finds s t
+steps_same behind ExpressionStep.Stuck s t = same_stuck s t
 
 pub sum_same : (gs : List Group) (pending : Pending) (u s : Expr) (token : Token) → (IsMark (codes "*") token → ⊥) → s ≡ Specs.sum_of pending.sum (product_of pending.factor (negated pending.minuses u)) → SameAt (GoesOn pending u (Behind gs)) (AtSum gs s) token
 sum_same gs pending u s token other e =
     let P : Expr → Type 0 = λ x. SameAt (GoesOn pending u (Behind gs)) (AtSum gs x) token in
     subst P (sym e) (record { forward = λ tokens rest x h. without_star other h; backward = λ tokens rest x h. with_sum h })
-
-pub sum_same_at : (gs below : List Group) (pending : Pending) (u s : Expr) (token : Token) → below ≡ gs → (IsMark (codes "*") token → ⊥) → s ≡ Specs.sum_of pending.sum (product_of pending.factor (negated pending.minuses u)) → SameAt (GoesOn pending u (Behind gs)) (AtSum below s) token
-sum_same_at gs below pending u s token b other e =
-    let P : List Group → Type 0 = λ a. SameAt (GoesOn pending u (Behind gs)) (AtSum a s) token in
-    subst P (sym b) (sum_same gs pending u s token other e)
 
 -- behind `->` nothing goes on but fields
 pub primary_ends : (gs : List Group) (pending : Pending) (token : Token) → EndsAt primary_marks expression_marks (λ u. GoesOn pending u (Behind gs)) token

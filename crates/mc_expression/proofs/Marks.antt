@@ -1,7 +1,7 @@
 -- A token is one mark.
 use Rattle.mc_expression.specs.Primaries.{primary_marks}
 use Rattle.mc_expression.specs.Expressions.{expression_marks}
-use Rattle.std.proofs.Common.{◌≡◌, ◌||◌, ℕ, List, [], ◌∷◌, ◌++◌, Bool, true, false, refl, ap, sym, ◌∙◌, subst, IsTrue, ◌⊎◌, inl, inr, arith}
+use Rattle.std.proofs.Common.{◌≡◌, ◌||◌, ℕ, List, Bool, true, false, refl, ap, sym, ◌∙◌, IsTrue}
 use Rattle.std.specs.Prelude.{codes}
 use Rattle.mc_lex.specs.declared.token.Token.{Token}
 use Rattle.mc_ast.specs.Names.{IsMark, IsWord, IsName, IsNumber, is_in, is_same, is_reserved}

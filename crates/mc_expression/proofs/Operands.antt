@@ -1,26 +1,24 @@
 -- How operands begin.
-use Rattle.std.proofs.Common.{◌≡◌, ℕ, List, [], ◌∷◌, ◌++◌, Bool, true, false, Option, Some, None, refl, ap, sym, ◌∙◌, subst, IsTrue, ◌⊎◌, inl, inr, arith}
+use Rattle.std.proofs.Common.{◌≡◌, ℕ, List, [], ◌∷◌, refl, sym, subst}
 use Rattle.std.specs.Prelude.{codes}
 use Rattle.mc_base.specs.declared.plain.Place.{Place}
 use Rattle.mc_lex.specs.declared.token.Token.{Token}
 use Rattle.mc_ast.specs.declared.trees.LeftValue.{LeftValue}
 use Rattle.mc_ast.specs.declared.class.Class.{Class}
-use Rattle.mc_ast.specs.declared.class.Class.TheVariants as Class
-use Rattle.mc_ast.specs.Trees.{Left, Expr, number, null, input, value, minus, parens}
-use Rattle.mc_ast.specs.Views.{expression_of, left_of}
+use Rattle.mc_ast.specs.Trees.{Left, Expr, number, null}
+use Rattle.mc_ast.specs.Views.{left_of}
 use Rattle.mc_ast.specs.Names.{Tokens, IsMark, IsWord, IsName, IsNumber, name_of}
 use Rattle.mc_ast.specs.Classes.{IsClass}
-use Rattle.mc_ast.specs.Grammar.{Fields, IsLeft, named, IsUnary, negative, numeral, null_word, input_call, variable, in_parens, IsTerm, product, IsSum, sum_of}
+use Rattle.mc_ast.specs.Grammar.{Fields, named, IsUnary, negative, numeral, null_word, input_call, variable, in_parens, product, sum_of}
 use Rattle.mc_ast.specs.Readers.{IsStuckAt}
 use Rattle.mc_expression.specs.declared.primary.Primary.TheVariants as Primary
 use Rattle.mc_expression.specs.declared.expression.Pending.{Pending}
 use Rattle.mc_expression.specs.declared.expression.Group.{Group}
-use Rattle.mc_expression.specs.Turns.{InTurn, in_turn, Marked, marked, Moves}
+use Rattle.mc_expression.specs.Turns.{InTurn, in_turn, marked, Moves}
 use Rattle.mc_expression.specs.Primaries.{CompletesPrimary, behind_left, behind_input}
-use Rattle.mc_expression.specs.Expressions.{GoesOn, goes_on, Behind, AtOperand}
+use Rattle.mc_expression.specs.Expressions.{nothing, GoesOn, goes_on, Behind, AtOperand}
 use Rattle.mc_expression.proofs.Classes.{minus_is, before_is, name_is, number_is, null_is, input_is, one_number}
 use Rattle.mc_expression.proofs.Marks.{clash, mark_number, mark_word, mark_name, number_word, number_name, word_name, word_clash}
-use Rattle.mc_expression.proofs.Expressions.{nothing}
 
 -- `-`
 negate_forward : (gs : List Group) {pending : Pending} {token : Token} {tokens rest : Tokens} {e : Expr} → IsMark (codes "-") token → AtOperand gs pending (token ∷ tokens) rest e → AtOperand gs (record { sum = pending.sum; factor = pending.factor; minuses = token.place ∷ pending.minuses }) tokens rest e

@@ -1,21 +1,16 @@
 -- How variables, fields and `input()` go on.
-use Rattle.std.proofs.Common.{◌≡◌, ℕ, List, [], ◌∷◌, ◌++◌, Bool, true, false, refl, ap, sym, ◌∙◌, subst, IsTrue, ◌⊎◌, inl, inr, arith}
+use Rattle.std.proofs.Common.{◌≡◌, [], ◌∷◌, ◌++◌, refl, sym, subst, IsTrue, ◌⊎◌, inl, inr}
 use Rattle.std.specs.Prelude.{codes}
 use Rattle.mc_base.specs.declared.plain.Place.{Place}
 use Rattle.mc_lex.specs.declared.token.Token.{Token}
 use Rattle.mc_ast.specs.declared.trees.LeftValue.{LeftValue}
-use Rattle.mc_ast.specs.declared.class.Class.{Class}
-use Rattle.mc_ast.specs.declared.class.Class.TheVariants as Class
 use Rattle.mc_ast.specs.Trees.{Left, Expr, input, value}
 use Rattle.mc_ast.specs.Views.{left_of}
 use Rattle.mc_ast.specs.Names.{Tokens, IsMark, IsName, name_of, is_in}
-use Rattle.mc_ast.specs.Classes.{IsClass}
 use Rattle.mc_ast.specs.Grammar.{Fields, none, more}
-use Rattle.mc_ast.specs.Readers.{Takes, Finds, Closes, IsStuckAt}
+use Rattle.mc_ast.specs.Readers.{Takes, Finds, Closes}
 use Rattle.mc_expression.specs.declared.primary.Primary.{Primary}
-use Rattle.mc_expression.specs.declared.primary.Primary.TheVariants as Primary
 use Rattle.mc_expression.specs.Primaries.{CompletesPrimary, behind_left, behind_arrow, behind_input, behind_open, primary_marks}
-use Rattle.mc_expression.proofs.Classes.{arrow_is, before_is, after_is, name_is}
 use Rattle.mc_expression.proofs.Marks.{is_of}
 
 open_forward : {place : Place} {token : Token} {tokens rest : Tokens} {x : Expr} → CompletesPrimary (Primary.InputOpen place) (token ∷ tokens) rest x → (rest ≡ tokens) × (x ≡ input place)

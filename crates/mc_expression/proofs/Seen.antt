@@ -1,11 +1,9 @@
 -- What expressions and conditions are seen as.
-use Rattle.std.proofs.Common.{◌≡◌, ℕ, refl, ap, sym, ◌∙◌}
+use Rattle.std.proofs.Common.{◌≡◌, ℕ, ap, sym, ◌∙◌}
 use Rattle.mc_base.specs.declared.plain.Place.{Place}
 use Rattle.mc_ast.specs.declared.trees.LeftValue.{LeftValue}
 use Rattle.mc_ast.specs.declared.trees.Expression.{Expression}
-use Rattle.mc_ast.specs.declared.trees.Expression.TheVariants as Expression
 use Rattle.mc_ast.specs.declared.trees.Expression.TheVariants.{rolls-Input, rolls-Null, rolls-Number, rolls-Value}
-use Rattle.mc_ast.specs.declared.trees.Expression.TheOpen.{Expression-F}
 use Rattle.mc_ast.specs.declared.trees.Expression.TheFolds.{fold-roll-Expression}
 use Rattle.mc_ast.specs.Trees.{Expr, number, null, input, value}
 use Rattle.mc_ast.specs.Views.{expression_of, expression_step, left_of}

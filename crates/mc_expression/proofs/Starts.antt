@@ -1,21 +1,15 @@
 -- What the readers begin with.
-use Rattle.std.proofs.Common.{◌≡◌, ℕ, List, [], ◌∷◌, ◌++◌, Option, Some, None, refl, ap, sym, ◌∙◌, subst}
-use Rattle.mc_lex.specs.declared.token.Token.{Token}
-use Rattle.mc_ast.specs.declared.trees.Name.{Name}
+use Rattle.std.proofs.Common.{[], refl, sym, subst}
 use Rattle.mc_ast.specs.declared.trees.LeftValue.{LeftValue}
-use Rattle.mc_ast.specs.Trees.{Left, Expr, value}
+use Rattle.mc_ast.specs.Trees.{Expr, value}
 use Rattle.mc_ast.specs.Views.{left_of}
 use Rattle.mc_ast.specs.Names.{Tokens}
-use Rattle.mc_ast.specs.Grammar.{Fields, IsUnary, Factors, IsTerm, product, Terms, IsSum, sum_of}
+use Rattle.mc_ast.specs.Grammar.{Fields, product, Terms, IsSum, sum_of}
 use Rattle.mc_ast.specs.Readers.{IsSame}
 use Rattle.mc_expression.specs.declared.primary.Primary.TheVariants as Primary
-use Rattle.mc_expression.specs.Turns.{InTurn, in_turn, Moves}
+use Rattle.mc_expression.specs.Turns.{InTurn, in_turn}
 use Rattle.mc_expression.specs.Primaries.{CompletesPrimary, behind_left}
-use Rattle.mc_expression.specs.Expressions.{Begins, CompletesExpression, GoesOn, goes_on, Behind, AtOperand, BehindOperand, BehindName}
-use Rattle.mc_expression.specs.declared.expression.Pending.{Pending}
-use Rattle.mc_expression.specs.declared.expression.Group.{Group}
-use Rattle.mc_expression.specs.declared.expression.ExpressionReader.{ExpressionReader}
-use Rattle.mc_expression.proofs.Expressions.{nothing}
+use Rattle.mc_expression.specs.Expressions.{nothing, GoesOn, goes_on, Behind, AtOperand, BehindOperand}
 
 operand_forward : {u : Expr} {tokens rest : Tokens} {e : Expr} → GoesOn nothing u (Behind []) tokens rest e → BehindOperand u tokens rest e
 operand_forward {tokens = tokens} {rest = rest} {e = e} (goes_on {t = t} {s = s} {mid = mid} {more = more} f ts (r, q)) =
@@ -49,19 +43,3 @@ name_backward (in_turn f g) = in_turn (behind_left f) (operand_backward g)
 
 pub name_same : (l : LeftValue) → IsSame (InTurn (CompletesPrimary (Primary.Left l)) (λ u. GoesOn nothing u (Behind []))) (InTurn (λ tokens rest k. Fields (left_of l) tokens k rest) (λ k. BehindOperand (value k)))
 name_same l = record { forward = λ tokens rest x h. name_forward h; backward = λ tokens rest x h. name_backward h }
-
-begins_some : (r : ExpressionReader) (token : Token) → Moves (AtOperand [] nothing) (CompletesExpression r) token → Moves (λ tokens rest e. IsSum e tokens rest) (CompletesExpression r) token
-begins_some r token m = record {
-  forward = λ tokens rest x h. m.forward tokens rest x (sum_backward h);
-  backward = λ tokens rest x h. sum_forward (m.backward tokens rest x h);
-}
-
-begins_sum : (begun : Option ExpressionReader) (token : Token) → Begins (AtOperand [] nothing) token begun → Begins (λ tokens rest e. IsSum e tokens rest) token begun
-begins_sum None token h = λ tokens rest x i. h tokens rest x (sum_backward i)
-begins_sum (Some r) token h = begins_some r token h
-
-pub begins_at : (groups : List Group) (pending : Pending) (begun : Option ExpressionReader) (token : Token) → groups ≡ [] → pending ≡ nothing → Begins (AtOperand groups pending) token begun → Begins (λ tokens rest e. IsSum e tokens rest) token begun
-begins_at groups pending begun token g p h =
-    let G : List Group → Type 0 = λ gs. Begins (AtOperand gs pending) token begun in
-    let P : Pending → Type 0 = λ q. Begins (AtOperand [] q) token begun in
-    begins_sum begun token (subst P p (subst G g h))

@@ -1,14 +1,17 @@
 -- How relations that follow one another take a token.
-use Rattle.std.proofs.Common.{◌≡◌, ℕ, List, [], ◌∷◌, refl, ap, sym, ◌∙◌, subst, IsTrue, ◌⊎◌, inl, inr, ⊎_elim}
+use Rattle.std.proofs.Common.{◌≡◌, ℕ, List, ◌∷◌, subst, IsTrue, ◌⊎◌, inl, inr, ⊎_elim}
 use Rattle.mc_lex.specs.declared.token.Token.{Token}
 use Rattle.mc_ast.specs.Names.{Tokens, is_in}
-use Rattle.mc_ast.specs.Readers.{Takes, Finds, Closes, IsStuckAt}
+use Rattle.mc_ast.specs.Readers.{Takes, Finds, Closes, IsStuckAt, IsSame}
 use Rattle.mc_expression.specs.Turns.{InTurn, in_turn, Moves}
 
 -- two relations say the same where the token comes next
 pub record SameAt {X : Type 0} (now other : Tokens → Tokens → X → Type 0) (token : Token) : Type 0 where
   pub forward : (tokens rest : Tokens) (x : X) → now (token ∷ tokens) rest x → other (token ∷ tokens) rest x
   pub backward : (tokens rest : Tokens) (x : X) → other (token ∷ tokens) rest x → now (token ∷ tokens) rest x
+
+pub same_at : {X : Type 0} {now other : Tokens → Tokens → X → Type 0} (token : Token) → IsSame now other → SameAt other now token
+same_at token s = record { forward = λ tokens rest x h. s.backward (token ∷ tokens) rest x h; backward = λ tokens rest x h. s.forward (token ∷ tokens) rest x h }
 
 pub same_takes : {X : Type 0} {marks : List (List ℕ)} {now other later : Tokens → Tokens → X → Type 0} {token : Token} → SameAt now other token → Takes marks other later token → Takes marks now later token
 same_takes s t = record {
@@ -25,12 +28,6 @@ same_finds {token = token} {x = x} s t = record {
 pub same_stuck : {X : Type 0} {now other : Tokens → Tokens → X → Type 0} {token : Token} → SameAt now other token → IsStuckAt other token → IsStuckAt now token
 same_stuck s t tokens rest x h = t tokens rest x (s.forward tokens rest x h)
 
-pub same_moves : {X : Type 0} {now other later : Tokens → Tokens → X → Type 0} {token : Token} → SameAt now other token → Moves other later token → Moves now later token
-same_moves s t = record {
-  forward = λ tokens rest x h. t.forward tokens rest x (s.forward tokens rest x h);
-  backward = λ tokens rest x h. s.backward tokens rest x (t.backward tokens rest x h);
-}
-
 pub moves_takes : {X : Type 0} {marks : List (List ℕ)} {now later : Tokens → Tokens → X → Type 0} {token : Token} → Moves now later token → Takes marks now later token
 moves_takes t = record { forward = λ tokens rest x h. inl (t.forward tokens rest x h); backward = t.backward }
 
@@ -39,15 +36,6 @@ turn_stuck_at {tokens = tokens} s (in_turn {x = x} {mid = mid} f n) = s tokens m
 
 pub turn_stuck : {X Y : Type 0} {first : Tokens → Tokens → X → Type 0} {next : X → Tokens → Tokens → Y → Type 0} {token : Token} → IsStuckAt first token → IsStuckAt (InTurn first next) token
 turn_stuck s tokens rest y h = turn_stuck_at s h
-
-turn_moves_forward : {X Y : Type 0} {first later : Tokens → Tokens → X → Type 0} {next : X → Tokens → Tokens → Y → Type 0} {token : Token} {tokens rest : Tokens} {y : Y} → Moves first later token → InTurn first next (token ∷ tokens) rest y → InTurn later next tokens rest y
-turn_moves_forward {tokens = tokens} s (in_turn {x = x} {mid = mid} f n) = in_turn (s.forward tokens mid x f) n
-
-turn_moves_backward : {X Y : Type 0} {first later : Tokens → Tokens → X → Type 0} {next : X → Tokens → Tokens → Y → Type 0} {token : Token} {tokens rest : Tokens} {y : Y} → Moves first later token → InTurn later next tokens rest y → InTurn first next (token ∷ tokens) rest y
-turn_moves_backward {tokens = tokens} s (in_turn {x = x} {mid = mid} f n) = in_turn (s.backward tokens mid x f) n
-
-pub turn_moves : {X Y : Type 0} {first later : Tokens → Tokens → X → Type 0} {next : X → Tokens → Tokens → Y → Type 0} {token : Token} → Moves first later token → Moves (InTurn first next) (InTurn later next) token
-turn_moves s = record { forward = λ tokens rest y h. turn_moves_forward s h; backward = λ tokens rest y h. turn_moves_backward s h }
 
 closes_forward : {X Y : Type 0} {first : Tokens → Tokens → X → Type 0} {next : X → Tokens → Tokens → Y → Type 0} {token : Token} {x : X} {tokens rest : Tokens} {y : Y} → Closes first token x → InTurn first next (token ∷ tokens) rest y → next x tokens rest y
 closes_forward {X = X} {next = next} {x = x} {tokens = tokens} {rest = rest} {y = y} s (in_turn {x = z} {mid = mid} f n) =

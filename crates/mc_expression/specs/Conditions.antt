@@ -1,5 +1,5 @@
 -- What completes a condition of which some tokens are read.
-use Rattle.std.specs.Prelude.{◌≡◌, ℕ, List, [], ◌∷◌, Option, Some, None, Result, Ok, Err, codes}
+use Rattle.std.specs.Prelude.{◌≡◌, ℕ, List, [], ◌∷◌, ⊤, Option, Some, None, Result, Ok, Err, codes}
 use Rattle.mc_base.specs.declared.plain.Place.{Place}
 use Rattle.mc_lex.specs.declared.token.Token.{Token}
 use Rattle.mc_ast.specs.declared.trees.Condition.{Condition}
@@ -12,14 +12,11 @@ use Rattle.mc_ast.specs.Grammar.{IsLeft, IsSum, IsProper, IsBang, IsOne, Boths, 
 use Rattle.mc_ast.specs.Readers.{Takes, Finds, IsStuckAt, IsSame}
 use Rattle.mc_expression.specs.declared.primary.Primary.{Primary}
 use Rattle.mc_expression.specs.declared.condition.Whole.{Whole}
-use Rattle.mc_expression.specs.declared.condition.Whole.TheVariants as Whole
 use Rattle.mc_expression.specs.declared.condition.ConditionPending.{ConditionPending}
 use Rattle.mc_expression.specs.declared.condition.ConditionGroup.{ConditionGroup}
 use Rattle.mc_expression.specs.declared.condition.ConditionSpot.{ConditionSpot}
-use Rattle.mc_expression.specs.declared.condition.ConditionSpot.TheVariants as ConditionSpot
 use Rattle.mc_expression.specs.declared.condition.ConditionReader.{ConditionReader}
 use Rattle.mc_expression.specs.declared.condition.ConditionStep.{ConditionStep}
-use Rattle.mc_expression.specs.declared.condition.ConditionStep.TheVariants as ConditionStep
 use Rattle.mc_expression.specs.Turns.{InTurn, Marked, Moves}
 use Rattle.mc_expression.specs.Primaries.{CompletesPrimary}
 use Rattle.mc_expression.specs.Expressions.{CompletesExpression, BehindOperand}
@@ -32,6 +29,10 @@ whole_of (Whole.Not place c) = negation place (condition_of c)
 whole_of (Whole.Parens place c) = enclosed place (condition_of c)
 whole_of (Whole.Both a b) = both (condition_of a) (condition_of b)
 whole_of (Whole.Either a b) = either (condition_of a) (condition_of b)
+
+-- nothing waits
+abbrev pub nothing : ConditionPending
+nothing = record { either = None; both = None; bangs = [] }
 
 -- a condition with the `!` signs before it, of which the last comes first
 abbrev pub denied : List Place → Cond → Cond
@@ -95,6 +96,22 @@ AtConditionSpot (ConditionSpot.Sum r) groups pending = InTurn (CompletesExpressi
 AtConditionSpot (ConditionSpot.Compared side r) groups pending = InTurn (CompletesExpression r) (λ b. Joins pending (compare side.mark (expression_of side.left) b) (BehindCondition groups))
 AtConditionSpot (ConditionSpot.Whole c) groups pending = Joins pending (whole_of c) (BehindCondition groups)
 
+-- no reader of expressions stands here
+abbrev pub HasNoReader : ConditionSpot → Type 0
+HasNoReader ConditionSpot.Operand = ⊤
+HasNoReader (ConditionSpot.Primary p) = ⊤
+HasNoReader (ConditionSpot.Sum r) = ⊥
+HasNoReader (ConditionSpot.Compared side r) = ⊥
+HasNoReader (ConditionSpot.Whole c) = ⊤
+
+-- the comparison with this right side, where one is read
+abbrev pub at_right : ConditionSpot → Expr → Cond
+at_right ConditionSpot.Operand b = plain b
+at_right (ConditionSpot.Primary p) b = plain b
+at_right (ConditionSpot.Sum r) b = plain b
+at_right (ConditionSpot.Compared side r) b = compare side.mark (expression_of side.left) b
+at_right (ConditionSpot.Whole c) b = plain b
+
 -- these tokens, up to the rest, complete what is read to the condition c
 abbrev pub CompletesCondition : ConditionReader → Tokens → Tokens → Cond → Type 0
 CompletesCondition r = AtConditionSpot r.spot r.groups r.pending
@@ -107,16 +124,11 @@ AtEither groups c = InTurn (λ tokens rest d. Eithers c tokens d rest) (BehindCo
 abbrev pub condition_marks : List (List ℕ)
 condition_marks = codes "+" ∷ codes "-" ∷ codes "*" ∷ codes "->" ∷ codes "==" ∷ codes "!=" ∷ codes "<" ∷ codes "<=" ∷ codes ">" ∷ codes ">=" ∷ codes "&&" ∷ codes "||" ∷ []
 
--- what a step says of what is read
-abbrev pub StepsCondition : (Tokens → Tokens → Cond → Type 0) → Token → ConditionStep → Type 0
-StepsCondition now token (ConditionStep.Taken r) = Takes condition_marks now (CompletesCondition r) token
-StepsCondition now token (ConditionStep.Found c) = Finds now token (condition_of c)
-StepsCondition now token ConditionStep.Stuck = IsStuckAt now token
-
--- the same of the first token of an operand, which completes nothing
-abbrev pub BeginsCondition : (Tokens → Tokens → Cond → Type 0) → Token → Option ConditionReader → Type 0
-BeginsCondition now token None = IsStuckAt now token
-BeginsCondition now token (Some r) = Moves now (CompletesCondition r) token
+-- what a step says of what completes the reader now, and behind the token
+abbrev pub StepsCondition : (now behind : Tokens → Tokens → Cond → Type 0) → Token → ConditionStep → Type 0
+StepsCondition now behind token ConditionStep.Taken = Takes condition_marks now behind token
+StepsCondition now behind token (ConditionStep.Found c) = Finds now token (condition_of c)
+StepsCondition now behind token ConditionStep.Stuck = IsStuckAt now token
 
 -- a whole condition is a plain expression, or stays as it is
 abbrev pub IsSeen : Whole → Result Expression Whole → Type 0

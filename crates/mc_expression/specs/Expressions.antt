@@ -4,22 +4,23 @@ use Rattle.mc_base.specs.declared.plain.Place.{Place}
 use Rattle.mc_lex.specs.declared.token.Token.{Token}
 use Rattle.mc_ast.specs.declared.trees.Name.{Name}
 use Rattle.mc_ast.specs.declared.trees.Expression.{Expression}
-use Rattle.mc_ast.specs.Trees.{Left, Expr, value, minus, parens, times, plus, less}
+use Rattle.mc_ast.specs.Trees.{Expr, value, minus, parens, times, plus, less}
 use Rattle.mc_ast.specs.Views.{expression_of}
-use Rattle.mc_ast.specs.Names.{Tokens, IsMark}
-use Rattle.mc_ast.specs.Grammar.{Fields, IsUnary, Factors, Terms, IsSum}
+use Rattle.mc_ast.specs.Names.{Tokens}
+use Rattle.mc_ast.specs.Grammar.{Fields, IsUnary, Factors, Terms}
 use Rattle.mc_ast.specs.Readers.{Takes, Finds, IsStuckAt}
 use Rattle.mc_expression.specs.declared.expression.Summed.{Summed}
-use Rattle.mc_expression.specs.declared.expression.Summed.TheVariants as Summed
 use Rattle.mc_expression.specs.declared.expression.Pending.{Pending}
 use Rattle.mc_expression.specs.declared.expression.Group.{Group}
 use Rattle.mc_expression.specs.declared.expression.Spot.{Spot}
-use Rattle.mc_expression.specs.declared.expression.Spot.TheVariants as Spot
 use Rattle.mc_expression.specs.declared.expression.ExpressionReader.{ExpressionReader}
 use Rattle.mc_expression.specs.declared.expression.ExpressionStep.{ExpressionStep}
-use Rattle.mc_expression.specs.declared.expression.ExpressionStep.TheVariants as ExpressionStep
-use Rattle.mc_expression.specs.Turns.{InTurn, Marked, Moves}
+use Rattle.mc_expression.specs.Turns.{InTurn, Marked}
 use Rattle.mc_expression.specs.Primaries.{CompletesPrimary}
+
+-- nothing waits
+abbrev pub nothing : Pending
+nothing = record { sum = None; factor = None; minuses = [] }
 
 -- an operand with the `-` signs before it, of which the last comes first
 abbrev pub negated : List Place → Expr → Expr
@@ -75,13 +76,8 @@ BehindName name = InTurn (λ tokens rest l. Fields (record { name = name; fields
 abbrev pub expression_marks : List (List ℕ)
 expression_marks = codes "+" ∷ codes "-" ∷ codes "*" ∷ codes "->" ∷ []
 
--- what a step says of what is read
-abbrev pub StepsExpression : (Tokens → Tokens → Expr → Type 0) → Token → ExpressionStep → Type 0
-StepsExpression now token (ExpressionStep.Taken r) = Takes expression_marks now (CompletesExpression r) token
-StepsExpression now token (ExpressionStep.Found e) = Finds now token (expression_of e)
-StepsExpression now token ExpressionStep.Stuck = IsStuckAt now token
-
--- the same of the first token of an operand, which completes nothing
-abbrev pub Begins : (Tokens → Tokens → Expr → Type 0) → Token → Option ExpressionReader → Type 0
-Begins now token None = IsStuckAt now token
-Begins now token (Some r) = Moves now (CompletesExpression r) token
+-- what a step says of what completes the reader now, and behind the token
+abbrev pub StepsExpression : (now behind : Tokens → Tokens → Expr → Type 0) → Token → ExpressionStep → Type 0
+StepsExpression now behind token ExpressionStep.Taken = Takes expression_marks now behind token
+StepsExpression now behind token (ExpressionStep.Found e) = Finds now token (expression_of e)
+StepsExpression now behind token ExpressionStep.Stuck = IsStuckAt now token

@@ -9,9 +9,7 @@ use Rattle.mc_ast.specs.Names.{Tokens, IsMark, IsName, name_of}
 use Rattle.mc_ast.specs.Grammar.{Fields}
 use Rattle.mc_ast.specs.Readers.{Takes, Finds, Closes, IsStuckAt}
 use Rattle.mc_expression.specs.declared.primary.Primary.{Primary}
-use Rattle.mc_expression.specs.declared.primary.Primary.TheVariants as Primary
 use Rattle.mc_expression.specs.declared.primary.PrimaryStep.{PrimaryStep}
-use Rattle.mc_expression.specs.declared.primary.PrimaryStep.TheVariants as PrimaryStep
 
 -- these tokens, up to the rest, complete it
 pub data CompletesPrimary : Primary → Tokens → Tokens → Expr → Type 0 where

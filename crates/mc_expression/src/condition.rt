@@ -1,21 +1,22 @@
 // A reader of conditions.
-ghost use Rattle.std.specs.Prelude.{◌≡◌, ◌≢◌, [], IfOk, codes};
+ghost use Rattle.std.specs.Prelude.{◌≡◌, ◌≢◌, [], IfOk, OnOk, codes};
 ghost use Rattle.mc_ast.specs.Classes.{IsClass};
-ghost use Rattle.mc_ast.specs.Grammar.{IsCondition};
+ghost use Rattle.mc_ast.specs.Grammar.{IsCondition, IsSum};
 ghost use Rattle.mc_ast.specs.Readers.{IsSame, CanEnd};
 ghost use Rattle.mc_ast.specs.Names.{IsMark};
 ghost use Rattle.mc_ast.specs.Views.{condition_of, expression_of};
-ghost use Rattle.mc_expression.specs.Conditions.{AtConditionOperand, AtConditionSpot, AtEither, BeginsCondition, BeginsDenied, BehindCondition, CompletesCondition, IsEnclosed, IsSeen, Joins, MaybeCompared, StepsCondition, denied, either_of, both_of, whole_of};
-ghost use Rattle.mc_expression.specs.Turns.{Moves};
+ghost use Rattle.mc_expression.specs.Conditions.{AtConditionOperand, AtConditionSpot, AtEither, BeginsDenied, BehindCondition, CompletesCondition, HasNoReader, IsEnclosed, IsSeen, Joins, MaybeCompared, StepsCondition, at_right, denied, either_of, both_of, nothing, whole_of};
+ghost use Rattle.mc_expression.specs.Turns.{InTurn, Moves};
 
-use crate::expression::{ExpressionReader, ExpressionStep, begin};
+use crate::expression::{ExpressionReader, ExpressionStep};
 use crate::makes::{both_of, either_of, enclosed_of, not_of, parens_of};
 use crate::primary::{Primary, PrimaryStep, variable};
-use crate::stack::Stack;
 use mc_ast::{Class, Comparison, Condition, Expression};
 use mc_base::Place;
 use mc_lex::Token;
+use mc_stack::Stack;
 use std::alloc::{AllocError, Global};
+use std::mem;
 
 /// Reads a condition, token by token.
 #[derive(Drop)]
@@ -30,7 +31,7 @@ pub struct ConditionReader {
 #[derive(Drop)]
 pub enum ConditionStep {
     /// It takes it.
-    Taken(ConditionReader),
+    Taken,
     /// The condition ends before the token.
     Found(Condition),
     /// No text has this token here.
@@ -102,36 +103,275 @@ impl ConditionReader {
     }
 
     /// Takes a token, or answers why not.
-    pub fn step(self, token: &Token, class: Class) -> Result<ConditionStep, AllocError>
+    pub fn step(&mut self, token: &Token, class: Class) -> Result<ConditionStep, AllocError>
         requires { IsClass token.now class }
-        ensures { IfOk result (λ step. StepsCondition (CompletesCondition self) token.now step) }
+        ensures { IfOk result (λ step. StepsCondition (CompletesCondition self.old) (CompletesCondition self.new) token.now step) }
     {
-        let ConditionReader {
-            alloc,
-            groups,
-            pending,
-            spot,
-        } = self;
-        match spot {
+        match &mut self.spot {
+            ConditionSpot::Sum(reader) => match reader.step(token, class)? {
+                ExpressionStep::Taken => Ok(ConditionStep::Taken),
+                ExpressionStep::Found(sum) => {
+                    let step = self.behind_sum(sum, token, class)?;
+                    Ok(step)
+                }
+                ExpressionStep::Stuck => Ok(ConditionStep::Stuck),
+            },
+            ConditionSpot::Compared(_, reader) => match reader.step(token, class)? {
+                ExpressionStep::Taken => Ok(ConditionStep::Taken),
+                ExpressionStep::Found(right) => {
+                    let step = self.behind_right(right, token, class)?;
+                    Ok(step)
+                }
+                ExpressionStep::Stuck => Ok(ConditionStep::Stuck),
+            },
+            _ => {
+                let step = self.step_between(token, class)?;
+                Ok(step)
+            }
+        }
+    }
+
+    /// Takes a token where no expression is read.
+    fn step_between(&mut self, token: &Token, class: Class) -> Result<ConditionStep, AllocError>
+        requires class { IsClass token.now class }
+        requires spot { HasNoReader self.old.spot }
+        ensures { IfOk result (λ step. StepsCondition (CompletesCondition self.old) (CompletesCondition self.new) token.now step) }
+    {
+        match mem::replace(&mut self.spot, ConditionSpot::Operand) {
             ConditionSpot::Operand => {
-                let step = at_operand(alloc, groups, pending, token, class)?;
+                let step = self.at_operand(token, class)?;
                 Ok(step)
             }
             ConditionSpot::Primary(primary) => {
-                let step = at_primary(alloc, groups, pending, primary, token, class)?;
-                Ok(step)
-            }
-            ConditionSpot::Sum(reader) => {
-                let step = at_sum(alloc, groups, pending, reader, token, class)?;
-                Ok(step)
-            }
-            ConditionSpot::Compared(side, reader) => {
-                let step = at_compared(alloc, groups, pending, side, reader, token, class)?;
+                let step = self.at_primary(primary, token, class)?;
                 Ok(step)
             }
             ConditionSpot::Whole(whole) => {
-                let step = behind_whole(alloc, groups, pending, whole, token, class)?;
+                let step = self.behind_whole(whole, token, class)?;
                 Ok(step)
+            }
+            _ => Ok(ConditionStep::Stuck),
+        }
+    }
+
+    fn at_operand(&mut self, token: &Token, class: Class) -> Result<ConditionStep, AllocError>
+        requires { IsClass token.now class }
+        ensures { IfOk result (λ step. StepsCondition (AtConditionOperand self.old.groups self.old.pending) (CompletesCondition self.new) token.now step) }
+    {
+        match class {
+            Class::Bang => {
+                self.deny(token)?;
+                Ok(ConditionStep::Taken)
+            }
+            Class::OpenParen => {
+                self.open_group(token)?;
+                Ok(ConditionStep::Taken)
+            }
+            _ => {
+                let step = self.begin_operand(token, class)?;
+                Ok(step)
+            }
+        }
+    }
+
+    /// Takes a `!`.
+    fn deny(&mut self, token: &Token) -> Result<(), AllocError>
+        requires { IsMark (codes "!") token.now }
+        ensures { OnOk result (Moves (AtConditionOperand self.old.groups self.old.pending) (CompletesCondition self.new) token.now) }
+    {
+        self.pending.bangs.push(token.place)?;
+        self.spot = ConditionSpot::Operand;
+        Ok(())
+    }
+
+    /// Takes a `(`.
+    fn open_group(&mut self, token: &Token) -> Result<(), AllocError>
+        requires { IsMark (codes "(") token.now }
+        ensures { OnOk result (Moves (AtConditionOperand self.old.groups self.old.pending) (CompletesCondition self.new) token.now) }
+    {
+        let outer = mem::replace(&mut self.pending, fresh(self.alloc));
+        self.groups.push(ConditionGroup {
+            place: token.place,
+            outer,
+        })?;
+        self.spot = ConditionSpot::Operand;
+        Ok(())
+    }
+
+    /// Takes the first token of an operand that begins with no `!` and no `(`.
+    fn begin_operand(&mut self, token: &Token, class: Class) -> Result<ConditionStep, AllocError>
+        requires class { IsClass token.now class }
+        requires no_bang { class ≢ Class.Bang }
+        requires no_parens { class ≢ Class.OpenParen }
+        ensures { IfOk result (λ step. StepsCondition (AtConditionOperand self.old.groups self.old.pending) (CompletesCondition self.new) token.now step) }
+    {
+        if self.pending.bangs.is_empty() {
+            let step = self.begin_sum(token, class)?;
+            Ok(step)
+        } else {
+            match begin_denied(self.alloc, token, class)? {
+                Some(primary) => {
+                    self.spot = ConditionSpot::Primary(primary);
+                    Ok(ConditionStep::Taken)
+                }
+                None => Ok(ConditionStep::Stuck),
+            }
+        }
+    }
+
+    /// Takes the first token of an expression.
+    fn begin_sum(&mut self, token: &Token, class: Class) -> Result<ConditionStep, AllocError>
+        requires { IsClass token.now class }
+        ensures { IfOk result (λ step. StepsCondition (InTurn (λ tokens rest e. IsSum e tokens rest) (λ e. MaybeCompared self.old.pending e (BehindCondition self.old.groups))) (CompletesCondition self.new) token.now step) }
+    {
+        let mut reader = ExpressionReader::new(self.alloc);
+        match reader.step(token, class)? {
+            ExpressionStep::Taken => {
+                self.spot = ConditionSpot::Sum(reader);
+                Ok(ConditionStep::Taken)
+            }
+            ExpressionStep::Found(sum) => {
+                let step = self.behind_sum(sum, token, class)?;
+                Ok(step)
+            }
+            ExpressionStep::Stuck => Ok(ConditionStep::Stuck),
+        }
+    }
+
+    fn at_primary(
+        &mut self,
+        primary: Primary,
+        token: &Token,
+        class: Class,
+    ) -> Result<ConditionStep, AllocError>
+        requires { IsClass token.now class }
+        ensures { IfOk result (λ step. StepsCondition (AtConditionSpot (ConditionSpot.Primary primary) self.old.groups self.old.pending) (CompletesCondition self.new) token.now step) }
+    {
+        match primary.step(self.alloc, token, class)? {
+            PrimaryStep::Taken(primary) => {
+                self.spot = ConditionSpot::Primary(primary);
+                Ok(ConditionStep::Taken)
+            }
+            PrimaryStep::Closed(operand) => {
+                self.spot = ConditionSpot::Whole(Whole::Plain(operand));
+                Ok(ConditionStep::Taken)
+            }
+            PrimaryStep::Found(operand) => {
+                let step = self.behind_whole(Whole::Plain(operand), token, class)?;
+                Ok(step)
+            }
+            PrimaryStep::Stuck => Ok(ConditionStep::Stuck),
+        }
+    }
+
+    fn behind_sum(
+        &mut self,
+        sum: Expression,
+        token: &Token,
+        class: Class,
+    ) -> Result<ConditionStep, AllocError>
+        requires { IsClass token.now class }
+        ensures { IfOk result (λ step. StepsCondition (MaybeCompared self.old.pending (expression_of sum) (BehindCondition self.old.groups)) (CompletesCondition self.new) token.now step) }
+    {
+        match class {
+            Class::Compare(mark) => {
+                let side = LeftSide { mark, left: sum };
+                self.spot = ConditionSpot::Compared(side, ExpressionReader::new(self.alloc));
+                Ok(ConditionStep::Taken)
+            }
+            _ => {
+                let step = self.behind_whole(Whole::Plain(sum), token, class)?;
+                Ok(step)
+            }
+        }
+    }
+
+    /// Behind the right side of a comparison.
+    fn behind_right(
+        &mut self,
+        right: Expression,
+        token: &Token,
+        class: Class,
+    ) -> Result<ConditionStep, AllocError>
+        requires { IsClass token.now class }
+        ensures { IfOk result (λ step. StepsCondition (Joins self.old.pending (at_right self.old.spot (expression_of right)) (BehindCondition self.old.groups)) (CompletesCondition self.new) token.now step) }
+    {
+        let spot = mem::replace(&mut self.spot, ConditionSpot::Operand);
+        let step = self.behind_whole(compared(spot, right), token, class)?;
+        Ok(step)
+    }
+
+    fn behind_whole(
+        &mut self,
+        operand: Whole,
+        token: &Token,
+        class: Class,
+    ) -> Result<ConditionStep, AllocError>
+        requires { IsClass token.now class }
+        ensures { IfOk result (λ step. StepsCondition (Joins self.old.pending (whole_of operand) (BehindCondition self.old.groups)) (CompletesCondition self.new) token.now step) }
+    {
+        let operand = with_bangs(self.alloc, &mut self.pending.bangs, operand)?;
+        let whole = joined(self.alloc, self.pending.both.take(), operand)?;
+        match class {
+            Class::And => {
+                self.pending.both = Some(made(self.alloc, whole)?);
+                self.spot = ConditionSpot::Operand;
+                Ok(ConditionStep::Taken)
+            }
+            _ => {
+                let whole = alternated(self.alloc, self.pending.either.take(), whole)?;
+                let step = self.behind_both(whole, token, class)?;
+                Ok(step)
+            }
+        }
+    }
+
+    fn behind_both(
+        &mut self,
+        whole: Whole,
+        token: &Token,
+        class: Class,
+    ) -> Result<ConditionStep, AllocError>
+        requires class { IsClass token.now class }
+        requires no_and { class ≢ Class.And }
+        requires idle { self.old.pending ≡ nothing }
+        ensures { IfOk result (λ step. StepsCondition (AtEither self.old.groups (whole_of whole)) (CompletesCondition self.new) token.now step) }
+    {
+        match class {
+            Class::Or => {
+                self.pending.either = Some(made(self.alloc, whole)?);
+                self.spot = ConditionSpot::Operand;
+                Ok(ConditionStep::Taken)
+            }
+            Class::CloseParen => {
+                let step = self.close(whole, token)?;
+                Ok(step)
+            }
+            _ => {
+                if self.groups.is_empty() {
+                    let condition = made(self.alloc, whole)?;
+                    Ok(ConditionStep::Found(condition))
+                } else {
+                    Ok(ConditionStep::Stuck)
+                }
+            }
+        }
+    }
+
+    /// Takes a `)`.
+    fn close(&mut self, whole: Whole, token: &Token) -> Result<ConditionStep, AllocError>
+        requires { IsMark (codes ")") token.now }
+        ensures { IfOk result (λ step. StepsCondition (AtEither self.old.groups (whole_of whole)) (CompletesCondition self.new) token.now step) }
+    {
+        match self.groups.pop() {
+            Some(ConditionGroup { place, outer }) => {
+                self.spot = enclosed(self.alloc, place, &outer.bangs, whole)?;
+                self.pending = outer;
+                Ok(ConditionStep::Taken)
+            }
+            None => {
+                let condition = made(self.alloc, whole)?;
+                Ok(ConditionStep::Found(condition))
             }
         }
     }
@@ -143,124 +383,12 @@ pub fn conditions_can_end()
 {}
 
 fn fresh(alloc: Global) -> ConditionPending
-    ensures { result ≡ record { either = None; both = None; bangs = [] } }
+    ensures { result ≡ nothing }
 {
     ConditionPending {
         either: None,
         both: None,
         bangs: Stack::new(alloc),
-    }
-}
-
-fn at_operand(
-    alloc: Global,
-    groups: Stack<ConditionGroup>,
-    pending: ConditionPending,
-    token: &Token,
-    class: Class,
-) -> Result<ConditionStep, AllocError>
-    requires { IsClass token.now class }
-    ensures { IfOk result (λ step. StepsCondition (AtConditionOperand groups pending) token.now step) }
-{
-    match class {
-        Class::Bang => {
-            let reader = deny(alloc, groups, pending, token)?;
-            Ok(ConditionStep::Taken(reader))
-        }
-        Class::OpenParen => {
-            let reader = open_group(alloc, groups, pending, token)?;
-            Ok(ConditionStep::Taken(reader))
-        }
-        _ => match begin_operand(alloc, groups, pending, token, class)? {
-            Some(reader) => Ok(ConditionStep::Taken(reader)),
-            None => Ok(ConditionStep::Stuck),
-        },
-    }
-}
-
-/// Takes a `!`.
-fn deny(
-    alloc: Global,
-    groups: Stack<ConditionGroup>,
-    pending: ConditionPending,
-    token: &Token,
-) -> Result<ConditionReader, AllocError>
-    requires { IsMark (codes "!") token.now }
-    ensures { IfOk result (λ reader. Moves (AtConditionOperand groups pending) (CompletesCondition reader) token.now) }
-{
-    let ConditionPending {
-        either,
-        both,
-        mut bangs,
-    } = pending;
-    bangs.push(token.place)?;
-    Ok(ConditionReader {
-        alloc,
-        groups,
-        pending: ConditionPending {
-            either,
-            both,
-            bangs,
-        },
-        spot: ConditionSpot::Operand,
-    })
-}
-
-/// Takes a `(`.
-fn open_group(
-    alloc: Global,
-    mut groups: Stack<ConditionGroup>,
-    pending: ConditionPending,
-    token: &Token,
-) -> Result<ConditionReader, AllocError>
-    requires { IsMark (codes "(") token.now }
-    ensures { IfOk result (λ reader. Moves (AtConditionOperand groups pending) (CompletesCondition reader) token.now) }
-{
-    groups.push(ConditionGroup {
-        place: token.place,
-        outer: pending,
-    })?;
-    Ok(ConditionReader {
-        alloc,
-        groups,
-        pending: fresh(alloc),
-        spot: ConditionSpot::Operand,
-    })
-}
-
-/// Takes the first token of an operand that begins with no `!` and no `(`.
-fn begin_operand(
-    alloc: Global,
-    groups: Stack<ConditionGroup>,
-    pending: ConditionPending,
-    token: &Token,
-    class: Class,
-) -> Result<Option<ConditionReader>, AllocError>
-    requires class { IsClass token.now class }
-    requires no_bang { class ≢ Class.Bang }
-    requires no_parens { class ≢ Class.OpenParen }
-    ensures { IfOk result (λ begun. BeginsCondition (AtConditionOperand groups pending) token.now begun) }
-{
-    if pending.bangs.is_empty() {
-        match begin(alloc, token, class)? {
-            Some(reader) => Ok(Some(ConditionReader {
-                alloc,
-                groups,
-                pending,
-                spot: ConditionSpot::Sum(reader),
-            })),
-            None => Ok(None),
-        }
-    } else {
-        match begin_denied(alloc, token, class)? {
-            Some(primary) => Ok(Some(ConditionReader {
-                alloc,
-                groups,
-                pending,
-                spot: ConditionSpot::Primary(primary),
-            })),
-            None => Ok(None),
-        }
     }
 }
 
@@ -280,227 +408,13 @@ fn begin_denied(alloc: Global, token: &Token, class: Class) -> Result<Option<Pri
     }
 }
 
-fn at_primary(
-    alloc: Global,
-    groups: Stack<ConditionGroup>,
-    pending: ConditionPending,
-    primary: Primary,
-    token: &Token,
-    class: Class,
-) -> Result<ConditionStep, AllocError>
-    requires { IsClass token.now class }
-    ensures { IfOk result (λ step. StepsCondition (AtConditionSpot (ConditionSpot.Primary primary) groups pending) token.now step) }
+/// The comparison of which this is the right side.
+fn compared(spot: ConditionSpot, right: Expression) -> Whole
+    ensures { whole_of result ≡ at_right spot (expression_of right) }
 {
-    match primary.step(alloc, token, class)? {
-        PrimaryStep::Taken(primary) => Ok(ConditionStep::Taken(ConditionReader {
-            alloc,
-            groups,
-            pending,
-            spot: ConditionSpot::Primary(primary),
-        })),
-        PrimaryStep::Closed(operand) => Ok(ConditionStep::Taken(ConditionReader {
-            alloc,
-            groups,
-            pending,
-            spot: ConditionSpot::Whole(Whole::Plain(operand)),
-        })),
-        PrimaryStep::Found(operand) => {
-            let whole = Whole::Plain(operand);
-            let step = behind_whole(alloc, groups, pending, whole, token, class)?;
-            Ok(step)
-        }
-        PrimaryStep::Stuck => Ok(ConditionStep::Stuck),
-    }
-}
-
-fn at_sum(
-    alloc: Global,
-    groups: Stack<ConditionGroup>,
-    pending: ConditionPending,
-    reader: ExpressionReader,
-    token: &Token,
-    class: Class,
-) -> Result<ConditionStep, AllocError>
-    requires { IsClass token.now class }
-    ensures { IfOk result (λ step. StepsCondition (AtConditionSpot (ConditionSpot.Sum reader) groups pending) token.now step) }
-{
-    match reader.step(token, class)? {
-        ExpressionStep::Taken(reader) => Ok(ConditionStep::Taken(ConditionReader {
-            alloc,
-            groups,
-            pending,
-            spot: ConditionSpot::Sum(reader),
-        })),
-        ExpressionStep::Found(sum) => {
-            let step = behind_sum(alloc, groups, pending, sum, token, class)?;
-            Ok(step)
-        }
-        ExpressionStep::Stuck => Ok(ConditionStep::Stuck),
-    }
-}
-
-fn at_compared(
-    alloc: Global,
-    groups: Stack<ConditionGroup>,
-    pending: ConditionPending,
-    side: LeftSide,
-    reader: ExpressionReader,
-    token: &Token,
-    class: Class,
-) -> Result<ConditionStep, AllocError>
-    requires { IsClass token.now class }
-    ensures { IfOk result (λ step. StepsCondition (AtConditionSpot (ConditionSpot.Compared side reader) groups pending) token.now step) }
-{
-    match reader.step(token, class)? {
-        ExpressionStep::Taken(reader) => Ok(ConditionStep::Taken(ConditionReader {
-            alloc,
-            groups,
-            pending,
-            spot: ConditionSpot::Compared(side, reader),
-        })),
-        ExpressionStep::Found(right) => {
-            let whole = Whole::Compare(side.mark, side.left, right);
-            let step = behind_whole(alloc, groups, pending, whole, token, class)?;
-            Ok(step)
-        }
-        ExpressionStep::Stuck => Ok(ConditionStep::Stuck),
-    }
-}
-
-fn behind_sum(
-    alloc: Global,
-    groups: Stack<ConditionGroup>,
-    pending: ConditionPending,
-    sum: Expression,
-    token: &Token,
-    class: Class,
-) -> Result<ConditionStep, AllocError>
-    requires { IsClass token.now class }
-    ensures { IfOk result (λ step. StepsCondition (MaybeCompared pending (expression_of sum) (BehindCondition groups)) token.now step) }
-{
-    match class {
-        Class::Compare(mark) => Ok(ConditionStep::Taken(ConditionReader {
-            alloc,
-            groups,
-            pending,
-            spot: ConditionSpot::Compared(
-                LeftSide { mark, left: sum },
-                ExpressionReader::new(alloc),
-            ),
-        })),
-        _ => {
-            let step = behind_whole(alloc, groups, pending, Whole::Plain(sum), token, class)?;
-            Ok(step)
-        }
-    }
-}
-
-fn behind_whole(
-    alloc: Global,
-    groups: Stack<ConditionGroup>,
-    pending: ConditionPending,
-    operand: Whole,
-    token: &Token,
-    class: Class,
-) -> Result<ConditionStep, AllocError>
-    requires { IsClass token.now class }
-    ensures { IfOk result (λ step. StepsCondition (Joins pending (whole_of operand) (BehindCondition groups)) token.now step) }
-{
-    let ConditionPending {
-        either,
-        both,
-        bangs,
-    } = pending;
-    let whole = joined(alloc, both, with_bangs(alloc, bangs, operand)?)?;
-    match class {
-        Class::And => {
-            let both = made(alloc, whole)?;
-            Ok(ConditionStep::Taken(next_operand(alloc, groups, either, Some(both))))
-        }
-        _ => {
-            let step = behind_both(
-                alloc,
-                groups,
-                alternated(alloc, either, whole)?,
-                token,
-                class,
-            )?;
-            Ok(step)
-        }
-    }
-}
-
-fn behind_both(
-    alloc: Global,
-    groups: Stack<ConditionGroup>,
-    whole: Whole,
-    token: &Token,
-    class: Class,
-) -> Result<ConditionStep, AllocError>
-    requires class { IsClass token.now class }
-    requires no_and { class ≢ Class.And }
-    ensures { IfOk result (λ step. StepsCondition (AtEither groups (whole_of whole)) token.now step) }
-{
-    match class {
-        Class::Or => {
-            let either = made(alloc, whole)?;
-            Ok(ConditionStep::Taken(next_operand(alloc, groups, Some(either), None)))
-        }
-        Class::CloseParen => {
-            let step = close(alloc, groups, whole, token)?;
-            Ok(step)
-        }
-        _ => {
-            let step = end(alloc, groups, whole, token, class)?;
-            Ok(step)
-        }
-    }
-}
-
-fn next_operand(
-    alloc: Global,
-    groups: Stack<ConditionGroup>,
-    either: Option<Condition>,
-    both: Option<Condition>,
-) -> ConditionReader
-    ensures { result ≡ record { alloc = alloc; groups = groups; pending = record { either = either; both = both; bangs = [] }; spot = ConditionSpot.Operand } }
-{
-    ConditionReader {
-        alloc,
-        groups,
-        pending: ConditionPending {
-            either,
-            both,
-            bangs: Stack::new(alloc),
-        },
-        spot: ConditionSpot::Operand,
-    }
-}
-
-/// Takes a `)`.
-fn close(
-    alloc: Global,
-    mut groups: Stack<ConditionGroup>,
-    whole: Whole,
-    token: &Token,
-) -> Result<ConditionStep, AllocError>
-    requires { IsMark (codes ")") token.now }
-    ensures { IfOk result (λ step. StepsCondition (AtEither groups (whole_of whole)) token.now step) }
-{
-    match groups.pop() {
-        Some(ConditionGroup { place, outer }) => {
-            let spot = enclosed(alloc, place, &outer.bangs, whole)?;
-            Ok(ConditionStep::Taken(ConditionReader {
-                alloc,
-                groups,
-                pending: outer,
-                spot,
-            }))
-        }
-        None => {
-            let condition = made(alloc, whole)?;
-            Ok(ConditionStep::Found(condition))
-        }
+    match spot {
+        ConditionSpot::Compared(side, _) => Whole::Compare(side.mark, side.left, right),
+        _ => Whole::Plain(right),
     }
 }
 
@@ -530,28 +444,8 @@ fn enclosed(
     }
 }
 
-fn end(
-    alloc: Global,
-    groups: Stack<ConditionGroup>,
-    whole: Whole,
-    token: &Token,
-    class: Class,
-) -> Result<ConditionStep, AllocError>
-    requires class { IsClass token.now class }
-    requires no_or { class ≢ Class.Or }
-    requires no_parens { class ≢ Class.CloseParen }
-    ensures { IfOk result (λ step. StepsCondition (AtEither groups (whole_of whole)) token.now step) }
-{
-    if groups.is_empty() {
-        let condition = made(alloc, whole)?;
-        Ok(ConditionStep::Found(condition))
-    } else {
-        Ok(ConditionStep::Stuck)
-    }
-}
-
-fn with_bangs(alloc: Global, mut bangs: Stack<Place>, operand: Whole) -> Result<Whole, AllocError>
-    ensures { IfOk result (λ whole. whole_of whole ≡ denied bangs (whole_of operand)) }
+fn with_bangs(alloc: Global, bangs: &mut Stack<Place>, operand: Whole) -> Result<Whole, AllocError>
+    ensures { IfOk result (λ whole. (whole_of whole ≡ denied bangs.old (whole_of operand)) × (bangs.new ≡ [])) }
 {
     let mut operand = operand;
     while let Some(place) = bangs.pop() {

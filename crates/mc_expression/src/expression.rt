@@ -1,20 +1,21 @@
 // A reader of expressions.
-ghost use Rattle.std.specs.Prelude.{◌≡◌, ◌≢◌, [], IfOk, codes};
+ghost use Rattle.std.specs.Prelude.{◌≡◌, ◌≢◌, [], IfOk, OnOk, codes};
 ghost use Rattle.mc_ast.specs.Classes.{IsClass};
 ghost use Rattle.mc_ast.specs.Grammar.{IsSum};
 ghost use Rattle.mc_ast.specs.Readers.{IsSame, CanEnd};
 ghost use Rattle.mc_ast.specs.Names.{IsMark};
 ghost use Rattle.mc_ast.specs.Views.{expression_of};
 ghost use Rattle.mc_expression.specs.Turns.{Moves};
-ghost use Rattle.mc_expression.specs.Expressions.{AtOperand, AtSpot, AtSum, Begins, Behind, BehindOperand, BehindName, CompletesExpression, GoesOn, StepsExpression, negated, product_of, sum_of};
+ghost use Rattle.mc_expression.specs.Expressions.{AtOperand, AtSpot, AtSum, Behind, BehindOperand, BehindName, CompletesExpression, GoesOn, StepsExpression, negated, nothing, product_of, sum_of};
 
 use crate::makes::{less_of, minus_of, parens_of, plus_of, times_of};
 use crate::primary::{Primary, PrimaryStep, variable};
-use crate::stack::Stack;
 use mc_ast::{Class, Expression, LeftValue, Name};
 use mc_base::Place;
 use mc_lex::Token;
+use mc_stack::Stack;
 use std::alloc::{AllocError, Global};
+use std::mem;
 
 /// Reads an expression, token by token.
 #[derive(Drop)]
@@ -29,7 +30,7 @@ pub struct ExpressionReader {
 #[derive(Drop)]
 pub enum ExpressionStep {
     /// It takes it.
-    Taken(ExpressionReader),
+    Taken,
     /// The expression ends before the token.
     Found(Expression),
     /// No text has this token here.
@@ -98,35 +99,188 @@ impl ExpressionReader {
     }
 
     /// Takes a token, or answers why not.
-    pub fn step(self, token: &Token, class: Class) -> Result<ExpressionStep, AllocError>
+    pub fn step(&mut self, token: &Token, class: Class) -> Result<ExpressionStep, AllocError>
         requires { IsClass token.now class }
-        ensures { IfOk result (λ step. StepsExpression (CompletesExpression self) token.now step) }
+        ensures { IfOk result (λ step. StepsExpression (CompletesExpression self.old) (CompletesExpression self.new) token.now step) }
     {
-        let ExpressionReader {
-            alloc,
-            groups,
-            pending,
-            spot,
-        } = self;
-        match spot {
-            Spot::Operand => match at_operand(alloc, groups, pending, token, class)? {
-                Some(reader) => Ok(ExpressionStep::Taken(reader)),
-                None => Ok(ExpressionStep::Stuck),
-            },
+        match mem::replace(&mut self.spot, Spot::Operand) {
+            Spot::Operand => {
+                let step = self.at_operand(token, class)?;
+                Ok(step)
+            }
             Spot::Primary(primary) => {
-                let step = at_primary(alloc, groups, pending, primary, token, class)?;
+                let step = self.at_primary(primary, token, class)?;
                 Ok(step)
             }
             Spot::Unary(operand) => {
-                let step = behind_unary(alloc, groups, pending, operand, token, class)?;
+                let step = self.behind_unary(operand, token, class)?;
                 Ok(step)
             }
+        }
+    }
+
+    fn at_operand(&mut self, token: &Token, class: Class) -> Result<ExpressionStep, AllocError>
+        requires { IsClass token.now class }
+        ensures { IfOk result (λ step. StepsExpression (AtOperand self.old.groups self.old.pending) (CompletesExpression self.new) token.now step) }
+    {
+        match class {
+            Class::Minus => {
+                self.negate(token)?;
+                Ok(ExpressionStep::Taken)
+            }
+            Class::OpenParen => {
+                self.open_group(token)?;
+                Ok(ExpressionStep::Taken)
+            }
+            Class::Name => {
+                self.spot = Spot::Primary(Primary::Left(variable(self.alloc, token)?));
+                Ok(ExpressionStep::Taken)
+            }
+            Class::Number(value) => {
+                self.spot = Spot::Unary(Expression::Number(value, token.place));
+                Ok(ExpressionStep::Taken)
+            }
+            Class::Null => {
+                self.spot = Spot::Unary(Expression::Null(token.place));
+                Ok(ExpressionStep::Taken)
+            }
+            Class::Input => {
+                self.spot = Spot::Primary(Primary::Input(token.place));
+                Ok(ExpressionStep::Taken)
+            }
+            _ => Ok(ExpressionStep::Stuck),
+        }
+    }
+
+    /// Takes a `-` before an operand.
+    fn negate(&mut self, token: &Token) -> Result<(), AllocError>
+        requires { IsMark (codes "-") token.now }
+        ensures { OnOk result (Moves (AtOperand self.old.groups self.old.pending) (CompletesExpression self.new) token.now) }
+    {
+        self.pending.minuses.push(token.place)?;
+        self.spot = Spot::Operand;
+        Ok(())
+    }
+
+    /// Takes a `(`.
+    fn open_group(&mut self, token: &Token) -> Result<(), AllocError>
+        requires { IsMark (codes "(") token.now }
+        ensures { OnOk result (Moves (AtOperand self.old.groups self.old.pending) (CompletesExpression self.new) token.now) }
+    {
+        let outer = mem::replace(&mut self.pending, fresh(self.alloc));
+        self.groups.push(Group {
+            place: token.place,
+            outer,
+        })?;
+        self.spot = Spot::Operand;
+        Ok(())
+    }
+
+    fn at_primary(
+        &mut self,
+        primary: Primary,
+        token: &Token,
+        class: Class,
+    ) -> Result<ExpressionStep, AllocError>
+        requires { IsClass token.now class }
+        ensures { IfOk result (λ step. StepsExpression (AtSpot (Spot.Primary primary) self.old.groups self.old.pending) (CompletesExpression self.new) token.now step) }
+    {
+        match primary.step(self.alloc, token, class)? {
+            PrimaryStep::Taken(primary) => {
+                self.spot = Spot::Primary(primary);
+                Ok(ExpressionStep::Taken)
+            }
+            PrimaryStep::Closed(operand) => {
+                self.spot = Spot::Unary(operand);
+                Ok(ExpressionStep::Taken)
+            }
+            PrimaryStep::Found(operand) => {
+                let step = self.behind_unary(operand, token, class)?;
+                Ok(step)
+            }
+            PrimaryStep::Stuck => Ok(ExpressionStep::Stuck),
+        }
+    }
+
+    fn behind_unary(
+        &mut self,
+        operand: Expression,
+        token: &Token,
+        class: Class,
+    ) -> Result<ExpressionStep, AllocError>
+        requires { IsClass token.now class }
+        ensures { IfOk result (λ step. StepsExpression (GoesOn self.old.pending (expression_of operand) (Behind self.old.groups)) (CompletesExpression self.new) token.now step) }
+    {
+        let operand = with_minuses(self.alloc, &mut self.pending.minuses, operand)?;
+        let product = multiplied(self.alloc, self.pending.factor.take(), operand)?;
+        match class {
+            Class::Star => {
+                self.pending.factor = Some(product);
+                self.spot = Spot::Operand;
+                Ok(ExpressionStep::Taken)
+            }
+            _ => {
+                let sum = added(self.alloc, self.pending.sum.take(), product)?;
+                let step = self.behind_sum(sum, token, class)?;
+                Ok(step)
+            }
+        }
+    }
+
+    fn behind_sum(
+        &mut self,
+        sum: Expression,
+        token: &Token,
+        class: Class,
+    ) -> Result<ExpressionStep, AllocError>
+        requires class { IsClass token.now class }
+        requires no_star { class ≢ Class.Star }
+        requires idle { self.old.pending ≡ nothing }
+        ensures { IfOk result (λ step. StepsExpression (AtSum self.old.groups (expression_of sum)) (CompletesExpression self.new) token.now step) }
+    {
+        match class {
+            Class::Plus => {
+                self.pending.sum = Some(Summed::Plus(sum));
+                self.spot = Spot::Operand;
+                Ok(ExpressionStep::Taken)
+            }
+            Class::Minus => {
+                self.pending.sum = Some(Summed::Less(sum));
+                self.spot = Spot::Operand;
+                Ok(ExpressionStep::Taken)
+            }
+            Class::CloseParen => {
+                let step = self.close(sum, token)?;
+                Ok(step)
+            }
+            _ => {
+                if self.groups.is_empty() {
+                    Ok(ExpressionStep::Found(sum))
+                } else {
+                    Ok(ExpressionStep::Stuck)
+                }
+            }
+        }
+    }
+
+    /// Takes a `)`.
+    fn close(&mut self, sum: Expression, token: &Token) -> Result<ExpressionStep, AllocError>
+        requires { IsMark (codes ")") token.now }
+        ensures { IfOk result (λ step. StepsExpression (AtSum self.old.groups (expression_of sum)) (CompletesExpression self.new) token.now step) }
+    {
+        match self.groups.pop() {
+            Some(Group { place, outer }) => {
+                self.pending = outer;
+                self.spot = Spot::Unary(parens_of(self.alloc, place, sum)?);
+                Ok(ExpressionStep::Taken)
+            }
+            None => Ok(ExpressionStep::Found(sum)),
         }
     }
 }
 
 fn fresh(alloc: Global) -> Pending
-    ensures { result ≡ record { sum = None; factor = None; minuses = [] } }
+    ensures { result ≡ nothing }
 {
     Pending {
         sum: None,
@@ -136,7 +290,7 @@ fn fresh(alloc: Global) -> Pending
 }
 
 fn at_spot(alloc: Global, spot: Spot) -> ExpressionReader
-    ensures { result ≡ record { alloc = alloc; groups = []; pending = record { sum = None; factor = None; minuses = [] }; spot = spot } }
+    ensures { result ≡ record { alloc = alloc; groups = []; pending = nothing; spot = spot } }
 {
     ExpressionReader {
         alloc,
@@ -146,270 +300,12 @@ fn at_spot(alloc: Global, spot: Spot) -> ExpressionReader
     }
 }
 
-/// Takes the first token of an expression.
-pub fn begin(
-    alloc: Global,
-    token: &Token,
-    class: Class,
-) -> Result<Option<ExpressionReader>, AllocError>
-    requires { IsClass token.now class }
-    ensures { IfOk result (λ begun. Begins (λ tokens rest e. IsSum e tokens rest) token.now begun) }
-{
-    let begun = at_operand(alloc, Stack::new(alloc), fresh(alloc), token, class)?;
-    Ok(begun)
-}
-
-fn at_operand(
-    alloc: Global,
-    groups: Stack<Group>,
-    pending: Pending,
-    token: &Token,
-    class: Class,
-) -> Result<Option<ExpressionReader>, AllocError>
-    requires { IsClass token.now class }
-    ensures { IfOk result (λ begun. Begins (AtOperand groups pending) token.now begun) }
-{
-    match class {
-        Class::Minus => {
-            let reader = negate(alloc, groups, pending, token)?;
-            Ok(Some(reader))
-        }
-        Class::OpenParen => {
-            let reader = open_group(alloc, groups, pending, token)?;
-            Ok(Some(reader))
-        }
-        Class::Name => {
-            let left = variable(alloc, token)?;
-            Ok(Some(ExpressionReader {
-                alloc,
-                groups,
-                pending,
-                spot: Spot::Primary(Primary::Left(left)),
-            }))
-        }
-        Class::Number(value) => Ok(Some(ExpressionReader {
-            alloc,
-            groups,
-            pending,
-            spot: Spot::Unary(Expression::Number(value, token.place)),
-        })),
-        Class::Null => Ok(Some(ExpressionReader {
-            alloc,
-            groups,
-            pending,
-            spot: Spot::Unary(Expression::Null(token.place)),
-        })),
-        Class::Input => Ok(Some(ExpressionReader {
-            alloc,
-            groups,
-            pending,
-            spot: Spot::Primary(Primary::Input(token.place)),
-        })),
-        _ => Ok(None),
-    }
-}
-
-/// Takes a `-` before an operand.
-fn negate(
-    alloc: Global,
-    groups: Stack<Group>,
-    pending: Pending,
-    token: &Token,
-) -> Result<ExpressionReader, AllocError>
-    requires { IsMark (codes "-") token.now }
-    ensures { IfOk result (λ reader. Moves (AtOperand groups pending) (CompletesExpression reader) token.now) }
-{
-    let Pending {
-        sum,
-        factor,
-        mut minuses,
-    } = pending;
-    minuses.push(token.place)?;
-    Ok(ExpressionReader {
-        alloc,
-        groups,
-        pending: Pending {
-            sum,
-            factor,
-            minuses,
-        },
-        spot: Spot::Operand,
-    })
-}
-
-/// Takes a `(`.
-fn open_group(
-    alloc: Global,
-    mut groups: Stack<Group>,
-    pending: Pending,
-    token: &Token,
-) -> Result<ExpressionReader, AllocError>
-    requires { IsMark (codes "(") token.now }
-    ensures { IfOk result (λ reader. Moves (AtOperand groups pending) (CompletesExpression reader) token.now) }
-{
-    groups.push(Group {
-        place: token.place,
-        outer: pending,
-    })?;
-    Ok(ExpressionReader {
-        alloc,
-        groups,
-        pending: fresh(alloc),
-        spot: Spot::Operand,
-    })
-}
-
-fn at_primary(
-    alloc: Global,
-    groups: Stack<Group>,
-    pending: Pending,
-    primary: Primary,
-    token: &Token,
-    class: Class,
-) -> Result<ExpressionStep, AllocError>
-    requires { IsClass token.now class }
-    ensures { IfOk result (λ step. StepsExpression (AtSpot (Spot.Primary primary) groups pending) token.now step) }
-{
-    match primary.step(alloc, token, class)? {
-        PrimaryStep::Taken(primary) => Ok(ExpressionStep::Taken(ExpressionReader {
-            alloc,
-            groups,
-            pending,
-            spot: Spot::Primary(primary),
-        })),
-        PrimaryStep::Closed(operand) => Ok(ExpressionStep::Taken(ExpressionReader {
-            alloc,
-            groups,
-            pending,
-            spot: Spot::Unary(operand),
-        })),
-        PrimaryStep::Found(operand) => {
-            let step = behind_unary(alloc, groups, pending, operand, token, class)?;
-            Ok(step)
-        }
-        PrimaryStep::Stuck => Ok(ExpressionStep::Stuck),
-    }
-}
-
-fn behind_unary(
-    alloc: Global,
-    groups: Stack<Group>,
-    pending: Pending,
-    operand: Expression,
-    token: &Token,
-    class: Class,
-) -> Result<ExpressionStep, AllocError>
-    requires { IsClass token.now class }
-    ensures { IfOk result (λ step. StepsExpression (GoesOn pending (expression_of operand) (Behind groups)) token.now step) }
-{
-    let Pending {
-        sum,
-        factor,
-        minuses,
-    } = pending;
-    let product = multiplied(alloc, factor, with_minuses(alloc, minuses, operand)?)?;
-    match class {
-        Class::Star => Ok(ExpressionStep::Taken(next_operand(alloc, groups, sum, Some(product)))),
-        _ => {
-            let step = behind_sum(alloc, groups, added(alloc, sum, product)?, token, class)?;
-            Ok(step)
-        }
-    }
-}
-
-fn behind_sum(
-    alloc: Global,
-    groups: Stack<Group>,
-    sum: Expression,
-    token: &Token,
-    class: Class,
-) -> Result<ExpressionStep, AllocError>
-    requires class { IsClass token.now class }
-    requires no_star { class ≢ Class.Star }
-    ensures { IfOk result (λ step. StepsExpression (AtSum groups (expression_of sum)) token.now step) }
-{
-    match class {
-        Class::Plus => Ok(ExpressionStep::Taken(next_operand(
-            alloc,
-            groups,
-            Some(Summed::Plus(sum)),
-            None,
-        ))),
-        Class::Minus => Ok(ExpressionStep::Taken(next_operand(
-            alloc,
-            groups,
-            Some(Summed::Less(sum)),
-            None,
-        ))),
-        Class::CloseParen => {
-            let step = close(alloc, groups, sum, token)?;
-            Ok(step)
-        }
-        _ => Ok(end(groups, sum, token, class)),
-    }
-}
-
-fn next_operand(
-    alloc: Global,
-    groups: Stack<Group>,
-    sum: Option<Summed>,
-    factor: Option<Expression>,
-) -> ExpressionReader
-    ensures { result ≡ record { alloc = alloc; groups = groups; pending = record { sum = sum; factor = factor; minuses = [] }; spot = Spot.Operand } }
-{
-    ExpressionReader {
-        alloc,
-        groups,
-        pending: Pending {
-            sum,
-            factor,
-            minuses: Stack::new(alloc),
-        },
-        spot: Spot::Operand,
-    }
-}
-
-/// Takes a `)`.
-fn close(
-    alloc: Global,
-    mut groups: Stack<Group>,
-    sum: Expression,
-    token: &Token,
-) -> Result<ExpressionStep, AllocError>
-    requires { IsMark (codes ")") token.now }
-    ensures { IfOk result (λ step. StepsExpression (AtSum groups (expression_of sum)) token.now step) }
-{
-    match groups.pop() {
-        Some(Group { place, outer }) => Ok(ExpressionStep::Taken(ExpressionReader {
-            alloc,
-            groups,
-            pending: outer,
-            spot: Spot::Unary(parens_of(alloc, place, sum)?),
-        })),
-        None => Ok(ExpressionStep::Found(sum)),
-    }
-}
-
-fn end(groups: Stack<Group>, sum: Expression, token: &Token, class: Class) -> ExpressionStep
-    requires class { IsClass token.now class }
-    requires no_plus { class ≢ Class.Plus }
-    requires no_minus { class ≢ Class.Minus }
-    requires no_parens { class ≢ Class.CloseParen }
-    ensures { StepsExpression (AtSum groups (expression_of sum)) token.now result }
-{
-    if groups.is_empty() {
-        ExpressionStep::Found(sum)
-    } else {
-        ExpressionStep::Stuck
-    }
-}
-
 fn with_minuses(
     alloc: Global,
-    mut minuses: Stack<Place>,
+    minuses: &mut Stack<Place>,
     operand: Expression,
 ) -> Result<Expression, AllocError>
-    ensures { IfOk result (λ e. expression_of e ≡ negated minuses (expression_of operand)) }
+    ensures { IfOk result (λ e. (expression_of e ≡ negated minuses.old (expression_of operand)) × (minuses.new ≡ [])) }
 {
     let mut operand = operand;
     while let Some(place) = minuses.pop() {

@@ -5,7 +5,6 @@ mod condition;
 mod expression;
 mod makes;
 mod primary;
-mod stack;
 
 pub use condition::{ConditionReader, ConditionStep, conditions_can_end};
 pub use expression::{ExpressionReader, ExpressionStep, expressions_can_end};

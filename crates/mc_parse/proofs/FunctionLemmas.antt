@@ -16,7 +16,9 @@ use Rattle.mc_body.specs.Bodies.{Bodies, CompletesBody}
 use Rattle.mc_body.specs.declared.state.BodyReader.{BodyReader}
 use Rattle.mc_parse.specs.declared.header.Header.{Header}
 use Rattle.mc_parse.specs.Threads.{Then, Gives}
-use Rattle.mc_parse.specs.Functions.{IsHeader, is_header, EndsFunction, BehindHeader}
+use Rattle.mc_parse.specs.declared.function.Signature.{Signature}
+use Rattle.mc_parse.specs.declared.function.FunctionReader.{FunctionReader}
+use Rattle.mc_parse.specs.Functions.{IsHeader, is_header, EndsFunction, BehindHeader, IsWithinBody}
 use Rattle.mc_parse.proofs.Marks.{only_semicolon, only_open_brace}
 
 -- statements and a `}`
@@ -75,3 +77,9 @@ body_enters aliases function reader w same = let t = body_opens aliases function
   forward = λ tokens rest x n. inl (let within = enters function w n.2 n.3.0 n.3.1 in (within.0, within.1, same.backward _ _ _ (bodies_of_body within.2), within.3));
   backward = λ tokens rest x n. t.backward tokens rest x (n.0, n.1, body_of_bodies (same.forward _ _ _ n.2), n.3);
 }
+
+pub not_in_body : (reader : FunctionReader) → ((signature : Signature) (place : Place) (inner : BodyReader) → reader ≡ FunctionReader.Body signature place inner → ⊥) → IsWithinBody reader → ⊥
+not_in_body (FunctionReader.Header fixed reader) other within = within
+not_in_body (FunctionReader.Parameters fixed header reader) other within = within
+not_in_body (FunctionReader.Behind signature) other within = within
+not_in_body (FunctionReader.Body signature place inner) other within = other signature place inner refl

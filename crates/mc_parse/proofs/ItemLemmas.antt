@@ -14,10 +14,12 @@ use Rattle.mc_ast.specs.declared.trees.Declarator.{Declarator}
 use Rattle.mc_ast.specs.Trees.{StructTree, AliasedTree, of_base, TypedefTree, ItemTree, structure, typedef, function, FunctionTree}
 use Rattle.mc_parse.specs.declared.header.Header.{Header}
 use Rattle.mc_ast.specs.Grammar.{star, no_star, IsDeclarator, declarator, declarators, IsBase, int, tagged, alias, gives_nothing, gives_value, IsFixed, fixed, not_fixed, struct, IsAliased, base_aliased, struct_aliased, introduces, IsItem, struct_item, typedef_item, function_item}
+use Rattle.mc_parse.specs.declared.function.FunctionReader.{FunctionReader}
+use Rattle.mc_parse.specs.declared.item.ItemReader.{ItemReader}
 use Rattle.mc_parse.specs.Threads.{Then, Gives}
 use Rattle.mc_parse.specs.Fields.{FieldsFrom}
 use Rattle.mc_parse.specs.Functions.{is_header, IsHeaderOf, is_header_of, BehindHeader}
-use Rattle.mc_parse.specs.Items.{IsTagged, with_fields, without_fields, IsTagOf, tag_of, EndsTypedef, TaggedTypedef, IsStructEnd, struct_end, IsFunctionOf, TaggedItem}
+use Rattle.mc_parse.specs.Items.{IsTagged, with_fields, without_fields, IsTagOf, tag_of, EndsTypedef, TaggedTypedef, IsStructEnd, struct_end, IsFunctionOf, TaggedItem, IsWithinFunction}
 use Rattle.mc_parse.proofs.Threads.{SameAt}
 use Rattle.mc_parse.proofs.Marks.{only_struct, only_typedef, only_static, only_name, only_open_brace, only_semicolon}
 use Rattle.mc_parse.proofs.Bases.{no_base, static_no_base, typedef_no_base, behind_int, behind_alias}
@@ -192,3 +194,12 @@ brace_no_header w (is_header_of no_star n k) = grind arith
 
 pub brace_no_function : (aliases : List (List ℕ)) (base : Base) {token : Token} → IsMark (codes "{") token → IsStuckAt (IsFunctionOf aliases base) token
 brace_no_function aliases base w = λ tokens rest i n. brace_no_header w n.2.2
+
+pub not_in_function : (reader : ItemReader) → ((function : FunctionReader) → reader ≡ ItemReader.Function function → ⊥) → IsWithinFunction reader → ⊥
+not_in_function ItemReader.Start other within = within
+not_in_function (ItemReader.Tag place) other within = within
+not_in_function (ItemReader.Tagged place name) other within = within
+not_in_function (ItemReader.Struct reader) other within = within
+not_in_function (ItemReader.Closing s) other within = within
+not_in_function (ItemReader.Typedef reader) other within = within
+not_in_function (ItemReader.Function f) other within = other f refl

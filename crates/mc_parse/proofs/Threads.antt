@@ -7,14 +7,15 @@ use Rattle.mc_ast.specs.Names.{Tokens, is_in}
 use Rattle.mc_ast.specs.Readers.{Takes, Closes, IsStuckAt, IsSame}
 use Rattle.mc_parse.specs.declared.step.Step.{Step}
 use Rattle.mc_parse.specs.declared.step.Step.TheVariants.{Taken, Closed, Stuck}
-use Rattle.mc_parse.specs.Threads.{Then, Gives, StepIs}
+use Rattle.mc_parse.specs.declared.step.Took.{Took}
+use Rattle.mc_parse.specs.Threads.{Then, Gives, StepIs, TookIs, IsPut}
 
 -- what holds of every good answer
 pub if_ok : {X E : Type 0} {P Q : X → Type 0} → (r : Result X E) → ((x : X) → P x → Q x) → IfOk r P → IfOk r Q
 if_ok (Ok x) f p = f x p
 if_ok (Err e) f p = tt
 
-none_goes_on : (text : List ℕ) → IsTrue (is_in [] text) → ⊥
+pub none_goes_on : (text : List ℕ) → IsTrue (is_in [] text) → ⊥
 none_goes_on text e = false≢true e
 
 pub then_takes : {A X : Type 0} {now later : Tokens → Tokens → A → Type 0} {K : A → Tokens → Tokens → X → Type 0} {token : Token} → Takes [] now later token → Takes [] (Then now K) (Then later K) token
@@ -62,6 +63,12 @@ pub same_step : {R T X : Type 0} (completes : R → Tokens → Tokens → X → 
 same_step completes of s (Taken r) t = same_takes s t
 same_step completes of s (Closed t) c = same_closes s c
 same_step completes of s Stuck stuck = same_stuck s stuck
+
+-- a step by value that is done in place
+pub put_is : {R T X : Type 0} (completes : R → Tokens → Tokens → X → Type 0) (of : T → X) (now : Tokens → Tokens → X → Type 0) (token : Token) (step : Step R T) (behind : R) (took : Took T) → IsPut step behind took → StepIs completes of now token step → TookIs of now (completes behind) token took
+put_is completes of now token (Taken reader) behind took e t = rw (e.0, e.1) t
+put_is completes of now token (Closed t) behind took e c = rw e c
+put_is completes of now token Stuck behind took e stuck = rw e stuck
 
 pub takes_same : {X : Type 0} {now other later : Tokens → Tokens → X → Type 0} {token : Token} → Takes [] now other token → IsSame later other → Takes [] now later token
 takes_same {X = X} {now = now} {other = other} {later = later} {token = token} t s = record {

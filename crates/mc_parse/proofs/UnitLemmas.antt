@@ -1,6 +1,6 @@
 -- The transitions of whole programs.
 use native.Mathlib.Omega.{arith}
-use Rattle.std.proofs.Common.{◌≡◌, ℕ, List, [], ◌∷◌, ◌++◌, Some, None, Option, refl, subst}
+use Rattle.std.proofs.Common.{◌≡◌, ℕ, List, [], ◌∷◌, ◌++◌, Some, None, Option, refl, subst, inl, inr}
 use Rattle.mc_base.specs.declared.plain.Place.{Place}
 use Rattle.mc_lex.specs.declared.token.Token.{Token}
 use Rattle.mc_lex.specs.declared.token.TokenKind.TheVariants as TokenKind
@@ -9,14 +9,16 @@ use Rattle.mc_ast.specs.declared.trees.Base.{Base}
 use Rattle.mc_ast.specs.Names.{Tokens, is_in, is_same}
 use Rattle.mc_ast.specs.Trees.{ItemTree, UnitTree, FunctionTree}
 use Rattle.mc_ast.specs.Classes.{IsClass}
-use Rattle.mc_ast.specs.Readers.{Closes}
+use Rattle.mc_ast.specs.Readers.{Takes, Closes}
 use Rattle.mc_ast.specs.Grammar.{introduced, IsBase, int, tagged, alias, gives_nothing, gives_value, IsFixed, fixed, not_fixed, struct, introduces, IsItem, struct_item, typedef_item, function_item, MoreItems, no_item, next_item}
 use Rattle.mc_parse.specs.declared.item.ItemReader.{ItemReader}
+use Rattle.mc_parse.specs.declared.unit.UnitReader.{UnitReader}
 use Rattle.mc_parse.specs.declared.unit.UnitStep.{UnitStep}
 use Rattle.mc_parse.specs.declared.unit.UnitStep.TheVariants.{Taken, Done, Stuck}
 use Rattle.mc_parse.specs.Functions.{is_header}
 use Rattle.mc_parse.specs.Items.{CompletesItem}
 use Rattle.mc_parse.specs.Units.{types_behind, ItemsFrom, Knows, Goes, IsDone, UnitStepIs}
+use Rattle.mc_parse.proofs.Threads.{none_goes_on}
 use Rattle.mc_parse.proofs.Marks.{only_end}
 use Rattle.mc_parse.proofs.AliasLemmas.{any_of_both}
 use Rattle.mc_parse.proofs.FunctionLemmas.{FunctionBehind, function_splits}
@@ -27,6 +29,14 @@ types_more aliases (j ∷ is) i = types_more (introduced j ++ aliases) is i
 
 pub known_more : (is : List ItemTree) (i : ItemTree) (old new : List (List ℕ)) → Knows old is → ((name : List ℕ) → is_in new name ≡ is_in (introduced i ++ old) name) → Knows new (is ++ i ∷ [])
 known_more is i old new known added = λ name. rw (types_more [] is i, added name, any_of_both (is_same name) (introduced i) (types_behind [] is), any_of_both (is_same name) (introduced i) old, known name) refl
+
+pub item_takes : (reader behind : ItemReader) (is : List ItemTree) {token : Token} → Takes [] (CompletesItem (types_behind [] is) reader) (CompletesItem (types_behind [] is) behind) token → Goes (ItemsFrom (types_behind [] is) is (Some reader)) (ItemsFrom (types_behind [] is) is (Some behind)) token
+item_takes reader behind is {token} t = record {
+  forward = λ more all n. (n.0, n.1, left more n.1 n.0 n.2, n.3);
+  backward = λ more all n. (n.0, n.1, t.backward more n.1 n.0 n.2, n.3);
+} where
+  left : (more mid : Tokens) (i : ItemTree) → CompletesItem (types_behind [] is) reader (token ∷ more) mid i → CompletesItem (types_behind [] is) behind more mid i
+  left more mid i n = elim (t.forward more mid i n) [ inl l ↦ l | inr e ↦ absurd (none_goes_on token.text e.1) ]
 
 closing : (aliases : List (List ℕ)) (reader : ItemReader) (is : List ItemTree) {token : Token} (i : ItemTree) → Closes (CompletesItem aliases reader) token i → Goes (ItemsFrom aliases is (Some reader)) (ItemsFrom (introduced i ++ aliases) (is ++ i ∷ []) None) token
 closing aliases reader is {token} i c = record {
@@ -67,7 +77,7 @@ starts : {aliases : List (List ℕ)} {is all : List ItemTree} {token : Token} {m
 starts class c other (no_item e) = absurd (other (only_end _ class c e))
 starts class c other (next_item i items) = (_, _, i, items)
 
-pub unit_starts : (aliases : List (List ℕ)) (is : List ItemTree) (token : Token) (class : Class) → IsClass token class → (class ≡ Class.End → ⊥) → (step : UnitStep) → UnitStepIs (ItemsFrom aliases is (Some ItemReader.Start)) token step → UnitStepIs (ItemsFrom aliases is None) token step
-unit_starts aliases is token class c other (Taken r) s = (s.0, record { forward = λ more all n. s.1.forward more all (starts class c other n); backward = λ more all n. let o = s.1.backward more all n in next_item o.2 o.3 })
-unit_starts aliases is token class c other (Done u) s = record { end = s.end; forward = λ more all n. s.forward more all (starts class c other n); backward = let o = s.backward in next_item o.2 o.3 }
-unit_starts aliases is token class c other Stuck s = λ more all n. s more all (starts class c other n)
+pub unit_starts : (aliases : List (List ℕ)) (is : List ItemTree) (token : Token) (class : Class) → IsClass token class → (class ≡ Class.End → ⊥) → (behind : UnitReader) (step : UnitStep) → UnitStepIs (ItemsFrom aliases is (Some ItemReader.Start)) behind token step → UnitStepIs (ItemsFrom aliases is None) behind token step
+unit_starts aliases is token class c other behind Taken s = (s.0, record { forward = λ more all n. s.1.forward more all (starts class c other n); backward = λ more all n. let o = s.1.backward more all n in next_item o.2 o.3 })
+unit_starts aliases is token class c other behind (Done u) s = record { end = s.end; forward = λ more all n. s.forward more all (starts class c other n); backward = let o = s.backward in next_item o.2 o.3 }
+unit_starts aliases is token class c other behind Stuck s = λ more all n. s more all (starts class c other n)

@@ -1,5 +1,5 @@
 -- What completes a function.
-use Rattle.std.specs.Prelude.{ℕ, List, ◌∷◌, Option, Some, codes}
+use Rattle.std.specs.Prelude.{◌≡◌, ℕ, List, ◌∷◌, Option, Some, codes}
 use Rattle.mc_base.specs.declared.plain.Place.{Place}
 use Rattle.mc_lex.specs.declared.token.Token.{Token}
 use Rattle.mc_ast.specs.declared.trees.Name.{Name}
@@ -7,7 +7,7 @@ use Rattle.mc_ast.specs.declared.trees.Base.{Base}
 use Rattle.mc_ast.specs.declared.trees.Function.{Function}
 use Rattle.mc_ast.specs.declared.trees.Returned.{Returned}
 use Rattle.mc_ast.specs.Names.{Tokens, IsMark, IsName, name_of}
-use Rattle.mc_ast.specs.Trees.{ParametersTree, FunctionTree}
+use Rattle.mc_ast.specs.Trees.{ParametersTree, FunctionTree, Stmt}
 use Rattle.mc_ast.specs.Views.{parameters_of, function_of}
 use Rattle.mc_ast.specs.Grammar.{IsStar, IsReturned, IsBody}
 use Rattle.mc_body.specs.Bodies.{CompletesBody}
@@ -15,7 +15,8 @@ use Rattle.mc_parse.specs.declared.header.Header.{Header}
 use Rattle.mc_parse.specs.declared.header.HeaderReader.{HeaderReader}
 use Rattle.mc_parse.specs.declared.function.FunctionReader.{FunctionReader}
 use Rattle.mc_parse.specs.declared.step.Step.{Step}
-use Rattle.mc_parse.specs.Threads.{Then, Gives, StepIs}
+use Rattle.mc_parse.specs.declared.step.Took.{Took}
+use Rattle.mc_parse.specs.Threads.{Then, Gives, StepIs, TookIs}
 use Rattle.mc_parse.specs.Bases.{CompletesBase}
 use Rattle.mc_parse.specs.Parameters.{IsParametersEnd, CompletesParameters}
 
@@ -63,3 +64,20 @@ CompletesFunction aliases (FunctionReader.Body signature place reader) = Then (C
 
 abbrev pub FunctionStepIs : List (List ℕ) → FunctionReader → Token → Step FunctionReader Function → Type 0
 FunctionStepIs aliases reader token step = StepIs (CompletesFunction aliases) function_of (CompletesFunction aliases reader) token step
+
+abbrev pub FunctionTookIs : List (List ℕ) → (reader behind : FunctionReader) → Token → Took Function → Type 0
+FunctionTookIs aliases reader behind token took = TookIs function_of (CompletesFunction aliases reader) (CompletesFunction aliases behind) token took
+
+-- the reader is within a body
+abbrev pub IsWithinBody : FunctionReader → Type 0
+IsWithinBody (FunctionReader.Header fixed reader) = ⊥
+IsWithinBody (FunctionReader.Parameters fixed header reader) = ⊥
+IsWithinBody (FunctionReader.Behind signature) = ⊥
+IsWithinBody (FunctionReader.Body signature place reader) = Unit {0}
+
+-- the function that the reader is within, with these statements as its body
+abbrev pub IsBehindBody : FunctionReader → List Stmt → FunctionTree → Type 0
+IsBehindBody (FunctionReader.Header fixed reader) ss f = ⊥
+IsBehindBody (FunctionReader.Parameters fixed header reader) ss f = ⊥
+IsBehindBody (FunctionReader.Behind signature) ss f = ⊥
+IsBehindBody (FunctionReader.Body signature place reader) ss f = f ≡ record { fixed = signature.fixed; returned = signature.header.returned; name = signature.header.name; parameters = parameters_of signature.parameters; body = Some (record { place = place; statements = ss }) }

@@ -14,7 +14,8 @@ use Rattle.mc_parse.specs.declared.typedef.TypedefReader.{TypedefReader}
 use Rattle.mc_parse.specs.declared.typedef.TypedefPart.{TypedefPart}
 use Rattle.mc_parse.specs.declared.item.ItemReader.{ItemReader}
 use Rattle.mc_parse.specs.declared.step.Step.{Step}
-use Rattle.mc_parse.specs.Threads.{Then, Gives, StepIs}
+use Rattle.mc_parse.specs.declared.step.Took.{Took}
+use Rattle.mc_parse.specs.Threads.{Then, Gives, StepIs, TookIs}
 use Rattle.mc_parse.specs.Declarators.{IsDeclaratorsEnd, CompletesDeclarators}
 use Rattle.mc_parse.specs.Fields.{FieldsFrom, CompletesStruct}
 use Rattle.mc_parse.specs.Functions.{IsHeaderOf, BehindHeader, CompletesFunction}
@@ -71,3 +72,16 @@ TypedefStepIs aliases place part token step = StepIs (CompletesTypedef aliases) 
 
 abbrev pub ItemStepIs : List (List ℕ) → ItemReader → Token → Step ItemReader Item → Type 0
 ItemStepIs aliases reader token step = StepIs (CompletesItem aliases) item_of (CompletesItem aliases reader) token step
+
+abbrev pub ItemTookIs : List (List ℕ) → (reader behind : ItemReader) → Token → Took Item → Type 0
+ItemTookIs aliases reader behind token took = TookIs item_of (CompletesItem aliases reader) (CompletesItem aliases behind) token took
+
+-- the reader is within a function
+abbrev pub IsWithinFunction : ItemReader → Type 0
+IsWithinFunction ItemReader.Start = ⊥
+IsWithinFunction (ItemReader.Tag place) = ⊥
+IsWithinFunction (ItemReader.Tagged place name) = ⊥
+IsWithinFunction (ItemReader.Struct reader) = ⊥
+IsWithinFunction (ItemReader.Closing s) = ⊥
+IsWithinFunction (ItemReader.Typedef reader) = ⊥
+IsWithinFunction (ItemReader.Function reader) = Unit {0}

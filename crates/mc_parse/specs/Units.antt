@@ -44,11 +44,11 @@ pub record IsDone (now : Tokens → UnitTree → Type 0) (token : Token) (unit :
   pub forward : (more : Tokens) (all : UnitTree) → now (token ∷ more) all → (more ≡ []) × (all ≡ unit)
   pub backward : now (token ∷ []) unit
 
--- the step is a reader's of whole programs at this token
-abbrev pub UnitStepIs : (Tokens → UnitTree → Type 0) → Token → UnitStep → Type 0
-UnitStepIs now token (Taken reader) = KnowsTypes reader × Goes now (CompletesUnit reader) token
-UnitStepIs now token (Done unit) = IsDone now token (unit_of unit)
-UnitStepIs now token Stuck = (more : Tokens) (all : UnitTree) → ¬ now (token ∷ more) all
+-- the step is a reader's of whole programs at this token, of what completes it now and the reader behind the token
+abbrev pub UnitStepIs : (Tokens → UnitTree → Type 0) → (behind : UnitReader) → Token → UnitStep → Type 0
+UnitStepIs now behind token Taken = KnowsTypes behind × Goes now (CompletesUnit behind) token
+UnitStepIs now behind token (Done unit) = IsDone now token (unit_of unit)
+UnitStepIs now behind token Stuck = (more : Tokens) (all : UnitTree) → ¬ now (token ∷ more) all
 
 -- what completes the later relation completes this one with the tokens before it, and nothing else does
 pub record GoesThrough (now later : Tokens → UnitTree → Type 0) (tokens : Tokens) : Type 0 where

@@ -1,17 +1,21 @@
 // Functions and their prototypes.
 ghost use Rattle.mc_ast.specs.Classes.{IsClass};
 ghost use Rattle.mc_ast.specs.Names.{is_in};
-ghost use Rattle.mc_parse.specs.Functions.{FunctionStepIs};
-ghost use Rattle.std.specs.Prelude.{◌≡◌, ℕ, List, IfOk};
+ghost use Rattle.mc_parse.specs.Functions.{FunctionStepIs, FunctionTookIs, IsBehindBody, IsWithinBody};
+ghost use Rattle.mc_parse.specs.declared.function.FunctionReader.TheVariants as FunctionReader;
+ghost use Rattle.mc_parse.specs.declared.header.HeaderReader.TheVariants as HeaderReader;
+ghost use Rattle.mc_ast.specs.Views.{function_of, statement_of};
+ghost use Rattle.std.specs.Prelude.{◌≡◌, ℕ, List, IfOk, map};
 
 use crate::header::{Header, HeaderReader};
 use crate::parameters::ParametersReader;
-use crate::step::Step;
-use mc_ast::{Body, Class, Function, Parameters};
+use crate::step::{Step, Took};
+use mc_ast::{Body, Class, Function, Parameters, Statement};
 use mc_base::Place;
 use mc_body::{BodyReader, BodyStep};
 use mc_lex::Token;
 use std::alloc::{AllocError, Global};
+use std::mem;
 
 /// A function without its body.
 #[derive(Drop)]
@@ -33,19 +37,81 @@ pub enum FunctionReader {
     Body(Signature, Place, BodyReader),
 }
 
-/// What a reader of functions makes of a token.
+/// What a reader of functions makes of a token, by value.
 pub type FunctionStep = Step<FunctionReader, Function>;
 
+/// The same in place.
+pub type FunctionTook = Took<Function>;
+
 impl FunctionReader {
+    /// A reader at the start of a function, behind the word `static` at this place if it has one.
+    pub fn new(fixed: Option<Place>) -> FunctionReader
+        ensures { result ≡ FunctionReader.Header fixed HeaderReader.Start }
+    {
+        FunctionReader::Header(fixed, HeaderReader::Start)
+    }
+
     /// Takes the next token.
     pub fn step(
+        &mut self,
+        alloc: Global,
+        token: &Token,
+        class: Class,
+        alias: bool,
+    ) -> Result<FunctionTook, AllocError>
+        requires { IsClass token.now class }
+        ensures { IfOk result (λ took. (aliases : List (List ℕ)) → is_in aliases token.now.text ≡ alias → FunctionTookIs aliases self.old self.new token.now took) }
+    {
+        match self {
+            FunctionReader::Body(_, _, reader) => match reader.step(token, class, alias)? {
+                BodyStep::Taken => Ok(Took::Taken),
+                BodyStep::Closed(statements) => Ok(Took::Closed(self.with_body(statements))),
+                BodyStep::Stuck => Ok(Took::Stuck),
+            },
+            _ => self.step_before_body(alloc, token, class, alias),
+        }
+    }
+
+    /// The function that these statements make complete.
+    fn with_body(&mut self, statements: Vec<Statement>) -> Function
+        requires { IsWithinBody self.old }
+        ensures { IsBehindBody self.old (map statement_of statements.items) (function_of result) }
+    {
+        match mem::replace(self, FunctionReader::new(None)) {
+            FunctionReader::Body(signature, place, _) => {
+                let body = Body { place, statements };
+                function_of(signature, Some(body))
+            }
+            _ => unreachable!(),
+        }
+    }
+
+    /// Takes a token before the body.
+    fn step_before_body(
+        &mut self,
+        alloc: Global,
+        token: &Token,
+        class: Class,
+        alias: bool,
+    ) -> Result<FunctionTook, AllocError>
+        requires class { IsClass token.now class }
+        requires before { IsWithinBody self.old → ⊥ }
+        ensures { IfOk result (λ took. (aliases : List (List ℕ)) → is_in aliases token.now.text ≡ alias → FunctionTookIs aliases self.old self.new token.now took) }
+    {
+        let reader = mem::replace(self, FunctionReader::new(None));
+        let step = reader.moved_before_body(alloc, token, class, alias)?;
+        Ok(step.put(self))
+    }
+
+    fn moved_before_body(
         self,
         alloc: Global,
         token: &Token,
         class: Class,
         alias: bool,
     ) -> Result<FunctionStep, AllocError>
-        requires { IsClass token.now class }
+        requires class { IsClass token.now class }
+        requires before { IsWithinBody self → ⊥ }
         ensures { IfOk result (λ step. (aliases : List (List ℕ)) → is_in aliases token.now.text ≡ alias → FunctionStepIs aliases self token.now step) }
     {
         match self {
@@ -58,14 +124,13 @@ impl FunctionReader {
             FunctionReader::Behind(signature) => Ok(behind_signature(
                 alloc, signature, token, class,
             )),
-            FunctionReader::Body(signature, place, reader) => {
-                within_body(signature, place, reader, token, class, alias)
-            }
+            FunctionReader::Body(_, _, _) => unreachable!(),
         }
     }
 }
 
-fn within_header(
+/// Takes a token within the head of a function.
+pub fn within_header(
     alloc: Global,
     fixed: Option<Place>,
     reader: HeaderReader,
@@ -127,27 +192,6 @@ fn behind_signature(
             BodyReader::new(alloc),
         )),
         _ => Step::Stuck,
-    }
-}
-
-fn within_body(
-    signature: Signature,
-    place: Place,
-    reader: BodyReader,
-    token: &Token,
-    class: Class,
-    alias: bool,
-) -> Result<FunctionStep, AllocError>
-    requires { IsClass token.now class }
-    ensures { IfOk result (λ step. (aliases : List (List ℕ)) → is_in aliases token.now.text ≡ alias → FunctionStepIs aliases (FunctionReader.Body signature place reader) token.now step) }
-{
-    match reader.step(token, class, alias)? {
-        BodyStep::Taken(reader) => Ok(Step::Taken(FunctionReader::Body(signature, place, reader))),
-        BodyStep::Closed(statements) => {
-            let body = Body { place, statements };
-            Ok(Step::Closed(function_of(signature, Some(body))))
-        }
-        BodyStep::Stuck => Ok(Step::Stuck),
     }
 }
 

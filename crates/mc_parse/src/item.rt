@@ -1,19 +1,21 @@
 // Structs, typedefs and functions.
 ghost use Rattle.mc_ast.specs.Classes.{IsClass};
 ghost use Rattle.mc_ast.specs.Names.{is_in};
-ghost use Rattle.mc_parse.specs.Items.{ItemStepIs};
+ghost use Rattle.mc_parse.specs.Items.{ItemStepIs, ItemTookIs, IsWithinFunction};
+ghost use Rattle.mc_parse.specs.declared.function.FunctionReader.TheVariants as FunctionReader;
 ghost use Rattle.std.specs.Prelude.{◌≡◌, ℕ, List, IfOk};
 
 use crate::fields::FieldsReader;
-use crate::function::FunctionReader;
+use crate::function::{FunctionReader, within_header};
 use crate::header::HeaderReader;
-use crate::step::Step;
+use crate::step::{Step, Took};
 use crate::structure::StructReader;
 use crate::typedef::{TypedefPart, TypedefReader};
 use mc_ast::{Base, Class, Item, Name, Struct, name_at};
 use mc_base::Place;
 use mc_lex::Token;
 use std::alloc::{AllocError, Global};
+use std::mem;
 
 /// What has been read of a struct, a typedef or a function.
 #[derive(Drop)]
@@ -31,19 +33,60 @@ pub enum ItemReader {
     Function(FunctionReader),
 }
 
-/// What a reader of items makes of a token.
+/// What a reader of items makes of a token, by value.
 pub type ItemStep = Step<ItemReader, Item>;
+
+/// The same in place.
+pub type ItemTook = Took<Item>;
 
 impl ItemReader {
     /// Takes the next token.
     pub fn step(
+        &mut self,
+        alloc: Global,
+        token: &Token,
+        class: Class,
+        alias: bool,
+    ) -> Result<ItemTook, AllocError>
+        requires { IsClass token.now class }
+        ensures { IfOk result (λ took. (aliases : List (List ℕ)) → is_in aliases token.now.text ≡ alias → ItemTookIs aliases self.old self.new token.now took) }
+    {
+        match self {
+            ItemReader::Function(reader) => match reader.step(alloc, token, class, alias)? {
+                Took::Taken => Ok(Took::Taken),
+                Took::Closed(function) => Ok(Took::Closed(Item::Function(function))),
+                Took::Stuck => Ok(Took::Stuck),
+            },
+            _ => self.step_beside_functions(alloc, token, class, alias),
+        }
+    }
+
+    /// Takes a token within no function.
+    fn step_beside_functions(
+        &mut self,
+        alloc: Global,
+        token: &Token,
+        class: Class,
+        alias: bool,
+    ) -> Result<ItemTook, AllocError>
+        requires class { IsClass token.now class }
+        requires beside { IsWithinFunction self.old → ⊥ }
+        ensures { IfOk result (λ took. (aliases : List (List ℕ)) → is_in aliases token.now.text ≡ alias → ItemTookIs aliases self.old self.new token.now took) }
+    {
+        let reader = mem::replace(self, ItemReader::Start);
+        let step = reader.moved_beside_functions(alloc, token, class, alias)?;
+        Ok(step.put(self))
+    }
+
+    fn moved_beside_functions(
         self,
         alloc: Global,
         token: &Token,
         class: Class,
         alias: bool,
     ) -> Result<ItemStep, AllocError>
-        requires { IsClass token.now class }
+        requires class { IsClass token.now class }
+        requires beside { IsWithinFunction self → ⊥ }
         ensures { IfOk result (λ step. (aliases : List (List ℕ)) → is_in aliases token.now.text ≡ alias → ItemStepIs aliases self token.now step) }
     {
         match self {
@@ -53,7 +96,7 @@ impl ItemReader {
             ItemReader::Struct(reader) => item_struct(alloc, reader, token, class, alias),
             ItemReader::Closing(structure) => Ok(item_closing(structure, class)),
             ItemReader::Typedef(reader) => item_typedef(alloc, reader, token, class, alias),
-            ItemReader::Function(reader) => item_function(alloc, reader, token, class, alias),
+            ItemReader::Function(_) => unreachable!(),
         }
     }
 }
@@ -74,13 +117,10 @@ fn item_start(
             part: TypedefPart::Start,
         }))),
         Class::Static => {
-            let reader = FunctionReader::Header(Some(token.place), HeaderReader::Start);
+            let reader = FunctionReader::new(Some(token.place));
             Ok(Step::Taken(ItemReader::Function(reader)))
         }
-        _ => {
-            let reader = FunctionReader::Header(None, HeaderReader::Start);
-            item_function(alloc, reader, token, class, alias)
-        }
+        _ => item_header(alloc, None, HeaderReader::Start, token, class, alias),
     }
 }
 
@@ -121,8 +161,7 @@ fn item_tagged(
         }))),
         _ => {
             let header = HeaderReader::Value(Base::Struct(place, name));
-            let reader = FunctionReader::Header(None, header);
-            item_function(alloc, reader, token, class, alias)
+            item_header(alloc, None, header, token, class, alias)
         }
     }
 }
@@ -170,17 +209,19 @@ fn item_typedef(
     }
 }
 
-fn item_function(
+/// The first token of a function behind what is read of its head.
+fn item_header(
     alloc: Global,
-    reader: FunctionReader,
+    fixed: Option<Place>,
+    reader: HeaderReader,
     token: &Token,
     class: Class,
     alias: bool,
 ) -> Result<ItemStep, AllocError>
     requires { IsClass token.now class }
-    ensures { IfOk result (λ step. (aliases : List (List ℕ)) → is_in aliases token.now.text ≡ alias → ItemStepIs aliases (ItemReader.Function reader) token.now step) }
+    ensures { IfOk result (λ step. (aliases : List (List ℕ)) → is_in aliases token.now.text ≡ alias → ItemStepIs aliases (ItemReader.Function (FunctionReader.Header fixed reader)) token.now step) }
 {
-    match reader.step(alloc, token, class, alias)? {
+    match within_header(alloc, fixed, reader, token, class, alias)? {
         Step::Taken(reader) => Ok(Step::Taken(ItemReader::Function(reader))),
         Step::Closed(function) => Ok(Step::Closed(Item::Function(function))),
         Step::Stuck => Ok(Step::Stuck),

@@ -21,7 +21,7 @@ pub fn parse(alloc: Global, tokens: &[Token]) -> Result<Unit, ParseFault>
     let mut reader = UnitReader::new(alloc);
     for (index, token) in tokens.iter().enumerate() {
         match reader.step(alloc, token)? {
-            UnitStep::Taken(next) => reader = next,
+            UnitStep::Taken => {}
             UnitStep::Done(unit) => return Ok(unit),
             UnitStep::Stuck => return Err(fault_at(alloc, &tokens[..index], token)),
         }

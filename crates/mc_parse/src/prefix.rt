@@ -12,22 +12,21 @@ use std::alloc::{AllocError, Global};
 /// The reader behind these tokens; none where no program can have them there.
 fn behind(
     alloc: Global,
-    reader: UnitReader,
+    mut reader: UnitReader,
     tokens: &[Token],
 ) -> Result<Option<UnitReader>, AllocError>
     requires known { KnowsTypes reader }
     requires no_end { HasNoEnd tokens.now }
     ensures { IfOk result (RunIs (CompletesUnit reader) tokens.now) }
 {
-    let mut current = reader;
     for token in tokens {
-        match current.step(alloc, token)? {
-            UnitStep::Taken(next) => current = next,
+        match reader.step(alloc, token)? {
+            UnitStep::Taken => {}
             UnitStep::Done(_) => unreachable!(),
             UnitStep::Stuck => return Ok(None),
         }
     }
-    Ok(Some(current))
+    Ok(Some(reader))
 }
 
 /// Whether some program begins with the first tokens and the second ones behind them.

@@ -9,10 +9,11 @@ ghost use Rattle.std.specs.Prelude.{◌≡◌, ◌≢◌, ◌∷◌, ◌++◌, �
 
 use crate::aliases::AliasNames;
 use crate::item::ItemReader;
-use crate::step::Step;
+use crate::step::Took;
 use mc_ast::{Class, Declarator, Item, Unit, classify};
 use mc_lex::Token;
 use std::alloc::{AllocError, Global};
+use std::mem;
 
 /// What has been read of a program.
 #[derive(Drop)]
@@ -28,7 +29,7 @@ pub struct UnitReader {
 /// What a reader of programs makes of a token.
 #[derive(Drop)]
 pub enum UnitStep {
-    Taken(UnitReader),
+    Taken,
     /// At the end of the text.
     Done(Unit),
     Stuck,
@@ -49,84 +50,89 @@ impl UnitReader {
     }
 
     /// Takes the next token.
-    pub fn step(self, alloc: Global, token: &Token) -> Result<UnitStep, AllocError>
-        requires { KnowsTypes self }
-        ensures { IfOk result (λ step. UnitStepIs (CompletesUnit self) token.now step) }
+    pub fn step(&mut self, alloc: Global, token: &Token) -> Result<UnitStep, AllocError>
+        requires { KnowsTypes self.old }
+        ensures { IfOk result (λ step. UnitStepIs (CompletesUnit self.old) self.new token.now step) }
     {
-        let UnitReader {
-            items,
-            current,
-            aliases,
-        } = self;
-        match current {
-            Some(reader) => within_item(alloc, items, reader, aliases, token, classify(token)),
-            None => behind_item(alloc, items, aliases, token),
+        let class = classify(token);
+        let alias = self.aliases.contains(token.text.as_slice());
+        match &mut self.current {
+            Some(reader) => match reader.step(alloc, token, class, alias)? {
+                Took::Taken => Ok(UnitStep::Taken),
+                Took::Closed(item) => {
+                    self.add(alloc, item)?;
+                    Ok(UnitStep::Taken)
+                }
+                Took::Stuck => Ok(UnitStep::Stuck),
+            },
+            None => self.begin(alloc, token, class, alias),
         }
     }
-}
 
-fn behind_item(
-    alloc: Global,
-    items: Vec<Item>,
-    aliases: AliasNames,
-    token: &Token,
-) -> Result<UnitStep, AllocError>
-    requires { Knows aliases (map item_of items.items) }
-    ensures { IfOk result (λ step. let is = map item_of items.items in UnitStepIs (ItemsFrom (types_behind [] is) is None) token.now step) }
-{
-    let class = classify(token);
-    match class {
-        Class::End => Ok(UnitStep::Done(Unit { items })),
-        _ => within_item(alloc, items, ItemReader::Start, aliases, token, class),
-    }
-}
-
-fn within_item(
-    alloc: Global,
-    items: Vec<Item>,
-    reader: ItemReader,
-    aliases: AliasNames,
-    token: &Token,
-    class: Class,
-) -> Result<UnitStep, AllocError>
-    requires known { Knows aliases (map item_of items.items) }
-    requires of { IsClass token.now class }
-    ensures { IfOk result (λ step. let is = map item_of items.items in UnitStepIs (ItemsFrom (types_behind [] is) is (Some reader)) token.now step) }
-{
-    let alias = aliases.contains(token.text.as_slice());
-    match reader.step(alloc, token, class, alias)? {
-        Step::Taken(reader) => Ok(UnitStep::Taken(UnitReader {
-            items,
-            current: Some(reader),
-            aliases,
-        })),
-        Step::Closed(item) => {
-            let reader = with_item(alloc, items, item, aliases)?;
-            Ok(UnitStep::Taken(reader))
+    /// Takes the first token of an item, or the end.
+    fn begin(
+        &mut self,
+        alloc: Global,
+        token: &Token,
+        class: Class,
+        alias: bool,
+    ) -> Result<UnitStep, AllocError>
+        requires between { self.old.current ≡ None }
+        requires known { KnowsTypes self.old }
+        requires of { IsClass token.now class }
+        requires alias { is_in self.old.aliases token.now.text ≡ alias }
+        ensures { IfOk result (λ step. UnitStepIs (CompletesUnit self.old) self.new token.now step) }
+    {
+        match class {
+            Class::End => {
+                let items = mem::replace(&mut self.items, Vec::new(alloc));
+                Ok(UnitStep::Done(Unit { items }))
+            }
+            _ => self.begin_item(alloc, token, class, alias),
         }
-        Step::Stuck => Ok(UnitStep::Stuck),
     }
-}
 
-/// The reader behind one more item.
-fn with_item(
-    alloc: Global,
-    mut items: Vec<Item>,
-    item: Item,
-    mut aliases: AliasNames,
-) -> Result<UnitReader, AllocError>
-    requires { Knows aliases (map item_of items.items) }
-    ensures items { IfOk result (λ reader. reader.items.items ≡ items.items ++ item ∷ []) }
-    ensures starts { IfOk result (λ reader. reader.current ≡ None) }
-    ensures known { IfOk result (λ reader. KnowsTypes reader) }
-{
-    introduce(alloc, &mut aliases, &item)?;
-    items.push(item)?;
-    Ok(UnitReader {
-        items,
-        current: None,
-        aliases,
-    })
+    /// Takes the first token of an item.
+    fn begin_item(
+        &mut self,
+        alloc: Global,
+        token: &Token,
+        class: Class,
+        alias: bool,
+    ) -> Result<UnitStep, AllocError>
+        requires between { self.old.current ≡ None }
+        requires known { KnowsTypes self.old }
+        requires of { IsClass token.now class }
+        requires alias { is_in self.old.aliases token.now.text ≡ alias }
+        requires no_end { class ≢ Class.End }
+        ensures { IfOk result (λ step. UnitStepIs (CompletesUnit self.old) self.new token.now step) }
+    {
+        let mut reader = ItemReader::Start;
+        match reader.step(alloc, token, class, alias)? {
+            Took::Taken => {
+                self.current = Some(reader);
+                Ok(UnitStep::Taken)
+            }
+            Took::Closed(item) => {
+                self.add(alloc, item)?;
+                Ok(UnitStep::Taken)
+            }
+            Took::Stuck => Ok(UnitStep::Stuck),
+        }
+    }
+
+    /// Goes on behind one more item.
+    fn add(&mut self, alloc: Global, item: Item) -> Result<(), AllocError>
+        requires { KnowsTypes self.old }
+        ensures items { OnOk result (self.new.items.items ≡ self.old.items.items ++ item ∷ []) }
+        ensures starts { OnOk result (self.new.current ≡ None) }
+        ensures known { OnOk result (KnowsTypes self.new) }
+    {
+        introduce(alloc, &mut self.aliases, &item)?;
+        self.items.push(item)?;
+        self.current = None;
+        Ok(())
+    }
 }
 
 /// Adds the names that an item introduces as types.

@@ -12,17 +12,17 @@ use Rattle.mc_ast.specs.Names.{Tokens, IsMark, IsName, name_of, is_in}
 use Rattle.mc_ast.specs.Grammar.{star, no_star, declarator, bare, with_value, last_initial, next_initial}
 use Rattle.mc_ast.specs.Readers.{Takes, Closes, IsStuckAt}
 use Rattle.mc_expression.specs.Turns.{InTurn, in_turn}
-use Rattle.mc_simple.specs.declared.declaration.DeclarationStep.{DeclarationStep}
+use Rattle.mc_simple.specs.declared.declaration.DeclarationMove.{DeclarationMove}
 use Rattle.mc_simple.specs.Phrases.{Next, next}
 use Rattle.mc_simple.specs.Rights.{Rights, right_marks}
-use Rattle.mc_simple.specs.Declarations.{BehindInitials, behind_initials, BehindInitial, BehindComma, BehindDeclarator, IsDeclarationStep}
+use Rattle.mc_simple.specs.Declarations.{BehindInitials, behind_initials, BehindInitial, BehindComma, BehindDeclarator, IsDeclarationMove}
 use Rattle.mc_simple.proofs.Phrases.{SameAt, takes_along, closes_along, stuck_along, next_takes, next_stuck, either_left, either_right}
 use Rattle.mc_simple.proofs.Tokens.{mark_no_name, no_mark}
 
-pub declaration_step_along : (aliases : List (List ℕ)) {now other : Tokens → Tokens → DeclarationTree → Type 0} {token : Token} (step : DeclarationStep) → SameAt now other token → IsDeclarationStep aliases other token step → IsDeclarationStep aliases now token step
-declaration_step_along aliases (DeclarationStep.Taken reader) s h = takes_along s h
-declaration_step_along aliases (DeclarationStep.Closed d) s h = closes_along s h
-declaration_step_along aliases DeclarationStep.Stuck s h = stuck_along s h
+pub declaration_step_along : (aliases : List (List ℕ)) {now other : Tokens → Tokens → DeclarationTree → Type 0} {token : Token} (step : DeclarationMove) → SameAt now other token → IsDeclarationMove aliases other token step → IsDeclarationMove aliases now token step
+declaration_step_along aliases (DeclarationMove.Taken reader) s h = takes_along s h
+declaration_step_along aliases (DeclarationMove.Closed d) s h = closes_along s h
+declaration_step_along aliases DeclarationMove.Stuck s h = stuck_along s h
 
 module _ (aliases : List (List ℕ)) (base : Base) (is : List InitialTree) {token : Token} where
   -- at a declarator
@@ -97,5 +97,5 @@ pub declarator_other : (aliases : List (List ℕ)) (base : Base) (is : List Init
 declarator_other aliases base is d no_mark_here = either_left (next_stuck no_mark_here)
 
 -- with one more item
-pub one_item : (aliases : List (List ℕ)) (base : Base) (before after : List Initial) (i : Initial) (token : Token) (step : DeclarationStep) → after ≡ before ++ i ∷ [] → IsDeclarationStep aliases (BehindInitials aliases base (map initial_of after)) token step → IsDeclarationStep aliases (BehindInitial aliases base (map initial_of before) (initial_of i)) token step
-one_item aliases base before after i token step is h = subst (λ items. IsDeclarationStep aliases (BehindInitials aliases base items) token step) (ap (map initial_of) is ∙ map-append initial_of before (i ∷ [])) h
+pub one_item : (aliases : List (List ℕ)) (base : Base) (before after : List Initial) (i : Initial) (token : Token) (step : DeclarationMove) → after ≡ before ++ i ∷ [] → IsDeclarationMove aliases (BehindInitials aliases base (map initial_of after)) token step → IsDeclarationMove aliases (BehindInitial aliases base (map initial_of before) (initial_of i)) token step
+one_item aliases base before after i token step is h = subst (λ items. IsDeclarationMove aliases (BehindInitials aliases base items) token step) (ap (map initial_of) is ∙ map-append initial_of before (i ∷ [])) h

@@ -12,21 +12,21 @@ use Rattle.mc_ast.specs.Grammar.{none, more, named as named_left, negative, nume
 use Rattle.mc_ast.specs.Readers.{Takes, Finds, IsStuckAt, IsSame}
 use Rattle.mc_expression.specs.Expressions.{BehindName, BehindOperand, expression_marks}
 use Rattle.mc_expression.specs.Turns.{in_turn}
-use Rattle.mc_simple.specs.declared.right.RightStep.{RightStep}
+use Rattle.mc_simple.specs.declared.right.RightMove.{RightMove}
 use Rattle.mc_simple.specs.Phrases.{ended, next}
 use Rattle.mc_simple.specs.Allocations.{BehindMalloc, BehindCast, InCast}
 use Rattle.mc_simple.specs.Calls.{Sums, behind_arguments, BehindCallParens}
-use Rattle.mc_simple.specs.Rights.{right_marks, Rights, AsExpression, AsCall, AsAllocation, ClosingParens, InParens, named, BehindTimes, BehindRightName, BehindRightParens, BehindParensAlias, BehindParensStar, BehindEnclosed, IsRightStep}
+use Rattle.mc_simple.specs.Rights.{right_marks, Rights, AsExpression, AsCall, AsAllocation, ClosingParens, InParens, named, BehindTimes, BehindRightName, BehindRightParens, BehindParensAlias, BehindParensStar, BehindEnclosed, IsRightMove}
 use Rattle.mc_simple.proofs.Phrases.{SameAt, takes_along, finds_along, stuck_along, takes_more, then_takes, then_moves, then_finds, then_closes, then_stuck, next_takes, next_stuck, either_takes, either_left, either_right, either_on, made_takes}
 use Rattle.mc_simple.proofs.Tokens.{mark_no_word, mark_no_name, name_no_word, no_mark}
 use Rattle.mc_simple.proofs.Sums.{unary_begins, sums_stuck, close_begins_none, word_begins_none}
 use Rattle.mc_simple.proofs.Bases.{base_alias, base_stuck}
 use Rattle.mc_simple.proofs.Allocations.{cast_star, cast_close, cast_stuck}
 
-pub right_step_along : (aliases : List (List ℕ)) {now other : Tokens → Tokens → Right → Type 0} {token : Token} (step : RightStep) → SameAt now other token → IsRightStep aliases other token step → IsRightStep aliases now token step
-right_step_along aliases (RightStep.Taken reader) s h = takes_along s h
-right_step_along aliases (RightStep.Found right) s h = finds_along s h
-right_step_along aliases RightStep.Stuck s h = stuck_along s h
+pub right_step_along : (aliases : List (List ℕ)) {now other : Tokens → Tokens → Right → Type 0} {token : Token} (step : RightMove) → SameAt now other token → IsRightMove aliases other token step → IsRightMove aliases now token step
+right_step_along aliases (RightMove.Taken reader) s h = takes_along s h
+right_step_along aliases (RightMove.Found right) s h = finds_along s h
+right_step_along aliases RightMove.Stuck s h = stuck_along s h
 
 either_bool : (b c d : Bool) → (IsTrue c → IsTrue d) → IsTrue (b || c) → IsTrue (b || d)
 either_bool true c d f h = h

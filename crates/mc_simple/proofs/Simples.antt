@@ -9,19 +9,19 @@ use Rattle.mc_ast.specs.Names.{Tokens, IsMark, IsName, name_of, is_in}
 use Rattle.mc_ast.specs.Grammar.{none, more, named, without, with_some, IsSimple, assigned, adding, subtracting, incremented, decremented, incremented_first, decremented_first, performed}
 use Rattle.mc_ast.specs.Readers.{Takes, Finds, IsStuckAt, IsSame}
 use Rattle.mc_expression.specs.Turns.{InTurn, in_turn}
-use Rattle.mc_simple.specs.declared.simple.SimpleStep.{SimpleStep}
+use Rattle.mc_simple.specs.declared.simple.SimpleMove.{SimpleMove}
 use Rattle.mc_simple.specs.declared.simple.Change.{Change}
 use Rattle.mc_simple.specs.Phrases.{Ended, ended, Next, next}
 use Rattle.mc_simple.specs.Calls.{Sums, behind_arguments, BehindCallParens}
 use Rattle.mc_simple.specs.Rights.{Rights}
-use Rattle.mc_simple.specs.Simples.{simple_marks, changed_first, changed_by, Simples, MoreFields, with_field, just, BehindLeft, assigns, adds, subtracts, increments, decrements, InLeft, BehindSimpleName, InFirst, IsSimpleStep}
+use Rattle.mc_simple.specs.Simples.{simple_marks, changed_first, changed_by, Simples, MoreFields, with_field, just, BehindLeft, assigns, adds, subtracts, increments, decrements, InLeft, BehindSimpleName, InFirst, IsSimpleMove}
 use Rattle.mc_simple.proofs.Phrases.{SameAt, takes_along, finds_along, stuck_along, next_takes, next_stuck, either_left, either_right, ended_finds}
 use Rattle.mc_simple.proofs.Tokens.{mark_no_name}
 
-pub simple_step_along : (aliases : List (List ℕ)) {now other : Tokens → Tokens → SimpleTree → Type 0} {token : Token} (step : SimpleStep) → SameAt now other token → IsSimpleStep aliases other token step → IsSimpleStep aliases now token step
-simple_step_along aliases (SimpleStep.Taken reader) s h = takes_along s h
-simple_step_along aliases (SimpleStep.Found simple) s h = finds_along s h
-simple_step_along aliases SimpleStep.Stuck s h = stuck_along s h
+pub simple_step_along : (aliases : List (List ℕ)) {now other : Tokens → Tokens → SimpleTree → Type 0} {token : Token} (step : SimpleMove) → SameAt now other token → IsSimpleMove aliases other token step → IsSimpleMove aliases now token step
+simple_step_along aliases (SimpleMove.Taken reader) s h = takes_along s h
+simple_step_along aliases (SimpleMove.Found simple) s h = finds_along s h
+simple_step_along aliases SimpleMove.Stuck s h = stuck_along s h
 
 -- the first token
 pub simple_name : (aliases : List (List ℕ)) {token : Token} → IsName token → Takes [] (Simples aliases) (BehindSimpleName aliases (name_of token)) token

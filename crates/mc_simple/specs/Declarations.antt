@@ -10,6 +10,7 @@ use Rattle.mc_ast.specs.Readers.{Takes, Closes, IsStuckAt}
 use Rattle.mc_ast.specs.Views.{initial_of, declaration_of}
 use Rattle.mc_simple.specs.declared.declaration.DeclarationReader.{DeclarationReader}
 use Rattle.mc_simple.specs.declared.declaration.DeclarationState.{DeclarationState}
+use Rattle.mc_simple.specs.declared.declaration.DeclarationMove.{DeclarationMove}
 use Rattle.mc_simple.specs.declared.declaration.DeclarationStep.{DeclarationStep}
 use Rattle.mc_expression.specs.Turns.{InTurn}
 use Rattle.mc_simple.specs.Phrases.{Next, Either}
@@ -49,8 +50,14 @@ CompletesDeclarationState aliases base is (DeclarationState.Value d reader) = In
 abbrev pub CompletesDeclaration : List (List ℕ) → DeclarationReader → Tokens → Tokens → DeclarationTree → Type 0
 CompletesDeclaration aliases reader = CompletesDeclarationState aliases reader.base (map initial_of reader.items.items) reader.state
 
--- what a step of the reader says
-abbrev pub IsDeclarationStep : List (List ℕ) → (Tokens → Tokens → DeclarationTree → Type 0) → Token → DeclarationStep → Type 0
-IsDeclarationStep aliases now token (DeclarationStep.Taken reader) = Takes [] now (CompletesDeclaration aliases reader) token
-IsDeclarationStep aliases now token (DeclarationStep.Closed d) = Closes now token (declaration_of d)
-IsDeclarationStep aliases now token DeclarationStep.Stuck = IsStuckAt now token
+-- what a step by value says
+abbrev pub IsDeclarationMove : List (List ℕ) → (Tokens → Tokens → DeclarationTree → Type 0) → Token → DeclarationMove → Type 0
+IsDeclarationMove aliases now token (DeclarationMove.Taken reader) = Takes [] now (CompletesDeclaration aliases reader) token
+IsDeclarationMove aliases now token (DeclarationMove.Closed d) = Closes now token (declaration_of d)
+IsDeclarationMove aliases now token DeclarationMove.Stuck = IsStuckAt now token
+
+-- what a step of the reader says, of what completes it now and behind the token
+abbrev pub IsDeclarationStep : (Tokens → Tokens → DeclarationTree → Type 0) → (Tokens → Tokens → DeclarationTree → Type 0) → Token → DeclarationStep → Type 0
+IsDeclarationStep now behind token DeclarationStep.Taken = Takes [] now behind token
+IsDeclarationStep now behind token (DeclarationStep.Closed d) = Closes now token (declaration_of d)
+IsDeclarationStep now behind token DeclarationStep.Stuck = IsStuckAt now token

@@ -13,6 +13,7 @@ use Rattle.mc_ast.specs.Views.{right_of}
 use Rattle.mc_expression.specs.Expressions.{CompletesExpression, BehindName, BehindOperand, expression_marks}
 use Rattle.mc_simple.specs.declared.right.RightReader.{RightReader}
 use Rattle.mc_simple.specs.declared.right.RightState.{RightState}
+use Rattle.mc_simple.specs.declared.right.RightMove.{RightMove}
 use Rattle.mc_simple.specs.declared.right.RightStep.{RightStep}
 use Rattle.mc_expression.specs.Turns.{InTurn}
 use Rattle.mc_simple.specs.Phrases.{Ended, Next, Either}
@@ -90,8 +91,14 @@ CompletesRightState aliases (RightState.Done right) = Ended (right_of right)
 abbrev pub CompletesRight : List (List ℕ) → RightReader → Tokens → Tokens → Right → Type 0
 CompletesRight aliases reader = CompletesRightState aliases reader.state
 
--- what a step of the reader says
-abbrev pub IsRightStep : List (List ℕ) → (Tokens → Tokens → Right → Type 0) → Token → RightStep → Type 0
-IsRightStep aliases now token (RightStep.Taken reader) = Takes right_marks now (CompletesRight aliases reader) token
-IsRightStep aliases now token (RightStep.Found right) = Finds now token (right_of right)
-IsRightStep aliases now token RightStep.Stuck = IsStuckAt now token
+-- what a step by value says
+abbrev pub IsRightMove : List (List ℕ) → (Tokens → Tokens → Right → Type 0) → Token → RightMove → Type 0
+IsRightMove aliases now token (RightMove.Taken reader) = Takes right_marks now (CompletesRight aliases reader) token
+IsRightMove aliases now token (RightMove.Found right) = Finds now token (right_of right)
+IsRightMove aliases now token RightMove.Stuck = IsStuckAt now token
+
+-- what a step of the reader says, of what completes it now and behind the token
+abbrev pub IsRightStep : (Tokens → Tokens → Right → Type 0) → (Tokens → Tokens → Right → Type 0) → Token → RightStep → Type 0
+IsRightStep now behind token RightStep.Taken = Takes right_marks now behind token
+IsRightStep now behind token (RightStep.Found right) = Finds now token (right_of right)
+IsRightStep now behind token RightStep.Stuck = IsStuckAt now token

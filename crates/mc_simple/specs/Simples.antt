@@ -11,6 +11,7 @@ use Rattle.mc_ast.specs.Views.{left_of, simple_of}
 use Rattle.mc_expression.specs.Expressions.{CompletesExpression}
 use Rattle.mc_simple.specs.declared.simple.SimpleReader.{SimpleReader}
 use Rattle.mc_simple.specs.declared.simple.SimpleState.{SimpleState}
+use Rattle.mc_simple.specs.declared.simple.SimpleMove.{SimpleMove}
 use Rattle.mc_simple.specs.declared.simple.SimpleStep.{SimpleStep}
 use Rattle.mc_simple.specs.declared.simple.Change.{Change}
 use Rattle.mc_expression.specs.Turns.{InTurn}
@@ -85,8 +86,14 @@ CompletesSimpleState aliases (SimpleState.Done simple) = Ended (simple_of simple
 abbrev pub CompletesSimple : List (List ℕ) → SimpleReader → Tokens → Tokens → SimpleTree → Type 0
 CompletesSimple aliases reader = CompletesSimpleState aliases reader.state
 
--- what a step of the reader says
-abbrev pub IsSimpleStep : List (List ℕ) → (Tokens → Tokens → SimpleTree → Type 0) → Token → SimpleStep → Type 0
-IsSimpleStep aliases now token (SimpleStep.Taken reader) = Takes simple_marks now (CompletesSimple aliases reader) token
-IsSimpleStep aliases now token (SimpleStep.Found simple) = Finds now token (simple_of simple)
-IsSimpleStep aliases now token SimpleStep.Stuck = IsStuckAt now token
+-- what a step by value says
+abbrev pub IsSimpleMove : List (List ℕ) → (Tokens → Tokens → SimpleTree → Type 0) → Token → SimpleMove → Type 0
+IsSimpleMove aliases now token (SimpleMove.Taken reader) = Takes simple_marks now (CompletesSimple aliases reader) token
+IsSimpleMove aliases now token (SimpleMove.Found simple) = Finds now token (simple_of simple)
+IsSimpleMove aliases now token SimpleMove.Stuck = IsStuckAt now token
+
+-- what a step of the reader says, of what completes it now and behind the token
+abbrev pub IsSimpleStep : (Tokens → Tokens → SimpleTree → Type 0) → (Tokens → Tokens → SimpleTree → Type 0) → Token → SimpleStep → Type 0
+IsSimpleStep now behind token SimpleStep.Taken = Takes simple_marks now behind token
+IsSimpleStep now behind token (SimpleStep.Found simple) = Finds now token (simple_of simple)
+IsSimpleStep now behind token SimpleStep.Stuck = IsStuckAt now token

@@ -98,7 +98,7 @@ fn in_argument(
     alloc: Global,
     function: Name,
     mut arguments: Vec<Expression>,
-    reader: ExpressionReader,
+    mut reader: ExpressionReader,
     token: &Token,
     class: Class,
 ) -> Result<CallStep, AllocError>
@@ -106,7 +106,7 @@ fn in_argument(
     ensures { IfOk result (IsCallStep (InTurn (CompletesExpression reader) (BehindArgument function (expressions_of arguments.items))) token.now) }
 {
     match reader.step(token, class)? {
-        ExpressionStep::Taken(reader) => Ok(CallStep::Taken(CallReader {
+        ExpressionStep::Taken => Ok(CallStep::Taken(CallReader {
             alloc,
             function,
             arguments,

@@ -3,19 +3,20 @@ ghost use Rattle.std.specs.Prelude.{◌≡◌, ℕ, List, IfOk, map};
 ghost use Rattle.mc_ast.specs.Classes.{IsClass};
 ghost use Rattle.mc_ast.specs.Names.{is_in, IsName, name_of};
 ghost use Rattle.mc_ast.specs.Readers.{IsSame, CanEnd};
-ghost use Rattle.mc_simple.specs.Declarations.{BehindBase, BehindComma, BehindDeclarator, BehindInitial, BehindInitials, CompletesDeclaration, IsDeclarationStep};
+ghost use Rattle.mc_simple.specs.Declarations.{BehindBase, BehindComma, BehindDeclarator, BehindInitial, BehindInitials, CompletesDeclaration, IsDeclarationMove, IsDeclarationStep};
 ghost use Rattle.mc_simple.specs.Rights.{CompletesRight};
 ghost use Rattle.mc_simple.specs.Phrases.{Next};
 ghost use Rattle.mc_ast.specs.Views.{initial_of};
 ghost use Rattle.mc_expression.specs.Turns.{InTurn};
 ghost use Rattle.mc_simple.specs.declared.declaration.DeclarationReader.{DeclarationReader};
 
-use crate::right::{RightReader, RightStep};
+use crate::right::{RightMove, RightReader};
 use mc_ast::{Base, Class, Declaration, Declarator, Initial, name_at};
 use mc_base::Place;
 use mc_expression::expressions_can_end;
 use mc_lex::Token;
 use std::alloc::{AllocError, Global};
+use std::mem;
 
 /// Reads a declaration behind its base, up to its `;`.
 #[derive(Drop)]
@@ -41,6 +42,15 @@ enum DeclarationState {
 /// What a token does to a declaration.
 #[derive(Drop)]
 pub enum DeclarationStep {
+    Taken,
+    /// The declaration, whose `;` the token is.
+    Closed(Declaration),
+    Stuck,
+}
+
+/// The same, with the reader behind the token.
+#[derive(Drop)]
+pub enum DeclarationMove {
     Taken(DeclarationReader),
     /// The declaration, whose `;` the token is.
     Closed(Declaration),
@@ -62,13 +72,38 @@ impl DeclarationReader {
 
     /// Takes a token. `alias` says whether a typedef introduced it.
     pub fn step(
-        self,
+        &mut self,
         token: &Token,
         class: Class,
         alias: bool,
     ) -> Result<DeclarationStep, AllocError>
         requires { IsClass token.now class }
-        ensures { (aliases : List (List ℕ)) → is_in aliases token.now.text ≡ alias → IfOk result (IsDeclarationStep aliases (CompletesDeclaration aliases self) token.now) }
+        ensures { (aliases : List (List ℕ)) → is_in aliases token.now.text ≡ alias → IfOk result (IsDeclarationStep (CompletesDeclaration aliases self.old) (CompletesDeclaration aliases self.new) token.now) }
+    {
+        let alloc = self.alloc;
+        let place = Place { line: 0, column: 0 };
+        let fresh = DeclarationReader::behind_base(alloc, Base::Int(place));
+        let reader = mem::replace(self, fresh);
+        let step = reader.moved(token, class, alias)?;
+        match step {
+            DeclarationMove::Taken(next) => {
+                *self = next;
+                Ok(DeclarationStep::Taken)
+            }
+            DeclarationMove::Closed(made) => Ok(DeclarationStep::Closed(made)),
+            DeclarationMove::Stuck => Ok(DeclarationStep::Stuck),
+        }
+    }
+
+    // The same, by value.
+    pub fn moved(
+        self,
+        token: &Token,
+        class: Class,
+        alias: bool,
+    ) -> Result<DeclarationMove, AllocError>
+        requires { IsClass token.now class }
+        ensures { (aliases : List (List ℕ)) → is_in aliases token.now.text ≡ alias → IfOk result (IsDeclarationMove aliases (CompletesDeclaration aliases self) token.now) }
     {
         let DeclarationReader {
             alloc,
@@ -97,12 +132,12 @@ fn start(
     items: Vec<Initial>,
     token: &Token,
     class: Class,
-) -> Result<DeclarationStep, AllocError>
+) -> Result<DeclarationMove, AllocError>
     requires { IsClass token.now class }
-    ensures { (aliases : List (List ℕ)) → IfOk result (IsDeclarationStep aliases (BehindComma aliases base (map initial_of items.items)) token.now) }
+    ensures { (aliases : List (List ℕ)) → IfOk result (IsDeclarationMove aliases (BehindComma aliases base (map initial_of items.items)) token.now) }
 {
     match class {
-        Class::Star => Ok(DeclarationStep::Taken(DeclarationReader {
+        Class::Star => Ok(DeclarationMove::Taken(DeclarationReader {
             alloc,
             base,
             items,
@@ -114,14 +149,14 @@ fn start(
                 pointer: None,
                 name,
             };
-            Ok(DeclarationStep::Taken(DeclarationReader {
+            Ok(DeclarationMove::Taken(DeclarationReader {
                 alloc,
                 base,
                 items,
                 state: DeclarationState::Named(declarator),
             }))
         }
-        _ => Ok(DeclarationStep::Stuck),
+        _ => Ok(DeclarationMove::Stuck),
     }
 }
 
@@ -132,9 +167,9 @@ fn behind_star(
     place: Place,
     token: &Token,
     class: Class,
-) -> Result<DeclarationStep, AllocError>
+) -> Result<DeclarationMove, AllocError>
     requires { IsClass token.now class }
-    ensures { (aliases : List (List ℕ)) → IfOk result (IsDeclarationStep aliases (Next IsName (λ name. BehindDeclarator aliases base (map initial_of items.items) (record { pointer = Some place; name = name_of name }))) token.now) }
+    ensures { (aliases : List (List ℕ)) → IfOk result (IsDeclarationMove aliases (Next IsName (λ name. BehindDeclarator aliases base (map initial_of items.items) (record { pointer = Some place; name = name_of name }))) token.now) }
 {
     match class {
         Class::Name => {
@@ -143,14 +178,14 @@ fn behind_star(
                 pointer: Some(place),
                 name,
             };
-            Ok(DeclarationStep::Taken(DeclarationReader {
+            Ok(DeclarationMove::Taken(DeclarationReader {
                 alloc,
                 base,
                 items,
                 state: DeclarationState::Named(declarator),
             }))
         }
-        _ => Ok(DeclarationStep::Stuck),
+        _ => Ok(DeclarationMove::Stuck),
     }
 }
 
@@ -161,14 +196,14 @@ fn behind_declarator(
     declarator: Declarator,
     token: &Token,
     class: Class,
-) -> Result<DeclarationStep, AllocError>
+) -> Result<DeclarationMove, AllocError>
     requires { IsClass token.now class }
-    ensures { (aliases : List (List ℕ)) → IfOk result (IsDeclarationStep aliases (BehindDeclarator aliases base (map initial_of items.items) declarator) token.now) }
+    ensures { (aliases : List (List ℕ)) → IfOk result (IsDeclarationMove aliases (BehindDeclarator aliases base (map initial_of items.items) declarator) token.now) }
 {
     match class {
         Class::Assign => {
             let reader = RightReader::new(alloc);
-            Ok(DeclarationStep::Taken(DeclarationReader {
+            Ok(DeclarationMove::Taken(DeclarationReader {
                 alloc,
                 base,
                 items,
@@ -194,25 +229,25 @@ fn in_value(
     token: &Token,
     class: Class,
     alias: bool,
-) -> Result<DeclarationStep, AllocError>
+) -> Result<DeclarationMove, AllocError>
     requires { IsClass token.now class }
-    ensures { (aliases : List (List ℕ)) → is_in aliases token.now.text ≡ alias → IfOk result (IsDeclarationStep aliases (InTurn (CompletesRight aliases reader) (λ r. BehindInitial aliases base (map initial_of items.items) (record { declarator = declarator; value = Some r }))) token.now) }
+    ensures { (aliases : List (List ℕ)) → is_in aliases token.now.text ≡ alias → IfOk result (IsDeclarationMove aliases (InTurn (CompletesRight aliases reader) (λ r. BehindInitial aliases base (map initial_of items.items) (record { declarator = declarator; value = Some r }))) token.now) }
 {
-    match reader.step(token, class, alias)? {
-        RightStep::Taken(reader) => Ok(DeclarationStep::Taken(DeclarationReader {
+    match reader.moved(token, class, alias)? {
+        RightMove::Taken(reader) => Ok(DeclarationMove::Taken(DeclarationReader {
             alloc,
             base,
             items,
             state: DeclarationState::Value(declarator, reader),
         })),
-        RightStep::Found(right) => {
+        RightMove::Found(right) => {
             items.push(Initial {
                 declarator,
                 value: Some(right),
             })?;
             Ok(behind_initial(alloc, base, items, token, class))
         }
-        RightStep::Stuck => Ok(DeclarationStep::Stuck),
+        RightMove::Stuck => Ok(DeclarationMove::Stuck),
     }
 }
 
@@ -222,19 +257,19 @@ fn behind_initial(
     items: Vec<Initial>,
     token: &Token,
     class: Class,
-) -> DeclarationStep
+) -> DeclarationMove
     requires { IsClass token.now class }
-    ensures { (aliases : List (List ℕ)) → IsDeclarationStep aliases (BehindInitials aliases base (map initial_of items.items)) token.now result }
+    ensures { (aliases : List (List ℕ)) → IsDeclarationMove aliases (BehindInitials aliases base (map initial_of items.items)) token.now result }
 {
     match class {
-        Class::Comma => DeclarationStep::Taken(DeclarationReader {
+        Class::Comma => DeclarationMove::Taken(DeclarationReader {
             alloc,
             base,
             items,
             state: DeclarationState::Start,
         }),
-        Class::Semicolon => DeclarationStep::Closed(Declaration { base, items }),
-        _ => DeclarationStep::Stuck,
+        Class::Semicolon => DeclarationMove::Closed(Declaration { base, items }),
+        _ => DeclarationMove::Stuck,
     }
 }
 

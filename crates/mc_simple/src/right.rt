@@ -3,7 +3,7 @@ ghost use Rattle.std.specs.Prelude.{◌≡◌, ℕ, List, IfOk};
 ghost use Rattle.mc_ast.specs.Classes.{IsClass};
 ghost use Rattle.mc_ast.specs.Names.{is_in, IsName};
 ghost use Rattle.mc_ast.specs.Readers.{IsSame, CanEnd};
-ghost use Rattle.mc_simple.specs.Rights.{Rights, AsExpression, AsCall, AsAllocation, InParens, BehindTimes, BehindRightName, BehindRightParens, BehindParensAlias, BehindParensStar, BehindEnclosed, ClosingParens, named, CompletesRight, IsRightStep};
+ghost use Rattle.mc_simple.specs.Rights.{Rights, AsExpression, AsCall, AsAllocation, InParens, BehindTimes, BehindRightName, BehindRightParens, BehindParensAlias, BehindParensStar, BehindEnclosed, ClosingParens, named, CompletesRight, IsRightMove, IsRightStep};
 ghost use Rattle.mc_simple.specs.Calls.{CompletesCall};
 ghost use Rattle.mc_simple.specs.Allocations.{InCast, CompletesAllocation};
 ghost use Rattle.mc_base.specs.declared.plain.Place.{Place};
@@ -20,6 +20,7 @@ use mc_base::Place;
 use mc_expression::{ExpressionReader, ExpressionStep, expressions_can_end};
 use mc_lex::{Text, Token, TokenKind};
 use std::alloc::{AllocError, Global};
+use std::mem;
 
 /// Reads the right side of an assignment, or a value that is returned.
 #[derive(Drop)]
@@ -52,6 +53,14 @@ enum RightState {
 /// What a token does to a right side.
 #[derive(Drop)]
 pub enum RightStep {
+    Taken,
+    Found(RightSide),
+    Stuck,
+}
+
+/// The same, with the reader behind the token.
+#[derive(Drop)]
+pub enum RightMove {
     Taken(RightReader),
     Found(RightSide),
     Stuck,
@@ -68,9 +77,32 @@ impl RightReader {
     }
 
     /// Takes a token. `alias` says whether a typedef introduced it.
-    pub fn step(self, token: &Token, class: Class, alias: bool) -> Result<RightStep, AllocError>
+    pub fn step(
+        &mut self,
+        token: &Token,
+        class: Class,
+        alias: bool,
+    ) -> Result<RightStep, AllocError>
         requires { IsClass token.now class }
-        ensures { (aliases : List (List ℕ)) → is_in aliases token.now.text ≡ alias → IfOk result (IsRightStep aliases (CompletesRight aliases self) token.now) }
+        ensures { (aliases : List (List ℕ)) → is_in aliases token.now.text ≡ alias → IfOk result (IsRightStep (CompletesRight aliases self.old) (CompletesRight aliases self.new) token.now) }
+    {
+        let alloc = self.alloc;
+        let reader = mem::replace(self, RightReader::new(alloc));
+        let step = reader.moved(token, class, alias)?;
+        match step {
+            RightMove::Taken(next) => {
+                *self = next;
+                Ok(RightStep::Taken)
+            }
+            RightMove::Found(made) => Ok(RightStep::Found(made)),
+            RightMove::Stuck => Ok(RightStep::Stuck),
+        }
+    }
+
+    // The same, by value.
+    pub fn moved(self, token: &Token, class: Class, alias: bool) -> Result<RightMove, AllocError>
+        requires { IsClass token.now class }
+        ensures { (aliases : List (List ℕ)) → is_in aliases token.now.text ≡ alias → IfOk result (IsRightMove aliases (CompletesRight aliases self) token.now) }
     {
         let RightReader { alloc, state } = self;
         match state {
@@ -86,28 +118,28 @@ impl RightReader {
             RightState::Sum(reader) => in_sum(alloc, reader, token, class),
             RightState::Call(reader) => in_call(alloc, reader, token, class),
             RightState::Allocation(reader) => in_allocation(alloc, reader, token, class, alias),
-            RightState::Done(right) => Ok(RightStep::Found(right)),
+            RightState::Done(right) => Ok(RightMove::Found(right)),
         }
     }
 }
 
-fn start(alloc: Global, token: &Token, class: Class) -> Result<RightStep, AllocError>
+fn start(alloc: Global, token: &Token, class: Class) -> Result<RightMove, AllocError>
     requires { IsClass token.now class }
-    ensures { (aliases : List (List ℕ)) → IfOk result (IsRightStep aliases (Rights aliases) token.now) }
+    ensures { (aliases : List (List ℕ)) → IfOk result (IsRightMove aliases (Rights aliases) token.now) }
 {
     match class {
         Class::Name => {
             let name = name_at(alloc, token)?;
-            Ok(RightStep::Taken(RightReader {
+            Ok(RightMove::Taken(RightReader {
                 alloc,
                 state: RightState::Named(name),
             }))
         }
-        Class::OpenParen => Ok(RightStep::Taken(RightReader {
+        Class::OpenParen => Ok(RightMove::Taken(RightReader {
             alloc,
             state: RightState::Opened(token.place),
         })),
-        Class::Malloc => Ok(RightStep::Taken(RightReader {
+        Class::Malloc => Ok(RightMove::Taken(RightReader {
             alloc,
             state: RightState::Allocation(AllocationReader::Malloc(None, token.place)),
         })),
@@ -124,14 +156,14 @@ fn behind_name(
     name: Name,
     token: &Token,
     class: Class,
-) -> Result<RightStep, AllocError>
+) -> Result<RightMove, AllocError>
     requires { IsClass token.now class }
-    ensures { (aliases : List (List ℕ)) → IfOk result (IsRightStep aliases (BehindRightName name) token.now) }
+    ensures { (aliases : List (List ℕ)) → IfOk result (IsRightMove aliases (BehindRightName name) token.now) }
 {
     match class {
         Class::OpenParen => {
             let reader = CallReader::new(alloc, name);
-            Ok(RightStep::Taken(RightReader {
+            Ok(RightMove::Taken(RightReader {
                 alloc,
                 state: RightState::Call(reader),
             }))
@@ -150,9 +182,9 @@ fn opened(
     token: &Token,
     class: Class,
     alias: bool,
-) -> Result<RightStep, AllocError>
+) -> Result<RightMove, AllocError>
     requires { IsClass token.now class }
-    ensures { (aliases : List (List ℕ)) → is_in aliases token.now.text ≡ alias → IfOk result (IsRightStep aliases (BehindRightParens aliases place) token.now) }
+    ensures { (aliases : List (List ℕ)) → is_in aliases token.now.text ≡ alias → IfOk result (IsRightMove aliases (BehindRightParens aliases place) token.now) }
 {
     match class {
         Class::Int => {
@@ -180,19 +212,19 @@ fn opened_name(
     place: Place,
     token: &Token,
     alias: bool,
-) -> Result<RightStep, AllocError>
+) -> Result<RightMove, AllocError>
     requires { IsName token.now }
-    ensures { (aliases : List (List ℕ)) → is_in aliases token.now.text ≡ alias → IfOk result (IsRightStep aliases (BehindRightParens aliases place) token.now) }
+    ensures { (aliases : List (List ℕ)) → is_in aliases token.now.text ≡ alias → IfOk result (IsRightMove aliases (BehindRightParens aliases place) token.now) }
 {
     let name = name_at(alloc, token)?;
     if alias {
-        Ok(RightStep::Taken(RightReader {
+        Ok(RightMove::Taken(RightReader {
             alloc,
             state: RightState::OpenedAlias(place, name),
         }))
     } else {
         let reader = ExpressionReader::behind_name(alloc, name);
-        Ok(RightStep::Taken(RightReader {
+        Ok(RightMove::Taken(RightReader {
             alloc,
             state: RightState::Parens(place, reader),
         }))
@@ -205,9 +237,9 @@ fn in_cast(
     token: &Token,
     class: Class,
     alias: bool,
-) -> Result<RightStep, AllocError>
+) -> Result<RightMove, AllocError>
     requires { IsClass token.now class }
-    ensures { (aliases : List (List ℕ)) → is_in aliases token.now.text ≡ alias → IfOk result (IsRightStep aliases (AsAllocation (InCast aliases place)) token.now) }
+    ensures { (aliases : List (List ℕ)) → is_in aliases token.now.text ≡ alias → IfOk result (IsRightMove aliases (AsAllocation (InCast aliases place)) token.now) }
 {
     let reader = AllocationReader::Base(place, BaseReader::Start);
     let step = in_allocation(alloc, reader, token, class, alias)?;
@@ -220,16 +252,16 @@ fn opened_alias(
     name: Name,
     token: &Token,
     class: Class,
-) -> Result<RightStep, AllocError>
+) -> Result<RightMove, AllocError>
     requires { IsClass token.now class }
-    ensures { (aliases : List (List ℕ)) → IfOk result (IsRightStep aliases (BehindParensAlias aliases place name) token.now) }
+    ensures { (aliases : List (List ℕ)) → IfOk result (IsRightMove aliases (BehindParensAlias aliases place name) token.now) }
 {
     match class {
-        Class::Star => Ok(RightStep::Taken(RightReader {
+        Class::Star => Ok(RightMove::Taken(RightReader {
             alloc,
             state: RightState::OpenedStar(place, name, token.place),
         })),
-        Class::CloseParen => Ok(RightStep::Taken(RightReader {
+        Class::CloseParen => Ok(RightMove::Taken(RightReader {
             alloc,
             state: RightState::Enclosed(place, name),
         })),
@@ -248,9 +280,9 @@ fn opened_star(
     star: Place,
     token: &Token,
     class: Class,
-) -> Result<RightStep, AllocError>
+) -> Result<RightMove, AllocError>
     requires { IsClass token.now class }
-    ensures { (aliases : List (List ℕ)) → IfOk result (IsRightStep aliases (BehindParensStar aliases place name star) token.now) }
+    ensures { (aliases : List (List ℕ)) → IfOk result (IsRightMove aliases (BehindParensStar aliases place name star) token.now) }
 {
     match class {
         Class::CloseParen => {
@@ -259,7 +291,7 @@ fn opened_star(
                 base: Base::Alias(name),
                 pointer: Some(star),
             };
-            Ok(RightStep::Taken(RightReader {
+            Ok(RightMove::Taken(RightReader {
                 alloc,
                 state: RightState::Allocation(AllocationReader::Cast(cast)),
             }))
@@ -282,8 +314,9 @@ fn behind_times(alloc: Global, name: Name, star: Place) -> Result<ExpressionRead
         text,
         place: star,
     };
-    match ExpressionReader::behind_name(alloc, name).step(&token, Class::Star)? {
-        ExpressionStep::Taken(reader) => Ok(reader),
+    let mut reader = ExpressionReader::behind_name(alloc, name);
+    match reader.step(&token, Class::Star)? {
+        ExpressionStep::Taken => Ok(reader),
         ExpressionStep::Found(_) => unreachable!(),
         ExpressionStep::Stuck => unreachable!(),
     }
@@ -295,9 +328,9 @@ fn enclosed(
     name: Name,
     token: &Token,
     class: Class,
-) -> Result<RightStep, AllocError>
+) -> Result<RightMove, AllocError>
     requires { IsClass token.now class }
-    ensures { (aliases : List (List ℕ)) → IfOk result (IsRightStep aliases (BehindEnclosed aliases place name) token.now) }
+    ensures { (aliases : List (List ℕ)) → IfOk result (IsRightMove aliases (BehindEnclosed aliases place name) token.now) }
 {
     match class {
         Class::Malloc => {
@@ -306,7 +339,7 @@ fn enclosed(
                 base: Base::Alias(name),
                 pointer: None,
             };
-            Ok(RightStep::Taken(RightReader {
+            Ok(RightMove::Taken(RightReader {
                 alloc,
                 state: RightState::Allocation(AllocationReader::Malloc(Some(cast), token.place)),
             }))
@@ -324,15 +357,15 @@ fn enclosed(
 fn in_parens(
     alloc: Global,
     place: Place,
-    reader: ExpressionReader,
+    mut reader: ExpressionReader,
     token: &Token,
     class: Class,
-) -> Result<RightStep, AllocError>
+) -> Result<RightMove, AllocError>
     requires { IsClass token.now class }
-    ensures { (aliases : List (List ℕ)) → IfOk result (IsRightStep aliases (AsExpression (InParens place (CompletesExpression reader))) token.now) }
+    ensures { (aliases : List (List ℕ)) → IfOk result (IsRightMove aliases (AsExpression (InParens place (CompletesExpression reader))) token.now) }
 {
     match reader.step(token, class)? {
-        ExpressionStep::Taken(reader) => Ok(RightStep::Taken(RightReader {
+        ExpressionStep::Taken => Ok(RightMove::Taken(RightReader {
             alloc,
             state: RightState::Parens(place, reader),
         })),
@@ -340,7 +373,7 @@ fn in_parens(
             let step = behind_parens(alloc, place, inner, token, class)?;
             Ok(step)
         }
-        ExpressionStep::Stuck => Ok(RightStep::Stuck),
+        ExpressionStep::Stuck => Ok(RightMove::Stuck),
     }
 }
 
@@ -350,39 +383,39 @@ fn behind_parens(
     inner: Expression,
     token: &Token,
     class: Class,
-) -> Result<RightStep, AllocError>
+) -> Result<RightMove, AllocError>
     requires { IsClass token.now class }
-    ensures { (aliases : List (List ℕ)) → IfOk result (IsRightStep aliases (AsExpression (ClosingParens place (expression_of inner))) token.now) }
+    ensures { (aliases : List (List ℕ)) → IfOk result (IsRightMove aliases (AsExpression (ClosingParens place (expression_of inner))) token.now) }
 {
     match class {
         Class::CloseParen => {
             let operand = parens(alloc, place, inner)?;
             let reader = ExpressionReader::behind_operand(alloc, operand);
-            Ok(RightStep::Taken(RightReader {
+            Ok(RightMove::Taken(RightReader {
                 alloc,
                 state: RightState::Sum(reader),
             }))
         }
-        _ => Ok(RightStep::Stuck),
+        _ => Ok(RightMove::Stuck),
     }
 }
 
 fn in_sum(
     alloc: Global,
-    reader: ExpressionReader,
+    mut reader: ExpressionReader,
     token: &Token,
     class: Class,
-) -> Result<RightStep, AllocError>
+) -> Result<RightMove, AllocError>
     requires { IsClass token.now class }
-    ensures { (aliases : List (List ℕ)) → IfOk result (IsRightStep aliases (AsExpression (CompletesExpression reader)) token.now) }
+    ensures { (aliases : List (List ℕ)) → IfOk result (IsRightMove aliases (AsExpression (CompletesExpression reader)) token.now) }
 {
     match reader.step(token, class)? {
-        ExpressionStep::Taken(reader) => Ok(RightStep::Taken(RightReader {
+        ExpressionStep::Taken => Ok(RightMove::Taken(RightReader {
             alloc,
             state: RightState::Sum(reader),
         })),
-        ExpressionStep::Found(sum) => Ok(RightStep::Found(RightSide::Expression(sum))),
-        ExpressionStep::Stuck => Ok(RightStep::Stuck),
+        ExpressionStep::Found(sum) => Ok(RightMove::Found(RightSide::Expression(sum))),
+        ExpressionStep::Stuck => Ok(RightMove::Stuck),
     }
 }
 
@@ -391,20 +424,20 @@ fn in_call(
     reader: CallReader,
     token: &Token,
     class: Class,
-) -> Result<RightStep, AllocError>
+) -> Result<RightMove, AllocError>
     requires { IsClass token.now class }
-    ensures { (aliases : List (List ℕ)) → IfOk result (IsRightStep aliases (AsCall (CompletesCall reader)) token.now) }
+    ensures { (aliases : List (List ℕ)) → IfOk result (IsRightMove aliases (AsCall (CompletesCall reader)) token.now) }
 {
     match reader.step(token, class)? {
-        CallStep::Taken(reader) => Ok(RightStep::Taken(RightReader {
+        CallStep::Taken(reader) => Ok(RightMove::Taken(RightReader {
             alloc,
             state: RightState::Call(reader),
         })),
-        CallStep::Closed(call) => Ok(RightStep::Taken(RightReader {
+        CallStep::Closed(call) => Ok(RightMove::Taken(RightReader {
             alloc,
             state: RightState::Done(RightSide::Call(call)),
         })),
-        CallStep::Stuck => Ok(RightStep::Stuck),
+        CallStep::Stuck => Ok(RightMove::Stuck),
     }
 }
 
@@ -414,20 +447,20 @@ fn in_allocation(
     token: &Token,
     class: Class,
     alias: bool,
-) -> Result<RightStep, AllocError>
+) -> Result<RightMove, AllocError>
     requires { IsClass token.now class }
-    ensures { (aliases : List (List ℕ)) → is_in aliases token.now.text ≡ alias → IfOk result (IsRightStep aliases (AsAllocation (CompletesAllocation aliases reader)) token.now) }
+    ensures { (aliases : List (List ℕ)) → is_in aliases token.now.text ≡ alias → IfOk result (IsRightMove aliases (AsAllocation (CompletesAllocation aliases reader)) token.now) }
 {
     match reader.step(alloc, token, class, alias)? {
-        AllocationStep::Taken(reader) => Ok(RightStep::Taken(RightReader {
+        AllocationStep::Taken(reader) => Ok(RightMove::Taken(RightReader {
             alloc,
             state: RightState::Allocation(reader),
         })),
-        AllocationStep::Closed(malloc) => Ok(RightStep::Taken(RightReader {
+        AllocationStep::Closed(malloc) => Ok(RightMove::Taken(RightReader {
             alloc,
             state: RightState::Done(RightSide::Malloc(malloc)),
         })),
-        AllocationStep::Stuck => Ok(RightStep::Stuck),
+        AllocationStep::Stuck => Ok(RightMove::Stuck),
     }
 }
 

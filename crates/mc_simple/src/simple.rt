@@ -5,7 +5,7 @@ ghost use Rattle.mc_ast.specs.Classes.{IsClass};
 ghost use Rattle.mc_ast.specs.Names.{is_in, IsName, name_of};
 ghost use Rattle.mc_ast.specs.Grammar.{IsSimple};
 ghost use Rattle.mc_ast.specs.Readers.{IsSame, CanEnd};
-ghost use Rattle.mc_simple.specs.Simples.{Simples, InFirst, InLeft, BehindSimpleName, just, with_field, changed_first, changed_by, CompletesSimple, IsSimpleStep};
+ghost use Rattle.mc_simple.specs.Simples.{Simples, InFirst, InLeft, BehindSimpleName, just, with_field, changed_first, changed_by, CompletesSimple, IsSimpleMove, IsSimpleStep};
 ghost use Rattle.mc_simple.specs.Rights.{CompletesRight};
 ghost use Rattle.mc_simple.specs.Calls.{CompletesCall};
 ghost use Rattle.mc_simple.specs.Phrases.{Ended, Next};
@@ -16,12 +16,13 @@ ghost use Rattle.mc_expression.specs.Expressions.{CompletesExpression};
 ghost use Rattle.mc_simple.specs.declared.simple.SimpleReader.{SimpleReader};
 
 use crate::call::{CallReader, CallStep};
-use crate::right::{RightReader, RightStep};
+use crate::right::{RightMove, RightReader};
 use mc_ast::{Class, Expression, LeftValue, Name, Simple, name_at};
 use mc_base::Place;
 use mc_expression::{ExpressionReader, ExpressionStep, expressions_can_end};
 use mc_lex::Token;
 use std::alloc::{AllocError, Global};
+use std::mem;
 
 /// Reads a simple statement: an assignment, `+=`, `-=`, `++`, `--` or a call.
 #[derive(Drop)]
@@ -63,6 +64,14 @@ enum SimpleState {
 /// What a token does to a simple statement.
 #[derive(Drop)]
 pub enum SimpleStep {
+    Taken,
+    Found(Simple),
+    Stuck,
+}
+
+/// The same, with the reader behind the token.
+#[derive(Drop)]
+pub enum SimpleMove {
     Taken(SimpleReader),
     Found(Simple),
     Stuck,
@@ -89,9 +98,32 @@ impl SimpleReader {
     }
 
     /// Takes a token. `alias` says whether a typedef introduced it.
-    pub fn step(self, token: &Token, class: Class, alias: bool) -> Result<SimpleStep, AllocError>
+    pub fn step(
+        &mut self,
+        token: &Token,
+        class: Class,
+        alias: bool,
+    ) -> Result<SimpleStep, AllocError>
         requires { IsClass token.now class }
-        ensures { (aliases : List (List ℕ)) → is_in aliases token.now.text ≡ alias → IfOk result (IsSimpleStep aliases (CompletesSimple aliases self) token.now) }
+        ensures { (aliases : List (List ℕ)) → is_in aliases token.now.text ≡ alias → IfOk result (IsSimpleStep (CompletesSimple aliases self.old) (CompletesSimple aliases self.new) token.now) }
+    {
+        let alloc = self.alloc;
+        let reader = mem::replace(self, SimpleReader::new(alloc));
+        let step = reader.moved(token, class, alias)?;
+        match step {
+            SimpleMove::Taken(next) => {
+                *self = next;
+                Ok(SimpleStep::Taken)
+            }
+            SimpleMove::Found(made) => Ok(SimpleStep::Found(made)),
+            SimpleMove::Stuck => Ok(SimpleStep::Stuck),
+        }
+    }
+
+    // The same, by value.
+    pub fn moved(self, token: &Token, class: Class, alias: bool) -> Result<SimpleMove, AllocError>
+        requires { IsClass token.now class }
+        ensures { (aliases : List (List ℕ)) → is_in aliases token.now.text ≡ alias → IfOk result (IsSimpleMove aliases (CompletesSimple aliases self) token.now) }
     {
         let SimpleReader { alloc, state } = self;
         match state {
@@ -113,32 +145,32 @@ impl SimpleReader {
                 alloc, change, left, reader, token, class,
             ),
             SimpleState::Call(reader) => in_call(alloc, reader, token, class),
-            SimpleState::Done(simple) => Ok(SimpleStep::Found(simple)),
+            SimpleState::Done(simple) => Ok(SimpleMove::Found(simple)),
         }
     }
 }
 
-fn start(alloc: Global, token: &Token, class: Class) -> Result<SimpleStep, AllocError>
+fn start(alloc: Global, token: &Token, class: Class) -> Result<SimpleMove, AllocError>
     requires { IsClass token.now class }
-    ensures { (aliases : List (List ℕ)) → IfOk result (IsSimpleStep aliases (Simples aliases) token.now) }
+    ensures { (aliases : List (List ℕ)) → IfOk result (IsSimpleMove aliases (Simples aliases) token.now) }
 {
     match class {
         Class::Name => {
             let name = name_at(alloc, token)?;
-            Ok(SimpleStep::Taken(SimpleReader {
+            Ok(SimpleMove::Taken(SimpleReader {
                 alloc,
                 state: SimpleState::Named(name),
             }))
         }
-        Class::PlusPlus => Ok(SimpleStep::Taken(SimpleReader {
+        Class::PlusPlus => Ok(SimpleMove::Taken(SimpleReader {
             alloc,
             state: SimpleState::First(Change::Increment, token.place),
         })),
-        Class::MinusMinus => Ok(SimpleStep::Taken(SimpleReader {
+        Class::MinusMinus => Ok(SimpleMove::Taken(SimpleReader {
             alloc,
             state: SimpleState::First(Change::Decrement, token.place),
         })),
-        _ => Ok(SimpleStep::Stuck),
+        _ => Ok(SimpleMove::Stuck),
     }
 }
 
@@ -148,20 +180,20 @@ fn first(
     place: Place,
     token: &Token,
     class: Class,
-) -> Result<SimpleStep, AllocError>
+) -> Result<SimpleMove, AllocError>
     requires { IsClass token.now class }
-    ensures { (aliases : List (List ℕ)) → IfOk result (IsSimpleStep aliases (Next IsName (λ name. InFirst change place (just (name_of name)))) token.now) }
+    ensures { (aliases : List (List ℕ)) → IfOk result (IsSimpleMove aliases (Next IsName (λ name. InFirst change place (just (name_of name)))) token.now) }
 {
     match class {
         Class::Name => {
             let name = name_at(alloc, token)?;
             let left = just(alloc, name);
-            Ok(SimpleStep::Taken(SimpleReader {
+            Ok(SimpleMove::Taken(SimpleReader {
                 alloc,
                 state: SimpleState::FirstLeft(change, place, left),
             }))
         }
-        _ => Ok(SimpleStep::Stuck),
+        _ => Ok(SimpleMove::Stuck),
     }
 }
 
@@ -172,18 +204,18 @@ fn first_left(
     left: LeftValue,
     token: &Token,
     class: Class,
-) -> SimpleStep
+) -> SimpleMove
     requires { IsClass token.now class }
-    ensures { (aliases : List (List ℕ)) → IsSimpleStep aliases (InFirst change place (left_of left)) token.now result }
+    ensures { (aliases : List (List ℕ)) → IsSimpleMove aliases (InFirst change place (left_of left)) token.now result }
 {
     match class {
-        Class::Arrow => SimpleStep::Taken(SimpleReader {
+        Class::Arrow => SimpleMove::Taken(SimpleReader {
             alloc,
             state: SimpleState::FirstArrow(change, place, left),
         }),
         _ => {
             let simple = changed_first(change, place, left);
-            SimpleStep::Found(simple)
+            SimpleMove::Found(simple)
         }
     }
 }
@@ -195,31 +227,31 @@ fn first_arrow(
     left: LeftValue,
     token: &Token,
     class: Class,
-) -> Result<SimpleStep, AllocError>
+) -> Result<SimpleMove, AllocError>
     requires { IsClass token.now class }
-    ensures { (aliases : List (List ℕ)) → IfOk result (IsSimpleStep aliases (Next IsName (λ name. InFirst change place (with_field (left_of left) (name_of name)))) token.now) }
+    ensures { (aliases : List (List ℕ)) → IfOk result (IsSimpleMove aliases (Next IsName (λ name. InFirst change place (with_field (left_of left) (name_of name)))) token.now) }
 {
     match class {
         Class::Name => {
             let name = name_at(alloc, token)?;
             let longer = with_field(left, name)?;
-            Ok(SimpleStep::Taken(SimpleReader {
+            Ok(SimpleMove::Taken(SimpleReader {
                 alloc,
                 state: SimpleState::FirstLeft(change, place, longer),
             }))
         }
-        _ => Ok(SimpleStep::Stuck),
+        _ => Ok(SimpleMove::Stuck),
     }
 }
 
-fn behind_name(alloc: Global, name: Name, token: &Token, class: Class) -> SimpleStep
+fn behind_name(alloc: Global, name: Name, token: &Token, class: Class) -> SimpleMove
     requires { IsClass token.now class }
-    ensures { (aliases : List (List ℕ)) → IsSimpleStep aliases (BehindSimpleName aliases name) token.now result }
+    ensures { (aliases : List (List ℕ)) → IsSimpleMove aliases (BehindSimpleName aliases name) token.now result }
 {
     match class {
         Class::OpenParen => {
             let reader = CallReader::new(alloc, name);
-            SimpleStep::Taken(SimpleReader {
+            SimpleMove::Taken(SimpleReader {
                 alloc,
                 state: SimpleState::Call(reader),
             })
@@ -231,45 +263,45 @@ fn behind_name(alloc: Global, name: Name, token: &Token, class: Class) -> Simple
     }
 }
 
-fn behind_left(alloc: Global, left: LeftValue, token: &Token, class: Class) -> SimpleStep
+fn behind_left(alloc: Global, left: LeftValue, token: &Token, class: Class) -> SimpleMove
     requires { IsClass token.now class }
-    ensures { (aliases : List (List ℕ)) → IsSimpleStep aliases (InLeft aliases (left_of left)) token.now result }
+    ensures { (aliases : List (List ℕ)) → IsSimpleMove aliases (InLeft aliases (left_of left)) token.now result }
 {
     match class {
-        Class::Arrow => SimpleStep::Taken(SimpleReader {
+        Class::Arrow => SimpleMove::Taken(SimpleReader {
             alloc,
             state: SimpleState::Arrow(left),
         }),
         Class::Assign => {
             let reader = RightReader::new(alloc);
-            SimpleStep::Taken(SimpleReader {
+            SimpleMove::Taken(SimpleReader {
                 alloc,
                 state: SimpleState::Assign(left, reader),
             })
         }
         Class::PlusAssign => {
             let reader = ExpressionReader::new(alloc);
-            SimpleStep::Taken(SimpleReader {
+            SimpleMove::Taken(SimpleReader {
                 alloc,
                 state: SimpleState::ChangeBy(Change::Increment, left, reader),
             })
         }
         Class::MinusAssign => {
             let reader = ExpressionReader::new(alloc);
-            SimpleStep::Taken(SimpleReader {
+            SimpleMove::Taken(SimpleReader {
                 alloc,
                 state: SimpleState::ChangeBy(Change::Decrement, left, reader),
             })
         }
-        Class::PlusPlus => SimpleStep::Taken(SimpleReader {
+        Class::PlusPlus => SimpleMove::Taken(SimpleReader {
             alloc,
             state: SimpleState::Done(Simple::Increment(left)),
         }),
-        Class::MinusMinus => SimpleStep::Taken(SimpleReader {
+        Class::MinusMinus => SimpleMove::Taken(SimpleReader {
             alloc,
             state: SimpleState::Done(Simple::Decrement(left)),
         }),
-        _ => SimpleStep::Stuck,
+        _ => SimpleMove::Stuck,
     }
 }
 
@@ -278,20 +310,20 @@ fn behind_arrow(
     left: LeftValue,
     token: &Token,
     class: Class,
-) -> Result<SimpleStep, AllocError>
+) -> Result<SimpleMove, AllocError>
     requires { IsClass token.now class }
-    ensures { (aliases : List (List ℕ)) → IfOk result (IsSimpleStep aliases (Next IsName (λ name. InLeft aliases (with_field (left_of left) (name_of name)))) token.now) }
+    ensures { (aliases : List (List ℕ)) → IfOk result (IsSimpleMove aliases (Next IsName (λ name. InLeft aliases (with_field (left_of left) (name_of name)))) token.now) }
 {
     match class {
         Class::Name => {
             let name = name_at(alloc, token)?;
             let longer = with_field(left, name)?;
-            Ok(SimpleStep::Taken(SimpleReader {
+            Ok(SimpleMove::Taken(SimpleReader {
                 alloc,
                 state: SimpleState::Left(longer),
             }))
         }
-        _ => Ok(SimpleStep::Stuck),
+        _ => Ok(SimpleMove::Stuck),
     }
 }
 
@@ -302,17 +334,17 @@ fn in_assign(
     token: &Token,
     class: Class,
     alias: bool,
-) -> Result<SimpleStep, AllocError>
+) -> Result<SimpleMove, AllocError>
     requires { IsClass token.now class }
-    ensures { (aliases : List (List ℕ)) → is_in aliases token.now.text ≡ alias → IfOk result (IsSimpleStep aliases (InTurn (CompletesRight aliases reader) (λ r. Ended (assign (left_of left) r))) token.now) }
+    ensures { (aliases : List (List ℕ)) → is_in aliases token.now.text ≡ alias → IfOk result (IsSimpleMove aliases (InTurn (CompletesRight aliases reader) (λ r. Ended (assign (left_of left) r))) token.now) }
 {
-    match reader.step(token, class, alias)? {
-        RightStep::Taken(reader) => Ok(SimpleStep::Taken(SimpleReader {
+    match reader.moved(token, class, alias)? {
+        RightMove::Taken(reader) => Ok(SimpleMove::Taken(SimpleReader {
             alloc,
             state: SimpleState::Assign(left, reader),
         })),
-        RightStep::Found(right) => Ok(SimpleStep::Found(Simple::Assign(left, right))),
-        RightStep::Stuck => Ok(SimpleStep::Stuck),
+        RightMove::Found(right) => Ok(SimpleMove::Found(Simple::Assign(left, right))),
+        RightMove::Stuck => Ok(SimpleMove::Stuck),
     }
 }
 
@@ -320,23 +352,23 @@ fn in_change(
     alloc: Global,
     change: Change,
     left: LeftValue,
-    reader: ExpressionReader,
+    mut reader: ExpressionReader,
     token: &Token,
     class: Class,
-) -> Result<SimpleStep, AllocError>
+) -> Result<SimpleMove, AllocError>
     requires { IsClass token.now class }
-    ensures { (aliases : List (List ℕ)) → IfOk result (IsSimpleStep aliases (InTurn (CompletesExpression reader) (λ e. Ended (changed_by change (left_of left) e))) token.now) }
+    ensures { (aliases : List (List ℕ)) → IfOk result (IsSimpleMove aliases (InTurn (CompletesExpression reader) (λ e. Ended (changed_by change (left_of left) e))) token.now) }
 {
     match reader.step(token, class)? {
-        ExpressionStep::Taken(reader) => Ok(SimpleStep::Taken(SimpleReader {
+        ExpressionStep::Taken => Ok(SimpleMove::Taken(SimpleReader {
             alloc,
             state: SimpleState::ChangeBy(change, left, reader),
         })),
         ExpressionStep::Found(by) => {
             let simple = changed_by(change, left, by);
-            Ok(SimpleStep::Found(simple))
+            Ok(SimpleMove::Found(simple))
         }
-        ExpressionStep::Stuck => Ok(SimpleStep::Stuck),
+        ExpressionStep::Stuck => Ok(SimpleMove::Stuck),
     }
 }
 
@@ -345,20 +377,20 @@ fn in_call(
     reader: CallReader,
     token: &Token,
     class: Class,
-) -> Result<SimpleStep, AllocError>
+) -> Result<SimpleMove, AllocError>
     requires { IsClass token.now class }
-    ensures { (aliases : List (List ℕ)) → IfOk result (IsSimpleStep aliases (InTurn (CompletesCall reader) (λ c. Ended (call c))) token.now) }
+    ensures { (aliases : List (List ℕ)) → IfOk result (IsSimpleMove aliases (InTurn (CompletesCall reader) (λ c. Ended (call c))) token.now) }
 {
     match reader.step(token, class)? {
-        CallStep::Taken(reader) => Ok(SimpleStep::Taken(SimpleReader {
+        CallStep::Taken(reader) => Ok(SimpleMove::Taken(SimpleReader {
             alloc,
             state: SimpleState::Call(reader),
         })),
-        CallStep::Closed(call) => Ok(SimpleStep::Taken(SimpleReader {
+        CallStep::Closed(call) => Ok(SimpleMove::Taken(SimpleReader {
             alloc,
             state: SimpleState::Done(Simple::Call(call)),
         })),
-        CallStep::Stuck => Ok(SimpleStep::Stuck),
+        CallStep::Stuck => Ok(SimpleMove::Stuck),
     }
 }
 

@@ -1,6 +1,8 @@
+use Rattle.std.proofs.Common.{refl}
 use Rattle.mc_ast.specs.declared.class.Class.TheVariants as Class
 use Rattle.mc_ast.specs.Views.{start_of}
 use Rattle.mc_simple.proofs.Phrases.{same_at, then_same}
+use Rattle.mc_body.specs.declared.state.Purpose.TheVariants as Purpose
 use Rattle.mc_body.specs.Frames.{Around}
 use Rattle.mc_body.proofs.Unique.{class_of_mark}
 use Rattle.mc_body.proofs.Tokens.{of_class, if_ok_map}
@@ -8,10 +10,10 @@ use Rattle.mc_body.proofs.StateTurns.{body_step_along, for_no_condition, for_con
 use Rattle.mc_body.proofs.inner.at_for_condition.Goals as goal
 
 pub returns-in-Semicolon : goal.returns-in-Semicolon
-returns-in-Semicolon c = λ aliases. rw c.taken.ensures (for_no_condition aliases c.args.place (start_of c.args.start) (Around aliases c.args.nest) (of_class c.args.token.now Class.Semicolon c.in-Semicolon.is c.requires))
+returns-in-Semicolon c = λ aliases. rw c.requires.ready (for_no_condition aliases c.args.place (start_of c.args.start) (Around aliases c.args.reader.now.nest) (of_class c.args.token.now Class.Semicolon c.in-Semicolon.is c.requires.kind))
 
 pub returns-in_default : goal.returns-in_default
 returns-in_default c = λ aliases.
-    let other = for_condition aliases c.args.place (start_of c.args.start) (Around aliases c.args.nest) {token = c.args.token.now} (λ m. c.in_default.not-Semicolon (class_of_mark c.args.class Class.Semicolon c.args.token.now tt c.requires m)) in
-    let new = c.new-reader.ensures in
-    if_ok_map c.in_condition.result (λ step h. body_step_along aliases step other (body_step_along aliases step (same_at c.args.token.now (then_same (record { forward = new.backward; backward = new.forward }))) h)) (c.in_condition.ensures aliases)
+    let other = for_condition aliases c.args.place (start_of c.args.start) (Around aliases c.args.reader.now.nest) {token = c.args.token.now} (λ m. c.in_default.not-Semicolon (class_of_mark c.args.class Class.Semicolon c.args.token.now tt c.requires.kind m)) in
+    let new = c.new-inner.ensures in
+    if_ok_map c.in_condition.result (λ step h. body_step_along aliases c.in_condition.new.reader step other (body_step_along aliases c.in_condition.new.reader step (same_at c.args.token.now (then_same (record { forward = new.backward; backward = new.forward }))) h)) (c.in_condition.ensures (Purpose.For c.args.place c.args.start) c.new-inner.result refl aliases)

@@ -1,3 +1,4 @@
+use Rattle.std.proofs.Common.{refl}
 use Rattle.std.specs.Option.{option_map}
 use Rattle.mc_ast.specs.declared.class.Class.TheVariants as Class
 use Rattle.mc_ast.specs.Views.{condition_of, start_of}
@@ -9,10 +10,10 @@ use Rattle.mc_body.proofs.StateTurns.{body_step_along, for_no_last, for_last}
 use Rattle.mc_body.proofs.inner.at_last.Goals as goal
 
 pub returns-in-CloseParen : goal.returns-in-CloseParen
-returns-in-CloseParen c = λ aliases e. if_ok_map c.behind_last.result (λ step h. body_step_along aliases step (for_no_last aliases c.args.place (start_of c.args.start) (Around aliases c.args.nest) (option_map condition_of c.args.condition) (of_class c.args.token.now Class.CloseParen c.in-CloseParen.is c.requires)) h) (c.behind_last.ensures aliases)
+returns-in-CloseParen c = λ aliases e. if_ok_map c.enter.result (λ step h. body_step_along aliases c.enter.new.reader step (for_no_last aliases c.args.place (start_of c.args.start) (Around aliases c.args.reader.now.nest) (option_map condition_of c.args.condition) (of_class c.args.token.now Class.CloseParen c.in-CloseParen.is c.requires.kind)) h) (c.enter.ensures aliases)
 
 pub returns-in_default : goal.returns-in_default
 returns-in_default c = λ aliases e.
-    let other = for_last aliases c.args.place (start_of c.args.start) (Around aliases c.args.nest) (option_map condition_of c.args.condition) {token = c.args.token.now} (λ m. c.in_default.not-CloseParen (class_of_mark c.args.class Class.CloseParen c.args.token.now tt c.requires m)) in
-    let new = c.new-reader.ensures aliases in
-    if_ok_map c.in_last.result (λ step h. body_step_along aliases step other (body_step_along aliases step (same_at c.args.token.now (then_same (record { forward = new.backward; backward = new.forward }))) h)) (c.in_last.ensures aliases e)
+    let other = for_last aliases c.args.place (start_of c.args.start) (Around aliases c.args.reader.now.nest) (option_map condition_of c.args.condition) {token = c.args.token.now} (λ m. c.in_default.not-CloseParen (class_of_mark c.args.class Class.CloseParen c.args.token.now tt c.requires.kind m)) in
+    let new = c.new-inner.ensures aliases in
+    if_ok_map c.in_last.result (λ step h. body_step_along aliases c.in_last.new.reader step other (body_step_along aliases c.in_last.new.reader step (same_at c.args.token.now (then_same (record { forward = new.backward; backward = new.forward }))) h)) (c.in_last.ensures c.args.place c.args.start c.args.condition c.new-inner.result refl aliases e)

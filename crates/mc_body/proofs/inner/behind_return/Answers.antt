@@ -1,3 +1,4 @@
+use Rattle.std.proofs.Common.{refl}
 use Rattle.mc_ast.specs.declared.class.Class.TheVariants as Class
 use Rattle.mc_simple.proofs.Phrases.{same_at, then_same}
 use Rattle.mc_body.specs.Frames.{Around}
@@ -8,10 +9,10 @@ use Rattle.mc_body.proofs.Seen.{return_seen}
 use Rattle.mc_body.proofs.inner.behind_return.Goals as goal
 
 pub returns-in-Semicolon : goal.returns-in-Semicolon
-returns-in-Semicolon c = λ aliases e. rw (c.taken.ensures, return_seen) (return_semicolon aliases c.args.place (Around aliases c.args.nest) (of_class c.args.token.now Class.Semicolon c.in-Semicolon.is c.requires))
+returns-in-Semicolon c = λ aliases e. rw (c.requires.ready, return_seen) (return_semicolon aliases c.args.place (Around aliases c.args.reader.now.nest) (of_class c.args.token.now Class.Semicolon c.in-Semicolon.is c.requires.kind))
 
 pub returns-in_default : goal.returns-in_default
 returns-in_default c = λ aliases e.
-    let other = return_value aliases c.args.place (Around aliases c.args.nest) {token = c.args.token.now} (λ m. c.in_default.not-Semicolon (class_of_mark c.args.class Class.Semicolon c.args.token.now tt c.requires m)) in
-    let new = c.new-reader.ensures aliases in
-    if_ok_map c.in_value.result (λ step h. body_step_along aliases step other (body_step_along aliases step (same_at c.args.token.now (then_same (record { forward = new.backward; backward = new.forward }))) h)) (c.in_value.ensures aliases e)
+    let other = return_value aliases c.args.place (Around aliases c.args.reader.now.nest) {token = c.args.token.now} (λ m. c.in_default.not-Semicolon (class_of_mark c.args.class Class.Semicolon c.args.token.now tt c.requires.kind m)) in
+    let new = c.new.ensures aliases in
+    if_ok_map c.in_value.result (λ step h. body_step_along aliases c.in_value.new.reader step other (body_step_along aliases c.in_value.new.reader step (same_at c.args.token.now (then_same (record { forward = new.backward; backward = new.forward }))) h)) (c.in_value.ensures c.args.place c.new.result refl aliases e)

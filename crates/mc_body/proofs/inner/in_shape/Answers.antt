@@ -4,10 +4,13 @@ use Rattle.mc_body.specs.Shapes.{CompletesShape, IsShapeStep}
 use Rattle.mc_body.proofs.inner.in_shape.Goals as goal
 
 pub returns-in-Taken : goal.returns-in-Taken
-returns-in-Taken c = λ aliases. rw c.taken.ensures (then_moves (subst (λ s. IsShapeStep (CompletesShape c.args.reader) c.args.token.now s) c.in-Taken.is c.in_ok-step.ensures))
+returns-in-Taken c = λ shape is aliases. rw (c.requires.ready, c.in-Shape.is) (then_moves (subst (λ s. IsShapeStep (CompletesShape c.in-Shape.inner) c.args.token.now s) c.in-Taken.is (rw c.replace-shape.ensures.value at c.in_ok-step-in-Shape.ensures)))
 
 pub returns-in-Closed : goal.returns-in-Closed
-returns-in-Closed c = λ aliases. then_closes (subst (λ s. IsShapeStep (CompletesShape c.args.reader) c.args.token.now s) c.in-Closed.is c.in_ok-step.ensures)
+returns-in-Closed c = λ shape is aliases. rw c.in-Shape.is (then_closes (subst (λ s. IsShapeStep (CompletesShape c.in-Shape.inner) c.args.token.now s) c.in-Closed.is (rw c.replace-shape.ensures.value at c.in_ok-step-in-Shape.ensures)))
 
 pub returns-in-Stuck : goal.returns-in-Stuck
-returns-in-Stuck c = λ aliases. then_stuck (subst (λ s. IsShapeStep (CompletesShape c.args.reader) c.args.token.now s) c.in-Stuck.is c.in_ok-step.ensures)
+returns-in-Stuck c = λ shape is aliases. rw c.in-Shape.is (then_stuck (subst (λ s. IsShapeStep (CompletesShape c.in-Shape.inner) c.args.token.now s) c.in-Stuck.is (rw c.replace-shape.ensures.value at c.in_ok-step-in-Shape.ensures)))
+
+pub returns-in_default : goal.returns-in_default
+returns-in_default c = λ shape is aliases. absurd (c.in_default.not-Shape shape is)

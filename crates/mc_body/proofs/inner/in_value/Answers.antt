@@ -1,22 +1,19 @@
-use Rattle.std.proofs.Common.{[], ◌∷◌, subst, refl}
+use Rattle.std.proofs.Common.{subst, refl}
 use Rattle.std.specs.Prelude.{codes}
-use Rattle.mc_ast.specs.declared.class.Class.TheVariants as Class
-use Rattle.mc_ast.specs.Trees.{Stmt}
 use Rattle.mc_simple.specs.Rights.{CompletesRight, IsRightStep}
 use Rattle.mc_simple.proofs.Phrases.{then_finds, then_stuck}
-use Rattle.mc_body.specs.Phrases.{Expects}
-use Rattle.mc_body.specs.Frames.{Around}
-use Rattle.mc_body.specs.Bodies.{IsBodyStep}
 use Rattle.mc_body.proofs.Tokens.{first_is, then_rejects}
 use Rattle.mc_body.proofs.StateTurns.{body_step_along}
-use Rattle.mc_body.proofs.Seen.{return_value_seen}
 use Rattle.mc_body.proofs.inner.in_value.Goals as goal
 
 pub returns-in-Taken : goal.returns-in-Taken
-returns-in-Taken c = λ aliases e. rw c.taken.ensures (then_rejects (codes ";") refl (λ x tokens rest y h. first_is h) (subst (λ s. IsRightStep aliases (CompletesRight aliases c.args.reader) c.args.token.now s) c.in-Taken.is (c.in_ok-step.ensures aliases e)))
+returns-in-Taken c = λ place value is aliases e. rw (c.requires.ready, c.in-Value.is) (then_rejects (codes ";") refl (λ x tokens rest y h. first_is h) (subst (λ s. IsRightStep (CompletesRight aliases c.in-Value.inner) (CompletesRight aliases c.step.new.self) c.args.token.now s) c.in-Taken.is (c.in_ok-step-in-Value.ensures aliases e)))
 
 pub returns-in-Found : goal.returns-in-Found
-returns-in-Found c = λ aliases e. body_step_along aliases c.expect.result (then_finds (subst (λ s. IsRightStep aliases (CompletesRight aliases c.args.reader) c.args.token.now s) c.in-Found.is (c.in_ok-step.ensures aliases e))) (subst (λ (s : Stmt). IsBodyStep aliases (Expects (Class.Semicolon ∷ []) (Around aliases c.args.nest s)) c.args.token.now c.expect.result) (return_value_seen c.args.place c.in-Found.value) (c.expect.ensures aliases))
+returns-in-Found c = λ place value is aliases e. rw c.in-Value.is (body_step_along aliases c.behind_value.new.reader c.behind_value.result (then_finds (subst (λ s. IsRightStep (CompletesRight aliases c.in-Value.inner) (CompletesRight aliases c.step.new.self) c.args.token.now s) c.in-Found.is (c.in_ok-step-in-Value.ensures aliases e))) (c.behind_value.ensures aliases))
 
 pub returns-in-Stuck : goal.returns-in-Stuck
-returns-in-Stuck c = λ aliases e. then_stuck (subst (λ s. IsRightStep aliases (CompletesRight aliases c.args.reader) c.args.token.now s) c.in-Stuck.is (c.in_ok-step.ensures aliases e))
+returns-in-Stuck c = λ place value is aliases e. rw c.in-Value.is (then_stuck (subst (λ s. IsRightStep (CompletesRight aliases c.in-Value.inner) (CompletesRight aliases c.step.new.self) c.args.token.now s) c.in-Stuck.is (c.in_ok-step-in-Value.ensures aliases e)))
+
+pub returns-in_default : goal.returns-in_default
+returns-in_default c = λ place value is aliases e. absurd (c.in_default.not-Value place value is)

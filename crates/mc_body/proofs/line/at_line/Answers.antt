@@ -1,5 +1,6 @@
 use Rattle.mc_ast.specs.declared.class.Class.TheVariants as Class
 use Rattle.mc_simple.proofs.Phrases.{same_at, takes_to, then_same}
+use Rattle.mc_body.specs.Lines.{CompletesLine}
 use Rattle.mc_body.proofs.Unique.{class_of_mark}
 use Rattle.mc_body.proofs.Tokens.{of_class, if_ok_map}
 use Rattle.mc_body.proofs.LineTurns.{line_step_along, no_declaration, line_semicolon, line_int, line_struct, line_other}
@@ -22,4 +23,4 @@ returns-in_default c = λ aliases e.
     let other = line_other aliases {token = c.args.token.now}
     (λ m. c.in_default.not-Semicolon (class_of_mark c.args.class Class.Semicolon c.args.token.now tt c.requires m))
     (λ d tokens rest h. no_declaration c.args.class c.requires c.in_default.not-Int c.in_default.not-Struct c.in_default.not-Name h) in
-    if_ok_map c.in_simple.result (λ step h. line_step_along aliases step other (line_step_along aliases step (same_at c.args.token.now (then_same record { forward = (c.new.ensures aliases).backward; backward = (c.new.ensures aliases).forward })) h)) (c.in_simple.ensures aliases e)
+    if_ok_map c.perform.result (λ step h. line_step_along (CompletesLine aliases c.perform.new.line) step other (line_step_along (CompletesLine aliases c.perform.new.line) step (same_at c.args.token.now (then_same record { forward = (c.new.ensures aliases).backward; backward = (c.new.ensures aliases).forward })) h)) (c.perform.ensures aliases e)

@@ -5,7 +5,7 @@ use Rattle.mc_body.proofs.Tokens.{of_class}
 use Rattle.mc_body.proofs.settle.behind_else.Goals as goal
 
 pub returns-in-Else : goal.returns-in-Else
-returns-in-Else c = λ aliases. next_takes (of_class c.args.token.now Class.Else c.in-Else.is c.requires)
+returns-in-Else c = λ aliases. rw c.requires.ready (next_takes (of_class c.args.token.now Class.Else c.in-Else.is c.requires.kind))
 
 pub returns-in_default : goal.returns-in_default
-returns-in_default c = λ aliases. next_stuck (λ w. c.in_default.not-Else (class_of_word c.args.class Class.Else c.args.token.now tt c.requires w))
+returns-in_default c = λ aliases. next_stuck (λ w. c.in_default.not-Else (class_of_word c.args.class Class.Else c.args.token.now tt c.requires.kind w))

@@ -1,4 +1,4 @@
-use Rattle.std.proofs.Common.{◌≡◌, ◌∙◌, [], ap, sym}
+use Rattle.std.proofs.Common.{◌∙◌, ap, sym}
 use Rattle.mc_expression.specs.Conditions.{whole_of}
 use Rattle.mc_expression.proofs.Enclosed.{sum_enclosed, proper_enclosed, denied_enclosed}
 use Rattle.mc_expression.proofs.condition.enclosed.Goals as goal

@@ -6,4 +6,4 @@ pub returns-in-OpenBrace : goal.returns-in-OpenBrace
 returns-in-OpenBrace c = λ aliases known. rw (c.new.ensures.none, c.new.ensures.starts) (tagged_opens aliases _ _ _ _ (rw c.in-OpenBrace.is at c.requires) (brace_no_function aliases _ (rw c.in-OpenBrace.is at c.requires)))
 
 pub returns-in_default : goal.returns-in_default
-returns-in_default c = if_ok c.item_function.result (λ step says aliases known. same_step _ _ (tagged_bare aliases _ _ _ _ _ c.requires c.in_default.not-OpenBrace) step (says aliases known)) c.item_function.ensures
+returns-in_default c = if_ok c.item_header.result (λ step says aliases known. same_step _ _ (tagged_bare aliases _ _ _ _ _ c.requires c.in_default.not-OpenBrace) step (says aliases known)) c.item_header.ensures

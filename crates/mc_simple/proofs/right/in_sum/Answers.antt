@@ -5,10 +5,10 @@ use Rattle.mc_simple.proofs.Rights.{as_takes}
 use Rattle.mc_simple.proofs.right.in_sum.Goals as goal
 
 pub returns-in-Taken : goal.returns-in-Taken
-returns-in-Taken c = λ aliases. as_takes (subst (λ s. StepsExpression (CompletesExpression c.args.reader) c.args.token.now s) c.in-Taken.is c.in_ok-reader.ensures)
+returns-in-Taken c = λ aliases. as_takes (subst (λ s. StepsExpression (CompletesExpression c.args.reader) (CompletesExpression c.step.new.self) c.args.token.now s) c.in-Taken.is c.in_ok-step.ensures)
 
 pub returns-in-Found : goal.returns-in-Found
-returns-in-Found c = λ aliases. finds_along (then_finds (subst (λ s. StepsExpression (CompletesExpression c.args.reader) c.args.token.now s) c.in-Found.is c.in_ok-reader.ensures)) (ended_finds _)
+returns-in-Found c = λ aliases. finds_along (then_finds (subst (λ s. StepsExpression (CompletesExpression c.args.reader) (CompletesExpression c.step.new.self) c.args.token.now s) c.in-Found.is c.in_ok-step.ensures)) (ended_finds _)
 
 pub returns-in-Stuck : goal.returns-in-Stuck
-returns-in-Stuck c = λ aliases. then_stuck (subst (λ s. StepsExpression (CompletesExpression c.args.reader) c.args.token.now s) c.in-Stuck.is c.in_ok-reader.ensures)
+returns-in-Stuck c = λ aliases. then_stuck (subst (λ s. StepsExpression (CompletesExpression c.args.reader) (CompletesExpression c.step.new.self) c.args.token.now s) c.in-Stuck.is c.in_ok-step.ensures)

@@ -7,7 +7,7 @@ pub returns-in-Struct : goal.returns-in-Struct
 returns-in-Struct c = λ aliases e. rw c.in-Struct.is (c.behind_struct.ensures aliases)
 
 pub returns-in-Alias : goal.returns-in-Alias
-returns-in-Alias c = λ aliases e. rw c.in-Alias.is (c.behind_alias.ensures aliases e)
+returns-in-Alias c = λ aliases e. c.behind_alias.ensures c.in-Alias.field-0 c.in-Alias.is aliases e
 
 pub returns-in-Declaration : goal.returns-in-Declaration
 returns-in-Declaration c = λ aliases e. rw c.in-Declaration.is (c.in_declaration.ensures aliases e)

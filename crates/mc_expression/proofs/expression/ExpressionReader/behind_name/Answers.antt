@@ -7,8 +7,7 @@ use Rattle.mc_expression.specs.declared.expression.ExpressionReader.{ExpressionR
 use Rattle.mc_expression.specs.declared.primary.Primary.TheVariants as Primary
 use Rattle.mc_expression.specs.Turns.{InTurn}
 use Rattle.mc_expression.specs.Primaries.{CompletesPrimary}
-use Rattle.mc_expression.specs.Expressions.{Behind, CompletesExpression, GoesOn, BehindName, BehindOperand}
-use Rattle.mc_expression.proofs.Expressions.{nothing}
+use Rattle.mc_expression.specs.Expressions.{nothing, Behind, CompletesExpression, GoesOn, BehindName, BehindOperand}
 use Rattle.mc_expression.proofs.Starts.{name_same}
 use Rattle.mc_expression.proofs.expression.ExpressionReader.behind_name.Goals as goal
 

@@ -1,20 +1,16 @@
-use Rattle.mc_parse.proofs.Threads.{if_ok}
+use Rattle.mc_parse.specs.Functions.{CompletesFunction}
+use Rattle.mc_parse.proofs.ItemLemmas.{not_in_function}
+use Rattle.mc_parse.proofs.Threads.{then_takes, then_gives, then_stuck}
 use Rattle.mc_parse.proofs.item.ItemReader.step.Goals as goal
 
-pub returns-in-Tag : goal.returns-in-Tag
-returns-in-Tag c = rw c.in-Tag.is (if_ok c.item_tag.result (λ step says aliases known. says aliases) c.item_tag.ensures)
+pub returns-in-Taken : goal.returns-in-Taken
+returns-in-Taken c = λ aliases known. rw c.in-Function.is (then_takes (rw c.in-Taken.is at (c.in_ok-step-in-Function.ensures aliases known)))
 
-pub returns-in-Tagged : goal.returns-in-Tagged
-returns-in-Tagged c = rw c.in-Tagged.is c.item_tagged.ensures
+pub returns-in-Closed : goal.returns-in-Closed
+returns-in-Closed c = λ aliases known. rw c.in-Function.is (then_gives _ (rw c.in-Closed.is at (c.in_ok-step-in-Function.ensures aliases known)))
 
-pub returns-in-Struct : goal.returns-in-Struct
-returns-in-Struct c = rw c.in-Struct.is c.item_struct.ensures
+pub returns-in-Stuck : goal.returns-in-Stuck
+returns-in-Stuck c = λ aliases known. rw c.in-Function.is (then_stuck (CompletesFunction aliases c.in-Function.reader) _ {token = c.args.token.now} (rw c.in-Stuck.is at (c.in_ok-step-in-Function.ensures aliases known)))
 
-pub returns-in-Closing : goal.returns-in-Closing
-returns-in-Closing c = λ aliases known. rw c.in-Closing.is (c.item_closing.ensures aliases _ c.requires)
-
-pub returns-in-Typedef : goal.returns-in-Typedef
-returns-in-Typedef c = rw c.in-Typedef.is c.item_typedef.ensures
-
-pub returns-in-Function : goal.returns-in-Function
-returns-in-Function c = rw c.in-Function.is c.item_function.ensures
+pub step_beside_functions-requires : goal.step_beside_functions-requires
+step_beside_functions-requires c = record { class = c.requires; beside = not_in_function c.args.self.now c.in_default.not-Function }

@@ -1,0 +1,7 @@
+use Rattle.std.proofs.Common.{refl}
+use Rattle.mc_simple.proofs.Phrases.{then_same}
+use Rattle.mc_body.proofs.Beginnings.{next_same}
+use Rattle.mc_body.proofs.begin.begin_free.Goals as goal
+
+pub returns : goal.returns
+returns c = record { step = refl; same = λ aliases. next_same (then_same c.new.ensures) }
