@@ -24,7 +24,6 @@ impl<'a> Model for Functions<'a> {
     ghost use Rattle.mc_ast.specs.declared.trees.Function.{Function};
     ghost use Rattle.mc_ast.specs.Views.{function_of};
     ghost use Rattle.mc_types.specs.Tables.{is_defined};
-
     ghost use Rattle.mc_ast.specs.contracts.trees.Function as function_type;
     ghost use Rattle.std.specs.Coded.{codes};
 
