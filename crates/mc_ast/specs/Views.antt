@@ -48,7 +48,7 @@ expression_of = fold-Expression Expr expression_step
 -- one level of a condition
 abbrev pub condition_step : Condition-F Cond → Cond
 condition_step (Condition-F.Plain e) = plain (expression_of e)
-condition_step (Condition-F.Compare mark a b) = compare mark (expression_of a) (expression_of b)
+condition_step (Condition-F.Compare mark a b) = compare mark (expression_of (box_value a)) (expression_of (box_value b))
 condition_step (Condition-F.Not p c) = negation p (box_value c)
 condition_step (Condition-F.Parens p c) = enclosed p (box_value c)
 condition_step (Condition-F.Both c d) = both (box_value c) (box_value d)
@@ -66,7 +66,7 @@ call_of c = record { function = c.function; arguments = expressions_of c.argumen
 abbrev pub right_of : RightSide → Right
 right_of (RightSide.Expression e) = expression (expression_of e)
 right_of (RightSide.Call c) = result_of (call_of c)
-right_of (RightSide.Malloc m) = allocation m
+right_of (RightSide.Malloc m) = allocation (box_value m)
 
 abbrev pub initial_of : Initial → InitialTree
 initial_of i = record { declarator = i.declarator; value = option_map right_of i.value }
@@ -108,7 +108,7 @@ statement_step (Statement-F.If p c s) = if_only p (condition_of c) (box_value s)
 statement_step (Statement-F.IfElse p c s t) = if_else p (condition_of c) (box_value s) (box_value t)
 statement_step (Statement-F.While p c s) = while_loop p (condition_of c) (box_value s)
 statement_step (Statement-F.Do p s c) = do_loop p (box_value s) (condition_of c)
-statement_step (Statement-F.For h s) = for_loop (head_of h) (box_value s)
+statement_step (Statement-F.For h s) = for_loop (head_of (box_value h)) (box_value s)
 statement_step (Statement-F.Break p) = break_loop p
 statement_step (Statement-F.Continue p) = continue_loop p
 statement_step (Statement-F.Return p r) = returns p (option_map right_of r)

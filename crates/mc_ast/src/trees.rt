@@ -84,7 +84,7 @@ pub enum Comparison {
 pub enum Condition {
     /// An expression that is not 0 or null.
     Plain(Expression),
-    Compare(Comparison, Expression, Expression),
+    Compare(Comparison, Box<Expression>, Box<Expression>),
     /// `!c`, at the `!`: c is a `!` again, a variable or field, `input()` or a condition in parentheses.
     Not(Place, Box<Condition>),
     /// `(c)`, at the `(`. Only behind a `!` may c be a plain expression.
@@ -175,7 +175,7 @@ pub struct Malloc {
 pub enum RightSide {
     Expression(Expression),
     Call(Call),
-    Malloc(Malloc),
+    Malloc(Box<Malloc>),
 }
 
 /// A declarator, perhaps with a value.
@@ -251,7 +251,7 @@ pub enum Statement {
     IfElse(Place, Condition, Box<Statement>, Box<Statement>),
     While(Place, Condition, Box<Statement>),
     Do(Place, Box<Statement>, Condition),
-    For(ForHead, Box<Statement>),
+    For(Box<ForHead>, Box<Statement>),
     Break(Place),
     Continue(Place),
     Return(Place, Option<RightSide>),

@@ -121,7 +121,7 @@ module _ (aliases : List (List ℕ)) where
   behind_ends [] body s = block_ends (body ++ s ∷ []) Ended (can_ended (body ++ s ∷ []))
   behind_ends (Frame.Block place before ∷ frames) body s = block_ends (map statement_of before.items ++ s ∷ []) (λ ss. Behind aliases frames body (block place (stmts_of ss))) (ending_ends (behind_ends frames body (block place (stmts_of (map statement_of before.items ++ s ∷ [])))))
   behind_ends (Frame.If place c ∷ frames) body s = let e = behind_ends frames body (if_only place (condition_of c) s) in record { first = e.first; no_else = e.no_else; more = e.more; tree = e.tree; completes = λ rest. only e.no_else (e.completes rest) }
-  behind_ends (Frame.Else place c first ∷ frames) body s = behind_ends frames body (if_else place (condition_of c) (statement_of first) s)
+  behind_ends (Frame.Else place c first ∷ frames) body s = behind_ends frames body (if_else place (condition_of c) (statement_of first.value) s)
   behind_ends (Frame.While place c ∷ frames) body s = behind_ends frames body (while_loop place (condition_of c) s)
   behind_ends (Frame.Do place ∷ frames) body s =
       ends_with (word (codes "while")) while_no_else
@@ -129,7 +129,7 @@ module _ (aliases : List (List ℕ)) where
       (can_then (λ c. Expects (Class.CloseParen ∷ Class.Semicolon ∷ []) (Behind aliases frames body (do_loop place s c))) can_condition (λ c. can_expect Phrase.CloseSemicolon (ending_ends (behind_ends frames body (do_loop place s c))))))
       (BehindDo place (Behind aliases frames body) s)
       (λ tokens rest y h. next (is_word (codes "while")) h)
-  behind_ends (Frame.For h ∷ frames) body s = behind_ends frames body (for_loop (head_of h) s)
+  behind_ends (Frame.For h ∷ frames) body s = behind_ends frames body (for_loop (head_of h.value) s)
 
   can_statement : CanEnd (Statements aliases)
   can_statement = record { more = mark (codes ";") ∷ []; tree = _; completes = λ rest. empty_statement (is_mark (codes ";")) }
@@ -161,8 +161,8 @@ module _
   line_ends LineReader.Start = record { more = mark (codes ";") ∷ []; tree = _; completes = λ rest. starts_empty (is_mark (codes ";")) }
   line_ends (LineReader.Struct place) = can_next (word (codes "a")) a_name (can_then (λ d. Ended (declares d)) (can_declares aliases (Base.Struct place (name_of (word (codes "a"))))) (λ d. can_ended (declares d)))
   line_ends (LineReader.Alias known) = can_left _ _ (can_then (λ d. Ended (declares d)) (can_declares aliases (Base.Alias known.name)) (λ d. can_ended (declares d)))
-  line_ends (LineReader.Declaration r) = can_then (λ d. Ended (declares d)) (declaration_ends aliases r) (λ d. can_ended (declares d))
-  line_ends (LineReader.Simple r) = can_then BehindSimple (simple_ends aliases r) (λ s. can_expect Phrase.Semicolon (can_ended (performs s)))
+  line_ends (LineReader.Declaration r) = can_then (λ d. Ended (declares d)) (declaration_ends aliases r.value) (λ d. can_ended (declares d))
+  line_ends (LineReader.Simple r) = can_then BehindSimple (simple_ends aliases r.value) (λ s. can_expect Phrase.Semicolon (can_ended (performs s)))
 
   arguments_end : (shape : Shape) (args : List Argument) → CanEnd (BehindArguments shape args)
   arguments_end shape args = can_then (λ all. Expects (Class.CloseParen ∷ []) (Ended (shaped shape all))) (record { more = []; tree = args; completes = λ rest. last_argument }) (λ all. can_expect Phrase.Close (can_ended (shaped shape all)))
@@ -227,13 +227,13 @@ module _
     state_ends State.Start = can_start aliases (frames_of nest) (body_of nest)
     state_ends (State.Behind s) = around (statement_of s)
     state_ends (State.Line purpose r) = can_then (BehindLine aliases purpose (Around aliases nest)) (line_ends r) (λ start. line_purpose_ends purpose start)
-    state_ends (State.Freed place r) = can_then (BehindFreed place (Around aliases nest)) (expression_ends r) (λ e. can_expect Phrase.CloseSemicolon (around (free place e)))
-    state_ends (State.Condition purpose r) = can_then (BehindPurpose aliases purpose (Around aliases nest)) (condition_ends r) (λ c. purpose_ends purpose c)
+    state_ends (State.Freed place r) = can_then (BehindFreed place (Around aliases nest)) (expression_ends r.value) (λ e. can_expect Phrase.CloseSemicolon (around (free place e)))
+    state_ends (State.Condition purpose r) = can_then (BehindPurpose aliases purpose (Around aliases nest)) (condition_ends r.value) (λ c. purpose_ends purpose c)
     state_ends (State.Return place) = can_left (Expects (Class.Semicolon ∷ []) (Around aliases nest (returns place None))) (InTurn (Rights aliases) (BehindValue place (Around aliases nest))) (can_expect Phrase.Semicolon (around (returns place None)))
-    state_ends (State.Value place r) = can_then (BehindValue place (Around aliases nest)) (right_ends aliases r) (λ v. can_expect Phrase.Semicolon (around (returns place (Some v))))
+    state_ends (State.Value place r) = can_then (BehindValue place (Around aliases nest)) (right_ends aliases r.value) (λ v. can_expect Phrase.Semicolon (around (returns place (Some v))))
     state_ends (State.ForCondition place start) = at_for_condition_ends place (start_of start)
     state_ends (State.ForLast place start c) = at_last_ends place (start_of start) (option_map condition_of c)
-    state_ends (State.Last place start c r) = can_then (λ last. BehindLast aliases place (start_of start) (option_map condition_of c) (Around aliases nest) (Some last)) (simple_ends aliases r) (λ last. last_ends place (start_of start) (option_map condition_of c) (Some last))
+    state_ends (State.Last place start c r) = can_then (λ last. BehindLast aliases place (start_of start) (option_map condition_of c) (Around aliases nest) (Some last)) (simple_ends aliases r.value) (λ last. last_ends place (start_of start) (option_map condition_of c) (Some last))
     state_ends (State.Shape r) = can_then (BehindShape (Around aliases nest)) (shape_ends r) (λ s. can_expect Phrase.Semicolon (around s))
 
   expected_ends : {Y : Type 0} {later : Tokens → Tokens → Y → Type 0} (expected : Option Phrase) → CanEnd later → CanEnd (Expects (expected_of expected) later)

@@ -30,10 +30,10 @@ BehindDo place next s = Expects (Class.While ∷ Class.OpenParen ∷ []) (InTurn
 abbrev pub Inside : List (List ℕ) → Frame → (Stmt → Tokens → Tokens → List Stmt → Type 0) → Stmt → Tokens → Tokens → List Stmt → Type 0
 Inside aliases (Frame.Block place before) next s = InBlock aliases (map statement_of before.items ++ s ∷ []) (λ ss. next (block place (stmts_of ss)))
 Inside aliases (Frame.If place c) next s = BehindFirst aliases place (condition_of c) next s
-Inside aliases (Frame.Else place c first) next s = next (if_else place (condition_of c) (statement_of first) s)
+Inside aliases (Frame.Else place c first) next s = next (if_else place (condition_of c) (statement_of first.value) s)
 Inside aliases (Frame.While place c) next s = next (while_loop place (condition_of c) s)
 Inside aliases (Frame.Do place) next s = BehindDo place next s
-Inside aliases (Frame.For h) next s = next (for_loop (head_of h) s)
+Inside aliases (Frame.For h) next s = next (for_loop (head_of h.value) s)
 
 -- behind a statement in these frames, of which the innermost comes first, in a body
 abbrev pub Behind : List (List ℕ) → List Frame → List Stmt → Stmt → Tokens → Tokens → List Stmt → Type 0

@@ -43,8 +43,8 @@ abbrev pub CompletesLine : List (List ℕ) → LineReader → Tokens → Tokens 
 CompletesLine aliases LineReader.Start = Starts aliases
 CompletesLine aliases (LineReader.Struct place) = Next IsName (λ name. DeclarationLine (BehindBase aliases (Base.Struct place (name_of name))))
 CompletesLine aliases (LineReader.Alias known) = Either (DeclarationLine (BehindBase aliases (Base.Alias known.name))) (SimpleLine (BehindName aliases known.name))
-CompletesLine aliases (LineReader.Declaration reader) = DeclarationLine (CompletesDeclaration aliases reader)
-CompletesLine aliases (LineReader.Simple reader) = SimpleLine (CompletesSimple aliases reader)
+CompletesLine aliases (LineReader.Declaration reader) = DeclarationLine (CompletesDeclaration aliases reader.value)
+CompletesLine aliases (LineReader.Simple reader) = SimpleLine (CompletesSimple aliases reader.value)
 
 -- what a step of the reader says
 abbrev pub IsLineStep : (Tokens → Tokens → Start → Type 0) → (Tokens → Tokens → Start → Type 0) → Token → LineStep → Type 0

@@ -106,11 +106,11 @@ fn begin(
             reader.state = State::Start;
             Ok(BodyStep::Taken)
         }
-        Class::Free => Ok(begin_free(reader, place)),
-        Class::Assert => Ok(begin_condition(reader, Purpose::Assert(place))),
-        Class::Assume => Ok(begin_condition(reader, Purpose::Assume(place))),
-        Class::If => Ok(begin_condition(reader, Purpose::If(place))),
-        Class::While => Ok(begin_condition(reader, Purpose::While(place))),
+        Class::Free => begin_free(reader, place),
+        Class::Assert => begin_condition(reader, Purpose::Assert(place)),
+        Class::Assume => begin_condition(reader, Purpose::Assume(place)),
+        Class::If => begin_condition(reader, Purpose::If(place)),
+        Class::While => begin_condition(reader, Purpose::While(place)),
         Class::AssumeShape => Ok(begin_shape(reader, Command::Assume, place)),
         Class::AssertShape => Ok(begin_shape(reader, Command::Assert, place)),
         Class::AssertEmpty => Ok(begin_word(
@@ -127,23 +127,27 @@ fn begin(
 }
 
 /// Behind `free`.
-fn begin_free(reader: &mut BodyReader, place: Place) -> BodyStep
-    ensures step { result ≡ BodyStep.Taken }
-    ensures same { (aliases : List (List ℕ)) → IsSame (CompletesBody aliases reader.new) (Expects (Class.OpenParen ∷ []) (InTurn Sums (BehindFreed place (Around aliases reader.old.nest)))) }
+fn begin_free(reader: &mut BodyReader, place: Place) -> Result<BodyStep, AllocError>
+    ensures { IfOk result (λ step. (step ≡ BodyStep.Taken) × ((aliases : List (List ℕ)) → IsSame (CompletesBody aliases reader.new) (Expects (Class.OpenParen ∷ []) (InTurn Sums (BehindFreed place (Around aliases reader.old.nest)))))) }
 {
+    let alloc = reader.nest.alloc;
+    let fresh = ExpressionReader::new(alloc);
+    let inner = Box::new(alloc, fresh)?;
     reader.expected = Some(Phrase::Open);
-    reader.state = State::Freed(place, ExpressionReader::new(reader.nest.alloc));
-    BodyStep::Taken
+    reader.state = State::Freed(place, inner);
+    Ok(BodyStep::Taken)
 }
 
 /// Behind the word of a statement that a condition follows.
-fn begin_condition(reader: &mut BodyReader, purpose: Purpose) -> BodyStep
-    ensures step { result ≡ BodyStep.Taken }
-    ensures same { (aliases : List (List ℕ)) → IsSame (CompletesBody aliases reader.new) (Expects (Class.OpenParen ∷ []) (InTurn Conditions (BehindPurpose aliases purpose (Around aliases reader.old.nest)))) }
+fn begin_condition(reader: &mut BodyReader, purpose: Purpose) -> Result<BodyStep, AllocError>
+    ensures { IfOk result (λ step. (step ≡ BodyStep.Taken) × ((aliases : List (List ℕ)) → IsSame (CompletesBody aliases reader.new) (Expects (Class.OpenParen ∷ []) (InTurn Conditions (BehindPurpose aliases purpose (Around aliases reader.old.nest)))))) }
 {
+    let alloc = reader.nest.alloc;
+    let fresh = ConditionReader::new(alloc);
+    let inner = Box::new(alloc, fresh)?;
     reader.expected = Some(Phrase::Open);
-    reader.state = State::Condition(purpose, ConditionReader::new(reader.nest.alloc));
-    BodyStep::Taken
+    reader.state = State::Condition(purpose, inner);
+    Ok(BodyStep::Taken)
 }
 
 /// Behind the word of a shape command.

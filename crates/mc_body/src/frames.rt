@@ -14,10 +14,10 @@ pub enum Frame {
     /// The first part of an `if`.
     If(Place, Condition),
     /// The second part of an `if`, with the first.
-    Else(Place, Condition, Statement),
+    Else(Place, Condition, Box<Statement>),
     While(Place, Condition),
     Do(Place),
-    For(ForHead),
+    For(Box<ForHead>),
 }
 
 /// All that a statement stands in: the frames, of which the last is the innermost, and the statements of the

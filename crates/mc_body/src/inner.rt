@@ -1,5 +1,6 @@
 // What the readers within a statement do with a token.
-ghost use Rattle.std.specs.Prelude.{◌≡◌, ℕ, List, [], ◌∷◌, Option, None, IfOk};
+ghost use Rattle.std.specs.Prelude.{◌≡◌, ℕ, List, [], ◌∷◌, Option, None, IfOk, Box};
+ghost use Rattle.std.specs.declared.alloc.Global.{Global};
 ghost use Rattle.mc_ast.specs.declared.class.Class.TheVariants as Class;
 ghost use Rattle.mc_ast.specs.Classes.{IsClass};
 ghost use Rattle.mc_ast.specs.Names.{is_in};
@@ -41,7 +42,7 @@ pub fn in_freed(
 ) -> Result<BodyStep, AllocError>
     requires kind { IsClass token.now class }
     requires ready { reader.old.expected ≡ None }
-    ensures { (place : Place) (freed : ExpressionReader) → reader.old.state ≡ State.Freed place freed → (aliases : List (List ℕ)) → IfOk result (IsBodyStep (AtState aliases reader.old.nest reader.old.state) (CompletesBody aliases reader.new) token.now) }
+    ensures { (place : Place) (freed : Box ExpressionReader Global) → reader.old.state ≡ State.Freed place freed → (aliases : List (List ℕ)) → IfOk result (IsBodyStep (AtState aliases reader.old.nest reader.old.state) (CompletesBody aliases reader.new) token.now) }
 {
     match &mut reader.state {
         State::Freed(place, inner) => {
@@ -82,7 +83,7 @@ pub fn in_condition(
 ) -> Result<BodyStep, AllocError>
     requires kind { IsClass token.now class }
     requires ready { reader.old.expected ≡ None }
-    ensures { (purpose : Purpose) (condition : ConditionReader) → reader.old.state ≡ State.Condition purpose condition → (aliases : List (List ℕ)) → IfOk result (IsBodyStep (AtState aliases reader.old.nest reader.old.state) (CompletesBody aliases reader.new) token.now) }
+    ensures { (purpose : Purpose) (condition : Box ConditionReader Global) → reader.old.state ≡ State.Condition purpose condition → (aliases : List (List ℕ)) → IfOk result (IsBodyStep (AtState aliases reader.old.nest reader.old.state) (CompletesBody aliases reader.new) token.now) }
 {
     match &mut reader.state {
         State::Condition(purpose, inner) => {
@@ -222,7 +223,10 @@ pub fn behind_return(
             Ok(BodyStep::Taken)
         }
         _ => {
-            reader.state = State::Value(place, RightReader::new(reader.nest.alloc));
+            let alloc = reader.nest.alloc;
+            let fresh = RightReader::new(alloc);
+            let value = Box::new(alloc, fresh)?;
+            reader.state = State::Value(place, value);
             in_value(reader, token, class, alias)
         }
     }
@@ -237,7 +241,7 @@ pub fn in_value(
 ) -> Result<BodyStep, AllocError>
     requires kind { IsClass token.now class }
     requires ready { reader.old.expected ≡ None }
-    ensures { (place : Place) (value : RightReader) → reader.old.state ≡ State.Value place value → (aliases : List (List ℕ)) → is_in aliases token.now.text ≡ alias → IfOk result (IsBodyStep (AtState aliases reader.old.nest reader.old.state) (CompletesBody aliases reader.new) token.now) }
+    ensures { (place : Place) (value : Box RightReader Global) → reader.old.state ≡ State.Value place value → (aliases : List (List ℕ)) → is_in aliases token.now.text ≡ alias → IfOk result (IsBodyStep (AtState aliases reader.old.nest reader.old.state) (CompletesBody aliases reader.new) token.now) }
 {
     match &mut reader.state {
         State::Value(place, inner) => {
@@ -286,7 +290,9 @@ pub fn at_for_condition(
             Ok(BodyStep::Taken)
         }
         _ => {
-            let inner = ConditionReader::new(reader.nest.alloc);
+            let alloc = reader.nest.alloc;
+            let fresh = ConditionReader::new(alloc);
+            let inner = Box::new(alloc, fresh)?;
             reader.state = State::Condition(Purpose::For(place, start), inner);
             in_condition(reader, token, class)
         }
@@ -315,10 +321,13 @@ pub fn at_last(
                 condition,
                 last: None,
             };
+            let head = Box::new(reader.nest.alloc, head)?;
             enter(reader, Frame::For(head), token, class)
         }
         _ => {
-            let inner = SimpleReader::new(reader.nest.alloc);
+            let alloc = reader.nest.alloc;
+            let fresh = SimpleReader::new(alloc);
+            let inner = Box::new(alloc, fresh)?;
             reader.state = State::Last(place, start, condition, inner);
             in_last(reader, token, class, alias)
         }
@@ -334,7 +343,7 @@ pub fn in_last(
 ) -> Result<BodyStep, AllocError>
     requires kind { IsClass token.now class }
     requires ready { reader.old.expected ≡ None }
-    ensures { (place : Place) (start : ForStart) (condition : Option Condition) (last : SimpleReader) → reader.old.state ≡ State.Last place start condition last → (aliases : List (List ℕ)) → is_in aliases token.now.text ≡ alias → IfOk result (IsBodyStep (AtState aliases reader.old.nest reader.old.state) (CompletesBody aliases reader.new) token.now) }
+    ensures { (place : Place) (start : ForStart) (condition : Option Condition) (last : Box SimpleReader Global) → reader.old.state ≡ State.Last place start condition last → (aliases : List (List ℕ)) → is_in aliases token.now.text ≡ alias → IfOk result (IsBodyStep (AtState aliases reader.old.nest reader.old.state) (CompletesBody aliases reader.new) token.now) }
 {
     match &mut reader.state {
         State::Last(place, start, condition, inner) => {
@@ -348,6 +357,7 @@ pub fn in_last(
                         condition: mem::replace(condition, None),
                         last: Some(last),
                     };
+                    let head = Box::new(reader.nest.alloc, head)?;
                     enter(reader, Frame::For(head), token, class)
                 }
                 SimpleStep::Stuck => Ok(BodyStep::Stuck),

@@ -2,6 +2,7 @@
 ghost use Rattle.std.specs.Prelude.{◌≡◌, ℕ, List, IfOk};
 ghost use Rattle.mc_ast.specs.Classes.{IsClass};
 ghost use Rattle.mc_ast.specs.Names.{IsName, is_in};
+ghost use Rattle.mc_ast.specs.Readers.{IsSame};
 ghost use Rattle.mc_ast.specs.Views.{simple_of};
 ghost use Rattle.mc_ast.specs.declared.trees.Base.TheVariants as Base;
 ghost use Rattle.mc_simple.specs.Declarations.{BehindBase, CompletesDeclaration};
@@ -20,7 +21,7 @@ use mc_simple::{DeclarationReader, DeclarationStep, SimpleReader, SimpleStep};
 use std::alloc::{AllocError, Global};
 use std::mem;
 
-/// Reads a declaration, or a simple statement with its `;`, or a `;` alone, token by token.
+/// Reads a declaration, or a simple statement with its `;`, or a `;` alone, token by token. The readers within stand in boxes.
 #[derive(Drop)]
 pub enum LineReader {
     /// Nothing is read.
@@ -29,8 +30,8 @@ pub enum LineReader {
     Struct(Place),
     /// Behind a name that a typedef introduced.
     Alias(TypeName),
-    Declaration(DeclarationReader),
-    Simple(SimpleReader),
+    Declaration(Box<DeclarationReader>),
+    Simple(Box<SimpleReader>),
 }
 
 /// What a reader does with a token.
@@ -83,8 +84,7 @@ fn at_line(
     match class {
         Class::Semicolon => Ok(LineStep::Closed(ForStart::Nothing)),
         Class::Int => {
-            let reader = DeclarationReader::behind_base(alloc, Base::Int(token.place));
-            *line = LineReader::Declaration(reader);
+            *line = declaring(alloc, Base::Int(token.place))?;
             Ok(LineStep::Taken)
         }
         Class::Struct => {
@@ -92,8 +92,25 @@ fn at_line(
             Ok(LineStep::Taken)
         }
         Class::Name => at_name(line, alloc, token, alias),
-        _ => perform(line, SimpleReader::new(alloc), token, class, alias),
+        _ => perform(line, alloc, SimpleReader::new(alloc), token, class, alias),
     }
+}
+
+/// A reader of a declaration behind its base.
+fn declaring(alloc: Global, base: Base) -> Result<LineReader, AllocError>
+    ensures { IfOk result (λ line. (aliases : List (List ℕ)) → IsSame (CompletesLine aliases line) (DeclarationLine (BehindBase aliases base))) }
+{
+    let fresh = DeclarationReader::behind_base(alloc, base);
+    let reader = Box::new(alloc, fresh)?;
+    Ok(LineReader::Declaration(reader))
+}
+
+/// A reader of the rest of a simple statement.
+fn performing(alloc: Global, fresh: SimpleReader) -> Result<LineReader, AllocError>
+    ensures { IfOk result (λ line. (aliases : List (List ℕ)) → IsSame (CompletesLine aliases line) (SimpleLine (CompletesSimple aliases fresh))) }
+{
+    let reader = Box::new(alloc, fresh)?;
+    Ok(LineReader::Simple(reader))
 }
 
 /// A name with which a line begins.
@@ -111,7 +128,7 @@ fn at_name(
         *line = LineReader::Alias(TypeName { name });
         Ok(LineStep::Taken)
     } else {
-        *line = LineReader::Simple(SimpleReader::behind_name(alloc, name));
+        *line = performing(alloc, SimpleReader::behind_name(alloc, name))?;
         Ok(LineStep::Taken)
     }
 }
@@ -130,8 +147,7 @@ fn behind_struct(
     match class {
         Class::Name => {
             let name = name_at(alloc, token)?;
-            let reader = DeclarationReader::behind_base(alloc, Base::Struct(place, name));
-            *line = LineReader::Declaration(reader);
+            *line = declaring(alloc, Base::Struct(place, name))?;
             Ok(LineStep::Taken)
         }
         _ => Ok(LineStep::Stuck),
@@ -172,7 +188,7 @@ fn behind_known(
         Class::Star => declare(line, alloc, known.name, token, class, alias),
         _ => {
             let reader = SimpleReader::behind_name(alloc, known.name);
-            perform(line, reader, token, class, alias)
+            perform(line, alloc, reader, token, class, alias)
         }
     }
 }
@@ -189,7 +205,8 @@ fn declare(
     requires { IsClass token.now class }
     ensures { (aliases : List (List ℕ)) → is_in aliases token.now.text ≡ alias → IfOk result (IsLineStep (DeclarationLine (BehindBase aliases (Base.Alias name))) (CompletesLine aliases line.new) token.now) }
 {
-    let mut reader = DeclarationReader::behind_base(alloc, Base::Alias(name));
+    let fresh = DeclarationReader::behind_base(alloc, Base::Alias(name));
+    let mut reader = Box::new(alloc, fresh)?;
     let step = in_declaration(&mut reader, token, class, alias)?;
     *line = LineReader::Declaration(reader);
     Ok(step)
@@ -198,6 +215,7 @@ fn declare(
 /// Where this reader goes on with a simple statement.
 fn perform(
     line: &mut LineReader,
+    alloc: Global,
     reader: SimpleReader,
     token: &Token,
     class: Class,
@@ -206,7 +224,7 @@ fn perform(
     requires { IsClass token.now class }
     ensures { (aliases : List (List ℕ)) → is_in aliases token.now.text ≡ alias → IfOk result (IsLineStep (SimpleLine (CompletesSimple aliases reader)) (CompletesLine aliases line.new) token.now) }
 {
-    let mut reader = reader;
+    let mut reader = Box::new(alloc, reader)?;
     let step = in_simple(&mut reader, token, class, alias)?;
     *line = LineReader::Simple(reader);
     Ok(step)

@@ -31,17 +31,12 @@ pub fn if_else_of(
     alloc: Global,
     place: Place,
     condition: Condition,
-    first: Statement,
+    first: Box<Statement>,
     second: Statement,
 ) -> Result<Statement, AllocError>
-    ensures { IfOk result (λ s. statement_of s ≡ if_else place (condition_of condition) (statement_of first) (statement_of second)) }
+    ensures { IfOk result (λ s. statement_of s ≡ if_else place (condition_of condition) (statement_of first.value) (statement_of second)) }
 {
-    Ok(Statement::IfElse(
-        place,
-        condition,
-        Box::new(alloc, first)?,
-        Box::new(alloc, second)?,
-    ))
+    Ok(Statement::IfElse(place, condition, first, Box::new(alloc, second)?))
 }
 
 pub fn while_of(
@@ -66,8 +61,8 @@ pub fn do_of(
     Ok(Statement::Do(place, Box::new(alloc, part)?, condition))
 }
 
-pub fn for_of(alloc: Global, head: ForHead, part: Statement) -> Result<Statement, AllocError>
-    ensures { IfOk result (λ s. statement_of s ≡ for_loop (head_of head) (statement_of part)) }
+pub fn for_of(alloc: Global, head: Box<ForHead>, part: Statement) -> Result<Statement, AllocError>
+    ensures { IfOk result (λ s. statement_of s ≡ for_loop (head_of head.value) (statement_of part)) }
 {
     Ok(Statement::For(head, Box::new(alloc, part)?))
 }

@@ -71,7 +71,7 @@ pub fn behind(
         }
         Settled::Do(nest, place, part) => {
             reader.nest = nest;
-            Ok(behind_do(reader, place, part, token, class))
+            behind_do(reader, place, part, token, class)
         }
     }
 }
@@ -184,7 +184,7 @@ fn first_part(
     ensures { IfOk result (λ turn. (aliases : List (List ℕ)) (frames : List Frame) (body : List Stmt) → AgreeAt (BehindFirst aliases place (condition_of condition) (Behind aliases frames body) (statement_of statement)) (AtTurn aliases frames body turn) token.now) }
 {
     match class {
-        Class::Else => Ok(Turn::Else(Frame::Else(place, condition, statement))),
+        Class::Else => Ok(Turn::Else(Frame::Else(place, condition, Box::new(alloc, statement)?))),
         _ => {
             let whole = if_of(alloc, place, condition, statement)?;
             Ok(Turn::Whole(whole))
@@ -214,11 +214,13 @@ fn behind_do(
     part: Statement,
     token: &Token,
     class: Class,
-) -> BodyStep
+) -> Result<BodyStep, AllocError>
     requires { IsClass token.now class }
-    ensures { (aliases : List (List ℕ)) → IsBodyStep (AtSettled aliases (Settled.Do reader.old.nest place part)) (CompletesBody aliases reader.new) token.now result }
+    ensures { (aliases : List (List ℕ)) → IfOk result (IsBodyStep (AtSettled aliases (Settled.Do reader.old.nest place part)) (CompletesBody aliases reader.new) token.now) }
 {
-    let inner = ConditionReader::new(reader.nest.alloc);
+    let alloc = reader.nest.alloc;
+    let fresh = ConditionReader::new(alloc);
+    let inner = Box::new(alloc, fresh)?;
     reader.state = State::Condition(Purpose::Do(place, part), inner);
-    expect(reader, Phrase::WhileOpen, token, class)
+    Ok(expect(reader, Phrase::WhileOpen, token, class))
 }

@@ -40,8 +40,7 @@ pub enum Purpose {
     For(Place, ForStart),
 }
 
-/// What is read of a statement.
-#[derive(Drop)]
+/// What is read of a statement. The readers within stand in boxes, so that a state is small.
 pub enum State {
     /// Nothing.
     Start,
@@ -49,19 +48,48 @@ pub enum State {
     Behind(Statement),
     Line(LinePurpose, LineReader),
     /// Within the parentheses of a `free`.
-    Freed(Place, ExpressionReader),
-    Condition(Purpose, ConditionReader),
+    Freed(Place, Box<ExpressionReader>),
+    Condition(Purpose, Box<ConditionReader>),
     /// `return`
     Return(Place),
     /// Within the value of a `return`.
-    Value(Place, RightReader),
+    Value(Place, Box<RightReader>),
     /// A `for` up to its condition.
     ForCondition(Place, ForStart),
     /// A `for` up to its last part.
     ForLast(Place, ForStart, Option<Condition>),
     /// Within the last part of a `for`.
-    Last(Place, ForStart, Option<Condition>, SimpleReader),
+    Last(Place, ForStart, Option<Condition>, Box<SimpleReader>),
     Shape(ShapeReader),
+}
+
+/// Lets go of what is read. What replaces a state calls this.
+impl Drop for State {
+    fn drop(self) {
+        match self {
+            State::Start => {}
+            State::Behind(statement) => drop(statement),
+            State::Line(_, reader) => drop(reader),
+            State::Freed(_, reader) => drop(reader),
+            State::Condition(purpose, reader) => {
+                drop(purpose);
+                drop(reader);
+            }
+            State::Return(_) => {}
+            State::Value(_, reader) => drop(reader),
+            State::ForCondition(_, start) => drop(start),
+            State::ForLast(_, start, condition) => {
+                drop(start);
+                drop(condition);
+            }
+            State::Last(_, start, condition, reader) => {
+                drop(start);
+                drop(condition);
+                drop(reader);
+            }
+            State::Shape(reader) => drop(reader),
+        }
+    }
 }
 
 /// Reads the statements behind the `{` of a function, up to and with its `}`, token by token.

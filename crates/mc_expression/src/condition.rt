@@ -9,7 +9,7 @@ ghost use Rattle.mc_expression.specs.Conditions.{AtConditionOperand, AtCondition
 ghost use Rattle.mc_expression.specs.Turns.{InTurn, Moves};
 
 use crate::expression::{ExpressionReader, ExpressionStep};
-use crate::makes::{both_of, either_of, enclosed_of, not_of, parens_of};
+use crate::makes::{both_of, compare_of, either_of, enclosed_of, not_of, parens_of};
 use crate::primary::{Primary, PrimaryStep, variable};
 use mc_ast::{Class, Comparison, Condition, Expression};
 use mc_base::Place;
@@ -477,7 +477,10 @@ fn made(alloc: Global, whole: Whole) -> Result<Condition, AllocError>
 {
     match whole {
         Whole::Plain(sum) => Ok(Condition::Plain(sum)),
-        Whole::Compare(mark, left, right) => Ok(Condition::Compare(mark, left, right)),
+        Whole::Compare(mark, left, right) => {
+            let compared = compare_of(alloc, mark, left, right)?;
+            Ok(compared)
+        }
         Whole::Not(place, condition) => {
             let denied = not_of(alloc, place, condition)?;
             Ok(denied)

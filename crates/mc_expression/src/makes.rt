@@ -1,9 +1,9 @@
 // Expressions and conditions of smaller ones.
 ghost use Rattle.std.specs.Prelude.{◌≡◌, IfOk};
-ghost use Rattle.mc_ast.specs.Trees.{minus, parens, times, plus, less, negation, enclosed, both, either};
+ghost use Rattle.mc_ast.specs.Trees.{minus, parens, times, plus, less, compare, negation, enclosed, both, either};
 ghost use Rattle.mc_ast.specs.Views.{expression_of, condition_of};
 
-use mc_ast::{Condition, Expression};
+use mc_ast::{Comparison, Condition, Expression};
 use mc_base::Place;
 use std::alloc::{AllocError, Global};
 
@@ -39,6 +39,18 @@ pub fn less_of(alloc: Global, left: Expression, right: Expression) -> Result<Exp
     ensures { IfOk result (λ e. expression_of e ≡ less (expression_of left) (expression_of right)) }
 {
     Ok(Expression::Less(Box::new(alloc, left)?, Box::new(alloc, right)?))
+}
+
+pub fn compare_of(
+    alloc: Global,
+    mark: Comparison,
+    left: Expression,
+    right: Expression,
+) -> Result<Condition, AllocError>
+    ensures { IfOk result (λ c. condition_of c ≡ compare mark (expression_of left) (expression_of right)) }
+{
+    let left = Box::new(alloc, left)?;
+    Ok(Condition::Compare(mark, left, Box::new(alloc, right)?))
 }
 
 pub fn not_of(alloc: Global, place: Place, inner: Condition) -> Result<Condition, AllocError>

@@ -16,7 +16,6 @@ use std::alloc::{AllocError, Global};
 use std::mem;
 
 /// What has been read of a program.
-#[derive(Drop)]
 pub struct UnitReader {
     /// The items that are complete.
     pub items: Vec<Item>,
@@ -24,6 +23,20 @@ pub struct UnitReader {
     pub current: Option<ItemReader>,
     /// The names that typedefs introduced so far.
     pub aliases: AliasNames,
+}
+
+/// Lets go of what is read. What holds a reader calls this.
+impl Drop for UnitReader {
+    fn drop(self) {
+        let UnitReader {
+            items,
+            current,
+            aliases,
+        } = self;
+        drop(items);
+        drop(current);
+        drop(aliases);
+    }
 }
 
 /// What a reader of programs makes of a token.

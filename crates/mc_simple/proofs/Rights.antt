@@ -12,11 +12,13 @@ use Rattle.mc_ast.specs.Grammar.{none, more, named as named_left, negative, nume
 use Rattle.mc_ast.specs.Readers.{Takes, Finds, IsStuckAt, IsSame}
 use Rattle.mc_expression.specs.Expressions.{BehindName, BehindOperand, expression_marks}
 use Rattle.mc_expression.specs.Turns.{in_turn}
+use Rattle.mc_expression.specs.declared.expression.ExpressionReader.{ExpressionReader}
 use Rattle.mc_simple.specs.declared.right.RightMove.{RightMove}
+use Rattle.mc_simple.specs.declared.right.RightState.{RightState}
 use Rattle.mc_simple.specs.Phrases.{ended, next}
 use Rattle.mc_simple.specs.Allocations.{BehindMalloc, BehindCast, InCast}
 use Rattle.mc_simple.specs.Calls.{Sums, behind_arguments, BehindCallParens}
-use Rattle.mc_simple.specs.Rights.{right_marks, Rights, AsExpression, AsCall, AsAllocation, ClosingParens, InParens, named, BehindTimes, BehindRightName, BehindRightParens, BehindParensAlias, BehindParensStar, BehindEnclosed, IsRightMove}
+use Rattle.mc_simple.specs.Rights.{right_marks, Rights, AsExpression, AsCall, AsAllocation, ClosingParens, InParens, named, BehindTimes, BehindRightName, BehindRightParens, BehindParensAlias, BehindParensStar, BehindEnclosed, IsInSumState, IsRightMove}
 use Rattle.mc_simple.proofs.Phrases.{SameAt, takes_along, finds_along, stuck_along, takes_more, then_takes, then_moves, then_finds, then_closes, then_stuck, next_takes, next_stuck, either_takes, either_left, either_right, either_on, made_takes}
 use Rattle.mc_simple.proofs.Tokens.{mark_no_word, mark_no_name, name_no_word, no_mark}
 use Rattle.mc_simple.proofs.Sums.{unary_begins, sums_stuck, close_begins_none, word_begins_none}
@@ -246,3 +248,17 @@ enclosed_malloc aliases place name {token} is = either_on go (takes_more (then_m
 
 pub enclosed_other : (aliases : List (List ℕ)) (place : Place) (name : Name) {token : Token} → ¬ IsWord (codes "malloc") token → SameAt (BehindEnclosed aliases place name) (AsExpression (BehindOperand (parens place (named name)))) token
 enclosed_other aliases place name no_malloc = either_left (then_stuck (next_stuck no_malloc))
+
+-- a reader that is in no sum
+pub not_in_sum : (state : RightState) → ((reader : ExpressionReader) → state ≡ RightState.Sum reader → ⊥) → IsInSumState state → ⊥
+not_in_sum RightState.Start other within = within
+not_in_sum (RightState.Named name) other within = within
+not_in_sum (RightState.Opened place) other within = within
+not_in_sum (RightState.OpenedAlias place name) other within = within
+not_in_sum (RightState.OpenedStar place name pointer) other within = within
+not_in_sum (RightState.Enclosed place name) other within = within
+not_in_sum (RightState.Parens place reader) other within = within
+not_in_sum (RightState.Sum reader) other within = other reader refl
+not_in_sum (RightState.Call reader) other within = within
+not_in_sum (RightState.Allocation reader) other within = within
+not_in_sum (RightState.Done right) other within = within

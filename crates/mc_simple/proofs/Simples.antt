@@ -9,12 +9,16 @@ use Rattle.mc_ast.specs.Names.{Tokens, IsMark, IsName, name_of, is_in}
 use Rattle.mc_ast.specs.Grammar.{none, more, named, without, with_some, IsSimple, assigned, adding, subtracting, incremented, decremented, incremented_first, decremented_first, performed}
 use Rattle.mc_ast.specs.Readers.{Takes, Finds, IsStuckAt, IsSame}
 use Rattle.mc_expression.specs.Turns.{InTurn, in_turn}
+use Rattle.mc_ast.specs.declared.trees.LeftValue.{LeftValue}
+use Rattle.mc_expression.specs.declared.expression.ExpressionReader.{ExpressionReader}
+use Rattle.mc_simple.specs.declared.right.RightReader.{RightReader}
 use Rattle.mc_simple.specs.declared.simple.SimpleMove.{SimpleMove}
+use Rattle.mc_simple.specs.declared.simple.SimpleState.{SimpleState}
 use Rattle.mc_simple.specs.declared.simple.Change.{Change}
 use Rattle.mc_simple.specs.Phrases.{Ended, ended, Next, next}
 use Rattle.mc_simple.specs.Calls.{Sums, behind_arguments, BehindCallParens}
 use Rattle.mc_simple.specs.Rights.{Rights}
-use Rattle.mc_simple.specs.Simples.{simple_marks, changed_first, changed_by, Simples, MoreFields, with_field, just, BehindLeft, assigns, adds, subtracts, increments, decrements, InLeft, BehindSimpleName, InFirst, IsSimpleMove}
+use Rattle.mc_simple.specs.Simples.{simple_marks, changed_first, changed_by, Simples, MoreFields, with_field, just, BehindLeft, assigns, adds, subtracts, increments, decrements, InLeft, BehindSimpleName, InFirst, IsInValueState, IsSimpleMove}
 use Rattle.mc_simple.proofs.Phrases.{SameAt, takes_along, finds_along, stuck_along, next_takes, next_stuck, either_left, either_right, ended_finds}
 use Rattle.mc_simple.proofs.Tokens.{mark_no_name}
 
@@ -231,3 +235,17 @@ name_call aliases name is = takes_along (either_right (left_open aliases (just n
 
 pub name_left : (aliases : List (List ℕ)) (name : Name) {token : Token} → ¬ IsMark (codes "(") token → SameAt (BehindSimpleName aliases name) (InLeft aliases (just name)) token
 name_left aliases name no_open = either_left (next_stuck no_open)
+
+-- a reader that is in no value of an assignment
+pub not_in_value : (state : SimpleState) → ((l : LeftValue) (reader : RightReader) → state ≡ SimpleState.Assign l reader → ⊥) → ((change : Change) (l : LeftValue) (reader : ExpressionReader) → state ≡ SimpleState.ChangeBy change l reader → ⊥) → IsInValueState state → ⊥
+not_in_value SimpleState.Start no_assign no_change within = within
+not_in_value (SimpleState.First change place) no_assign no_change within = within
+not_in_value (SimpleState.FirstLeft change place l) no_assign no_change within = within
+not_in_value (SimpleState.FirstArrow change place l) no_assign no_change within = within
+not_in_value (SimpleState.Named name) no_assign no_change within = within
+not_in_value (SimpleState.Left l) no_assign no_change within = within
+not_in_value (SimpleState.Arrow l) no_assign no_change within = within
+not_in_value (SimpleState.Assign l reader) no_assign no_change within = no_assign l reader refl
+not_in_value (SimpleState.ChangeBy change l reader) no_assign no_change within = no_change change l reader refl
+not_in_value (SimpleState.Call reader) no_assign no_change within = within
+not_in_value (SimpleState.Done simple) no_assign no_change within = within

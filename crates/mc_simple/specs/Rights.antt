@@ -91,6 +91,23 @@ CompletesRightState aliases (RightState.Done right) = Ended (right_of right)
 abbrev pub CompletesRight : List (List ℕ) → RightReader → Tokens → Tokens → Right → Type 0
 CompletesRight aliases reader = CompletesRightState aliases reader.state
 
+-- what is read is a sum, or the beginning of one
+abbrev pub IsInSumState : RightState → Type 0
+IsInSumState RightState.Start = ⊥
+IsInSumState (RightState.Named name) = ⊥
+IsInSumState (RightState.Opened place) = ⊥
+IsInSumState (RightState.OpenedAlias place name) = ⊥
+IsInSumState (RightState.OpenedStar place name star) = ⊥
+IsInSumState (RightState.Enclosed place name) = ⊥
+IsInSumState (RightState.Parens place reader) = ⊥
+IsInSumState (RightState.Sum reader) = Unit {0}
+IsInSumState (RightState.Call reader) = ⊥
+IsInSumState (RightState.Allocation reader) = ⊥
+IsInSumState (RightState.Done right) = ⊥
+
+abbrev pub IsInSum : RightReader → Type 0
+IsInSum reader = IsInSumState reader.state
+
 -- what a step by value says
 abbrev pub IsRightMove : List (List ℕ) → (Tokens → Tokens → Right → Type 0) → Token → RightMove → Type 0
 IsRightMove aliases now token (RightMove.Taken reader) = Takes right_marks now (CompletesRight aliases reader) token

@@ -86,6 +86,23 @@ CompletesSimpleState aliases (SimpleState.Done simple) = Ended (simple_of simple
 abbrev pub CompletesSimple : List (List ℕ) → SimpleReader → Tokens → Tokens → SimpleTree → Type 0
 CompletesSimple aliases reader = CompletesSimpleState aliases reader.state
 
+-- what is read is the right side of an assignment, of a `+=` or of a `-=`
+abbrev pub IsInValueState : SimpleState → Type 0
+IsInValueState SimpleState.Start = ⊥
+IsInValueState (SimpleState.First change place) = ⊥
+IsInValueState (SimpleState.FirstLeft change place l) = ⊥
+IsInValueState (SimpleState.FirstArrow change place l) = ⊥
+IsInValueState (SimpleState.Named name) = ⊥
+IsInValueState (SimpleState.Left l) = ⊥
+IsInValueState (SimpleState.Arrow l) = ⊥
+IsInValueState (SimpleState.Assign l reader) = Unit {0}
+IsInValueState (SimpleState.ChangeBy change l reader) = Unit {0}
+IsInValueState (SimpleState.Call reader) = ⊥
+IsInValueState (SimpleState.Done simple) = ⊥
+
+abbrev pub IsInValue : SimpleReader → Type 0
+IsInValue reader = IsInValueState reader.state
+
 -- what a step by value says
 abbrev pub IsSimpleMove : List (List ℕ) → (Tokens → Tokens → SimpleTree → Type 0) → Token → SimpleMove → Type 0
 IsSimpleMove aliases now token (SimpleMove.Taken reader) = Takes simple_marks now (CompletesSimple aliases reader) token

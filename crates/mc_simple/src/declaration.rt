@@ -10,7 +10,7 @@ ghost use Rattle.mc_ast.specs.Views.{initial_of};
 ghost use Rattle.mc_expression.specs.Turns.{InTurn};
 ghost use Rattle.mc_simple.specs.declared.declaration.DeclarationReader.{DeclarationReader};
 
-use crate::right::{RightMove, RightReader};
+use crate::right::{RightReader, RightStep};
 use mc_ast::{Base, Class, Declaration, Declarator, Initial, name_at};
 use mc_base::Place;
 use mc_expression::expressions_can_end;
@@ -50,7 +50,7 @@ pub enum DeclarationStep {
 
 /// The same, with the reader behind the token.
 #[derive(Drop)]
-pub enum DeclarationMove {
+enum DeclarationMove {
     Taken(DeclarationReader),
     /// The declaration, whose `;` the token is.
     Closed(Declaration),
@@ -81,8 +81,7 @@ impl DeclarationReader {
         ensures { (aliases : List (List ℕ)) → is_in aliases token.now.text ≡ alias → IfOk result (IsDeclarationStep (CompletesDeclaration aliases self.old) (CompletesDeclaration aliases self.new) token.now) }
     {
         let alloc = self.alloc;
-        let place = Place { line: 0, column: 0 };
-        let fresh = DeclarationReader::behind_base(alloc, Base::Int(place));
+        let fresh = DeclarationReader::behind_base(alloc, Base::Int(token.place));
         let reader = mem::replace(self, fresh);
         let step = reader.moved(token, class, alias)?;
         match step {
@@ -95,13 +94,8 @@ impl DeclarationReader {
         }
     }
 
-    // The same, by value.
-    pub fn moved(
-        self,
-        token: &Token,
-        class: Class,
-        alias: bool,
-    ) -> Result<DeclarationMove, AllocError>
+    /// The same, by value.
+    fn moved(self, token: &Token, class: Class, alias: bool) -> Result<DeclarationMove, AllocError>
         requires { IsClass token.now class }
         ensures { (aliases : List (List ℕ)) → is_in aliases token.now.text ≡ alias → IfOk result (IsDeclarationMove aliases (CompletesDeclaration aliases self) token.now) }
     {
@@ -225,7 +219,7 @@ fn in_value(
     base: Base,
     mut items: Vec<Initial>,
     declarator: Declarator,
-    reader: RightReader,
+    mut reader: RightReader,
     token: &Token,
     class: Class,
     alias: bool,
@@ -233,21 +227,21 @@ fn in_value(
     requires { IsClass token.now class }
     ensures { (aliases : List (List ℕ)) → is_in aliases token.now.text ≡ alias → IfOk result (IsDeclarationMove aliases (InTurn (CompletesRight aliases reader) (λ r. BehindInitial aliases base (map initial_of items.items) (record { declarator = declarator; value = Some r }))) token.now) }
 {
-    match reader.moved(token, class, alias)? {
-        RightMove::Taken(reader) => Ok(DeclarationMove::Taken(DeclarationReader {
+    match reader.step(token, class, alias)? {
+        RightStep::Taken => Ok(DeclarationMove::Taken(DeclarationReader {
             alloc,
             base,
             items,
             state: DeclarationState::Value(declarator, reader),
         })),
-        RightMove::Found(right) => {
+        RightStep::Found(right) => {
             items.push(Initial {
                 declarator,
                 value: Some(right),
             })?;
             Ok(behind_initial(alloc, base, items, token, class))
         }
-        RightMove::Stuck => Ok(DeclarationMove::Stuck),
+        RightStep::Stuck => Ok(DeclarationMove::Stuck),
     }
 }
 

@@ -3,7 +3,7 @@ ghost use Rattle.std.specs.Prelude.{◌≡◌, ℕ, List, IfOk};
 ghost use Rattle.mc_ast.specs.Classes.{IsClass};
 ghost use Rattle.mc_ast.specs.Names.{is_in, IsName};
 ghost use Rattle.mc_ast.specs.Readers.{IsSame, CanEnd};
-ghost use Rattle.mc_simple.specs.Rights.{Rights, AsExpression, AsCall, AsAllocation, InParens, BehindTimes, BehindRightName, BehindRightParens, BehindParensAlias, BehindParensStar, BehindEnclosed, ClosingParens, named, CompletesRight, IsRightMove, IsRightStep};
+ghost use Rattle.mc_simple.specs.Rights.{Rights, AsExpression, AsCall, AsAllocation, InParens, BehindTimes, BehindRightName, BehindRightParens, BehindParensAlias, BehindParensStar, BehindEnclosed, ClosingParens, named, CompletesRight, IsInSum, IsRightMove, IsRightStep};
 ghost use Rattle.mc_simple.specs.Calls.{CompletesCall};
 ghost use Rattle.mc_simple.specs.Allocations.{InCast, CompletesAllocation};
 ghost use Rattle.mc_base.specs.declared.plain.Place.{Place};
@@ -60,7 +60,7 @@ pub enum RightStep {
 
 /// The same, with the reader behind the token.
 #[derive(Drop)]
-pub enum RightMove {
+enum RightMove {
     Taken(RightReader),
     Found(RightSide),
     Stuck,
@@ -86,6 +86,27 @@ impl RightReader {
         requires { IsClass token.now class }
         ensures { (aliases : List (List ℕ)) → is_in aliases token.now.text ≡ alias → IfOk result (IsRightStep (CompletesRight aliases self.old) (CompletesRight aliases self.new) token.now) }
     {
+        match &mut self.state {
+            RightState::Sum(reader) => match reader.step(token, class)? {
+                ExpressionStep::Taken => Ok(RightStep::Taken),
+                ExpressionStep::Found(sum) => Ok(RightStep::Found(RightSide::Expression(sum))),
+                ExpressionStep::Stuck => Ok(RightStep::Stuck),
+            },
+            _ => self.step_beside_sums(token, class, alias),
+        }
+    }
+
+    /// The same where no sum is read.
+    fn step_beside_sums(
+        &mut self,
+        token: &Token,
+        class: Class,
+        alias: bool,
+    ) -> Result<RightStep, AllocError>
+        requires class { IsClass token.now class }
+        requires beside { IsInSum self.old → ⊥ }
+        ensures { (aliases : List (List ℕ)) → is_in aliases token.now.text ≡ alias → IfOk result (IsRightStep (CompletesRight aliases self.old) (CompletesRight aliases self.new) token.now) }
+    {
         let alloc = self.alloc;
         let reader = mem::replace(self, RightReader::new(alloc));
         let step = reader.moved(token, class, alias)?;
@@ -99,9 +120,10 @@ impl RightReader {
         }
     }
 
-    // The same, by value.
-    pub fn moved(self, token: &Token, class: Class, alias: bool) -> Result<RightMove, AllocError>
-        requires { IsClass token.now class }
+    /// The same, by value.
+    fn moved(self, token: &Token, class: Class, alias: bool) -> Result<RightMove, AllocError>
+        requires class { IsClass token.now class }
+        requires beside { IsInSum self → ⊥ }
         ensures { (aliases : List (List ℕ)) → is_in aliases token.now.text ≡ alias → IfOk result (IsRightMove aliases (CompletesRight aliases self) token.now) }
     {
         let RightReader { alloc, state } = self;
@@ -115,7 +137,7 @@ impl RightReader {
             ),
             RightState::Enclosed(place, name) => enclosed(alloc, place, name, token, class),
             RightState::Parens(place, reader) => in_parens(alloc, place, reader, token, class),
-            RightState::Sum(reader) => in_sum(alloc, reader, token, class),
+            RightState::Sum(_) => unreachable!(),
             RightState::Call(reader) => in_call(alloc, reader, token, class),
             RightState::Allocation(reader) => in_allocation(alloc, reader, token, class, alias),
             RightState::Done(right) => Ok(RightMove::Found(right)),
@@ -456,10 +478,13 @@ fn in_allocation(
             alloc,
             state: RightState::Allocation(reader),
         })),
-        AllocationStep::Closed(malloc) => Ok(RightMove::Taken(RightReader {
-            alloc,
-            state: RightState::Done(RightSide::Malloc(malloc)),
-        })),
+        AllocationStep::Closed(malloc) => {
+            let malloc = Box::new(alloc, malloc)?;
+            Ok(RightMove::Taken(RightReader {
+                alloc,
+                state: RightState::Done(RightSide::Malloc(malloc)),
+            }))
+        }
         AllocationStep::Stuck => Ok(RightMove::Stuck),
     }
 }

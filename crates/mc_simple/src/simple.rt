@@ -1,26 +1,24 @@
 // Reads a simple statement.
-ghost use Rattle.std.specs.Prelude.{◌≡◌, ◌∷◌, ℕ, List, IfOk};
+ghost use Rattle.std.specs.Prelude.{◌≡◌, ◌∷◌, [], ℕ, List, IfOk};
 ghost use Rattle.mc_lex.specs.declared.token.Token.{Token};
 ghost use Rattle.mc_ast.specs.Classes.{IsClass};
 ghost use Rattle.mc_ast.specs.Names.{is_in, IsName, name_of};
 ghost use Rattle.mc_ast.specs.Grammar.{IsSimple};
 ghost use Rattle.mc_ast.specs.Readers.{IsSame, CanEnd};
-ghost use Rattle.mc_simple.specs.Simples.{Simples, InFirst, InLeft, BehindSimpleName, just, with_field, changed_first, changed_by, CompletesSimple, IsSimpleMove, IsSimpleStep};
-ghost use Rattle.mc_simple.specs.Rights.{CompletesRight};
+ghost use Rattle.mc_simple.specs.Simples.{Simples, InFirst, InLeft, BehindSimpleName, just, with_field, changed_first, changed_by, CompletesSimple, IsInValue, IsSimpleMove, IsSimpleStep};
 ghost use Rattle.mc_simple.specs.Calls.{CompletesCall};
 ghost use Rattle.mc_simple.specs.Phrases.{Ended, Next};
-ghost use Rattle.mc_ast.specs.Trees.{assign, call};
+ghost use Rattle.mc_ast.specs.Trees.{call};
 ghost use Rattle.mc_ast.specs.Views.{left_of, simple_of, expression_of};
 ghost use Rattle.mc_expression.specs.Turns.{InTurn};
-ghost use Rattle.mc_expression.specs.Expressions.{CompletesExpression};
 ghost use Rattle.mc_simple.specs.declared.simple.SimpleReader.{SimpleReader};
 
 use crate::call::{CallReader, CallStep};
-use crate::right::{RightMove, RightReader};
+use crate::right::{RightReader, RightStep};
 use mc_ast::{Class, Expression, LeftValue, Name, Simple, name_at};
 use mc_base::Place;
 use mc_expression::{ExpressionReader, ExpressionStep, expressions_can_end};
-use mc_lex::Token;
+use mc_lex::{Text, Token};
 use std::alloc::{AllocError, Global};
 use std::mem;
 
@@ -71,7 +69,7 @@ pub enum SimpleStep {
 
 /// The same, with the reader behind the token.
 #[derive(Drop)]
-pub enum SimpleMove {
+enum SimpleMove {
     Taken(SimpleReader),
     Found(Simple),
     Stuck,
@@ -108,8 +106,42 @@ impl SimpleReader {
         ensures { (aliases : List (List ℕ)) → is_in aliases token.now.text ≡ alias → IfOk result (IsSimpleStep (CompletesSimple aliases self.old) (CompletesSimple aliases self.new) token.now) }
     {
         let alloc = self.alloc;
+        match &mut self.state {
+            SimpleState::Assign(left, reader) => match reader.step(token, class, alias)? {
+                RightStep::Taken => Ok(SimpleStep::Taken),
+                RightStep::Found(right) => {
+                    let left = taken(alloc, left, token.place);
+                    Ok(SimpleStep::Found(Simple::Assign(left, right)))
+                }
+                RightStep::Stuck => Ok(SimpleStep::Stuck),
+            },
+            SimpleState::ChangeBy(change, left, reader) => match reader.step(token, class)? {
+                ExpressionStep::Taken => Ok(SimpleStep::Taken),
+                ExpressionStep::Found(by) => {
+                    let left = taken(alloc, left, token.place);
+                    let simple = changed_by(*change, left, by);
+                    Ok(SimpleStep::Found(simple))
+                }
+                ExpressionStep::Stuck => Ok(SimpleStep::Stuck),
+            },
+            _ => self.step_beside_values(token, class, alias),
+        }
+    }
+
+    /// The same where no value of an assignment is read.
+    fn step_beside_values(
+        &mut self,
+        token: &Token,
+        class: Class,
+        alias: bool,
+    ) -> Result<SimpleStep, AllocError>
+        requires class { IsClass token.now class }
+        requires beside { IsInValue self.old → ⊥ }
+        ensures { (aliases : List (List ℕ)) → is_in aliases token.now.text ≡ alias → IfOk result (IsSimpleStep (CompletesSimple aliases self.old) (CompletesSimple aliases self.new) token.now) }
+    {
+        let alloc = self.alloc;
         let reader = mem::replace(self, SimpleReader::new(alloc));
-        let step = reader.moved(token, class, alias)?;
+        let step = reader.moved(token, class)?;
         match step {
             SimpleMove::Taken(next) => {
                 *self = next;
@@ -120,10 +152,11 @@ impl SimpleReader {
         }
     }
 
-    // The same, by value.
-    pub fn moved(self, token: &Token, class: Class, alias: bool) -> Result<SimpleMove, AllocError>
-        requires { IsClass token.now class }
-        ensures { (aliases : List (List ℕ)) → is_in aliases token.now.text ≡ alias → IfOk result (IsSimpleMove aliases (CompletesSimple aliases self) token.now) }
+    /// The same, by value.
+    fn moved(self, token: &Token, class: Class) -> Result<SimpleMove, AllocError>
+        requires class { IsClass token.now class }
+        requires beside { IsInValue self → ⊥ }
+        ensures { (aliases : List (List ℕ)) → IfOk result (IsSimpleMove aliases (CompletesSimple aliases self) token.now) }
     {
         let SimpleReader { alloc, state } = self;
         match state {
@@ -138,12 +171,8 @@ impl SimpleReader {
             SimpleState::Named(name) => Ok(behind_name(alloc, name, token, class)),
             SimpleState::Left(left) => Ok(behind_left(alloc, left, token, class)),
             SimpleState::Arrow(left) => behind_arrow(alloc, left, token, class),
-            SimpleState::Assign(left, reader) => in_assign(
-                alloc, left, reader, token, class, alias,
-            ),
-            SimpleState::ChangeBy(change, left, reader) => in_change(
-                alloc, change, left, reader, token, class,
-            ),
+            SimpleState::Assign(_, _) => unreachable!(),
+            SimpleState::ChangeBy(_, _, _) => unreachable!(),
             SimpleState::Call(reader) => in_call(alloc, reader, token, class),
             SimpleState::Done(simple) => Ok(SimpleMove::Found(simple)),
         }
@@ -327,51 +356,6 @@ fn behind_arrow(
     }
 }
 
-fn in_assign(
-    alloc: Global,
-    left: LeftValue,
-    reader: RightReader,
-    token: &Token,
-    class: Class,
-    alias: bool,
-) -> Result<SimpleMove, AllocError>
-    requires { IsClass token.now class }
-    ensures { (aliases : List (List ℕ)) → is_in aliases token.now.text ≡ alias → IfOk result (IsSimpleMove aliases (InTurn (CompletesRight aliases reader) (λ r. Ended (assign (left_of left) r))) token.now) }
-{
-    match reader.moved(token, class, alias)? {
-        RightMove::Taken(reader) => Ok(SimpleMove::Taken(SimpleReader {
-            alloc,
-            state: SimpleState::Assign(left, reader),
-        })),
-        RightMove::Found(right) => Ok(SimpleMove::Found(Simple::Assign(left, right))),
-        RightMove::Stuck => Ok(SimpleMove::Stuck),
-    }
-}
-
-fn in_change(
-    alloc: Global,
-    change: Change,
-    left: LeftValue,
-    mut reader: ExpressionReader,
-    token: &Token,
-    class: Class,
-) -> Result<SimpleMove, AllocError>
-    requires { IsClass token.now class }
-    ensures { (aliases : List (List ℕ)) → IfOk result (IsSimpleMove aliases (InTurn (CompletesExpression reader) (λ e. Ended (changed_by change (left_of left) e))) token.now) }
-{
-    match reader.step(token, class)? {
-        ExpressionStep::Taken => Ok(SimpleMove::Taken(SimpleReader {
-            alloc,
-            state: SimpleState::ChangeBy(change, left, reader),
-        })),
-        ExpressionStep::Found(by) => {
-            let simple = changed_by(change, left, by);
-            Ok(SimpleMove::Found(simple))
-        }
-        ExpressionStep::Stuck => Ok(SimpleMove::Stuck),
-    }
-}
-
 fn in_call(
     alloc: Global,
     reader: CallReader,
@@ -401,6 +385,17 @@ fn just(alloc: Global, name: Name) -> LeftValue
         name,
         fields: Vec::new(alloc),
     }
+}
+
+/// The variable or field, which the reader needs no more.
+fn taken(alloc: Global, left: &mut LeftValue, place: Place) -> LeftValue
+    ensures { result ≡ left.old }
+{
+    let name = Name {
+        text: Text::new(alloc),
+        place,
+    };
+    mem::replace(left, just(alloc, name))
 }
 
 fn with_field(left: LeftValue, name: Name) -> Result<LeftValue, AllocError>

@@ -77,7 +77,9 @@ fn pointer(alloc: Global) -> Result<Expression, AllocError> {
 
 // `if (p == NULL) return 0;`
 fn leaves(alloc: Global, returned: u32) -> Result<Statement, AllocError> {
-    let test = Condition::Compare(Comparison::Equal, pointer(alloc)?, Expression::Null(HERE));
+    let left = Box::new(alloc, pointer(alloc)?)?;
+    let right = Box::new(alloc, Expression::Null(HERE))?;
+    let test = Condition::Compare(Comparison::Equal, left, right);
     let inner = Statement::Return(HERE, Some(number(returned)));
     Ok(Statement::If(HERE, test, Box::new(alloc, inner)?))
 }

@@ -36,7 +36,7 @@ less_seen a b = ap expression_of (sym (rolls-Less a b)) ∙ fold-roll-Expression
 pub plain_seen : (e : Expression) → condition_of (Condition.Plain e) ≡ plain (expression_of e)
 plain_seen e = ap condition_of (sym (rolls-Plain e)) ∙ fold-roll-Condition Cond condition_step _
 
-pub compare_seen : (c : Comparison) (a b : Expression) → condition_of (Condition.Compare c a b) ≡ compare c (expression_of a) (expression_of b)
+pub compare_seen : (c : Comparison) (a b : Box Expression Global) → condition_of (Condition.Compare c a b) ≡ compare c (expression_of a.value) (expression_of b.value)
 compare_seen c a b = ap condition_of (sym (rolls-Compare c a b)) ∙ fold-roll-Condition Cond condition_step _
 
 pub not_seen : (p : Place) (c : Box Condition Global) → condition_of (Condition.Not p c) ≡ negation p (condition_of c.value)

@@ -56,7 +56,7 @@ fn for_loop(alloc: Global) -> Result<Statement, AllocError> {
         condition: Some(condition()),
         last: None,
     };
-    Ok(Statement::For(head, part))
+    Ok(Statement::For(Box::new(alloc, head)?, part))
 }
 
 // do { int c; break; } while (0);

@@ -16,19 +16,19 @@ pub returns-in_ok-enter-in-Do : goal.returns-in_ok-enter-in-Do
 returns-in_ok-enter-in-Do c = λ aliases e. rw c.requires.ready (later_within aliases c.enter-in-Do.new.self c.args.reader.now.nest (Frame.Do c.args.token.now.place) c.args.token.now c.in_ok-enter-in-Do.ensures.0 c.in_ok-enter-in-Do.ensures.1 (opened_takes aliases (Around aliases c.args.reader.now.nest) Class.Do (of_class c.args.token.now Class.Do c.in-Do.is c.requires.kind)))
 
 pub returns-in-Free : goal.returns-in-Free
-returns-in-Free c = λ aliases e. rw c.begin_free.ensures.step (takes_to (opened_takes aliases (Around aliases c.args.reader.now.nest) Class.Free (of_class c.args.token.now Class.Free c.in-Free.is c.requires.kind)) (c.begin_free.ensures.same aliases))
+returns-in-Free c = λ aliases e. if_ok_map c.begin_free.result (λ step h. rw h.0 (takes_to (opened_takes aliases (Around aliases c.args.reader.now.nest) Class.Free (of_class c.args.token.now Class.Free c.in-Free.is c.requires.kind)) (h.1 aliases))) c.begin_free.ensures
 
 pub returns-in-Assert : goal.returns-in-Assert
-returns-in-Assert c = λ aliases e. rw c.begin_condition.ensures.step (takes_to (opened_takes aliases (Around aliases c.args.reader.now.nest) Class.Assert (of_class c.args.token.now Class.Assert c.in-Assert.is c.requires.kind)) (c.begin_condition.ensures.same aliases))
+returns-in-Assert c = λ aliases e. if_ok_map c.begin_condition.result (λ step h. rw h.0 (takes_to (opened_takes aliases (Around aliases c.args.reader.now.nest) Class.Assert (of_class c.args.token.now Class.Assert c.in-Assert.is c.requires.kind)) (h.1 aliases))) c.begin_condition.ensures
 
 pub returns-in-Assume : goal.returns-in-Assume
-returns-in-Assume c = λ aliases e. rw c.begin_condition-in-Assume.ensures.step (takes_to (opened_takes aliases (Around aliases c.args.reader.now.nest) Class.Assume (of_class c.args.token.now Class.Assume c.in-Assume.is c.requires.kind)) (c.begin_condition-in-Assume.ensures.same aliases))
+returns-in-Assume c = λ aliases e. if_ok_map c.begin_condition-in-Assume.result (λ step h. rw h.0 (takes_to (opened_takes aliases (Around aliases c.args.reader.now.nest) Class.Assume (of_class c.args.token.now Class.Assume c.in-Assume.is c.requires.kind)) (h.1 aliases))) c.begin_condition-in-Assume.ensures
 
 pub returns-in-If : goal.returns-in-If
-returns-in-If c = λ aliases e. rw c.begin_condition-in-If.ensures.step (takes_to (opened_takes aliases (Around aliases c.args.reader.now.nest) Class.If (of_class c.args.token.now Class.If c.in-If.is c.requires.kind)) (c.begin_condition-in-If.ensures.same aliases))
+returns-in-If c = λ aliases e. if_ok_map c.begin_condition-in-If.result (λ step h. rw h.0 (takes_to (opened_takes aliases (Around aliases c.args.reader.now.nest) Class.If (of_class c.args.token.now Class.If c.in-If.is c.requires.kind)) (h.1 aliases))) c.begin_condition-in-If.ensures
 
 pub returns-in-While : goal.returns-in-While
-returns-in-While c = λ aliases e. rw c.begin_condition-in-While.ensures.step (takes_to (opened_takes aliases (Around aliases c.args.reader.now.nest) Class.While (of_class c.args.token.now Class.While c.in-While.is c.requires.kind)) (c.begin_condition-in-While.ensures.same aliases))
+returns-in-While c = λ aliases e. if_ok_map c.begin_condition-in-While.result (λ step h. rw h.0 (takes_to (opened_takes aliases (Around aliases c.args.reader.now.nest) Class.While (of_class c.args.token.now Class.While c.in-While.is c.requires.kind)) (h.1 aliases))) c.begin_condition-in-While.ensures
 
 pub returns-in-For : goal.returns-in-For
 returns-in-For c = λ aliases e. rw (c.begin_for.ensures.step, c.begin_for.ensures.becomes) (opened_takes aliases (Around aliases c.args.reader.now.nest) Class.For (of_class c.args.token.now Class.For c.in-For.is c.requires.kind))

@@ -4,4 +4,4 @@ use Rattle.mc_body.proofs.Beginnings.{next_same}
 use Rattle.mc_body.proofs.begin.begin_free.Goals as goal
 
 pub returns : goal.returns
-returns c = record { step = refl; same = λ aliases. next_same (then_same c.new.ensures) }
+returns c = (refl, λ aliases. rw c.in_ok-inner.ensures.ok (next_same (then_same c.new-fresh.ensures)))

@@ -9,8 +9,8 @@ use Rattle.mc_body.proofs.line.at_line.Goals as goal
 pub returns-in-Semicolon : goal.returns-in-Semicolon
 returns-in-Semicolon c = λ aliases e. line_semicolon aliases (of_class c.args.token.now Class.Semicolon c.in-Semicolon.is c.requires)
 
-pub returns-in-Int : goal.returns-in-Int
-returns-in-Int c = λ aliases e. takes_to (line_int aliases (of_class c.args.token.now Class.Int c.in-Int.is c.requires)) (then_same (c.behind_base-reader.ensures aliases))
+pub returns-in_ok-line-in-Int : goal.returns-in_ok-line-in-Int
+returns-in_ok-line-in-Int c = λ aliases e. takes_to (line_int aliases (of_class c.args.token.now Class.Int c.in-Int.is c.requires)) (c.in_ok-line-in-Int.ensures aliases)
 
 pub returns-in-Struct : goal.returns-in-Struct
 returns-in-Struct c = λ aliases e. line_struct aliases (of_class c.args.token.now Class.Struct c.in-Struct.is c.requires)

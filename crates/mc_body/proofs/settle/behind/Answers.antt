@@ -14,4 +14,4 @@ pub returns-in-Else : goal.returns-in-Else
 returns-in-Else c = λ aliases e. body_step_along aliases c.behind_else.new.reader c.behind_else.result (same (subst (λ s. AgreeAt (Around aliases c.args.reader.now.nest (statement_of c.args.statement)) (AtSettled aliases s) c.args.token.now) c.in-Else.is (rw c.replace-nest.ensures.value at (c.in_ok-settled.ensures aliases)))) (c.behind_else.ensures aliases)
 
 pub returns-in-Do : goal.returns-in-Do
-returns-in-Do c = λ aliases e. body_step_along aliases c.behind_do.new.reader c.behind_do.result (same (subst (λ s. AgreeAt (Around aliases c.args.reader.now.nest (statement_of c.args.statement)) (AtSettled aliases s) c.args.token.now) c.in-Do.is (rw c.replace-nest.ensures.value at (c.in_ok-settled.ensures aliases)))) (c.behind_do.ensures aliases)
+returns-in-Do c = λ aliases e. if_ok_map c.behind_do.result (λ step h. body_step_along aliases c.behind_do.new.reader step (same (subst (λ s. AgreeAt (Around aliases c.args.reader.now.nest (statement_of c.args.statement)) (AtSettled aliases s) c.args.token.now) c.in-Do.is (rw c.replace-nest.ensures.value at (c.in_ok-settled.ensures aliases)))) h) (c.behind_do.ensures aliases)

@@ -10,7 +10,7 @@ pub returns-in-Alias : goal.returns-in-Alias
 returns-in-Alias c = λ aliases e. c.behind_alias.ensures c.in-Alias.field-0 c.in-Alias.is aliases e
 
 pub returns-in-Declaration : goal.returns-in-Declaration
-returns-in-Declaration c = λ aliases e. rw c.in-Declaration.is (c.in_declaration.ensures aliases e)
+returns-in-Declaration c = λ aliases e. rw c.in-Declaration.is (rw c.deref_mut.ensures.value at (c.in_declaration.ensures aliases e))
 
 pub returns-in-Simple : goal.returns-in-Simple
-returns-in-Simple c = λ aliases e. rw c.in-Simple.is (c.in_simple.ensures aliases e)
+returns-in-Simple c = λ aliases e. rw c.in-Simple.is (rw c.deref_mut-in-Simple.ensures.value at (c.in_simple.ensures aliases e))

@@ -23,8 +23,8 @@ returns-in-Enclosed c = λ aliases e. rw c.in-Enclosed.is (c.enclosed.ensures al
 pub returns-in-Parens : goal.returns-in-Parens
 returns-in-Parens c = λ aliases e. rw c.in-Parens.is (c.in_parens.ensures aliases)
 
-pub returns-in-Sum : goal.returns-in-Sum
-returns-in-Sum c = λ aliases e. rw c.in-Sum.is (c.in_sum.ensures aliases)
+pub unreachable-requires : goal.unreachable-requires
+unreachable-requires c = c.requires.beside (rw c.in-Sum.is tt)
 
 pub returns-in-Call : goal.returns-in-Call
 returns-in-Call c = λ aliases e. rw c.in-Call.is (c.in_call.ensures aliases)

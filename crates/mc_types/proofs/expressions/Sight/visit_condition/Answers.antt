@@ -18,8 +18,8 @@ pub returns-in_ok-check_compared-in-Compare-clause-told : goal.returns-in_ok-che
 returns-in_ok-check_compared-in-Compare-clause-told c =
     rw c.in-Compare.is
     (rw (compare_seen c.in-Compare.comparison c.in-Compare.left c.in-Compare.right)
-    (rw c.in_ok-check_compared-in-Compare.ensures
-    (told_then c.args.told.now.fault (condition_faults (tables_held c.args.self.now.tables.now) (variables_held c.args.self.now.scope.now) (compare c.in-Compare.comparison (expression_of c.in-Compare.left) (expression_of c.in-Compare.right))) (conditions_faults (tables_held c.args.self.now.tables.now) (variables_held c.args.self.now.scope.now) c.args.stack.now))))
+    (rw (rw (c.deref.ensures, c.deref-in-Compare.ensures) at c.in_ok-check_compared-in-Compare.ensures)
+    (told_then c.args.told.now.fault (condition_faults (tables_held c.args.self.now.tables.now) (variables_held c.args.self.now.scope.now) (compare c.in-Compare.comparison (expression_of c.in-Compare.left.value) (expression_of c.in-Compare.right.value))) (conditions_faults (tables_held c.args.self.now.tables.now) (variables_held c.args.self.now.scope.now) c.args.stack.now))))
 
 pub returns-in_ok-keep_both-in-Both-clause-told : goal.returns-in_ok-keep_both-in-Both-clause-told
 returns-in_ok-keep_both-in-Both-clause-told c =
