@@ -1,19 +1,16 @@
 -- A text of words is read as tokens with these words.
-use Rattle.std.proofs.Common.{◌≡◌, ◌<◌, ◌≤◌, ◌≢◌, ◌+◌, ℕ, zero, suc, Bool, true, false, cond, List, [], ◌∷◌, ◌++◌, length, get_or, take, drop, refl, ap, sym, ◌∙◌, subst, arith, ◌&&◌, ◌||◌, Ok}
-use Rattle.std.specs.Prelude.{codes, IsTrue}
-use Rattle.std.specs.Bool.{IsFalse}
+use Rattle.std.proofs.Common.{◌≡◌, ◌<◌, ◌≤◌, ◌≢◌, ◌+◌, ℕ, suc, Bool, true, false, cond, List, [], ◌∷◌, ◌++◌, length, get_or, take, drop, refl, ap, sym, arith, ◌&&◌, ◌||◌, Ok}
 use Rattle.std.specs.List.{list_all, prefix_len}
 use Rattle.std.proofs.lemmas.Bool.{false≢true}
 use Rattle.std.proofs.lemmas.Slice.Eq.{bytes_eq-Decides}
 use Rattle.mc_lex.specs.declared.token.Token.{Token}
 use Rattle.mc_lex.specs.declared.token.TokenKind.{TokenKind}
-use Rattle.mc_lex.specs.declared.token.TokenKind.TheVariants as TokenKind
-use Rattle.mc_lex.specs.declared.piece.Piece.TheVariants.{End, Gap, Lexeme}
+use Rattle.mc_lex.specs.declared.piece.Piece.TheVariants.{Lexeme}
 use Rattle.mc_lex.specs.declared.spot.Spot.{Spot}
 use Rattle.mc_lex.specs.Spots.{behind}
 use Rattle.mc_lex.specs.Bytes.{is_letter, is_digit, is_word, is_separator}
 use Rattle.mc_lex.specs.Numbers.{Spells, max_number}
-use Rattle.mc_lex.specs.Pieces.{IsPiece, end, separator, name, number, mark, first, word_len, mark_len, Begins, IsInclude}
+use Rattle.mc_lex.specs.Pieces.{IsPiece, end, separator, name, number, mark, first, mark_len}
 use Rattle.mc_lex.specs.Readings.{Reads, at_end, past_gap, past_token, token_at}
 use Rattle.mc_ast.specs.Names.{is_same, is_in}
 use Rattle.mc_ast.specs.Classes.{grammar_marks}

@@ -1,5 +1,5 @@
 -- What stands on the stacks of printing, with one part more.
-use Rattle.std.proofs.Common.{◌≡◌, ℕ, ◌+◌, List, [], ◌∷◌, ◌++◌, refl, arith}
+use Rattle.std.proofs.Common.{◌≡◌, ◌+◌, List, [], ◌∷◌, ◌++◌, refl, arith}
 use Rattle.mc_ast.specs.declared.print_expression.ExpressionPart.{ExpressionPart}
 use Rattle.mc_ast.specs.declared.print_condition.ConditionPart.{ConditionPart}
 use Rattle.mc_ast.specs.declared.print_statement.StatementPart.{StatementPart}

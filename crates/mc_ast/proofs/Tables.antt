@@ -1,15 +1,10 @@
 -- Classes that stand beside their texts.
-use Rattle.std.proofs.Common.{◌≡◌, ℕ, List, [], ◌∷◌, Option, Some, None, Bool, true, false, cond, refl, sym, map, ap, ◌||◌}
+use Rattle.std.proofs.Common.{◌≡◌, ℕ, List, [], ◌∷◌, Option, Some, None, Bool, true, false, cond, refl, ◌||◌}
 use Rattle.std.proofs.lemmas.Slice.Eq.{bytes_eq-Decides}
+use Rattle.std.specs.Option.{is_some}
 use Rattle.mc_ast.specs.declared.class.Class.{Class}
 use Rattle.mc_ast.specs.Names.{is_same, is_in}
-use Rattle.mc_ast.specs.Classes.{class_beside}
-
--- each text has P with the class beside it
-abbrev pub Each : (List ℕ → Class → Type 0) → List (List ℕ) → List Class → Type 0
-Each P [] classes = Unit {0}
-Each P (text ∷ texts) [] = ⊥
-Each P (text ∷ texts) (class ∷ classes) = P text class × Each P texts classes
+use Rattle.mc_ast.specs.Classes.{Each, class_beside}
 
 module _ (P : List ℕ → Class → Type 0) (word : List ℕ) where
   chosen : (text : List ℕ) (class : Class) (rest : Option Class) (b : Bool) → is_same word text ≡ b → P text class → ((c : Class) → Some c ≡ rest → P word c) → (c : Class) → Some c ≡ cond b (Some class) rest → P word c
@@ -34,3 +29,13 @@ module _ (P : List ℕ → Class → Type 0) (word : List ℕ) where
   no_class_is_right [] classes all is = refl
   no_class_is_right (text ∷ texts) [] all is = absurd all
   no_class_is_right (text ∷ texts) (class ∷ classes) all is = missed (is_same word text) (is_in texts word) class (class_beside texts classes word) (no_class_is_right texts classes all.1) is
+
+  held : (b other : Bool) (class : Class) (rest : Option Class) → is_some rest ≡ other → is_some (cond b (Some class) rest) ≡ (b || other)
+  held true other class rest more = refl
+  held false other class rest more = more
+
+  -- a class is found exactly where the word is one of the texts
+  pub class_is_found : (texts : List (List ℕ)) (classes : List Class) → Each P texts classes → is_some (class_beside texts classes word) ≡ is_in texts word
+  class_is_found [] classes all = refl
+  class_is_found (text ∷ texts) [] all = absurd all
+  class_is_found (text ∷ texts) (class ∷ classes) all = held (is_same word text) (is_in texts word) class (class_beside texts classes word) (class_is_found texts classes all.1)

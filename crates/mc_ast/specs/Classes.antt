@@ -4,7 +4,6 @@ use Rattle.std.specs.Bool.{IsFalse}
 use Rattle.mc_lex.specs.declared.token.Token.{Token}
 use Rattle.mc_lex.specs.declared.token.TokenKind.TheVariants as TokenKind
 use Rattle.mc_ast.specs.declared.class.Class.{Class}
-use Rattle.mc_ast.specs.declared.class.Class.TheVariants as Class
 use Rattle.mc_ast.specs.Names.{IsMark, IsWord, IsName, IsNumber, is_same, is_in, is_reserved, mark_of}
 
 -- the marks of the grammar
@@ -73,3 +72,17 @@ abbrev pub class_beside : List (List ℕ) → List Class → List ℕ → Option
 class_beside [] classes word = None
 class_beside (text ∷ texts) [] word = None
 class_beside (text ∷ texts) (class ∷ classes) word = if is_same word text then Some class else class_beside texts classes word
+
+-- tokens that are this mark are of the class
+abbrev pub IsMarkOf : List ℕ → Class → Type 0
+IsMarkOf text class = (token : Token) → IsMark text token → IsClass token class
+
+-- tokens that are this word are of the class
+abbrev pub IsWordOf : List ℕ → Class → Type 0
+IsWordOf text class = (token : Token) → IsWord text token → IsClass token class
+
+-- each text has P with the class beside it
+abbrev pub Each : (List ℕ → Class → Type 0) → List (List ℕ) → List Class → Type 0
+Each P [] classes = Unit {0}
+Each P (text ∷ texts) [] = ⊥
+Each P (text ∷ texts) (class ∷ classes) = P text class × Each P texts classes

@@ -3,7 +3,6 @@ use Rattle.std.specs.Prelude.{◌≡◌, ◌≤◌, ℕ, List, [], ◌∷◌, Is
 use Rattle.std.specs.List.{list_all}
 use Rattle.mc_lex.specs.declared.token.Token.{Token}
 use Rattle.mc_lex.specs.declared.token.TokenKind.{TokenKind}
-use Rattle.mc_lex.specs.declared.token.TokenKind.TheVariants as TokenKind
 use Rattle.mc_lex.specs.Bytes.{is_letter, is_digit, is_word}
 use Rattle.mc_lex.specs.Numbers.{Spells, max_number}
 use Rattle.mc_lex.specs.Pieces.{first}

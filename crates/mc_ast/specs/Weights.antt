@@ -1,5 +1,5 @@
 -- How much of a tree that is let go of is left: what falls with each step.
-use Rattle.std.specs.Prelude.{ℕ, ◌+◌, List, [], ◌∷◌, Option, Some, None, box_value}
+use Rattle.std.specs.Prelude.{ℕ, ◌+◌, Option, Some, None, box_value}
 use Rattle.mc_ast.specs.declared.trees.Expression.{Expression, Number, Null, Input, Value, Minus', Parens', Times', Plus', Less'}
 use Rattle.mc_ast.specs.declared.trees.Condition.{Condition, Plain, Compare, Not', Parens' as Enclosed', Both', Either'}
 use Rattle.mc_ast.specs.declared.trees.Statement.{Statement, Declaration, Block', Empty, Simple, Free, Assert, Assume, AssumeShape, AssertShape, AssertEmpty, If', IfElse', While', Do', For', Break, Continue, Return, Row_of-Statement, end_of-Statement, more_of-Statement}

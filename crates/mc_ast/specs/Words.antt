@@ -1,21 +1,18 @@
 -- The words of a tree, before those that follow it, and the text that they make.
-use Rattle.std.specs.Prelude.{◌≡◌, ℕ, List, [], ◌∷◌, ◌++◌, Bool, Option, Some, None, codes}
+use Rattle.std.specs.Prelude.{◌≡◌, ℕ, List, [], ◌∷◌, ◌++◌, Option, Some, None, codes}
 use Rattle.std.proofs.Common.{cond}
 use Rattle.std.specs.Fmt.{decimal}
 use Rattle.mc_base.specs.declared.plain.Place.{Place}
 use Rattle.mc_ast.specs.declared.trees.Name.{Name}
 use Rattle.mc_ast.specs.Names.{mark_of, is_in}
 use Rattle.mc_ast.specs.declared.trees.Base.{Base}
-use Rattle.mc_ast.specs.declared.trees.Base.TheVariants as Base
 use Rattle.mc_ast.specs.declared.trees.Declarator.{Declarator}
 use Rattle.mc_ast.specs.declared.trees.Cast.{Cast}
 use Rattle.mc_ast.specs.declared.trees.Size.{Size}
 use Rattle.mc_ast.specs.declared.trees.Size.TheVariants.{OfType, OfParens, OfValue}
 use Rattle.mc_ast.specs.declared.trees.Malloc.{Malloc}
 use Rattle.mc_ast.specs.declared.trees.Argument.{Argument}
-use Rattle.mc_ast.specs.declared.trees.Argument.TheVariants as Argument
 use Rattle.mc_ast.specs.declared.trees.Returned.{Returned}
-use Rattle.mc_ast.specs.declared.trees.Returned.TheVariants as Returned
 use Rattle.mc_ast.specs.declared.trees.Parameter.{Parameter}
 use Rattle.mc_ast.specs.Trees.{Left, Expr, number, null, input, value, minus, parens, times, plus, less, Cond, plain, compare, negation, enclosed, both, either, CallTree, Right, expression, result_of, allocation}
 use Rattle.mc_ast.specs.Trees.{InitialTree, DeclarationTree, SimpleTree, assign, add, subtract, increment, decrement, increment_first, decrement_first, call, Start, nothing, declares, performs, Head, Stmt, declaration, block, empty, simple, free, assert, assume, assume_shape, assert_shape, assert_empty, if_only, if_else, while_loop, do_loop, for_loop, break_loop, continue_loop, returns, Stmts, no_more, then, stmts_of, FieldTree, StructTree, AliasedTree, of_base, of_struct, TypedefTree, ParametersTree, unnamed, void, listed, BodyTree, FunctionTree, ItemTree, structure, typedef, function, UnitTree}

@@ -1,7 +1,7 @@
 // What a token is to the grammar.
-ghost use Rattle.mc_ast.specs.Classes.{IsClass, class_beside};
+ghost use Rattle.mc_ast.specs.Classes.{Each, IsClass, IsMarkOf, IsWordOf, class_beside, grammar_marks};
 ghost use Rattle.mc_lex.specs.declared.token.TokenKind.TheVariants as TokenKind;
-ghost use Rattle.mc_ast.specs.Names.{is_reserved, is_same, name_of};
+ghost use Rattle.mc_ast.specs.Names.{is_in, is_reserved, is_same, name_of};
 ghost use Rattle.std.specs.List.{list_any};
 ghost use Rattle.std.specs.Prelude.{◌≡◌, IfOk, map};
 
@@ -65,116 +65,147 @@ pub enum Class {
     OtherNumber,
 }
 
-// The marks of the grammar.
-static MARKS: [(&[u8], Class); 24] = [
+// The marks of the grammar, by their first byte.
+static MINUS: [(&[u8], Class); 4] = [
     (b"->", Class::Arrow),
-    (b"++", Class::PlusPlus),
     (b"--", Class::MinusMinus),
-    (b"+=", Class::PlusAssign),
     (b"-=", Class::MinusAssign),
-    (b"&&", Class::And),
-    (b"||", Class::Or),
-    (b"{", Class::OpenBrace),
-    (b"}", Class::CloseBrace),
-    (b"(", Class::OpenParen),
-    (b")", Class::CloseParen),
-    (b";", Class::Semicolon),
-    (b",", Class::Comma),
-    (b"=", Class::Assign),
-    (b"+", Class::Plus),
     (b"-", Class::Minus),
-    (b"*", Class::Star),
-    (b"!", Class::Bang),
+];
+
+static PLUS: [(&[u8], Class); 3] = [
+    (b"++", Class::PlusPlus),
+    (b"+=", Class::PlusAssign),
+    (b"+", Class::Plus),
+];
+
+static AND: [(&[u8], Class); 1] = [(b"&&", Class::And)];
+
+static OR: [(&[u8], Class); 1] = [(b"||", Class::Or)];
+
+static OPEN_BRACE: [(&[u8], Class); 1] = [(b"{", Class::OpenBrace)];
+
+static CLOSE_BRACE: [(&[u8], Class); 1] = [(b"}", Class::CloseBrace)];
+
+static OPEN_PAREN: [(&[u8], Class); 1] = [(b"(", Class::OpenParen)];
+
+static CLOSE_PAREN: [(&[u8], Class); 1] = [(b")", Class::CloseParen)];
+
+static SEMICOLON: [(&[u8], Class); 1] = [(b";", Class::Semicolon)];
+
+static COMMA: [(&[u8], Class); 1] = [(b",", Class::Comma)];
+
+static ASSIGN: [(&[u8], Class); 2] = [
+    (b"=", Class::Assign),
     (b"==", Class::Compare(Comparison::Equal)),
+];
+
+static STAR: [(&[u8], Class); 1] = [(b"*", Class::Star)];
+
+static BANG: [(&[u8], Class); 2] = [
     (b"!=", Class::Compare(Comparison::Unequal)),
+    (b"!", Class::Bang),
+];
+
+static LESS: [(&[u8], Class); 2] = [
     (b"<", Class::Compare(Comparison::Below)),
     (b"<=", Class::Compare(Comparison::AtMost)),
+];
+
+static GREATER: [(&[u8], Class); 2] = [
     (b">", Class::Compare(Comparison::Above)),
     (b">=", Class::Compare(Comparison::AtLeast)),
 ];
 
-// The reserved words of the grammar.
-static WORDS: [(&[u8], Class); 23] = [
-    (b"int", Class::Int),
-    (b"struct", Class::Struct),
-    (b"typedef", Class::Typedef),
-    (b"static", Class::Static),
-    (b"void", Class::Void),
-    (b"NULL", Class::Null),
-    (b"malloc", Class::Malloc),
-    (b"free", Class::Free),
-    (b"input", Class::Input),
+// The keywords of C17 and the words that the language keeps for itself, by their first byte.
+static A: [(&[u8], Class); 6] = [
+    (b"auto", Class::OtherWord),
     (b"assert", Class::Assert),
     (b"assume", Class::Assume),
     (b"assume_shape", Class::AssumeShape),
     (b"assert_shape", Class::AssertShape),
     (b"assert_empty", Class::AssertEmpty),
-    (b"if", Class::If),
-    (b"else", Class::Else),
-    (b"while", Class::While),
-    (b"do", Class::Do),
-    (b"for", Class::For),
-    (b"break", Class::Break),
-    (b"continue", Class::Continue),
-    (b"return", Class::Return),
-    (b"sizeof", Class::Sizeof),
 ];
 
-// The keywords of C17, and the words that the language keeps for itself.
-static RESERVED: [&[u8]; 53] = [
-    b"auto",
-    b"break",
-    b"case",
-    b"char",
-    b"const",
-    b"continue",
-    b"default",
-    b"do",
-    b"double",
-    b"else",
-    b"enum",
-    b"extern",
-    b"float",
-    b"for",
-    b"goto",
-    b"if",
-    b"inline",
-    b"int",
-    b"long",
-    b"register",
-    b"restrict",
-    b"return",
-    b"short",
-    b"signed",
-    b"sizeof",
-    b"static",
-    b"struct",
-    b"switch",
-    b"typedef",
-    b"union",
-    b"unsigned",
-    b"void",
-    b"volatile",
-    b"while",
-    b"_Alignas",
-    b"_Alignof",
-    b"_Atomic",
-    b"_Bool",
-    b"_Complex",
-    b"_Generic",
-    b"_Imaginary",
-    b"_Noreturn",
-    b"_Static_assert",
-    b"_Thread_local",
-    b"NULL",
-    b"malloc",
-    b"free",
-    b"input",
-    b"assert",
-    b"assume",
-    b"assume_shape",
-    b"assert_shape",
-    b"assert_empty",
+static B: [(&[u8], Class); 1] = [(b"break", Class::Break)];
+
+static C: [(&[u8], Class); 4] = [
+    (b"case", Class::OtherWord),
+    (b"char", Class::OtherWord),
+    (b"const", Class::OtherWord),
+    (b"continue", Class::Continue),
+];
+
+static D: [(&[u8], Class); 3] = [
+    (b"default", Class::OtherWord),
+    (b"do", Class::Do),
+    (b"double", Class::OtherWord),
+];
+
+static E: [(&[u8], Class); 3] = [
+    (b"else", Class::Else),
+    (b"enum", Class::OtherWord),
+    (b"extern", Class::OtherWord),
+];
+
+static F: [(&[u8], Class); 3] = [
+    (b"float", Class::OtherWord),
+    (b"for", Class::For),
+    (b"free", Class::Free),
+];
+
+static G: [(&[u8], Class); 1] = [(b"goto", Class::OtherWord)];
+
+static I: [(&[u8], Class); 4] = [
+    (b"if", Class::If),
+    (b"inline", Class::OtherWord),
+    (b"int", Class::Int),
+    (b"input", Class::Input),
+];
+
+static L: [(&[u8], Class); 1] = [(b"long", Class::OtherWord)];
+
+static M: [(&[u8], Class); 1] = [(b"malloc", Class::Malloc)];
+
+static CAPITAL_N: [(&[u8], Class); 1] = [(b"NULL", Class::Null)];
+
+static R: [(&[u8], Class); 3] = [
+    (b"register", Class::OtherWord),
+    (b"restrict", Class::OtherWord),
+    (b"return", Class::Return),
+];
+
+static S: [(&[u8], Class); 6] = [
+    (b"short", Class::OtherWord),
+    (b"signed", Class::OtherWord),
+    (b"sizeof", Class::Sizeof),
+    (b"static", Class::Static),
+    (b"struct", Class::Struct),
+    (b"switch", Class::OtherWord),
+];
+
+static T: [(&[u8], Class); 1] = [(b"typedef", Class::Typedef)];
+
+static U: [(&[u8], Class); 2] = [
+    (b"union", Class::OtherWord),
+    (b"unsigned", Class::OtherWord),
+];
+
+static V: [(&[u8], Class); 2] = [(b"void", Class::Void), (b"volatile", Class::OtherWord)];
+
+static W: [(&[u8], Class); 1] = [(b"while", Class::While)];
+
+static UNDERSCORE: [(&[u8], Class); 10] = [
+    (b"_Alignas", Class::OtherWord),
+    (b"_Alignof", Class::OtherWord),
+    (b"_Atomic", Class::OtherWord),
+    (b"_Bool", Class::OtherWord),
+    (b"_Complex", Class::OtherWord),
+    (b"_Generic", Class::OtherWord),
+    (b"_Imaginary", Class::OtherWord),
+    (b"_Noreturn", Class::OtherWord),
+    (b"_Static_assert", Class::OtherWord),
+    (b"_Thread_local", Class::OtherWord),
 ];
 
 /// What a token is to the grammar.
@@ -205,7 +236,7 @@ fn mark_class(token: &Token) -> Class
     ensures { IsClass token.now result }
 {
     let text = token.text.as_slice();
-    match class_among(&MARKS, text) {
+    match class_among(marks_at(text), text) {
         Some(class) => class,
         None => Class::OtherMark,
     }
@@ -216,12 +247,62 @@ fn word_class(token: &Token) -> Class
     ensures { IsClass token.now result }
 {
     let text = token.text.as_slice();
-    if !is_reserved(text) {
-        return Class::Name;
-    }
-    match class_among(&WORDS, text) {
+    match class_among(words_at(text), text) {
         Some(class) => class,
-        None => Class::OtherWord,
+        None => Class::Name,
+    }
+}
+
+// The marks of the grammar that begin as the text does.
+fn marks_at(text: &[u8]) -> &'static [(&'static [u8], Class)]
+    ensures all { is_in (map (λ entry. entry.0.now) result.now) text.now ≡ is_in grammar_marks text.now }
+    ensures right { Each IsMarkOf (map (λ entry. entry.0.now) result.now) (map (λ entry. entry.1) result.now) }
+{
+    match text {
+        [b'-', ..] => &MINUS,
+        [b'+', ..] => &PLUS,
+        [b'&', ..] => &AND,
+        [b'|', ..] => &OR,
+        [b'{', ..] => &OPEN_BRACE,
+        [b'}', ..] => &CLOSE_BRACE,
+        [b'(', ..] => &OPEN_PAREN,
+        [b')', ..] => &CLOSE_PAREN,
+        [b';', ..] => &SEMICOLON,
+        [b',', ..] => &COMMA,
+        [b'=', ..] => &ASSIGN,
+        [b'*', ..] => &STAR,
+        [b'!', ..] => &BANG,
+        [b'<', ..] => &LESS,
+        [b'>', ..] => &GREATER,
+        _ => &[],
+    }
+}
+
+// The reserved words that begin as the text does.
+fn words_at(text: &[u8]) -> &'static [(&'static [u8], Class)]
+    ensures all { is_in (map (λ entry. entry.0.now) result.now) text.now ≡ is_reserved text.now }
+    ensures right { Each IsWordOf (map (λ entry. entry.0.now) result.now) (map (λ entry. entry.1) result.now) }
+{
+    match text {
+        [b'a', ..] => &A,
+        [b'b', ..] => &B,
+        [b'c', ..] => &C,
+        [b'd', ..] => &D,
+        [b'e', ..] => &E,
+        [b'f', ..] => &F,
+        [b'g', ..] => &G,
+        [b'i', ..] => &I,
+        [b'l', ..] => &L,
+        [b'm', ..] => &M,
+        [b'N', ..] => &CAPITAL_N,
+        [b'r', ..] => &R,
+        [b's', ..] => &S,
+        [b't', ..] => &T,
+        [b'u', ..] => &U,
+        [b'v', ..] => &V,
+        [b'w', ..] => &W,
+        [b'_', ..] => &UNDERSCORE,
+        _ => &[],
     }
 }
 
@@ -241,7 +322,7 @@ fn class_among(table: &[(&[u8], Class)], text: &[u8]) -> Option<Class>
 pub fn is_reserved(word: &[u8]) -> bool
     ensures { result ≡ is_reserved word.now }
 {
-    is_one_of(word, &RESERVED)
+    class_among(words_at(word), word).is_some()
 }
 
 /// Whether the word is one of these.

@@ -86,13 +86,12 @@ pub fn in_condition(
     ensures { (purpose : Purpose) (condition : Box ConditionReader Global) → reader.old.state ≡ State.Condition purpose condition → (aliases : List (List ℕ)) → IfOk result (IsBodyStep (AtState aliases reader.old.nest reader.old.state) (CompletesBody aliases reader.new) token.now) }
 {
     match &mut reader.state {
-        State::Condition(purpose, inner) => {
+        State::Condition(_, inner) => {
             let step = inner.step(token, class)?;
             match step {
                 ConditionStep::Taken => Ok(BodyStep::Taken),
                 ConditionStep::Found(condition) => {
-                    let purpose = mem::replace(purpose, Purpose::Assert(token.place));
-                    behind_purpose(reader, purpose, condition, token, class)
+                    behind_condition(reader, condition, token, class)
                 }
                 ConditionStep::Stuck => Ok(BodyStep::Stuck),
             }
@@ -101,7 +100,27 @@ pub fn in_condition(
     }
 }
 
-/// Behind a condition.
+/// Behind a condition. It is kept out of line: a function clears all its values when it begins, and here they are large.
+#[inline(never)]
+fn behind_condition(
+    reader: &mut BodyReader,
+    condition: Condition,
+    token: &Token,
+    class: Class,
+) -> Result<BodyStep, AllocError>
+    requires { IsClass token.now class }
+    ensures { (purpose : Purpose) (inner : Box ConditionReader Global) → reader.old.state ≡ State.Condition purpose inner → (aliases : List (List ℕ)) → IfOk result (IsBodyStep (BehindPurpose aliases purpose (Around aliases reader.old.nest) (condition_of condition)) (CompletesBody aliases reader.new) token.now) }
+{
+    match &mut reader.state {
+        State::Condition(purpose, _) => {
+            let purpose = mem::replace(purpose, Purpose::Assert(token.place));
+            behind_purpose(reader, purpose, condition, token, class)
+        }
+        _ => Ok(BodyStep::Stuck),
+    }
+}
+
+/// Behind a condition for this purpose.
 fn behind_purpose(
     reader: &mut BodyReader,
     purpose: Purpose,

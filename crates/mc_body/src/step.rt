@@ -1,4 +1,6 @@
 // What the states of a reader do with a token.
+//
+// What has large values of its own is kept out of line: a function clears all its values when it begins.
 ghost use Rattle.std.specs.Prelude.{◌≡◌, ℕ, List, Option, None, IfOk};
 ghost use Rattle.mc_ast.specs.Classes.{IsClass};
 ghost use Rattle.mc_ast.specs.Names.{is_in};
@@ -67,6 +69,7 @@ pub fn at_state(
 }
 
 /// Behind a statement.
+#[inline(never)]
 fn behind_whole(
     reader: &mut BodyReader,
     token: &Token,
@@ -87,6 +90,7 @@ fn behind_whole(
 }
 
 /// Behind what a `for` begins with.
+#[inline(never)]
 fn behind_for_start(
     reader: &mut BodyReader,
     token: &Token,
@@ -107,6 +111,7 @@ fn behind_for_start(
 }
 
 /// Behind the condition of a `for`.
+#[inline(never)]
 fn behind_for_condition(
     reader: &mut BodyReader,
     token: &Token,

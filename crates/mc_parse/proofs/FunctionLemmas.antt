@@ -1,4 +1,6 @@
 -- The transitions of functions.
+use Rattle.std.specs.Prelude.{Box}
+use Rattle.std.specs.declared.alloc.Global.{Global}
 use native.Mathlib.Omega.{arith}
 use Rattle.std.proofs.Common.{◌≡◌, ℕ, List, [], ◌∷◌, Some, None, Option, refl, inl}
 use Rattle.std.specs.Prelude.{codes}
@@ -78,7 +80,7 @@ body_enters aliases function reader w same = let t = body_opens aliases function
   backward = λ tokens rest x n. t.backward tokens rest x (n.0, n.1, body_of_bodies (same.forward _ _ _ n.2), n.3);
 }
 
-pub not_in_body : (reader : FunctionReader) → ((signature : Signature) (place : Place) (inner : BodyReader) → reader ≡ FunctionReader.Body signature place inner → ⊥) → IsWithinBody reader → ⊥
+pub not_in_body : (reader : FunctionReader) → ((signature : Signature) (place : Place) (inner : Box BodyReader Global) → reader ≡ FunctionReader.Body signature place inner → ⊥) → IsWithinBody reader → ⊥
 not_in_body (FunctionReader.Header fixed reader) other within = within
 not_in_body (FunctionReader.Parameters fixed header reader) other within = within
 not_in_body (FunctionReader.Behind signature) other within = within

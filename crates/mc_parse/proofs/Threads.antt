@@ -67,7 +67,9 @@ same_step completes of s Stuck stuck = same_stuck s stuck
 -- a step by value that is done in place
 pub put_is : {R T X : Type 0} (completes : R → Tokens → Tokens → X → Type 0) (of : T → X) (now : Tokens → Tokens → X → Type 0) (token : Token) (step : Step R T) (behind : R) (took : Took T) → IsPut step behind took → StepIs completes of now token step → TookIs of now (completes behind) token took
 put_is completes of now token (Taken reader) behind took e t = rw (e.0, e.1) t
-put_is completes of now token (Closed t) behind took e c = rw e c
+put_is completes of now token (Closed t) behind Took.Taken e c = absurd e
+put_is completes of now token (Closed t) behind (Took.Closed boxed) e c = rw e c
+put_is completes of now token (Closed t) behind Took.Stuck e c = absurd e
 put_is completes of now token Stuck behind took e stuck = rw e stuck
 
 pub takes_same : {X : Type 0} {now other later : Tokens → Tokens → X → Type 0} {token : Token} → Takes [] now other token → IsSame later other → Takes [] now later token

@@ -152,7 +152,7 @@ can_function : Bodies → (aliases : List (List ℕ)) (reader : FunctionReader) 
 can_function bodies aliases (FunctionReader.Header fixed reader) = can_then (can_header aliases reader) (λ head. can_behind_header aliases fixed head)
 can_function bodies aliases (FunctionReader.Parameters fixed head reader) = can_then (can_parameters aliases reader) (λ ps. can_end_function aliases fixed head ps)
 can_function bodies aliases (FunctionReader.Behind signature) = can_end_function aliases signature.fixed signature.header (parameters_of signature.parameters)
-can_function bodies aliases (FunctionReader.Body signature place reader) = can_then (bodies aliases reader) (λ ss. can_give (record { fixed = signature.fixed; returned = signature.header.returned; name = signature.header.name; parameters = parameters_of signature.parameters; body = Some (record { place = place; statements = ss }) }))
+can_function bodies aliases (FunctionReader.Body signature place reader) = can_then (bodies aliases reader.value) (λ ss. can_give (record { fixed = signature.fixed; returned = signature.header.returned; name = signature.header.name; parameters = parameters_of signature.parameters; body = Some (record { place = place; statements = ss }) }))
 
 can_end_typedef : (place : Place) (aliased : AliasedTree) → CanEnd (EndsTypedef place aliased)
 can_end_typedef place aliased = can_then can_names (λ ds. can_give (record { place = place; aliased = aliased; declarators = ds }))

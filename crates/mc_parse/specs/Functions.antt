@@ -60,7 +60,7 @@ abbrev pub CompletesFunction : List (List ℕ) → FunctionReader → Tokens →
 CompletesFunction aliases (FunctionReader.Header fixed reader) = Then (CompletesHeader aliases reader) (λ header. BehindHeader aliases fixed header)
 CompletesFunction aliases (FunctionReader.Parameters fixed header reader) = Then (CompletesParameters aliases reader) (λ parameters. EndsFunction aliases fixed header parameters)
 CompletesFunction aliases (FunctionReader.Behind signature) = EndsFunction aliases signature.fixed signature.header (parameters_of signature.parameters)
-CompletesFunction aliases (FunctionReader.Body signature place reader) = Then (CompletesBody aliases reader) (λ ss. Gives (record { fixed = signature.fixed; returned = signature.header.returned; name = signature.header.name; parameters = parameters_of signature.parameters; body = Some (record { place = place; statements = ss }) }))
+CompletesFunction aliases (FunctionReader.Body signature place reader) = Then (CompletesBody aliases reader.value) (λ ss. Gives (record { fixed = signature.fixed; returned = signature.header.returned; name = signature.header.name; parameters = parameters_of signature.parameters; body = Some (record { place = place; statements = ss }) }))
 
 abbrev pub FunctionStepIs : List (List ℕ) → FunctionReader → Token → Step FunctionReader Function → Type 0
 FunctionStepIs aliases reader token step = StepIs (CompletesFunction aliases) function_of (CompletesFunction aliases reader) token step

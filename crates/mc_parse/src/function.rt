@@ -33,8 +33,8 @@ pub enum FunctionReader {
     Parameters(Option<Place>, Header, ParametersReader),
     /// Behind the `)` of the parameters.
     Behind(Signature),
-    /// Behind the `{` at this place.
-    Body(Signature, Place, BodyReader),
+    /// Behind the `{` at this place. The reader stands in a box, so that the others are small.
+    Body(Signature, Place, Box<BodyReader>),
 }
 
 /// What a reader of functions makes of a token, by value.
@@ -65,7 +65,9 @@ impl FunctionReader {
         match self {
             FunctionReader::Body(_, _, reader) => match reader.step(token, class, alias)? {
                 BodyStep::Taken => Ok(Took::Taken),
-                BodyStep::Closed(statements) => Ok(Took::Closed(self.with_body(statements))),
+                BodyStep::Closed(statements) => Ok(Took::Closed(self.with_body(
+                    alloc, statements,
+                )?)),
                 BodyStep::Stuck => Ok(Took::Stuck),
             },
             _ => self.step_before_body(alloc, token, class, alias),
@@ -73,20 +75,28 @@ impl FunctionReader {
     }
 
     /// The function that these statements make complete.
-    fn with_body(&mut self, statements: Vec<Statement>) -> Function
+    #[inline(never)]
+    fn with_body(
+        &mut self,
+        alloc: Global,
+        statements: Vec<Statement>,
+    ) -> Result<Box<Function>, AllocError>
         requires { IsWithinBody self.old }
-        ensures { IsBehindBody self.old (map statement_of statements.items) (function_of result) }
+        ensures { IfOk result (λ function. IsBehindBody self.old (map statement_of statements.items) (function_of function.value)) }
     {
         match mem::replace(self, FunctionReader::new(None)) {
             FunctionReader::Body(signature, place, _) => {
                 let body = Body { place, statements };
-                function_of(signature, Some(body))
+                let function = function_of(signature, Some(body));
+                let boxed = Box::new(alloc, function)?;
+                Ok(boxed)
             }
             _ => unreachable!(),
         }
     }
 
     /// Takes a token before the body.
+    #[inline(never)]
     fn step_before_body(
         &mut self,
         alloc: Global,
@@ -100,7 +110,8 @@ impl FunctionReader {
     {
         let reader = mem::replace(self, FunctionReader::new(None));
         let step = reader.moved_before_body(alloc, token, class, alias)?;
-        Ok(step.put(self))
+        let took = step.put(alloc, self)?;
+        Ok(took)
     }
 
     fn moved_before_body(
@@ -121,9 +132,7 @@ impl FunctionReader {
             FunctionReader::Parameters(fixed, header, reader) => {
                 within_parameters(alloc, fixed, header, reader, token, class, alias)
             }
-            FunctionReader::Behind(signature) => Ok(behind_signature(
-                alloc, signature, token, class,
-            )),
+            FunctionReader::Behind(signature) => behind_signature(alloc, signature, token, class),
             FunctionReader::Body(_, _, _) => unreachable!(),
         }
     }
@@ -180,18 +189,18 @@ fn behind_signature(
     signature: Signature,
     token: &Token,
     class: Class,
-) -> FunctionStep
+) -> Result<FunctionStep, AllocError>
     requires { IsClass token.now class }
-    ensures { (aliases : List (List ℕ)) → FunctionStepIs aliases (FunctionReader.Behind signature) token.now result }
+    ensures { IfOk result (λ step. (aliases : List (List ℕ)) → FunctionStepIs aliases (FunctionReader.Behind signature) token.now step) }
 {
     match class {
-        Class::Semicolon => Step::Closed(function_of(signature, None)),
-        Class::OpenBrace => Step::Taken(FunctionReader::Body(
-            signature,
-            token.place,
-            BodyReader::new(alloc),
-        )),
-        _ => Step::Stuck,
+        Class::Semicolon => Ok(Step::Closed(function_of(signature, None))),
+        Class::OpenBrace => {
+            let fresh = BodyReader::new(alloc);
+            let reader = Box::new(alloc, fresh)?;
+            Ok(Step::Taken(FunctionReader::Body(signature, token.place, reader)))
+        }
+        _ => Ok(Step::Stuck),
     }
 }
 

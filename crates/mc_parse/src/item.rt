@@ -1,6 +1,8 @@
 // Structs, typedefs and functions.
 ghost use Rattle.mc_ast.specs.Classes.{IsClass};
 ghost use Rattle.mc_ast.specs.Names.{is_in};
+ghost use Rattle.mc_ast.specs.Trees.{function};
+ghost use Rattle.mc_ast.specs.Views.{function_of, item_of};
 ghost use Rattle.mc_parse.specs.Items.{ItemStepIs, ItemTookIs, IsWithinFunction};
 ghost use Rattle.mc_parse.specs.declared.function.FunctionReader.TheVariants as FunctionReader;
 ghost use Rattle.std.specs.Prelude.{◌≡◌, ℕ, List, IfOk};
@@ -11,7 +13,7 @@ use crate::header::HeaderReader;
 use crate::step::{Step, Took};
 use crate::structure::StructReader;
 use crate::typedef::{TypedefPart, TypedefReader};
-use mc_ast::{Base, Class, Item, Name, Struct, name_at};
+use mc_ast::{Base, Class, Function, Item, Name, Struct, name_at};
 use mc_base::Place;
 use mc_lex::Token;
 use std::alloc::{AllocError, Global};
@@ -54,7 +56,7 @@ impl ItemReader {
         match self {
             ItemReader::Function(reader) => match reader.step(alloc, token, class, alias)? {
                 Took::Taken => Ok(Took::Taken),
-                Took::Closed(function) => Ok(Took::Closed(Item::Function(function))),
+                Took::Closed(whole) => Ok(Took::Closed(item_of_function(alloc, whole)?)),
                 Took::Stuck => Ok(Took::Stuck),
             },
             _ => self.step_beside_functions(alloc, token, class, alias),
@@ -62,6 +64,7 @@ impl ItemReader {
     }
 
     /// Takes a token within no function.
+    #[inline(never)]
     fn step_beside_functions(
         &mut self,
         alloc: Global,
@@ -75,7 +78,8 @@ impl ItemReader {
     {
         let reader = mem::replace(self, ItemReader::Start);
         let step = reader.moved_beside_functions(alloc, token, class, alias)?;
-        Ok(step.put(self))
+        let took = step.put(alloc, self)?;
+        Ok(took)
     }
 
     fn moved_beside_functions(
@@ -226,4 +230,14 @@ fn item_header(
         Step::Closed(function) => Ok(Step::Closed(Item::Function(function))),
         Step::Stuck => Ok(Step::Stuck),
     }
+}
+
+/// The item that a function is.
+#[inline(never)]
+fn item_of_function(alloc: Global, whole: Box<Function>) -> Result<Box<Item>, AllocError>
+    ensures { IfOk result (λ item. item_of item.value ≡ function (function_of whole.value)) }
+{
+    let item = Item::Function(Box::into_inner(whole));
+    let boxed = Box::new(alloc, item)?;
+    Ok(boxed)
 }

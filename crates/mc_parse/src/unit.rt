@@ -83,6 +83,7 @@ impl UnitReader {
     }
 
     /// Takes the first token of an item, or the end.
+    #[inline(never)]
     fn begin(
         &mut self,
         alloc: Global,
@@ -135,12 +136,14 @@ impl UnitReader {
     }
 
     /// Goes on behind one more item.
-    fn add(&mut self, alloc: Global, item: Item) -> Result<(), AllocError>
+    #[inline(never)]
+    fn add(&mut self, alloc: Global, item: Box<Item>) -> Result<(), AllocError>
         requires { KnowsTypes self.old }
-        ensures items { OnOk result (self.new.items.items ≡ self.old.items.items ++ item ∷ []) }
+        ensures items { OnOk result (self.new.items.items ≡ self.old.items.items ++ item.value ∷ []) }
         ensures starts { OnOk result (self.new.current ≡ None) }
         ensures known { OnOk result (KnowsTypes self.new) }
     {
+        let item = Box::into_inner(item);
         introduce(alloc, &mut self.aliases, &item)?;
         self.items.push(item)?;
         self.current = None;

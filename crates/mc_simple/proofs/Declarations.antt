@@ -13,9 +13,13 @@ use Rattle.mc_ast.specs.Grammar.{star, no_star, declarator, bare, with_value, la
 use Rattle.mc_ast.specs.Readers.{Takes, Closes, IsStuckAt}
 use Rattle.mc_expression.specs.Turns.{InTurn, in_turn}
 use Rattle.mc_simple.specs.declared.declaration.DeclarationMove.{DeclarationMove}
+use Rattle.mc_simple.specs.declared.declaration.DeclarationReader.{DeclarationReader}
+use Rattle.mc_simple.specs.declared.declaration.DeclarationState.{DeclarationState}
+use Rattle.mc_simple.specs.declared.declaration.DeclarationStep.{DeclarationStep}
+use Rattle.mc_simple.specs.declared.right.RightReader.{RightReader}
 use Rattle.mc_simple.specs.Phrases.{Next, next}
 use Rattle.mc_simple.specs.Rights.{Rights, right_marks}
-use Rattle.mc_simple.specs.Declarations.{BehindInitials, behind_initials, BehindInitial, BehindComma, BehindDeclarator, IsDeclarationMove}
+use Rattle.mc_simple.specs.Declarations.{BehindInitials, behind_initials, BehindInitial, BehindComma, BehindDeclarator, CompletesDeclaration, IsDeclarationMove, IsDeclarationPut, IsDeclarationStep, IsInInitialState}
 use Rattle.mc_simple.proofs.Phrases.{SameAt, takes_along, closes_along, stuck_along, next_takes, next_stuck, either_left, either_right}
 use Rattle.mc_simple.proofs.Tokens.{mark_no_name, no_mark}
 
@@ -99,3 +103,16 @@ declarator_other aliases base is d no_mark_here = either_left (next_stuck no_mar
 -- with one more item
 pub one_item : (aliases : List (List ℕ)) (base : Base) (before after : List Initial) (i : Initial) (token : Token) (step : DeclarationMove) → after ≡ before ++ i ∷ [] → IsDeclarationMove aliases (BehindInitials aliases base (map initial_of after)) token step → IsDeclarationMove aliases (BehindInitial aliases base (map initial_of before) (initial_of i)) token step
 one_item aliases base before after i token step is h = subst (λ items. IsDeclarationMove aliases (BehindInitials aliases base items) token step) (ap (map initial_of) is ∙ map-append initial_of before (i ∷ [])) h
+
+-- a reader that is in no value of a declarator
+pub not_in_initial : (state : DeclarationState) → ((d : Declarator) (reader : RightReader) → state ≡ DeclarationState.Value d reader → ⊥) → IsInInitialState state → ⊥
+not_in_initial DeclarationState.Start other within = within
+not_in_initial (DeclarationState.Pointer place) other within = within
+not_in_initial (DeclarationState.Named d) other within = within
+not_in_initial (DeclarationState.Value d reader) other within = other d reader refl
+
+-- a step by value that is done in place
+pub put_is : (aliases : List (List ℕ)) (now : Tokens → Tokens → DeclarationTree → Type 0) (token : Token) (move : DeclarationMove) (behind : DeclarationReader) (step : DeclarationStep) → IsDeclarationPut move behind step → IsDeclarationMove aliases now token move → IsDeclarationStep now (CompletesDeclaration aliases behind) token step
+put_is aliases now token (DeclarationMove.Taken reader) behind step e t = rw (e.0, e.1) t
+put_is aliases now token (DeclarationMove.Closed d) behind step e c = rw e c
+put_is aliases now token DeclarationMove.Stuck behind step e stuck = rw e stuck

@@ -158,7 +158,7 @@ arguments_end name es = record { more = mark_token (codes ")") ∷ []; tree = _;
 module _ (expressions : (r : ExpressionReader) → CanEnd (CompletesExpression r)) where
   arguments_can_end : (name : Name) (es : List Expr) (state : CallState) → CanEnd (CompletesArguments name es state)
   arguments_can_end name es CallState.First = left_ends (mark_ends (codes ")") (ended_ends _))
-  arguments_can_end name es (CallState.Argument reader) = turn_ends (expressions reader) (arguments_end name _)
+  arguments_can_end name es (CallState.Argument reader) = turn_ends (expressions reader.value) (arguments_end name _)
 
   pub call_can_end : (reader : CallReader) → CanEnd (CompletesCall reader)
   call_can_end reader = arguments_can_end reader.function (expressions_of reader.arguments.items) reader.state
@@ -170,8 +170,8 @@ module _ (expressions : (r : ExpressionReader) → CanEnd (CompletesExpression r
   right_state_can_end aliases (RightState.OpenedAlias place name) = left_ends (made_ends expression (in_parens_ends place (name_can_end name)))
   right_state_can_end aliases (RightState.OpenedStar place name star) = left_ends (made_ends expression (in_parens_ends place (turn_ends unary_ends (operand_ends _))))
   right_state_can_end aliases (RightState.Enclosed place name) = left_ends (made_ends expression (operand_ends _))
-  right_state_can_end aliases (RightState.Parens place reader) = made_ends expression (in_parens_ends place (expressions reader))
-  right_state_can_end aliases (RightState.Sum reader) = made_ends expression (expressions reader)
+  right_state_can_end aliases (RightState.Parens place reader) = made_ends expression (in_parens_ends place (expressions reader.value))
+  right_state_can_end aliases (RightState.Sum reader) = made_ends expression (expressions reader.value)
   right_state_can_end aliases (RightState.Call reader) = made_ends result_of (call_can_end reader)
   right_state_can_end aliases (RightState.Allocation reader) = made_ends allocation (allocation_can_end aliases reader)
   right_state_can_end aliases (RightState.Done right) = ended_ends (right_of right)
@@ -198,7 +198,7 @@ module _ (expressions : (r : ExpressionReader) → CanEnd (CompletesExpression r
   simple_state_can_end aliases (SimpleState.Left l) = left_can_end aliases (left_of l)
   simple_state_can_end aliases (SimpleState.Arrow l) = name_ends (left_can_end aliases _)
   simple_state_can_end aliases (SimpleState.Assign l reader) = made_ends (assign (left_of l)) (right_can_end aliases reader)
-  simple_state_can_end aliases (SimpleState.ChangeBy change l reader) = made_ends (changed_by change (left_of l)) (expressions reader)
+  simple_state_can_end aliases (SimpleState.ChangeBy change l reader) = made_ends (changed_by change (left_of l)) (expressions reader.value)
   simple_state_can_end aliases (SimpleState.Call reader) = made_ends call (call_can_end reader)
   simple_state_can_end aliases (SimpleState.Done simple) = ended_ends (simple_of simple)
 

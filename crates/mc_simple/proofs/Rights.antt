@@ -1,4 +1,6 @@
 -- What a token does to a right side.
+use Rattle.std.specs.Prelude.{Box}
+use Rattle.std.specs.declared.alloc.Global.{Global}
 use Rattle.std.proofs.Common.{◌≡◌, ℕ, List, [], ◌∷◌, ◌++◌, ◌⊎◌, inl, inr, refl, codes, Bool, true, false, ◌||◌, IsTrue, Some, None, subst}
 use native.Mathlib.Omega.{arith}
 use Rattle.mc_base.specs.declared.plain.Place.{Place}
@@ -250,7 +252,7 @@ pub enclosed_other : (aliases : List (List ℕ)) (place : Place) (name : Name) {
 enclosed_other aliases place name no_malloc = either_left (then_stuck (next_stuck no_malloc))
 
 -- a reader that is in no sum
-pub not_in_sum : (state : RightState) → ((reader : ExpressionReader) → state ≡ RightState.Sum reader → ⊥) → IsInSumState state → ⊥
+pub not_in_sum : (state : RightState) → ((reader : Box ExpressionReader Global) → state ≡ RightState.Sum reader → ⊥) → IsInSumState state → ⊥
 not_in_sum RightState.Start other within = within
 not_in_sum (RightState.Named name) other within = within
 not_in_sum (RightState.Opened place) other within = within

@@ -1,4 +1,6 @@
 -- What a token does to a simple statement.
+use Rattle.std.specs.Prelude.{Box}
+use Rattle.std.specs.declared.alloc.Global.{Global}
 use Rattle.std.proofs.Common.{◌≡◌, ℕ, List, [], ◌∷◌, ◌⊎◌, inl, inr, refl, codes, IsTrue, true, false, subst}
 use native.Mathlib.Omega.{arith}
 use Rattle.mc_base.specs.declared.plain.Place.{Place}
@@ -237,7 +239,7 @@ pub name_left : (aliases : List (List ℕ)) (name : Name) {token : Token} → ¬
 name_left aliases name no_open = either_left (next_stuck no_open)
 
 -- a reader that is in no value of an assignment
-pub not_in_value : (state : SimpleState) → ((l : LeftValue) (reader : RightReader) → state ≡ SimpleState.Assign l reader → ⊥) → ((change : Change) (l : LeftValue) (reader : ExpressionReader) → state ≡ SimpleState.ChangeBy change l reader → ⊥) → IsInValueState state → ⊥
+pub not_in_value : (state : SimpleState) → ((l : LeftValue) (reader : RightReader) → state ≡ SimpleState.Assign l reader → ⊥) → ((change : Change) (l : LeftValue) (reader : Box ExpressionReader Global) → state ≡ SimpleState.ChangeBy change l reader → ⊥) → IsInValueState state → ⊥
 not_in_value SimpleState.Start no_assign no_change within = within
 not_in_value (SimpleState.First change place) no_assign no_change within = within
 not_in_value (SimpleState.FirstLeft change place l) no_assign no_change within = within

@@ -37,7 +37,7 @@ BehindCallParens name = FirstArgument name []
 -- the same, as far as it was read
 abbrev pub CompletesArguments : Name → List Expr → CallState → Tokens → Tokens → CallTree → Type 0
 CompletesArguments name es CallState.First = FirstArgument name es
-CompletesArguments name es (CallState.Argument reader) = InTurn (CompletesExpression reader) (BehindArgument name es)
+CompletesArguments name es (CallState.Argument reader) = InTurn (CompletesExpression reader.value) (BehindArgument name es)
 
 -- the tokens complete what was read of a call
 abbrev pub CompletesCall : CallReader → Tokens → Tokens → CallTree → Type 0

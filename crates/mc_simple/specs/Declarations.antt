@@ -1,5 +1,5 @@
 -- What completes a declaration behind its base.
-use Rattle.std.specs.Prelude.{ℕ, List, [], ◌∷◌, ◌++◌, Some, None, codes, map}
+use Rattle.std.specs.Prelude.{◌≡◌, ℕ, List, [], ◌∷◌, ◌++◌, Some, None, codes, map}
 use Rattle.mc_lex.specs.declared.token.Token.{Token}
 use Rattle.mc_ast.specs.declared.trees.Base.{Base}
 use Rattle.mc_ast.specs.declared.trees.Declarator.{Declarator}
@@ -50,6 +50,16 @@ CompletesDeclarationState aliases base is (DeclarationState.Value d reader) = In
 abbrev pub CompletesDeclaration : List (List ℕ) → DeclarationReader → Tokens → Tokens → DeclarationTree → Type 0
 CompletesDeclaration aliases reader = CompletesDeclarationState aliases reader.base (map initial_of reader.items.items) reader.state
 
+-- what is read is the value of a declarator
+abbrev pub IsInInitialState : DeclarationState → Type 0
+IsInInitialState DeclarationState.Start = ⊥
+IsInInitialState (DeclarationState.Pointer place) = ⊥
+IsInInitialState (DeclarationState.Named d) = ⊥
+IsInInitialState (DeclarationState.Value d reader) = Unit {0}
+
+abbrev pub IsInInitial : DeclarationReader → Type 0
+IsInInitial reader = IsInInitialState reader.state
+
 -- what a step by value says
 abbrev pub IsDeclarationMove : List (List ℕ) → (Tokens → Tokens → DeclarationTree → Type 0) → Token → DeclarationMove → Type 0
 IsDeclarationMove aliases now token (DeclarationMove.Taken reader) = Takes [] now (CompletesDeclaration aliases reader) token
@@ -61,3 +71,9 @@ abbrev pub IsDeclarationStep : (Tokens → Tokens → DeclarationTree → Type 0
 IsDeclarationStep now behind token DeclarationStep.Taken = Takes [] now behind token
 IsDeclarationStep now behind token (DeclarationStep.Closed d) = Closes now token (declaration_of d)
 IsDeclarationStep now behind token DeclarationStep.Stuck = IsStuckAt now token
+
+-- the step by value, done in place
+abbrev pub IsDeclarationPut : DeclarationMove → DeclarationReader → DeclarationStep → Type 0
+IsDeclarationPut (DeclarationMove.Taken reader) behind step = (behind ≡ reader) × (step ≡ DeclarationStep.Taken)
+IsDeclarationPut (DeclarationMove.Closed d) behind step = step ≡ DeclarationStep.Closed d
+IsDeclarationPut DeclarationMove.Stuck behind step = step ≡ DeclarationStep.Stuck

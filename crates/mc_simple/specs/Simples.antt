@@ -79,7 +79,7 @@ CompletesSimpleState aliases (SimpleState.Named name) = BehindSimpleName aliases
 CompletesSimpleState aliases (SimpleState.Left l) = InLeft aliases (left_of l)
 CompletesSimpleState aliases (SimpleState.Arrow l) = Next IsName (λ name. InLeft aliases (with_field (left_of l) (name_of name)))
 CompletesSimpleState aliases (SimpleState.Assign l reader) = InTurn (CompletesRight aliases reader) (λ r. Ended (assign (left_of l) r))
-CompletesSimpleState aliases (SimpleState.ChangeBy change l reader) = InTurn (CompletesExpression reader) (λ e. Ended (changed_by change (left_of l) e))
+CompletesSimpleState aliases (SimpleState.ChangeBy change l reader) = InTurn (CompletesExpression reader.value) (λ e. Ended (changed_by change (left_of l) e))
 CompletesSimpleState aliases (SimpleState.Call reader) = InTurn (CompletesCall reader) (λ c. Ended (call c))
 CompletesSimpleState aliases (SimpleState.Done simple) = Ended (simple_of simple)
 

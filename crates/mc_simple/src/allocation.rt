@@ -15,7 +15,6 @@ use mc_lex::Token;
 use std::alloc::{AllocError, Global};
 
 /// Reads `malloc(..)`, perhaps behind a cast.
-#[derive(Drop)]
 pub enum AllocationReader {
     /// In the base behind the `(` of a cast.
     Base(Place, BaseReader),
@@ -31,6 +30,24 @@ pub enum AllocationReader {
     Size(Option<Cast>, Place, SizeReader),
     /// At the last `)`.
     Close(Malloc),
+}
+
+/// Lets go of what is read. What holds a reader calls this.
+impl Drop for AllocationReader {
+    fn drop(self) {
+        match self {
+            AllocationReader::Base(_, reader) => drop(reader),
+            AllocationReader::CastBase(_, base) => drop(base),
+            AllocationReader::CastEnd(cast) => drop(cast),
+            AllocationReader::Cast(cast) => drop(cast),
+            AllocationReader::Malloc(cast, _) => drop(cast),
+            AllocationReader::Size(cast, _, size) => {
+                drop(cast);
+                drop(size);
+            }
+            AllocationReader::Close(malloc) => drop(malloc),
+        }
+    }
 }
 
 /// What a token does to an allocation.

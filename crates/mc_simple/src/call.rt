@@ -8,13 +8,13 @@ ghost use Rattle.mc_expression.specs.Turns.{InTurn};
 ghost use Rattle.mc_expression.specs.Expressions.{CompletesExpression};
 ghost use Rattle.mc_simple.specs.declared.call.CallReader.{CallReader};
 
+use crate::sum::fresh_sum;
 use mc_ast::{Call, Class, Expression, Name};
 use mc_expression::{ExpressionReader, ExpressionStep, expressions_can_end};
 use mc_lex::Token;
 use std::alloc::{AllocError, Global};
 
 /// Reads a call behind its `(`.
-#[derive(Drop)]
 pub struct CallReader {
     alloc: Global,
     function: Name,
@@ -22,12 +22,27 @@ pub struct CallReader {
     state: CallState,
 }
 
+/// Lets go of what is read. What holds a reader calls this.
+impl Drop for CallReader {
+    fn drop(self) {
+        let CallReader {
+            function,
+            arguments,
+            state,
+            alloc: _,
+        } = self;
+        drop(function);
+        drop(arguments);
+        drop(state);
+    }
+}
+
 #[derive(Drop)]
 enum CallState {
     /// At the first argument or the `)`.
     First,
     /// In an argument.
-    Argument(ExpressionReader),
+    Argument(Box<ExpressionReader>),
 }
 
 /// What a token does to a call.
@@ -87,7 +102,7 @@ fn first(
             arguments,
         })),
         _ => {
-            let reader = ExpressionReader::new(alloc);
+            let reader = fresh_sum(alloc)?;
             let step = in_argument(alloc, function, arguments, reader, token, class)?;
             Ok(step)
         }
@@ -98,12 +113,12 @@ fn in_argument(
     alloc: Global,
     function: Name,
     mut arguments: Vec<Expression>,
-    mut reader: ExpressionReader,
+    mut reader: Box<ExpressionReader>,
     token: &Token,
     class: Class,
 ) -> Result<CallStep, AllocError>
     requires { IsClass token.now class }
-    ensures { IfOk result (IsCallStep (InTurn (CompletesExpression reader) (BehindArgument function (expressions_of arguments.items))) token.now) }
+    ensures { IfOk result (IsCallStep (InTurn (CompletesExpression reader.value) (BehindArgument function (expressions_of arguments.items))) token.now) }
 {
     match reader.step(token, class)? {
         ExpressionStep::Taken => Ok(CallStep::Taken(CallReader {
@@ -114,7 +129,8 @@ fn in_argument(
         })),
         ExpressionStep::Found(argument) => {
             arguments.push(argument)?;
-            Ok(behind_argument(alloc, function, arguments, token, class))
+            let step = behind_argument(alloc, function, arguments, token, class)?;
+            Ok(step)
         }
         ExpressionStep::Stuck => Ok(CallStep::Stuck),
     }
@@ -126,25 +142,25 @@ fn behind_argument(
     arguments: Vec<Expression>,
     token: &Token,
     class: Class,
-) -> CallStep
+) -> Result<CallStep, AllocError>
     requires { IsClass token.now class }
-    ensures { IsCallStep (BehindArguments function (expressions_of arguments.items)) token.now result }
+    ensures { IfOk result (IsCallStep (BehindArguments function (expressions_of arguments.items)) token.now) }
 {
     match class {
         Class::Comma => {
-            let reader = ExpressionReader::new(alloc);
-            CallStep::Taken(CallReader {
+            let reader = fresh_sum(alloc)?;
+            Ok(CallStep::Taken(CallReader {
                 alloc,
                 function,
                 arguments,
                 state: CallState::Argument(reader),
-            })
+            }))
         }
-        Class::CloseParen => CallStep::Closed(Call {
+        Class::CloseParen => Ok(CallStep::Closed(Call {
             function,
             arguments,
-        }),
-        _ => CallStep::Stuck,
+        })),
+        _ => Ok(CallStep::Stuck),
     }
 }
 

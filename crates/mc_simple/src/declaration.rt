@@ -1,17 +1,18 @@
 // Reads a declaration behind its base.
-ghost use Rattle.std.specs.Prelude.{◌≡◌, ℕ, List, IfOk, map};
+ghost use Rattle.std.specs.Prelude.{◌≡◌, ℕ, List, Some, IfOk, map};
 ghost use Rattle.mc_ast.specs.Classes.{IsClass};
 ghost use Rattle.mc_ast.specs.Names.{is_in, IsName, name_of};
 ghost use Rattle.mc_ast.specs.Readers.{IsSame, CanEnd};
-ghost use Rattle.mc_simple.specs.Declarations.{BehindBase, BehindComma, BehindDeclarator, BehindInitial, BehindInitials, CompletesDeclaration, IsDeclarationMove, IsDeclarationStep};
-ghost use Rattle.mc_simple.specs.Rights.{CompletesRight};
+ghost use Rattle.mc_simple.specs.Declarations.{BehindBase, BehindComma, BehindDeclarator, BehindInitial, BehindInitials, CompletesDeclaration, IsDeclarationMove, IsDeclarationPut, IsDeclarationStep, IsInInitial};
 ghost use Rattle.mc_simple.specs.Phrases.{Next};
-ghost use Rattle.mc_ast.specs.Views.{initial_of};
-ghost use Rattle.mc_expression.specs.Turns.{InTurn};
+ghost use Rattle.mc_ast.specs.Views.{initial_of, right_of};
+ghost use Rattle.mc_ast.specs.declared.trees.Declarator.{Declarator};
+ghost use Rattle.mc_simple.specs.declared.declaration.DeclarationState.TheVariants as DeclarationState;
+ghost use Rattle.mc_simple.specs.declared.right.RightReader.{RightReader};
 ghost use Rattle.mc_simple.specs.declared.declaration.DeclarationReader.{DeclarationReader};
 
 use crate::right::{RightReader, RightStep};
-use mc_ast::{Base, Class, Declaration, Declarator, Initial, name_at};
+use mc_ast::{Base, Class, Declaration, Declarator, Initial, RightSide, name_at};
 use mc_base::Place;
 use mc_expression::expressions_can_end;
 use mc_lex::Token;
@@ -19,12 +20,26 @@ use std::alloc::{AllocError, Global};
 use std::mem;
 
 /// Reads a declaration behind its base, up to its `;`.
-#[derive(Drop)]
 pub struct DeclarationReader {
     alloc: Global,
     base: Base,
     items: Vec<Initial>,
     state: DeclarationState,
+}
+
+/// Lets go of what is read. What holds a reader calls this.
+impl Drop for DeclarationReader {
+    fn drop(self) {
+        let DeclarationReader {
+            base,
+            items,
+            state,
+            alloc: _,
+        } = self;
+        drop(base);
+        drop(items);
+        drop(state);
+    }
 }
 
 #[derive(Drop)]
@@ -80,24 +95,88 @@ impl DeclarationReader {
         requires { IsClass token.now class }
         ensures { (aliases : List (List ℕ)) → is_in aliases token.now.text ≡ alias → IfOk result (IsDeclarationStep (CompletesDeclaration aliases self.old) (CompletesDeclaration aliases self.new) token.now) }
     {
-        let alloc = self.alloc;
-        let fresh = DeclarationReader::behind_base(alloc, Base::Int(token.place));
-        let reader = mem::replace(self, fresh);
-        let step = reader.moved(token, class, alias)?;
+        match &mut self.state {
+            DeclarationState::Value(_, reader) => match reader.step(token, class, alias)? {
+                RightStep::Taken => Ok(DeclarationStep::Taken),
+                RightStep::Found(right) => {
+                    let step = self.taken(token.place).with_value(right, token, class)?;
+                    Ok(self.put(step))
+                }
+                RightStep::Stuck => Ok(DeclarationStep::Stuck),
+            },
+            _ => self.step_beside_values(token, class),
+        }
+    }
+
+    /// The same where no value of a declarator is read.
+    fn step_beside_values(
+        &mut self,
+        token: &Token,
+        class: Class,
+    ) -> Result<DeclarationStep, AllocError>
+        requires class { IsClass token.now class }
+        requires beside { IsInInitial self.old → ⊥ }
+        ensures { (aliases : List (List ℕ)) → IfOk result (IsDeclarationStep (CompletesDeclaration aliases self.old) (CompletesDeclaration aliases self.new) token.now) }
+    {
+        let step = self.taken(token.place).moved(token, class)?;
+        Ok(self.put(step))
+    }
+
+    /// The reader by value.
+    fn taken(&mut self, place: Place) -> DeclarationReader
+        ensures { result ≡ self.old }
+    {
+        let fresh = DeclarationReader::behind_base(self.alloc, Base::Int(place));
+        mem::replace(self, fresh)
+    }
+
+    /// Behind the value of the declarator.
+    fn with_value(
+        self,
+        right: RightSide,
+        token: &Token,
+        class: Class,
+    ) -> Result<DeclarationMove, AllocError>
+        requires { IsClass token.now class }
+        ensures { (declarator : Declarator) (reader : RightReader) → self.state ≡ DeclarationState.Value declarator reader → (aliases : List (List ℕ)) → IfOk result (IsDeclarationMove aliases (BehindInitial aliases self.base (map initial_of self.items.items) (record { declarator = declarator; value = Some (right_of right) })) token.now) }
+    {
+        let DeclarationReader {
+            alloc,
+            base,
+            mut items,
+            state,
+        } = self;
+        match state {
+            DeclarationState::Value(declarator, _) => {
+                items.push(Initial {
+                    declarator,
+                    value: Some(right),
+                })?;
+                Ok(behind_initial(alloc, base, items, token, class))
+            }
+            _ => Ok(DeclarationMove::Stuck),
+        }
+    }
+
+    /// A step by value, done in place.
+    fn put(&mut self, step: DeclarationMove) -> DeclarationStep
+        ensures { IsDeclarationPut step self.new result }
+    {
         match step {
             DeclarationMove::Taken(next) => {
                 *self = next;
-                Ok(DeclarationStep::Taken)
+                DeclarationStep::Taken
             }
-            DeclarationMove::Closed(made) => Ok(DeclarationStep::Closed(made)),
-            DeclarationMove::Stuck => Ok(DeclarationStep::Stuck),
+            DeclarationMove::Closed(made) => DeclarationStep::Closed(made),
+            DeclarationMove::Stuck => DeclarationStep::Stuck,
         }
     }
 
     /// The same, by value.
-    fn moved(self, token: &Token, class: Class, alias: bool) -> Result<DeclarationMove, AllocError>
-        requires { IsClass token.now class }
-        ensures { (aliases : List (List ℕ)) → is_in aliases token.now.text ≡ alias → IfOk result (IsDeclarationMove aliases (CompletesDeclaration aliases self) token.now) }
+    fn moved(self, token: &Token, class: Class) -> Result<DeclarationMove, AllocError>
+        requires class { IsClass token.now class }
+        requires beside { IsInInitial self → ⊥ }
+        ensures { (aliases : List (List ℕ)) → IfOk result (IsDeclarationMove aliases (CompletesDeclaration aliases self) token.now) }
     {
         let DeclarationReader {
             alloc,
@@ -113,9 +192,7 @@ impl DeclarationReader {
             DeclarationState::Named(declarator) => behind_declarator(
                 alloc, base, items, declarator, token, class,
             ),
-            DeclarationState::Value(declarator, reader) => in_value(
-                alloc, base, items, declarator, reader, token, class, alias,
-            ),
+            DeclarationState::Value(_, _) => unreachable!(),
         }
     }
 }
@@ -211,37 +288,6 @@ fn behind_declarator(
             })?;
             Ok(behind_initial(alloc, base, items, token, class))
         }
-    }
-}
-
-fn in_value(
-    alloc: Global,
-    base: Base,
-    mut items: Vec<Initial>,
-    declarator: Declarator,
-    mut reader: RightReader,
-    token: &Token,
-    class: Class,
-    alias: bool,
-) -> Result<DeclarationMove, AllocError>
-    requires { IsClass token.now class }
-    ensures { (aliases : List (List ℕ)) → is_in aliases token.now.text ≡ alias → IfOk result (IsDeclarationMove aliases (InTurn (CompletesRight aliases reader) (λ r. BehindInitial aliases base (map initial_of items.items) (record { declarator = declarator; value = Some r }))) token.now) }
-{
-    match reader.step(token, class, alias)? {
-        RightStep::Taken => Ok(DeclarationMove::Taken(DeclarationReader {
-            alloc,
-            base,
-            items,
-            state: DeclarationState::Value(declarator, reader),
-        })),
-        RightStep::Found(right) => {
-            items.push(Initial {
-                declarator,
-                value: Some(right),
-            })?;
-            Ok(behind_initial(alloc, base, items, token, class))
-        }
-        RightStep::Stuck => Ok(DeclarationMove::Stuck),
     }
 }
 

@@ -8,6 +8,7 @@ mod declaration;
 mod right;
 mod simple;
 mod size;
+mod sum;
 
 pub use base::{BaseReader, BaseStep, bases_can_end};
 pub use call::{CallReader, CallStep, calls_can_end};

@@ -15,6 +15,7 @@ ghost use Rattle.mc_simple.specs.declared.right.RightReader.{RightReader};
 use crate::allocation::{AllocationReader, AllocationStep};
 use crate::base::BaseReader;
 use crate::call::{CallReader, CallStep};
+use crate::sum::fresh_sum;
 use mc_ast::{Base, Cast, Class, Expression, LeftValue, Name, RightSide, name_at};
 use mc_base::Place;
 use mc_expression::{ExpressionReader, ExpressionStep, expressions_can_end};
@@ -23,12 +24,20 @@ use std::alloc::{AllocError, Global};
 use std::mem;
 
 /// Reads the right side of an assignment, or a value that is returned.
-#[derive(Drop)]
 pub struct RightReader {
     alloc: Global,
     state: RightState,
 }
 
+/// Lets go of what is read. What holds a reader calls this.
+impl Drop for RightReader {
+    fn drop(self) {
+        let RightReader { state, alloc: _ } = self;
+        drop(state);
+    }
+}
+
+/// What is read. The readers of expressions stand in boxes, so that a state is small.
 #[derive(Drop)]
 enum RightState {
     Start,
@@ -43,8 +52,8 @@ enum RightState {
     /// Behind the name of a type in parentheses.
     Enclosed(Place, Name),
     /// In an expression in parentheses, with which the right side begins.
-    Parens(Place, ExpressionReader),
-    Sum(ExpressionReader),
+    Parens(Place, Box<ExpressionReader>),
+    Sum(Box<ExpressionReader>),
     Call(CallReader),
     Allocation(AllocationReader),
     Done(RightSide),
@@ -222,7 +231,7 @@ fn opened(
             Ok(step)
         }
         _ => {
-            let reader = ExpressionReader::new(alloc);
+            let reader = fresh_sum(alloc)?;
             let step = in_parens(alloc, place, reader, token, class)?;
             Ok(step)
         }
@@ -245,7 +254,8 @@ fn opened_name(
             state: RightState::OpenedAlias(place, name),
         }))
     } else {
-        let reader = ExpressionReader::behind_name(alloc, name);
+        let fresh = ExpressionReader::behind_name(alloc, name);
+        let reader = Box::new(alloc, fresh)?;
         Ok(RightMove::Taken(RightReader {
             alloc,
             state: RightState::Parens(place, reader),
@@ -288,7 +298,8 @@ fn opened_alias(
             state: RightState::Enclosed(place, name),
         })),
         _ => {
-            let reader = ExpressionReader::behind_name(alloc, name);
+            let fresh = ExpressionReader::behind_name(alloc, name);
+            let reader = Box::new(alloc, fresh)?;
             let step = in_parens(alloc, place, reader, token, class)?;
             Ok(step)
         }
@@ -319,7 +330,8 @@ fn opened_star(
             }))
         }
         _ => {
-            let reader = behind_times(alloc, name, star)?;
+            let fresh = behind_times(alloc, name, star)?;
+            let reader = Box::new(alloc, fresh)?;
             let step = in_parens(alloc, place, reader, token, class)?;
             Ok(step)
         }
@@ -379,12 +391,12 @@ fn enclosed(
 fn in_parens(
     alloc: Global,
     place: Place,
-    mut reader: ExpressionReader,
+    mut reader: Box<ExpressionReader>,
     token: &Token,
     class: Class,
 ) -> Result<RightMove, AllocError>
     requires { IsClass token.now class }
-    ensures { (aliases : List (List ℕ)) → IfOk result (IsRightMove aliases (AsExpression (InParens place (CompletesExpression reader))) token.now) }
+    ensures { (aliases : List (List ℕ)) → IfOk result (IsRightMove aliases (AsExpression (InParens place (CompletesExpression reader.value))) token.now) }
 {
     match reader.step(token, class)? {
         ExpressionStep::Taken => Ok(RightMove::Taken(RightReader {
@@ -412,7 +424,8 @@ fn behind_parens(
     match class {
         Class::CloseParen => {
             let operand = parens(alloc, place, inner)?;
-            let reader = ExpressionReader::behind_operand(alloc, operand);
+            let fresh = ExpressionReader::behind_operand(alloc, operand);
+            let reader = Box::new(alloc, fresh)?;
             Ok(RightMove::Taken(RightReader {
                 alloc,
                 state: RightState::Sum(reader),
@@ -432,10 +445,13 @@ fn in_sum(
     ensures { (aliases : List (List ℕ)) → IfOk result (IsRightMove aliases (AsExpression (CompletesExpression reader)) token.now) }
 {
     match reader.step(token, class)? {
-        ExpressionStep::Taken => Ok(RightMove::Taken(RightReader {
-            alloc,
-            state: RightState::Sum(reader),
-        })),
+        ExpressionStep::Taken => {
+            let reader = Box::new(alloc, reader)?;
+            Ok(RightMove::Taken(RightReader {
+                alloc,
+                state: RightState::Sum(reader),
+            }))
+        }
         ExpressionStep::Found(sum) => Ok(RightMove::Found(RightSide::Expression(sum))),
         ExpressionStep::Stuck => Ok(RightMove::Stuck),
     }

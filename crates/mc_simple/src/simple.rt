@@ -15,6 +15,7 @@ ghost use Rattle.mc_simple.specs.declared.simple.SimpleReader.{SimpleReader};
 
 use crate::call::{CallReader, CallStep};
 use crate::right::{RightReader, RightStep};
+use crate::sum::fresh_sum;
 use mc_ast::{Class, Expression, LeftValue, Name, Simple, name_at};
 use mc_base::Place;
 use mc_expression::{ExpressionReader, ExpressionStep, expressions_can_end};
@@ -23,10 +24,17 @@ use std::alloc::{AllocError, Global};
 use std::mem;
 
 /// Reads a simple statement: an assignment, `+=`, `-=`, `++`, `--` or a call.
-#[derive(Drop)]
 pub struct SimpleReader {
     alloc: Global,
     state: SimpleState,
+}
+
+/// Lets go of what is read. What holds a reader calls this.
+impl Drop for SimpleReader {
+    fn drop(self) {
+        let SimpleReader { state, alloc: _ } = self;
+        drop(state);
+    }
 }
 
 /// By one up, or by one down.
@@ -54,7 +62,7 @@ enum SimpleState {
     /// Behind `=`.
     Assign(LeftValue, RightReader),
     /// Behind `+=` or `-=`.
-    ChangeBy(Change, LeftValue, ExpressionReader),
+    ChangeBy(Change, LeftValue, Box<ExpressionReader>),
     Call(CallReader),
     Done(Simple),
 }
@@ -168,8 +176,8 @@ impl SimpleReader {
             SimpleState::FirstArrow(change, place, left) => first_arrow(
                 alloc, change, place, left, token, class,
             ),
-            SimpleState::Named(name) => Ok(behind_name(alloc, name, token, class)),
-            SimpleState::Left(left) => Ok(behind_left(alloc, left, token, class)),
+            SimpleState::Named(name) => behind_name(alloc, name, token, class),
+            SimpleState::Left(left) => behind_left(alloc, left, token, class),
             SimpleState::Arrow(left) => behind_arrow(alloc, left, token, class),
             SimpleState::Assign(_, _) => unreachable!(),
             SimpleState::ChangeBy(_, _, _) => unreachable!(),
@@ -273,64 +281,75 @@ fn first_arrow(
     }
 }
 
-fn behind_name(alloc: Global, name: Name, token: &Token, class: Class) -> SimpleMove
+fn behind_name(
+    alloc: Global,
+    name: Name,
+    token: &Token,
+    class: Class,
+) -> Result<SimpleMove, AllocError>
     requires { IsClass token.now class }
-    ensures { (aliases : List (List ℕ)) → IsSimpleMove aliases (BehindSimpleName aliases name) token.now result }
+    ensures { (aliases : List (List ℕ)) → IfOk result (IsSimpleMove aliases (BehindSimpleName aliases name) token.now) }
 {
     match class {
         Class::OpenParen => {
             let reader = CallReader::new(alloc, name);
-            SimpleMove::Taken(SimpleReader {
+            Ok(SimpleMove::Taken(SimpleReader {
                 alloc,
                 state: SimpleState::Call(reader),
-            })
+            }))
         }
         _ => {
             let left = just(alloc, name);
-            behind_left(alloc, left, token, class)
+            let step = behind_left(alloc, left, token, class)?;
+            Ok(step)
         }
     }
 }
 
-fn behind_left(alloc: Global, left: LeftValue, token: &Token, class: Class) -> SimpleMove
+fn behind_left(
+    alloc: Global,
+    left: LeftValue,
+    token: &Token,
+    class: Class,
+) -> Result<SimpleMove, AllocError>
     requires { IsClass token.now class }
-    ensures { (aliases : List (List ℕ)) → IsSimpleMove aliases (InLeft aliases (left_of left)) token.now result }
+    ensures { (aliases : List (List ℕ)) → IfOk result (IsSimpleMove aliases (InLeft aliases (left_of left)) token.now) }
 {
     match class {
-        Class::Arrow => SimpleMove::Taken(SimpleReader {
+        Class::Arrow => Ok(SimpleMove::Taken(SimpleReader {
             alloc,
             state: SimpleState::Arrow(left),
-        }),
+        })),
         Class::Assign => {
             let reader = RightReader::new(alloc);
-            SimpleMove::Taken(SimpleReader {
+            Ok(SimpleMove::Taken(SimpleReader {
                 alloc,
                 state: SimpleState::Assign(left, reader),
-            })
+            }))
         }
         Class::PlusAssign => {
-            let reader = ExpressionReader::new(alloc);
-            SimpleMove::Taken(SimpleReader {
+            let reader = fresh_sum(alloc)?;
+            Ok(SimpleMove::Taken(SimpleReader {
                 alloc,
                 state: SimpleState::ChangeBy(Change::Increment, left, reader),
-            })
+            }))
         }
         Class::MinusAssign => {
-            let reader = ExpressionReader::new(alloc);
-            SimpleMove::Taken(SimpleReader {
+            let reader = fresh_sum(alloc)?;
+            Ok(SimpleMove::Taken(SimpleReader {
                 alloc,
                 state: SimpleState::ChangeBy(Change::Decrement, left, reader),
-            })
+            }))
         }
-        Class::PlusPlus => SimpleMove::Taken(SimpleReader {
+        Class::PlusPlus => Ok(SimpleMove::Taken(SimpleReader {
             alloc,
             state: SimpleState::Done(Simple::Increment(left)),
-        }),
-        Class::MinusMinus => SimpleMove::Taken(SimpleReader {
+        })),
+        Class::MinusMinus => Ok(SimpleMove::Taken(SimpleReader {
             alloc,
             state: SimpleState::Done(Simple::Decrement(left)),
-        }),
-        _ => SimpleMove::Stuck,
+        })),
+        _ => Ok(SimpleMove::Stuck),
     }
 }
 

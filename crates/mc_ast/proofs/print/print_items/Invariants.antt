@@ -1,6 +1,6 @@
 use Rattle.std.proofs.Common.{drop, map}
-use Rattle.mc_ast.specs.Views.{field_of, item_of}
-use Rattle.mc_ast.specs.Words.{Continues, more_words, all_words, item_words}
+use Rattle.mc_ast.specs.Views.{item_of}
+use Rattle.mc_ast.specs.Words.{Continues, all_words, item_words}
 use Rattle.mc_ast.proofs.print.print_items.Given as goal
 
 abbrev pub invariant-loop-item : goal.invariant-loop-item

@@ -1,6 +1,5 @@
-use Rattle.std.proofs.Common.{drop, map}
-use Rattle.mc_ast.specs.Views.{field_of, item_of}
-use Rattle.mc_ast.specs.Words.{Continues, more_words, all_words, parameter_words}
+use Rattle.std.proofs.Common.{drop}
+use Rattle.mc_ast.specs.Words.{Continues, more_words, parameter_words}
 use Rattle.mc_ast.proofs.print.print_more_parameters.Given as goal
 
 abbrev pub invariant-loop-parameter : goal.invariant-loop-parameter

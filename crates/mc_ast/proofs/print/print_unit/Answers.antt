@@ -1,6 +1,5 @@
-use Rattle.std.proofs.Common.{◌≡◌, List, [], ◌++◌, map, sym, append-nil}
-use Rattle.mc_ast.specs.Views.{item_of}
-use Rattle.mc_ast.specs.Words.{text_of, all_words, item_words}
+use Rattle.std.proofs.Common.{[], sym, append-nil}
+use Rattle.mc_ast.specs.Words.{text_of}
 use Rattle.mc_ast.proofs.print.print_unit.Goals as goal
 
 pub returns : goal.returns

@@ -1,5 +1,5 @@
-use Rattle.std.proofs.Common.{◌≡◌, ◌<◌, ◌+◌, List, [], ◌∷◌, ◌++◌, ◌∙◌, arith}
-use Rattle.mc_ast.specs.Printing.{condition_parts_words, condition_parts_steps}
+use Rattle.std.proofs.Common.{◌≡◌, [], ◌∷◌, ◌++◌, ◌∙◌, arith}
+use Rattle.mc_ast.specs.Printing.{condition_parts_words}
 use Rattle.mc_ast.proofs.Parts.{condition_words_pushed, condition_steps_pushed}
 use Rattle.mc_ast.proofs.print_condition.print_condition.Goals as goal
 

@@ -1,4 +1,4 @@
-use Rattle.std.proofs.Common.{◌≡◌, List, [], ◌∷◌, ◌++◌}
+use Rattle.std.proofs.Common.{◌≡◌, [], ◌∷◌, ◌++◌}
 use Rattle.mc_ast.proofs.Parts.{condition_words_pushed, condition_steps_pushed}
 use Rattle.mc_ast.proofs.print_condition.push.Goals as goal
 

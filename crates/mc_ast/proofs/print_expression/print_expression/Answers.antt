@@ -1,5 +1,5 @@
-use Rattle.std.proofs.Common.{◌≡◌, ◌<◌, ◌+◌, List, [], ◌∷◌, ◌++◌, ◌∙◌, arith}
-use Rattle.mc_ast.specs.Printing.{expression_parts_words, expression_parts_steps}
+use Rattle.std.proofs.Common.{◌≡◌, [], ◌∷◌, ◌++◌, ◌∙◌, arith}
+use Rattle.mc_ast.specs.Printing.{expression_parts_words}
 use Rattle.mc_ast.proofs.Parts.{expression_words_pushed, expression_steps_pushed}
 use Rattle.mc_ast.proofs.print_expression.print_expression.Goals as goal
 

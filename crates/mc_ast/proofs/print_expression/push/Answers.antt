@@ -1,4 +1,4 @@
-use Rattle.std.proofs.Common.{◌≡◌, List, [], ◌∷◌, ◌++◌}
+use Rattle.std.proofs.Common.{◌≡◌, [], ◌∷◌, ◌++◌}
 use Rattle.mc_ast.proofs.Parts.{expression_words_pushed, expression_steps_pushed}
 use Rattle.mc_ast.proofs.print_expression.push.Goals as goal
 

@@ -1,6 +1,6 @@
 use Rattle.std.proofs.Common.{drop, map}
-use Rattle.mc_ast.specs.Views.{expression_of, initial_of, field_of, item_of}
-use Rattle.mc_ast.specs.Words.{Continues, more_words, all_words, expression_words}
+use Rattle.mc_ast.specs.Views.{expression_of}
+use Rattle.mc_ast.specs.Words.{Continues, more_words, expression_words}
 use Rattle.mc_ast.proofs.print_right.print_more_expressions.Given as goal
 
 abbrev pub invariant-loop-expression : goal.invariant-loop-expression

@@ -1,4 +1,4 @@
-use Rattle.std.proofs.Common.{◌≡◌, ◌∷◌, ◌∙◌, codes}
+use Rattle.std.proofs.Common.{◌∷◌, ◌∙◌, codes}
 use Rattle.mc_ast.proofs.print_right.print_size.Goals as goal
 
 pub returns-in_ok-print_word-in-OfParens-2 : goal.returns-in_ok-print_word-in-OfParens-2

@@ -1,6 +1,5 @@
-use Rattle.std.proofs.Common.{drop, map}
-use Rattle.mc_ast.specs.Views.{expression_of, initial_of, field_of, item_of}
-use Rattle.mc_ast.specs.Words.{Continues, more_words, all_words, argument_words}
+use Rattle.std.proofs.Common.{drop}
+use Rattle.mc_ast.specs.Words.{Continues, more_words, argument_words}
 use Rattle.mc_ast.proofs.print_simple.print_more_arguments.Given as goal
 
 abbrev pub invariant-loop-argument : goal.invariant-loop-argument

@@ -1,6 +1,6 @@
 use Rattle.std.proofs.Common.{drop, map}
-use Rattle.mc_ast.specs.Views.{expression_of, initial_of, field_of, item_of}
-use Rattle.mc_ast.specs.Words.{Continues, more_words, all_words, initial_words}
+use Rattle.mc_ast.specs.Views.{initial_of}
+use Rattle.mc_ast.specs.Words.{Continues, more_words, initial_words}
 use Rattle.mc_ast.proofs.print_simple.print_more_initials.Given as goal
 
 abbrev pub invariant-loop-initial : goal.invariant-loop-initial

@@ -1,4 +1,4 @@
-use Rattle.std.proofs.Common.{◌≡◌, ◌∷◌, ◌∙◌, codes}
+use Rattle.std.proofs.Common.{◌∷◌, ◌∙◌, codes}
 use Rattle.mc_ast.specs.Words.{more_words, argument_words}
 use Rattle.mc_ast.proofs.print_statement.print_assume_shape.Goals as goal
 

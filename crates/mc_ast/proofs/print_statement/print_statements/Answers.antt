@@ -1,5 +1,5 @@
-use Rattle.std.proofs.Common.{◌≡◌, ◌<◌, ◌+◌, List, [], ◌∷◌, ◌++◌, ◌∙◌, arith}
-use Rattle.mc_ast.specs.Printing.{statement_parts_words, statement_parts_steps}
+use Rattle.std.proofs.Common.{◌≡◌, [], ◌∷◌, ◌++◌, ◌∙◌, arith}
+use Rattle.mc_ast.specs.Printing.{statement_parts_words}
 use Rattle.mc_ast.proofs.Parts.{statement_words_pushed, statement_steps_pushed}
 use Rattle.mc_ast.proofs.print_statement.print_statements.Goals as goal
 

@@ -1,4 +1,4 @@
-use Rattle.std.proofs.Common.{◌≡◌, List, [], ◌∷◌, ◌++◌}
+use Rattle.std.proofs.Common.{◌≡◌, [], ◌∷◌, ◌++◌}
 use Rattle.mc_ast.proofs.Parts.{statement_words_pushed, statement_steps_pushed}
 use Rattle.mc_ast.proofs.print_statement.push.Goals as goal
 

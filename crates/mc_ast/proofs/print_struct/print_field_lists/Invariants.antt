@@ -1,6 +1,6 @@
 use Rattle.std.proofs.Common.{drop, map}
-use Rattle.mc_ast.specs.Views.{field_of, item_of}
-use Rattle.mc_ast.specs.Words.{Continues, more_words, all_words, field_list_words}
+use Rattle.mc_ast.specs.Views.{field_of}
+use Rattle.mc_ast.specs.Words.{Continues, all_words, field_list_words}
 use Rattle.mc_ast.proofs.print_struct.print_field_lists.Given as goal
 
 abbrev pub invariant-loop-field : goal.invariant-loop-field

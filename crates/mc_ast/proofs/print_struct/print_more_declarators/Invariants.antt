@@ -1,6 +1,5 @@
-use Rattle.std.proofs.Common.{drop, map}
-use Rattle.mc_ast.specs.Views.{field_of, item_of}
-use Rattle.mc_ast.specs.Words.{Continues, more_words, all_words, declarator_words}
+use Rattle.std.proofs.Common.{drop}
+use Rattle.mc_ast.specs.Words.{Continues, more_words, declarator_words}
 use Rattle.mc_ast.proofs.print_struct.print_more_declarators.Given as goal
 
 abbrev pub invariant-loop-declarator : goal.invariant-loop-declarator

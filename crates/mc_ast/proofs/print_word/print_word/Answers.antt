@@ -1,5 +1,5 @@
-use Rattle.std.proofs.Common.{◌≡◌, List, [], ◌∷◌, ◌++◌, ℕ, append_assoc, sym}
-use Rattle.mc_ast.specs.Words.{text_of, gap}
+use Rattle.std.proofs.Common.{◌≡◌, [], ◌∷◌, ◌++◌, append_assoc}
+use Rattle.mc_ast.specs.Words.{text_of}
 use Rattle.mc_ast.proofs.print_word.print_word.Goals as goal
 
 pub returns : goal.returns

@@ -1,9 +1,7 @@
-use Rattle.std.proofs.Common.{◌≡◌, ◌<◌, ◌+◌, ℕ, length, arith}
-use Rattle.std.proofs.Math.ListN.{set}
+use Rattle.std.proofs.Common.{◌<◌, length, arith}
 use Rattle.std.specs.Vec.{with_item}
 use Rattle.std.proofs.lemmas.Bool.Decides.{nat_tests}
-use Rattle.mc_ast.specs.Weights.{lone_statement, whole_statement}
-use Rattle.mc_ast.proofs.Blocks.{whole_list, lone_list, whole_block, lone_block, some_whole, exchange}
+use Rattle.mc_ast.proofs.Blocks.{whole_block, lone_block, some_whole, exchange}
 use Rattle.mc_ast.proofs.trees.exchanged.Goals as goal
 
 pub returns-then-is_empty : goal.returns-then-is_empty

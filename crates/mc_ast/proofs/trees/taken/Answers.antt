@@ -1,7 +1,6 @@
-use Rattle.std.proofs.Common.{◌≡◌, ◌<◌, ◌+◌, ◌++◌, [], ◌∷◌, ℕ, length, arith}
+use Rattle.std.proofs.Common.{◌≡◌, ◌<◌, ◌++◌, [], ◌∷◌, length, arith}
 use Rattle.std.proofs.lemmas.Bool.Decides.{nat_tests}
-use Rattle.mc_ast.specs.Weights.{lone_statement, whole_statement}
-use Rattle.mc_ast.proofs.Blocks.{whole_list, lone_list, whole_block, lone_block, last_alone, last_of_some}
+use Rattle.mc_ast.proofs.Blocks.{lone_block, last_alone, last_of_some}
 use Rattle.mc_ast.proofs.trees.taken.Goals as goal
 
 pub returns-then-is_empty : goal.returns-then-is_empty

@@ -1,4 +1,4 @@
-use Rattle.std.proofs.Common.{subst}
+use Rattle.std.proofs.Common.{refl, subst}
 use Rattle.mc_expression.specs.Conditions.{CompletesCondition, StepsCondition}
 use Rattle.mc_simple.proofs.Phrases.{then_finds, then_stuck}
 use Rattle.mc_body.specs.Frames.{Around}
@@ -7,10 +7,10 @@ use Rattle.mc_body.proofs.StateTurns.{body_step_along, condition_takes}
 use Rattle.mc_body.proofs.inner.in_condition.Goals as goal
 
 pub returns-in-Taken : goal.returns-in-Taken
-returns-in-Taken c = λ purpose condition is aliases. rw (c.requires.ready, c.in-Condition.is) (condition_takes aliases c.in-Condition.purpose (Around aliases c.args.reader.now.nest) (rw c.deref_mut.ensures.value at (subst (λ s. StepsCondition (CompletesCondition c.deref_mut.result.now) (CompletesCondition c.step.new.self) c.args.token.now s) c.in-Taken.is (c.in_ok-step-in-Condition.ensures))))
+returns-in-Taken c = λ purpose condition is aliases. rw (c.requires.ready, c.in-Condition.is) (condition_takes aliases c.in-Condition.field-0 (Around aliases c.args.reader.now.nest) (rw c.deref_mut.ensures.value at (subst (λ s. StepsCondition (CompletesCondition c.deref_mut.result.now) (CompletesCondition c.step.new.self) c.args.token.now s) c.in-Taken.is (c.in_ok-step-in-Condition.ensures))))
 
 pub returns-in-Found : goal.returns-in-Found
-returns-in-Found c = λ purpose condition is aliases. rw c.in-Condition.is (if_ok_map c.behind_purpose.result (λ step h. body_step_along aliases c.behind_purpose.new.reader step (then_finds (rw c.deref_mut.ensures.value at (subst (λ s. StepsCondition (CompletesCondition c.deref_mut.result.now) (CompletesCondition c.step.new.self) c.args.token.now s) c.in-Found.is (c.in_ok-step-in-Condition.ensures)))) h) (rw c.replace-purpose.ensures.value at (c.behind_purpose.ensures aliases)))
+returns-in-Found c = λ purpose condition is aliases. rw c.in-Condition.is (if_ok_map c.behind_condition.result (λ step h. body_step_along aliases c.behind_condition.new.reader step (then_finds (rw c.deref_mut.ensures.value at (subst (λ s. StepsCondition (CompletesCondition c.deref_mut.result.now) (CompletesCondition c.step.new.self) c.args.token.now s) c.in-Found.is (c.in_ok-step-in-Condition.ensures)))) h) (c.behind_condition.ensures c.in-Condition.field-0 _ refl aliases))
 
 pub returns-in-Stuck : goal.returns-in-Stuck
 returns-in-Stuck c = λ purpose condition is aliases. rw c.in-Condition.is (then_stuck (rw c.deref_mut.ensures.value at (subst (λ s. StepsCondition (CompletesCondition c.deref_mut.result.now) (CompletesCondition c.step.new.self) c.args.token.now s) c.in-Stuck.is (c.in_ok-step-in-Condition.ensures))))

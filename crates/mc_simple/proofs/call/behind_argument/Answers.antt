@@ -5,8 +5,8 @@ use Rattle.mc_simple.proofs.Tokens.{only_close, only_comma}
 use Rattle.mc_simple.proofs.Calls.{arguments_comma, arguments_close, arguments_stuck}
 use Rattle.mc_simple.proofs.call.behind_argument.Goals as goal
 
-pub returns-in-Comma : goal.returns-in-Comma
-returns-in-Comma c = let is : IsMark (codes ",") c.args.token.now = rw c.in-Comma.is at c.requires in takes_to (arguments_comma _ _ is) (then_same c.new-reader.ensures)
+pub returns-in_ok-reader-in-Comma : goal.returns-in_ok-reader-in-Comma
+returns-in_ok-reader-in-Comma c = let is : IsMark (codes ",") c.args.token.now = rw c.in-Comma.is at c.requires in takes_to (arguments_comma _ _ is) (then_same c.in_ok-reader-in-Comma.ensures)
 
 pub returns-in-CloseParen : goal.returns-in-CloseParen
 returns-in-CloseParen c = let is : IsMark (codes ")") c.args.token.now = rw c.in-CloseParen.is at c.requires in arguments_close _ _ is

@@ -9,4 +9,4 @@ pub returns-in-CloseParen : goal.returns-in-CloseParen
 returns-in-CloseParen c = let is : IsMark (codes ")") c.args.token.now = rw c.in-CloseParen.is at c.requires in first_close _ _ is
 
 pub returns-in_ok-step-in_default : goal.returns-in_ok-step-in_default
-returns-in_ok-step-in_default c = call_step_along _ (either_right (next_stuck (λ i. c.in_default.not-CloseParen (only_close _ _ c.requires i)))) (call_step_along _ (same_at _ (then_same (turned c.new-reader.ensures))) c.in_ok-step-in_default.ensures)
+returns-in_ok-step-in_default c = call_step_along _ (either_right (next_stuck (λ i. c.in_default.not-CloseParen (only_close _ _ c.requires i)))) (call_step_along _ (same_at _ (then_same (turned c.in_ok-reader-in_default.ensures))) c.in_ok-step-in_default.ensures)

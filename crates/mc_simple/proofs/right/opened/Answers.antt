@@ -12,4 +12,4 @@ pub returns-in_ok-step-in-Struct : goal.returns-in_ok-step-in-Struct
 returns-in_ok-step-in-Struct c = λ aliases e. let is : IsWord (codes "struct") c.args.token.now = rw c.in-Struct.is at c.requires in right_step_along aliases _ (opened_word aliases _ is (inr (inl refl))) (c.in_ok-step-in-Struct.ensures aliases e)
 
 pub returns-in_ok-step-in_default : goal.returns-in_ok-step-in_default
-returns-in_ok-step-in_default c = λ aliases e. right_step_along aliases _ (opened_other aliases _ (λ i. c.in_default.not-Int (only_int _ _ c.requires i)) (λ i. c.in_default.not-Struct (only_struct _ _ c.requires i)) (λ a. c.in_default.not-Name (only_name _ _ c.requires a.name))) (right_step_along aliases _ (same_at _ (then_same (then_same (turned c.new-reader.ensures)))) (c.in_ok-step-in_default.ensures aliases))
+returns-in_ok-step-in_default c = λ aliases e. right_step_along aliases _ (opened_other aliases _ (λ i. c.in_default.not-Int (only_int _ _ c.requires i)) (λ i. c.in_default.not-Struct (only_struct _ _ c.requires i)) (λ a. c.in_default.not-Name (only_name _ _ c.requires a.name))) (right_step_along aliases _ (same_at _ (then_same (then_same (turned c.in_ok-reader-in_default.ensures)))) (c.in_ok-step-in_default.ensures aliases))

@@ -11,11 +11,11 @@ returns-in-Arrow c = λ aliases. let is : IsMark (codes "->") c.args.token.now =
 pub returns-in-Assign : goal.returns-in-Assign
 returns-in-Assign c = λ aliases. let is : IsMark (codes "=") c.args.token.now = rw c.in-Assign.is at c.requires in takes_more (takes_to (left_assign aliases _ is) (then_same (c.new-reader.ensures aliases)))
 
-pub returns-in-PlusAssign : goal.returns-in-PlusAssign
-returns-in-PlusAssign c = λ aliases. let is : IsMark (codes "+=") c.args.token.now = rw c.in-PlusAssign.is at c.requires in takes_more (takes_to (left_add aliases _ is) (then_same c.new-reader-in-PlusAssign.ensures))
+pub returns-in_ok-reader-in-PlusAssign : goal.returns-in_ok-reader-in-PlusAssign
+returns-in_ok-reader-in-PlusAssign c = λ aliases. let is : IsMark (codes "+=") c.args.token.now = rw c.in-PlusAssign.is at c.requires in takes_more (takes_to (left_add aliases _ is) (then_same c.in_ok-reader-in-PlusAssign.ensures))
 
-pub returns-in-MinusAssign : goal.returns-in-MinusAssign
-returns-in-MinusAssign c = λ aliases. let is : IsMark (codes "-=") c.args.token.now = rw c.in-MinusAssign.is at c.requires in takes_more (takes_to (left_subtract aliases _ is) (then_same c.new-reader-in-MinusAssign.ensures))
+pub returns-in_ok-reader-in-MinusAssign : goal.returns-in_ok-reader-in-MinusAssign
+returns-in_ok-reader-in-MinusAssign c = λ aliases. let is : IsMark (codes "-=") c.args.token.now = rw c.in-MinusAssign.is at c.requires in takes_more (takes_to (left_subtract aliases _ is) (then_same c.in_ok-reader-in-MinusAssign.ensures))
 
 pub returns-in-PlusPlus : goal.returns-in-PlusPlus
 returns-in-PlusPlus c = λ aliases. let is : IsMark (codes "++") c.args.token.now = rw c.in-PlusPlus.is at c.requires in takes_more (left_increment aliases _ is)

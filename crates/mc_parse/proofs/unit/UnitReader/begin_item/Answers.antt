@@ -11,7 +11,7 @@ pub returns-in-Taken : goal.returns-in-Taken
 returns-in-Taken c = let is = map item_of c.args.self.now.items.items in let types = types_behind [] is in rw c.requires.between (unit_starts types is c.args.token.now c.args.class c.requires.of c.requires.no_end (record { items = c.args.self.now.items; current = Some c.step.new.self; aliases = c.args.self.now.aliases }) UnitStep.Taken (c.requires.known, item_takes ItemReader.Start _ is (rw c.in-Taken.is at (c.in_ok-step.ensures types (c.requires.known c.args.token.now.text ∙ c.requires.alias)))))
 
 pub returns-in_ok-add-in-Closed : goal.returns-in_ok-add-in-Closed
-returns-in_ok-add-in-Closed c = let is = map item_of c.args.self.now.items.items in let types = types_behind [] is in rw c.requires.between (unit_starts types is c.args.token.now c.args.class c.requires.of c.requires.no_end c.add.new.self UnitStep.Taken (c.in_ok-add-in-Closed.ensures.known, goes_to (is ++ item_of c.in-Closed.item ∷ []) _ _ (ap (λ items. map item_of items) c.in_ok-add-in-Closed.ensures.items ∙ map-append item_of c.args.self.now.items.items (c.in-Closed.item ∷ [])) c.in_ok-add-in-Closed.ensures.starts (item_closes ItemReader.Start is (item_of c.in-Closed.item) (rw c.in-Closed.is at (c.in_ok-step.ensures types (c.requires.known c.args.token.now.text ∙ c.requires.alias))))))
+returns-in_ok-add-in-Closed c = let is = map item_of c.args.self.now.items.items in let types = types_behind [] is in rw c.requires.between (unit_starts types is c.args.token.now c.args.class c.requires.of c.requires.no_end c.add.new.self UnitStep.Taken (c.in_ok-add-in-Closed.ensures.known, goes_to (is ++ item_of c.in-Closed.item.value ∷ []) _ _ (ap (λ items. map item_of items) c.in_ok-add-in-Closed.ensures.items ∙ map-append item_of c.args.self.now.items.items (c.in-Closed.item.value ∷ [])) c.in_ok-add-in-Closed.ensures.starts (item_closes ItemReader.Start is (item_of c.in-Closed.item.value) (rw c.in-Closed.is at (c.in_ok-step.ensures types (c.requires.known c.args.token.now.text ∙ c.requires.alias))))))
 
 pub returns-in-Stuck : goal.returns-in-Stuck
 returns-in-Stuck c = let is = map item_of c.args.self.now.items.items in let types = types_behind [] is in rw c.requires.between (unit_starts types is c.args.token.now c.args.class c.requires.of c.requires.no_end c.args.self.now UnitStep.Stuck (λ more all n. (rw c.in-Stuck.is at (c.in_ok-step.ensures types (c.requires.known c.args.token.now.text ∙ c.requires.alias))) more n.1 n.0 n.2))

@@ -19,13 +19,13 @@ pub returns-in-Stuck : goal.returns-in-Stuck
 returns-in-Stuck c = λ aliases e. rw c.in-Assign.is (then_stuck (subst (λ s. IsRightStep (CompletesRight aliases c.in-Assign.reader) (CompletesRight aliases c.step.new.self) c.args.token.now s) c.in-Stuck.is (c.in_ok-step-in-Assign.ensures aliases e)))
 
 pub returns-in-Taken-2 : goal.returns-in-Taken-2
-returns-in-Taken-2 c = λ aliases e. rw c.in-ChangeBy.is (made_takes (changed_by c.in-ChangeBy.change (left_of c.in-ChangeBy.left)) (in_right c.args.token.now) (subst (λ s. StepsExpression (CompletesExpression c.in-ChangeBy.reader) (CompletesExpression c.step-in-ChangeBy.new.self) c.args.token.now s) c.in-Taken-2.is c.in_ok-step-in-ChangeBy.ensures))
+returns-in-Taken-2 c = λ aliases e. rw c.in-ChangeBy.is (made_takes (changed_by c.in-ChangeBy.change (left_of c.in-ChangeBy.left)) (in_right c.args.token.now) (subst (λ s. StepsExpression (CompletesExpression c.in-ChangeBy.reader.value) (CompletesExpression c.step-in-ChangeBy.new.self) c.args.token.now s) c.in-Taken-2.is (rw c.deref_mut.ensures.value at c.in_ok-step-in-ChangeBy.ensures)))
 
 pub returns-in-Found-2 : goal.returns-in-Found-2
-returns-in-Found-2 c = λ aliases e. rw (c.in-ChangeBy.is, c.changed_by-simple.ensures, c.taken-left-in-Found-2.ensures) (made_finds (changed_by c.in-ChangeBy.change (left_of c.in-ChangeBy.left)) (subst (λ s. StepsExpression (CompletesExpression c.in-ChangeBy.reader) (CompletesExpression c.step-in-ChangeBy.new.self) c.args.token.now s) c.in-Found-2.is c.in_ok-step-in-ChangeBy.ensures))
+returns-in-Found-2 c = λ aliases e. rw (c.in-ChangeBy.is, c.changed_by-simple.ensures, c.taken-left-in-Found-2.ensures) (made_finds (changed_by c.in-ChangeBy.change (left_of c.in-ChangeBy.left)) (subst (λ s. StepsExpression (CompletesExpression c.in-ChangeBy.reader.value) (CompletesExpression c.step-in-ChangeBy.new.self) c.args.token.now s) c.in-Found-2.is (rw c.deref_mut.ensures.value at c.in_ok-step-in-ChangeBy.ensures)))
 
 pub returns-in-Stuck-2 : goal.returns-in-Stuck-2
-returns-in-Stuck-2 c = λ aliases e. rw c.in-ChangeBy.is (then_stuck (subst (λ s. StepsExpression (CompletesExpression c.in-ChangeBy.reader) (CompletesExpression c.step-in-ChangeBy.new.self) c.args.token.now s) c.in-Stuck-2.is c.in_ok-step-in-ChangeBy.ensures))
+returns-in-Stuck-2 c = λ aliases e. rw c.in-ChangeBy.is (then_stuck (subst (λ s. StepsExpression (CompletesExpression c.in-ChangeBy.reader.value) (CompletesExpression c.step-in-ChangeBy.new.self) c.args.token.now s) c.in-Stuck-2.is (rw c.deref_mut.ensures.value at c.in_ok-step-in-ChangeBy.ensures)))
 
 pub step_beside_values-requires : goal.step_beside_values-requires
 step_beside_values-requires c = record { class = c.requires; beside = not_in_value c.args.self.now.state c.in_default.not-Assign c.in_default.not-ChangeBy }
