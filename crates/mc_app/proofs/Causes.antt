@@ -3,7 +3,7 @@ use Rattle.std.proofs.Common.{◌≡◌, ℕ, arith}
 use Rattle.std.specs.Prelude.{Ok}
 use Rattle.std.proofs.lemmas.Bool.{cases_lt}
 use Rattle.std.proofs.Common.{inl, inr}
-use Rattle.mc_base.specs.Outside.{HasCause}
+use Rattle.mc_outside.specs.Outside.{HasCause}
 
 pub still : {T : Type 0} (x : T) (before now : ℕ) → HasCause before now (Ok x) → now ≡ before
 still x before now h = elim (cases_lt before now) [

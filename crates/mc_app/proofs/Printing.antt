@@ -2,8 +2,8 @@
 use Rattle.std.proofs.Common.{◌≡◌, ◌++◌, inr, ℕ, List, length, take, sym, ap, ◌∙◌, arith, ◌≤◌}
 use Rattle.std.specs.Prelude.{Result, Ok, Err, Option, ⊤}
 use Rattle.std.proofs.lemmas.List.{take_all}
-use Rattle.mc_base.specs.declared.outside.FileFault.{FileFault}
-use Rattle.mc_base.specs.Outside.{Adds, AddsIfTold}
+use Rattle.mc_outside.specs.declared.outside.FileFault.{FileFault}
+use Rattle.mc_outside.specs.Outside.{Adds, AddsIfTold}
 use Rattle.mc_app.specs.declared.answer.Answer.{Answer}
 use Rattle.mc_app.specs.Printing.{text_of}
 use Rattle.mc_app.specs.Answers.{Holds, IsWhyWords, PrintsPart}

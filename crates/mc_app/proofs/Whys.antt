@@ -3,7 +3,7 @@ use Rattle.std.proofs.Common.{◌≡◌, ℕ, List, [], ◌∷◌, ◌∙◌, su
 use Rattle.std.specs.Prelude.{None, MatchOption, MatchResult, Some, Option, Result, Ok, Err, String}
 use Rattle.std.specs.declared.alloc.Global.{Global}
 use Rattle.mc_ast.specs.Trees.{UnitTree}
-use Rattle.mc_base.specs.Outside.{Told, Stays}
+use Rattle.mc_outside.specs.Outside.{WhereTold, Stays}
 use Rattle.mc_app.specs.declared.answer.Answer.{Answer}
 use Rattle.mc_app.specs.declared.answer.Answer.TheVariants.{Good, Words, Program, Definitions, Document}
 use Rattle.mc_app.specs.declared.answer.ProgramFault.TheVariants.{Unread, Misfit, NotYet}
@@ -24,7 +24,7 @@ not_certified once text document unit here none reads =
     none (subst (λ (u : UnitTree). IsCertified document u) (once text reads.0 unit reads.1.1.read here.1.read) reads.2)
 
 -- from the program as it was read
-pub why_of_unit : ReadOnce → (holds : Holds) (p d c : List ℕ) (unit : UnitTree) (a : Answer) → Told (holds p) (λ text. IsProgramHere text unit) → IsWhyUnit holds d c unit a → IsWhy holds p d c a
+pub why_of_unit : ReadOnce → (holds : Holds) (p d c : List ℕ) (unit : UnitTree) (a : Answer) → WhereTold (holds p) (λ text. IsProgramHere text unit) → IsWhyUnit holds d c unit a → IsWhy holds p d c a
 why_of_unit once holds p d c unit Words read why = absurd why.1
 why_of_unit once holds p d c unit (Program (Unread cause)) read why = absurd why.1
 why_of_unit once holds p d c unit (Program (Misfit refusal)) read why = (why.0, λ text h. (unit, read text h, why.1))

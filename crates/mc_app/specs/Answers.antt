@@ -1,7 +1,7 @@
 -- What words ask for, and why a check of a certificate ends as it does.
 use Rattle.std.specs.Prelude.{◌≡◌, ◌++◌, ◌⊎◌, ℕ, List, [], ◌∷◌, Option, Some, Ok, codes, take}
 use Rattle.mc_ast.specs.Trees.{UnitTree}
-use Rattle.mc_base.specs.Outside.{Told, AddsIfTold}
+use Rattle.mc_outside.specs.Outside.{WhereTold, AddsIfTold}
 use Rattle.mc_app.specs.Programs.{Reads, IsProgram, IsUnread, HasMisfit, IsShort, IsNotShort, IsCertified, HasNoDefinitions}
 use Rattle.mc_app.specs.Printing.{text_of}
 use Rattle.mc_app.specs.declared.answer.Answer.{Answer}
@@ -33,23 +33,24 @@ IsWhyPlain holds c unit Definitions = ⊥
 IsWhyPlain holds c unit (Program (Unread cause)) = ⊥
 IsWhyPlain holds c unit (Program (Misfit refusal)) = HasMisfit refusal unit
 IsWhyPlain holds c unit (Program NotYet) = IsNotShort unit
-IsWhyPlain holds c unit Document = IsShort unit × Told (holds c) (λ document. IsCertified document unit → ⊥)
-IsWhyPlain holds c unit Good = IsShort unit × Told (holds c) (λ document. IsCertified document unit)
+IsWhyPlain holds c unit Document = IsShort unit × WhereTold (holds c) (λ document. IsCertified document unit → ⊥)
+IsWhyPlain holds c unit Good = IsShort unit × WhereTold (holds c) (λ document. IsCertified document unit)
 
 -- the same, where the definitions are read first
 abbrev pub IsWhyUnit : Holds → List ℕ → List ℕ → UnitTree → Answer → Type 0
-IsWhyUnit holds d c unit Definitions = Told (holds d) (λ text. HasNoDefinitions text → ⊥)
-IsWhyUnit holds d c unit answer = Told (holds d) HasNoDefinitions × IsWhyPlain holds c unit answer
+IsWhyUnit holds d c unit Definitions = WhereTold (holds d) (λ text. HasNoDefinitions text → ⊥)
+IsWhyUnit holds d c unit answer = WhereTold (holds d) HasNoDefinitions × IsWhyPlain holds c unit answer
 
 -- why this is answered for files of these names
 abbrev pub IsWhy : Holds → List ℕ → List ℕ → List ℕ → Answer → Type 0
 IsWhy holds p d c Words = ⊥
-IsWhy holds p d c (Program (Unread cause)) = Told (holds p) (λ text. IsUnread text cause)
-IsWhy holds p d c Definitions = Told (holds p) IsProgram × Told (holds d) (λ text. HasNoDefinitions text → ⊥)
-IsWhy holds p d c (Program (Misfit refusal)) = Told (holds d) HasNoDefinitions × Told (holds p) (Reads (HasMisfit refusal))
-IsWhy holds p d c (Program NotYet) = Told (holds d) HasNoDefinitions × Told (holds p) (Reads IsNotShort)
-IsWhy holds p d c Document = Told (holds d) HasNoDefinitions × Told (holds p) (Reads IsShort) × Told (holds p) (λ text. Told (holds c) (λ document. Reads (IsCertified document) text → ⊥))
-IsWhy holds p d c Good = Told (holds d) HasNoDefinitions × Told (holds p) (Reads IsShort) × Told (holds p) (λ text. Told (holds c) (λ document. Reads (IsCertified document) text))
+IsWhy holds p d c (Program (Unread cause)) = WhereTold (holds p) (λ text. IsUnread text cause)
+IsWhy holds p d c Definitions = WhereTold (holds p) IsProgram × WhereTold (holds d) (λ text. HasNoDefinitions text → ⊥)
+IsWhy holds p d c (Program (Misfit refusal)) = WhereTold (holds d) HasNoDefinitions × WhereTold (holds p) (Reads (HasMisfit refusal))
+IsWhy holds p d c (Program NotYet) = WhereTold (holds d) HasNoDefinitions × WhereTold (holds p) (Reads IsNotShort)
+IsWhy holds p d c Document = WhereTold (holds d) HasNoDefinitions × WhereTold (holds p) (Reads IsShort)
+    × WhereTold (holds p) (λ text. WhereTold (holds c) (λ document. Reads (IsCertified document) text → ⊥))
+IsWhy holds p d c Good = WhereTold (holds d) HasNoDefinitions × WhereTold (holds p) (Reads IsShort) × WhereTold (holds p) (λ text. WhereTold (holds c) (λ document. Reads (IsCertified document) text))
 
 -- why this is answered for these words
 abbrev pub IsWhyWords : Holds → List (List ℕ) → Answer → Type 0
@@ -94,4 +95,4 @@ EndsWith holds words old new status = Answers holds words old new status
 -- the text of an answer that has its cause, or the front of it, or nothing was added where this is told
 abbrev pub PrintsPart : Holds → List (List ℕ) → Option (List ℕ) → Option (List ℕ) → Type 0
 PrintsPart holds words old new =
-    Told old (λ before. (now : List ℕ) × (new ≡ Some now) × ((now ≡ before) ⊎ ((a : Answer) × (n : ℕ) × IsWhyWords holds words a × (now ≡ before ++ take n (text_of a)))))
+    WhereTold old (λ before. (now : List ℕ) × (new ≡ Some now) × ((now ≡ before) ⊎ ((a : Answer) × (n : ℕ) × IsWhyWords holds words a × (now ≡ before ++ take n (text_of a)))))

@@ -1,7 +1,7 @@
 mod bodies;
 
 use crate::{Status, memcad};
-use mc_base::{MemFiles, MemSink};
+use mc_outside::{MemFiles, MemSink};
 use std::alloc::{AllocError, Global};
 use std::test::Fail;
 

@@ -1,6 +1,6 @@
 // The top call.
 ghost use Rattle.std.specs.Prelude.{◌≡◌, ◌<◌, ◌⊎◌, List, ℕ, IfOk, map, string_bytes};
-ghost use Rattle.mc_base.specs.Outside.{HasCause, Stays, Rose, AddsIfTold, Told};
+ghost use Rattle.mc_outside.specs.Outside.{HasCause, Stays, Rose, AddsIfTold, WhereTold};
 ghost use Rattle.mc_app.specs.Programs.{IsSafe};
 ghost use Rattle.mc_app.specs.Printing.{text_of};
 ghost use Rattle.mc_app.specs.Answers.{Asks, IsWhyWords, EndsWith, PrintsPart};
@@ -9,12 +9,12 @@ ghost use Rattle.mc_app.specs.Faults.{fault_status};
 use crate::words::asked;
 use crate::work::answer;
 use crate::{Answer, Status};
-use mc_base::{FileFault, Files, Sink};
+use mc_outside::{FileFault, Files, Sink};
 use std::alloc::Global;
 
 fn found<F: Files>(alloc: Global, words: &[String], files: &mut F) -> Result<Answer, FileFault>
     ensures why { IfOk result (λ a. IsWhyWords (F.holds files.old) (map string_bytes words.now) a) }
-    ensures safe { IfOk result (λ a. a ≡ Answer.Good → (p d c : List ℕ) → Asks (map string_bytes words.now) p d c → Told (F.holds files.old p) IsSafe) }
+    ensures safe { IfOk result (λ a. a ≡ Answer.Good → (p d c : List ℕ) → Asks (map string_bytes words.now) p d c → WhereTold (F.holds files.old p) IsSafe) }
     ensures same { Stays (F.holds files.old) (F.holds files.new) }
     ensures cause { HasCause (F.faults files.old) (F.faults files.new) result }
 {
@@ -52,7 +52,7 @@ pub fn memcad<F: Files, K: Sink>(
     out: &mut K,
 ) -> Status
     // Where the answer is that all is well, no run of the program has a fault.
-    ensures safe { result ≡ Status.Good → (p d c : List ℕ) → Asks (map string_bytes words.now) p d c → Told (F.holds files.old p) IsSafe }
+    ensures safe { result ≡ Status.Good → (p d c : List ℕ) → Asks (map string_bytes words.now) p d c → WhereTold (F.holds files.old p) IsSafe }
     // Each answer has its cause and prints its text. A call without an answer has lacked memory, or the device failed.
     ensures why { EndsWith (F.holds files.old) (map string_bytes words.now) (K.written out.old) (K.written out.new) result }
     ensures device { result ≡ Status.Device → Rose (F.faults files.old) (F.faults files.new) ⊎ Rose (K.faults out.old) (K.faults out.new) }

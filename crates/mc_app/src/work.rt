@@ -2,7 +2,7 @@
 ghost use Rattle.std.specs.Prelude.{◌≡◌, ◌↔◌, ◌≤◌, ◌^◌, [], IfOk, IsTrue, MatchResult, length};
 ghost use Rattle.std.specs.List.{list_all};
 ghost use Rattle.mc_ast.specs.Views.{unit_of};
-ghost use Rattle.mc_base.specs.Outside.{HasCause, Stays, Told};
+ghost use Rattle.mc_outside.specs.Outside.{HasCause, Stays, WhereTold};
 ghost use Rattle.mc_check.specs.Document.{IsValidDocument};
 ghost use Rattle.mc_flow.specs.Steps.{IsSafeFlow};
 ghost use Rattle.mc_straight.specs.Text.{is_blank};
@@ -16,9 +16,9 @@ use crate::contents::{text, whole};
 use crate::words::Command;
 use crate::{Answer, NoProgram, ProgramFault};
 use mc_ast::Unit;
-use mc_base::{FileFault, Files};
 use mc_flow::Defs;
 use mc_kernel::certified_is_safe;
+use mc_outside::{FileFault, Files};
 use mc_read::{ReadFault, Refusal, programs_have_distinct_places, texts_are_read_once};
 use mc_straight::{Program, lower, straight, trees_are_read_once, trees_run_alike};
 use mc_typed::{Typed, bind};
@@ -47,7 +47,7 @@ fn program<F: Files>(
     files: &mut F,
     name: &str,
 ) -> Result<Result<Typed, NoProgram>, FileFault>
-    ensures told { Told (F.holds files.old name.now) (λ text. IfOk result (λ r. MatchResult r (λ t. IsProgramHere text (unit_of t.unit)) (IsUnread text))) }
+    ensures told { WhereTold (F.holds files.old name.now) (λ text. IfOk result (λ r. MatchResult r (λ t. IsProgramHere text (unit_of t.unit)) (IsUnread text))) }
     ensures sound { IfOk result (λ r. IfOk r (λ t. IsSound (unit_of t.unit))) }
     ensures same { Stays (F.holds files.old) (F.holds files.new) }
     ensures cause { HasCause (F.faults files.old) (F.faults files.new) result }
@@ -68,7 +68,7 @@ fn all_blank(bytes: &[u8]) -> bool
 }
 
 fn has_no_definitions<F: Files>(alloc: Global, files: &mut F, name: &str) -> Result<bool, FileFault>
-    ensures told { Told (F.holds files.old name.now) (λ text. IfOk result (λ b. IsTrue b ↔ HasNoDefinitions text)) }
+    ensures told { WhereTold (F.holds files.old name.now) (λ text. IfOk result (λ b. IsTrue b ↔ HasNoDefinitions text)) }
     ensures same { Stays (F.holds files.old) (F.holds files.new) }
     ensures cause { HasCause (F.faults files.old) (F.faults files.new) result }
 {
@@ -97,7 +97,7 @@ fn is_valid<F: Files>(
     short: &Program,
 ) -> Result<bool, FileFault>
     requires { IsTyped short.now }
-    ensures told { Told (F.holds files.old name.now) (λ document. IfOk result (λ b. IsTrue b ↔ IsValidDocument (flow_of short.now) document)) }
+    ensures told { WhereTold (F.holds files.old name.now) (λ document. IfOk result (λ b. IsTrue b ↔ IsValidDocument (flow_of short.now) document)) }
     ensures safe { IfOk result (λ b. IsTrue b → IsSafeFlow (flow_of short.now) []) }
     ensures same { Stays (F.holds files.old) (F.holds files.new) }
     ensures cause { HasCause (F.faults files.old) (F.faults files.new) result }
@@ -187,7 +187,7 @@ pub fn answer<F: Files>(
     command: Command<'_>,
 ) -> Result<Answer, FileFault>
     ensures why { IfOk result (λ a. IsWhy (F.holds files.old) command.entry.program.now command.entry.definitions.now command.entry.document.now a) }
-    ensures safe { IfOk result (λ a. a ≡ Answer.Good → Told (F.holds files.old command.entry.program.now) IsSafe) }
+    ensures safe { IfOk result (λ a. a ≡ Answer.Good → WhereTold (F.holds files.old command.entry.program.now) IsSafe) }
     ensures same { Stays (F.holds files.old) (F.holds files.new) }
     ensures cause { HasCause (F.faults files.old) (F.faults files.new) result }
 {

@@ -1,7 +1,7 @@
 -- The weight of a block, by the list of its statements.
 use Rattle.std.proofs.Common.{◌≡◌, ℕ, ◌+◌, ◌<◌, List, [], ◌∷◌, ◌++◌, length, get_or, refl, ap, arith, rules}
 use Rattle.std.proofs.Math.ListN.{set}
-use Rattle.mc_base.specs.declared.plain.Place.{Place}
+use Rattle.mc_text.specs.declared.place.Place.{Place}
 use Rattle.mc_ast.specs.declared.trees.Statement.{Statement, Row_of-Statement, end_of-Statement, more_of-Statement, items-the_row-Statement, the_lemmas}
 use Rattle.mc_ast.specs.declared.trees.Statement.TheVariants as Statement
 use Rattle.std.specs.declared.vec.Vec.{Vec}

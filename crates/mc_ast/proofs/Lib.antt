@@ -7,4 +7,3 @@ mod UniqueSimples
 mod UniqueStatements
 pub mod UniqueUnits
 pub mod Parts
-pub mod Lexing

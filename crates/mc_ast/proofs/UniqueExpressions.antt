@@ -3,10 +3,10 @@ use Rattle.std.proofs.Common.{◌≡◌, ℕ, List, [], ◌∷◌, refl, ap, sym
 use Rattle.std.specs.Prelude.{codes, slice_index}
 use Rattle.std.specs.Str.Parse.{digits_value}
 use native.Mathlib.Omega.{arith}
-use Rattle.mc_base.specs.declared.plain.Place.{Place}
-use Rattle.mc_lex.specs.declared.token.Token.{Token}
-use Rattle.mc_lex.specs.Numbers.{Spells, as_zero, as_decimal, as_hexadecimal}
-use Rattle.mc_ast.specs.Trees.{Left, Expr, number, value, minus, parens, times, plus, less}
+use Rattle.mc_text.specs.declared.place.Place.{Place}
+use Rattle.mc_text.specs.declared.token.Token.{Token}
+use Rattle.mc_text.specs.Numbers.{Spells, as_zero, as_decimal, as_hexadecimal}
+use Rattle.mc_ast.specs.Trees.{Left, Expr, number, value, minus, parens, times, plus, difference}
 use Rattle.mc_ast.specs.Names.{Tokens, IsMark, is_in}
 use Rattle.mc_ast.specs.Grammar.{Fields, none, more, IsLeft, named, IsUnary, negative, numeral, null_word, input_call, variable, in_parens, Factors, no_factor, factor, IsTerm, product, Terms, no_term, added, taken, IsSum, sum_of}
 use Rattle.mc_ast.proofs.Agree.{Begins, Agree, same, early, late, agree_then, wider, conflict}
@@ -130,7 +130,7 @@ mutual
   one_terms {a = a} {y = y} {s = s} (added is term path) (added is' term' path') =
       agree_then (λ b mid. Terms (plus a b) mid y s) (one_term term term') (λ q. one_terms path q) (λ begins. early (stays_sum path begins)) (λ begins q. late (stays_sum q begins)) path'
   one_terms {a = a} {y = y} {s = s} (taken is term path) (taken is' term' path') =
-      agree_then (λ b mid. Terms (less a b) mid y s) (one_term term term') (λ q. one_terms path q) (λ begins. early (stays_sum path begins)) (λ begins q. late (stays_sum q begins)) path'
+      agree_then (λ b mid. Terms (difference a b) mid y s) (one_term term term') (λ q. one_terms path q) (λ begins. early (stays_sum path begins)) (λ begins q. late (stays_sum q begins)) path'
 
   pub one_sum : {x y : Expr} {ts r s : Tokens} → IsSum x ts r → IsSum y ts s → Agree sum_marks x r y s
   one_sum {y = y} {s = s} (sum_of term path) (sum_of term' path') =

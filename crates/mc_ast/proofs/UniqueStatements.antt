@@ -2,8 +2,8 @@
 use Rattle.std.proofs.Common.{◌≡◌, ℕ, List, [], ◌∷◌, ◌++◌, Option, Some, true, false, refl, ap, ◌∙◌}
 use Rattle.std.specs.Prelude.{codes}
 use native.Mathlib.Omega.{arith}
-use Rattle.mc_base.specs.declared.plain.Place.{Place}
-use Rattle.mc_lex.specs.declared.token.Token.{Token}
+use Rattle.mc_text.specs.declared.place.Place.{Place}
+use Rattle.mc_text.specs.declared.token.Token.{Token}
 use Rattle.mc_ast.specs.Trees.{Left, Expr, Cond, Right, DeclarationTree, SimpleTree, Start, declares, performs, Head, Stmt, declaration, block, simple, free, assert, assume, assume_shape, assert_shape, if_only, if_else, while_loop, do_loop, for_loop, returns, stmts_of}
 use Rattle.mc_ast.specs.Names.{Tokens, IsMark, IsWord, IsName, IsNoElse, name_of, is_in, is_reserved}
 use Rattle.mc_ast.specs.Grammar.{Fields, none, more, named, negative, numeral, null_word, input_call, variable, in_parens, product, IsSum, sum_of, bang_bang, bang_variable, bang_input, bang_parens, plain_one, comparison, negated, condition_parens, all_of, IsCondition, any_of}

@@ -2,9 +2,9 @@
 use Rattle.std.proofs.Common.{◌≡◌, ℕ, List, [], ◌∷◌, ◌++◌, Option, Some, refl, ap}
 use Rattle.std.specs.Prelude.{codes}
 use native.Mathlib.Omega.{arith}
-use Rattle.mc_base.specs.declared.plain.Place.{Place}
-use Rattle.mc_lex.specs.declared.token.Token.{Token}
-use Rattle.mc_lex.specs.declared.token.TokenKind.TheVariants as TokenKind
+use Rattle.mc_text.specs.declared.place.Place.{Place}
+use Rattle.mc_text.specs.declared.token.Token.{Token}
+use Rattle.mc_text.specs.declared.token.TokenKind.TheVariants as TokenKind
 use Rattle.mc_ast.specs.declared.trees.Name.{Name}
 use Rattle.mc_ast.specs.declared.trees.Base.{Base}
 use Rattle.mc_ast.specs.declared.trees.Declarator.{Declarator}
@@ -13,7 +13,7 @@ use Rattle.mc_ast.specs.declared.trees.Parameter.{Parameter}
 use Rattle.mc_ast.specs.Trees.{FieldTree, StructTree, AliasedTree, of_base, of_struct, TypedefTree, ParametersTree, listed, BodyTree, FunctionTree, ItemTree, structure, typedef, function, Stmt}
 use Rattle.mc_ast.specs.Names.{Tokens, IsMark, IsWord, IsName, name_of, is_in}
 use Rattle.mc_ast.specs.Grammar.{IsBase, int, tagged, alias, IsStar, star, no_star, IsDeclarator, declarator}
-use Rattle.mc_ast.specs.Grammar.{MoreDeclarators, last_declarator, next_declarator, IsDeclarators, declarators, IsField, field, MoreFields, no_field, next_field, IsStruct, struct, IsAliased, base_aliased, struct_aliased, IsTypedef, introduces, IsReturned, gives_nothing, gives_value, IsParameter, parameter, MoreParameters, last_parameter, next_parameter, IsParameters, no_parameters, void_parameters, some_parameters, IsFixed, fixed, not_fixed, IsBody, prototype, body, IsFunction, defined, IsItem, struct_item, typedef_item, function_item, introduced, MoreItems, no_item, next_item}
+use Rattle.mc_ast.specs.Grammar.{MoreDeclarators, last_declarator, next_declarator, IsDeclarators, declarators, IsField, field, MoreFields, no_field, next_field, IsStruct, struct, IsAliased, base_aliased, struct_aliased, IsTypedef, introduces, IsReturned, gives_nothing, gives_value, IsParameter, parameter, MoreParameters, last_parameter, next_parameter, IsParameters, no_parameters, void_parameters, some_parameters, IsStatic, static_place, not_static, IsBody, prototype, body, IsFunction, defined, IsItem, struct_item, typedef_item, function_item, introduced, MoreItems, no_item, next_item}
 use Rattle.mc_ast.proofs.Agree.{Agree, same, early, late, agree_all, conflict, never, lift, close_one}
 use Rattle.mc_ast.proofs.UniqueSimples.{one_base, one_declarator}
 use Rattle.mc_ast.proofs.UniqueStatements.{one_statements, not_free}
@@ -159,11 +159,11 @@ static_returned (gives_value (int is) p) word = absurd (grind arith)
 static_returned (gives_value (tagged is name) p) word = absurd (grind arith)
 static_returned (gives_value (alias is) p) word = not_free is.name word refl
 
-one_fixed : {aliases : List (List ℕ)} {x y : Option Place} {u v : Returned} {ts r s m n : Tokens} → IsFixed x ts r → IsFixed y ts s → IsReturned aliases u r m → IsReturned aliases v s n → Agree [] x r y s
-one_fixed (fixed is) (fixed is') u v = same
-one_fixed (fixed is) not_fixed u v = absurd (static_returned v is)
-one_fixed not_fixed (fixed is) u v = absurd (static_returned u is)
-one_fixed not_fixed not_fixed u v = same
+one_static : {aliases : List (List ℕ)} {x y : Option Place} {u v : Returned} {ts r s m n : Tokens} → IsStatic x ts r → IsStatic y ts s → IsReturned aliases u r m → IsReturned aliases v s n → Agree [] x r y s
+one_static (static_place is) (static_place is') u v = same
+one_static (static_place is) not_static u v = absurd (static_returned v is)
+one_static not_static (static_place is) u v = absurd (static_returned u is)
+one_static not_static not_static u v = same
 
 body_ends : (place : Place) {x y : List Stmt} {a b : Token} {r s : Tokens} → Agree [] x (a ∷ r) y (b ∷ s) → Agree {X = Option BodyTree} [] (Some (record { place = place; statements = x })) r (Some (record { place = place; statements = y })) s
 body_ends place same = same
@@ -178,43 +178,43 @@ one_body (body {before = before} is path after) (body is' path' after') = body_e
 
 -- the parts of a function, one behind the other
 module _ (aliases : List (List ℕ)) where
-  with_body : (f : Option Place) (v : Returned) (n : Name) (ps : ParametersTree) {x y : Option BodyTree} {r s : Tokens} → Agree [] x r y s → Agree {X = FunctionTree} [] (record { fixed = f; returned = v; name = n; parameters = ps; body = x }) r (record { fixed = f; returned = v; name = n; parameters = ps; body = y }) s
+  with_body : (f : Option Place) (v : Returned) (n : Name) (ps : ParametersTree) {x y : Option BodyTree} {r s : Tokens} → Agree [] x r y s → Agree {X = FunctionTree} [] (record { static_place = f; returned = v; name = n; parameters = ps; body = x }) r (record { static_place = f; returned = v; name = n; parameters = ps; body = y }) s
   with_body f v n ps same = same
   with_body f v n ps (early {r = r} b) = absurd (never r b)
   with_body f v n ps (late {s = s} b) = absurd (never s b)
 
-  with_parameters : (f : Option Place) (v : Returned) (n : Name) {ps qs : ParametersTree} {x y : Option BodyTree} {a b : Token} {k l r s : Tokens} → Agree [] ps (a ∷ k) qs (b ∷ l) → IsBody aliases x k r → IsBody aliases y l s → Agree {X = FunctionTree} [] (record { fixed = f; returned = v; name = n; parameters = ps; body = x }) r (record { fixed = f; returned = v; name = n; parameters = qs; body = y }) s
+  with_parameters : (f : Option Place) (v : Returned) (n : Name) {ps qs : ParametersTree} {x y : Option BodyTree} {a b : Token} {k l r s : Tokens} → Agree [] ps (a ∷ k) qs (b ∷ l) → IsBody aliases x k r → IsBody aliases y l s → Agree {X = FunctionTree} [] (record { static_place = f; returned = v; name = n; parameters = ps; body = x }) r (record { static_place = f; returned = v; name = n; parameters = qs; body = y }) s
   with_parameters f v n {ps = ps} same x y = with_body f v n ps (one_body x y)
   with_parameters f v n (early {r = r} b) x y = absurd (never r b)
   with_parameters f v n (late {s = s} b) x y = absurd (never s b)
 
-  with_returned : (f : Option Place) {v w : Returned} {ps qs : ParametersTree} {x y : Option BodyTree} {n n' o o' a b : Token} {g h k l r s : Tokens} → Agree [] v (n ∷ o ∷ g) w (n' ∷ o' ∷ h) → IsParameters aliases ps g (a ∷ k) → IsParameters aliases qs h (b ∷ l) → IsMark (codes ")") a → IsMark (codes ")") b → IsBody aliases x k r → IsBody aliases y l s → Agree {X = FunctionTree} [] (record { fixed = f; returned = v; name = name_of n; parameters = ps; body = x }) r (record { fixed = f; returned = w; name = name_of n'; parameters = qs; body = y }) s
+  with_returned : (f : Option Place) {v w : Returned} {ps qs : ParametersTree} {x y : Option BodyTree} {n n' o o' a b : Token} {g h k l r s : Tokens} → Agree [] v (n ∷ o ∷ g) w (n' ∷ o' ∷ h) → IsParameters aliases ps g (a ∷ k) → IsParameters aliases qs h (b ∷ l) → IsMark (codes ")") a → IsMark (codes ")") b → IsBody aliases x k r → IsBody aliases y l s → Agree {X = FunctionTree} [] (record { static_place = f; returned = v; name = name_of n; parameters = ps; body = x }) r (record { static_place = f; returned = w; name = name_of n'; parameters = qs; body = y }) s
   with_returned f {v = v} {n = n} same ps qs is is' x y = with_parameters f v (name_of n) (one_parameters ps qs is is') x y
   with_returned f (early {r = r} b) ps qs is is' x y = absurd (never r b)
   with_returned f (late {s = s} b) ps qs is is' x y = absurd (never s b)
 
-  with_fixed : {f f' : Option Place} {v w : Returned} {ps qs : ParametersTree} {x y : Option BodyTree} {n n' o o' a b : Token} {c d g h k l r s : Tokens} → Agree [] f c f' d → IsReturned aliases v c (n ∷ o ∷ g) → IsReturned aliases w d (n' ∷ o' ∷ h) → IsName n → IsName n' → IsParameters aliases ps g (a ∷ k) → IsParameters aliases qs h (b ∷ l) → IsMark (codes ")") a → IsMark (codes ")") b → IsBody aliases x k r → IsBody aliases y l s → Agree {X = FunctionTree} [] (record { fixed = f; returned = v; name = name_of n; parameters = ps; body = x }) r (record { fixed = f'; returned = w; name = name_of n'; parameters = qs; body = y }) s
-  with_fixed {f = f} same v w n n' ps qs is is' x y = with_returned f (one_returned v w n n') ps qs is is' x y
-  with_fixed (early {r = r} b) v w n n' ps qs is is' x y = absurd (never r b)
-  with_fixed (late {s = s} b) v w n n' ps qs is is' x y = absurd (never s b)
+  with_static : {f f' : Option Place} {v w : Returned} {ps qs : ParametersTree} {x y : Option BodyTree} {n n' o o' a b : Token} {c d g h k l r s : Tokens} → Agree [] f c f' d → IsReturned aliases v c (n ∷ o ∷ g) → IsReturned aliases w d (n' ∷ o' ∷ h) → IsName n → IsName n' → IsParameters aliases ps g (a ∷ k) → IsParameters aliases qs h (b ∷ l) → IsMark (codes ")") a → IsMark (codes ")") b → IsBody aliases x k r → IsBody aliases y l s → Agree {X = FunctionTree} [] (record { static_place = f; returned = v; name = name_of n; parameters = ps; body = x }) r (record { static_place = f'; returned = w; name = name_of n'; parameters = qs; body = y }) s
+  with_static {f = f} same v w n n' ps qs is is' x y = with_returned f (one_returned v w n n') ps qs is is' x y
+  with_static (early {r = r} b) v w n n' ps qs is is' x y = absurd (never r b)
+  with_static (late {s = s} b) v w n n' ps qs is is' x y = absurd (never s b)
 
 one_function : {aliases : List (List ℕ)} {x y : FunctionTree} {ts r s : Tokens} → IsFunction aliases x ts r → IsFunction aliases y ts s → Agree [] x r y s
-one_function {aliases} (defined f v n open_one ps is x) (defined f' w n' open_two qs is' y) = with_fixed aliases (one_fixed f f' v w) v w n n' ps qs is is' x y
+one_function {aliases} (defined f v n open_one ps is x) (defined f' w n' open_two qs is' y) = with_static aliases (one_static f f' v w) v w n n' ps qs is is' x y
 
 struct_no_function : {aliases : List (List ℕ)} {t : StructTree} {f : FunctionTree} {ts r s : Tokens} → IsStruct aliases t ts r → IsFunction aliases f ts s → ⊥
-struct_no_function (struct is name before one path after) (defined (fixed is') v n o ps p x) = absurd (grind arith)
-struct_no_function (struct is name before one path after) (defined not_fixed (gives_nothing is') n o ps p x) = absurd (grind arith)
-struct_no_function (struct is name before one path after) (defined not_fixed (gives_value (int is') pointer) n o ps p x) = absurd (grind arith)
-struct_no_function (struct is name before one path after) (defined not_fixed (gives_value (alias is') pointer) n o ps p x) = absurd (not_free is'.name is refl)
-struct_no_function (struct is name before one path after) (defined not_fixed (gives_value (tagged is' name') (star mark)) n o ps p x) = absurd (grind arith)
-struct_no_function (struct is name before one path after) (defined not_fixed (gives_value (tagged is' name') no_star) n o ps p x) = absurd (grind arith)
+struct_no_function (struct is name before one path after) (defined (static_place is') v n o ps p x) = absurd (grind arith)
+struct_no_function (struct is name before one path after) (defined not_static (gives_nothing is') n o ps p x) = absurd (grind arith)
+struct_no_function (struct is name before one path after) (defined not_static (gives_value (int is') pointer) n o ps p x) = absurd (grind arith)
+struct_no_function (struct is name before one path after) (defined not_static (gives_value (alias is') pointer) n o ps p x) = absurd (not_free is'.name is refl)
+struct_no_function (struct is name before one path after) (defined not_static (gives_value (tagged is' name') (star mark)) n o ps p x) = absurd (grind arith)
+struct_no_function (struct is name before one path after) (defined not_static (gives_value (tagged is' name') no_star) n o ps p x) = absurd (grind arith)
 
 typedef_no_function : {aliases : List (List ℕ)} {t : TypedefTree} {f : FunctionTree} {ts r s : Tokens} → IsTypedef aliases t ts r → IsFunction aliases f ts s → ⊥
-typedef_no_function (introduces is a ds semi) (defined (fixed is') v n o ps p x) = absurd (grind arith)
-typedef_no_function (introduces is a ds semi) (defined not_fixed (gives_nothing is') n o ps p x) = absurd (grind arith)
-typedef_no_function (introduces is a ds semi) (defined not_fixed (gives_value (int is') pointer) n o ps p x) = absurd (grind arith)
-typedef_no_function (introduces is a ds semi) (defined not_fixed (gives_value (tagged is' name') pointer) n o ps p x) = absurd (grind arith)
-typedef_no_function (introduces is a ds semi) (defined not_fixed (gives_value (alias is') pointer) n o ps p x) = absurd (not_free is'.name is refl)
+typedef_no_function (introduces is a ds semi) (defined (static_place is') v n o ps p x) = absurd (grind arith)
+typedef_no_function (introduces is a ds semi) (defined not_static (gives_nothing is') n o ps p x) = absurd (grind arith)
+typedef_no_function (introduces is a ds semi) (defined not_static (gives_value (int is') pointer) n o ps p x) = absurd (grind arith)
+typedef_no_function (introduces is a ds semi) (defined not_static (gives_value (tagged is' name') pointer) n o ps p x) = absurd (grind arith)
+typedef_no_function (introduces is a ds semi) (defined not_static (gives_value (alias is') pointer) n o ps p x) = absurd (not_free is'.name is refl)
 
 one_item : {aliases : List (List ℕ)} {x y : ItemTree} {ts r s : Tokens} → IsItem aliases x ts r → IsItem aliases y ts s → Agree [] x r y s
 one_item (struct_item t semi) (struct_item t' semi') = lift structure (taken_off (one_struct t t'))
@@ -235,11 +235,11 @@ one_item (function_item f) (function_item f') = lift function (one_function f f'
 end_no_item : {aliases : List (List ℕ)} {x : ItemTree} {t : Token} {ts r : Tokens} → IsItem aliases x (t ∷ ts) r → t.kind ≡ TokenKind.End → ⊥
 end_no_item (struct_item (struct is name before one path after) semi) end = absurd (grind arith)
 end_no_item (typedef_item (introduces is a ds semi)) end = absurd (grind arith)
-end_no_item (function_item (defined (fixed is) v n o ps p x)) end = absurd (grind arith)
-end_no_item (function_item (defined not_fixed (gives_nothing is) n o ps p x)) end = absurd (grind arith)
-end_no_item (function_item (defined not_fixed (gives_value (int is) pointer) n o ps p x)) end = absurd (grind arith)
-end_no_item (function_item (defined not_fixed (gives_value (tagged is name) pointer) n o ps p x)) end = absurd (grind arith)
-end_no_item (function_item (defined not_fixed (gives_value (alias is) pointer) n o ps p x)) end = absurd (let m = is.name in grind arith)
+end_no_item (function_item (defined (static_place is) v n o ps p x)) end = absurd (grind arith)
+end_no_item (function_item (defined not_static (gives_nothing is) n o ps p x)) end = absurd (grind arith)
+end_no_item (function_item (defined not_static (gives_value (int is) pointer) n o ps p x)) end = absurd (grind arith)
+end_no_item (function_item (defined not_static (gives_value (tagged is name) pointer) n o ps p x)) end = absurd (grind arith)
+end_no_item (function_item (defined not_static (gives_value (alias is) pointer) n o ps p x)) end = absurd (let m = is.name in grind arith)
 
 pub one_unit : {aliases : List (List ℕ)} {is x y : List ItemTree} {ts : Tokens} → MoreItems aliases is ts x → MoreItems aliases is ts y → x ≡ y
 one_unit (no_item end) (no_item end') = refl

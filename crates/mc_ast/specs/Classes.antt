@@ -1,20 +1,25 @@
 -- What a token is to the grammar.
 use Rattle.std.specs.Prelude.{◌≡◌, ℕ, List, [], ◌∷◌, IsTrue, codes, Option, Some, None, if◌then◌else◌}
 use Rattle.std.specs.Bool.{IsFalse}
-use Rattle.mc_lex.specs.declared.token.Token.{Token}
-use Rattle.mc_lex.specs.declared.token.TokenKind.TheVariants as TokenKind
+use Rattle.mc_text.specs.declared.token.Token.{Token}
+use Rattle.mc_text.specs.declared.token.TokenKind.TheVariants as TokenKind
 use Rattle.mc_ast.specs.declared.class.Class.{Class}
 use Rattle.mc_ast.specs.Names.{IsMark, IsWord, IsName, IsNumber, is_same, is_in, is_reserved, mark_of}
 
 -- the marks of the grammar
 abbrev pub grammar_marks : List (List ℕ)
 grammar_marks =
-    codes "->" ∷ codes "++" ∷ codes "--" ∷ codes "+=" ∷ codes "-=" ∷ codes "&&" ∷ codes "||" ∷ codes "{" ∷ codes "}" ∷ codes "(" ∷ codes ")" ∷ codes ";" ∷ codes "," ∷ codes "=" ∷ codes "+" ∷ codes "-" ∷ codes "*" ∷ codes "!" ∷ codes "==" ∷ codes "!=" ∷ codes "<" ∷ codes "<=" ∷ codes ">" ∷ codes ">=" ∷ []
+    codes "->" ∷ codes "++" ∷ codes "--" ∷ codes "+=" ∷ codes "-=" ∷ codes "&&" ∷ codes "||"
+    ∷ codes "{" ∷ codes "}" ∷ codes "(" ∷ codes ")" ∷ codes ";" ∷ codes "," ∷ codes "=" ∷ codes "+" ∷ codes "-"
+    ∷ codes "*" ∷ codes "!" ∷ codes "==" ∷ codes "!=" ∷ codes "<" ∷ codes "<=" ∷ codes ">" ∷ codes ">=" ∷ []
 
 -- the reserved words of the grammar
 abbrev pub grammar_words : List (List ℕ)
 grammar_words =
-    codes "int" ∷ codes "struct" ∷ codes "typedef" ∷ codes "static" ∷ codes "void" ∷ codes "NULL" ∷ codes "malloc" ∷ codes "free" ∷ codes "input" ∷ codes "assert" ∷ codes "assume" ∷ codes "assume_shape" ∷ codes "assert_shape" ∷ codes "assert_empty" ∷ codes "if" ∷ codes "else" ∷ codes "while" ∷ codes "do" ∷ codes "for" ∷ codes "break" ∷ codes "continue" ∷ codes "return" ∷ codes "sizeof" ∷ []
+    codes "int" ∷ codes "struct" ∷ codes "typedef" ∷ codes "static" ∷ codes "void" ∷ codes "NULL" ∷ codes "malloc"
+    ∷ codes "free" ∷ codes "input" ∷ codes "assert" ∷ codes "assume" ∷ codes "assume_shape"
+    ∷ codes "assert_shape" ∷ codes "assert_empty" ∷ codes "if" ∷ codes "else" ∷ codes "while" ∷ codes "do"
+    ∷ codes "for" ∷ codes "break" ∷ codes "continue" ∷ codes "return" ∷ codes "sizeof" ∷ []
 
 -- a token is of a class: each is of one, and no other
 abbrev pub IsClass : Token → Class → Type 0

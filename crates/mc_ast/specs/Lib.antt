@@ -7,4 +7,3 @@ pub mod Readers
 pub mod Weights
 pub mod Words
 pub mod Printing
-pub mod Printed

@@ -6,8 +6,10 @@ use Rattle.mc_ast.specs.declared.print_condition.ConditionPart.{ConditionPart}
 use Rattle.mc_ast.specs.declared.print_condition.ConditionPart.TheVariants as Condition
 use Rattle.mc_ast.specs.declared.print_statement.StatementPart.{StatementPart}
 use Rattle.mc_ast.specs.declared.print_statement.StatementPart.TheVariants as Statement
-use Rattle.mc_ast.specs.Trees.{Stmt, declaration, block, empty, simple, free, assert, assume, assume_shape, assert_shape, assert_empty, if_only, if_else, while_loop, do_loop, for_loop, break_loop, continue_loop, returns, Stmts, no_more, then, stmts_of}
-use Rattle.mc_ast.specs.Trees.{Expr, number, null, input, value, minus, parens, times, plus, less, Cond, plain, compare, negation, enclosed, both, either}
+use Rattle.mc_ast.specs.Trees.{Stmt, declaration, block, empty, simple, free, assert, assume, assume_shape}
+use Rattle.mc_ast.specs.Trees.{assert_shape, assert_empty, if_only, if_else, while_loop, do_loop, for_loop}
+use Rattle.mc_ast.specs.Trees.{break_loop, continue_loop, returns, Stmts, no_more, then, stmts_of}
+use Rattle.mc_ast.specs.Trees.{Expr, number, null, input, value, minus, parens, times, plus, difference, Cond, plain, compare, negation, enclosed, both, either}
 use Rattle.mc_ast.specs.Views.{expression_of, condition_of, statement_of}
 use Rattle.mc_ast.specs.Words.{Words, expression_words, condition_words, statement_words, statements_words}
 
@@ -29,7 +31,7 @@ expression_steps (minus p e) = expression_steps e + 1
 expression_steps (parens p e) = expression_steps e + 2
 expression_steps (times a b) = expression_steps a + expression_steps b + 2
 expression_steps (plus a b) = expression_steps a + expression_steps b + 2
-expression_steps (less a b) = expression_steps a + expression_steps b + 2
+expression_steps (difference a b) = expression_steps a + expression_steps b + 2
 
 abbrev pub expression_part_steps : ExpressionPart → ℕ
 expression_part_steps (Expression.Whole e) = expression_steps (expression_of e.now)

@@ -1,6 +1,6 @@
 -- How readers take tokens, one by one. What a reader is at is a relation `now tokens rest x`: these tokens, up to the rest, complete what it has read to x.
 use Rattle.std.specs.Prelude.{◌≡◌, ℕ, List, ◌∷◌, ◌++◌, ◌⊎◌, IsTrue}
-use Rattle.mc_lex.specs.declared.token.Token.{Token}
+use Rattle.mc_text.specs.declared.token.Token.{Token}
 use Rattle.mc_ast.specs.Names.{Tokens, is_in}
 
 -- the reader takes the token: what completes it then completes it now with the token before it, and nothing else does; only these marks go on where it was complete

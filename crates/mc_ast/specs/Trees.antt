@@ -1,6 +1,6 @@
 -- The trees of programs as plain data.
 use Rattle.std.specs.Prelude.{ℕ, List, [], ◌∷◌, Option}
-use Rattle.mc_base.specs.declared.plain.Place.{Place}
+use Rattle.mc_text.specs.declared.place.Place.{Place}
 use Rattle.mc_ast.specs.declared.trees.Name.{Name}
 use Rattle.mc_ast.specs.declared.trees.Comparison.{Comparison}
 use Rattle.mc_ast.specs.declared.trees.Base.{Base}
@@ -25,7 +25,7 @@ pub data Expr : Type 0 where
   parens : Place → Expr → Expr
   times : Expr → Expr → Expr
   plus : Expr → Expr → Expr
-  less : Expr → Expr → Expr
+  difference : Expr → Expr → Expr
 
 -- a condition
 pub data Cond : Type 0 where
@@ -148,7 +148,7 @@ pub record BodyTree : Type 0 where
 
 -- a function, or its prototype
 pub record FunctionTree : Type 0 where
-  pub fixed : Option Place
+  pub static_place : Option Place
   pub returned : Returned
   pub name : Name
   pub parameters : ParametersTree

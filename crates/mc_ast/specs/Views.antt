@@ -8,7 +8,9 @@ use Rattle.mc_ast.specs.declared.trees.Condition.{Condition, fold-Condition}
 use Rattle.mc_ast.specs.declared.trees.Condition.TheOpen.{Condition-F}
 use Rattle.mc_ast.specs.declared.trees.Call.{Call}
 use Rattle.mc_ast.specs.declared.trees.RightSide.{RightSide}
-use Rattle.mc_ast.specs.Trees.{Left, Expr, number, null, input, value, minus, parens, times, plus, less, Cond, plain, compare, negation, enclosed, both, either, CallTree, Right, expression, result_of, allocation}
+use Rattle.mc_ast.specs.Trees.{Left, Expr, number, null, input, value, minus, parens, times, plus, difference, Cond}
+use Rattle.mc_ast.specs.Trees.{plain, compare, negation, enclosed, both, either, CallTree, Right, expression}
+use Rattle.mc_ast.specs.Trees.{result_of, allocation}
 use Rattle.mc_ast.specs.declared.trees.Initial.{Initial}
 use Rattle.mc_ast.specs.declared.trees.Declaration.{Declaration}
 use Rattle.mc_ast.specs.declared.trees.Simple.{Simple}
@@ -25,7 +27,13 @@ use Rattle.mc_ast.specs.declared.trees.Body.{Body}
 use Rattle.mc_ast.specs.declared.trees.Function.{Function}
 use Rattle.mc_ast.specs.declared.trees.Item.{Item}
 use Rattle.mc_ast.specs.declared.trees.Unit.{Unit}
-use Rattle.mc_ast.specs.Trees.{InitialTree, DeclarationTree, SimpleTree, assign, add, subtract, increment, decrement, increment_first, decrement_first, call, Start, nothing, declares, performs, Head, Stmt, declaration, block, empty, simple, free, assert, assume, assume_shape, assert_shape, assert_empty, if_only, if_else, while_loop, do_loop, for_loop, break_loop, continue_loop, returns, stmts_of, FieldTree, StructTree, AliasedTree, of_base, of_struct, TypedefTree, ParametersTree, unnamed, void, listed, BodyTree, FunctionTree, ItemTree, structure, typedef, function, UnitTree}
+use Rattle.mc_ast.specs.Trees.{InitialTree, DeclarationTree, SimpleTree, assign, add, subtract, increment}
+use Rattle.mc_ast.specs.Trees.{decrement, increment_first, decrement_first, call, Start, nothing, declares}
+use Rattle.mc_ast.specs.Trees.{performs, Head, Stmt, declaration, block, empty, simple, free, assert, assume}
+use Rattle.mc_ast.specs.Trees.{assume_shape, assert_shape, assert_empty, if_only, if_else, while_loop, do_loop}
+use Rattle.mc_ast.specs.Trees.{for_loop, break_loop, continue_loop, returns, stmts_of, FieldTree, StructTree}
+use Rattle.mc_ast.specs.Trees.{AliasedTree, of_base, of_struct, TypedefTree, ParametersTree, unnamed, void, listed}
+use Rattle.mc_ast.specs.Trees.{BodyTree, FunctionTree, ItemTree, structure, typedef, function, UnitTree}
 
 abbrev pub left_of : LeftValue → Left
 left_of l = record { name = l.name; fields = l.fields.items }
@@ -40,7 +48,7 @@ expression_step (Expression-F.Minus p e) = minus p (box_value e)
 expression_step (Expression-F.Parens p e) = parens p (box_value e)
 expression_step (Expression-F.Times a b) = times (box_value a) (box_value b)
 expression_step (Expression-F.Plus a b) = plus (box_value a) (box_value b)
-expression_step (Expression-F.Less a b) = less (box_value a) (box_value b)
+expression_step (Expression-F.Difference a b) = difference (box_value a) (box_value b)
 
 abbrev pub expression_of : Expression → Expr
 expression_of = fold-Expression Expr expression_step
@@ -138,7 +146,7 @@ abbrev pub body_of : Body → BodyTree
 body_of b = record { place = b.place; statements = map statement_of b.statements.items }
 
 abbrev pub function_of : Function → FunctionTree
-function_of f = record { fixed = f.fixed; returned = f.returned; name = f.name; parameters = parameters_of f.parameters; body = option_map body_of f.body }
+function_of f = record { static_place = f.static_place; returned = f.returned; name = f.name; parameters = parameters_of f.parameters; body = option_map body_of f.body }
 
 abbrev pub item_of : Item → ItemTree
 item_of (Item.Struct s) = structure (struct_of s)

@@ -1,8 +1,11 @@
 -- How much of a tree that is let go of is left: what falls with each step.
 use Rattle.std.specs.Prelude.{ℕ, ◌+◌, Option, Some, None, box_value}
-use Rattle.mc_ast.specs.declared.trees.Expression.{Expression, Number, Null, Input, Value, Minus', Parens', Times', Plus', Less'}
+use Rattle.mc_ast.specs.declared.trees.Expression.{Expression, Number, Null, Input, Value, Minus', Parens', Times', Plus', Difference'}
 use Rattle.mc_ast.specs.declared.trees.Condition.{Condition, Plain, Compare, Not', Parens' as Enclosed', Both', Either'}
-use Rattle.mc_ast.specs.declared.trees.Statement.{Statement, Declaration, Block', Empty, Simple, Free, Assert, Assume, AssumeShape, AssertShape, AssertEmpty, If', IfElse', While', Do', For', Break, Continue, Return, Row_of-Statement, end_of-Statement, more_of-Statement}
+use Rattle.mc_ast.specs.declared.trees.Statement.{Statement, Declaration, Block', Empty, Simple, Free, Assert}
+use Rattle.mc_ast.specs.declared.trees.Statement.{Assume, AssumeShape, AssertShape, AssertEmpty, If', IfElse'}
+use Rattle.mc_ast.specs.declared.trees.Statement.{While', Do', For', Break, Continue, Return, Row_of-Statement}
+use Rattle.mc_ast.specs.declared.trees.Statement.{end_of-Statement, more_of-Statement}
 use Rattle.mc_ast.specs.declared.trees.Statement.TheVariants as Statement
 use Rattle.mc_ast.specs.declared.trees.Inside.{Inside}
 use Rattle.mc_ast.specs.declared.trees.Inside.TheVariants.{Nothing, One, Two, Many}
@@ -17,7 +20,7 @@ whole_expression (Minus' p q e) = whole_expression e + 1
 whole_expression (Parens' p q e) = whole_expression e + 1
 whole_expression (Times' p a q b) = whole_expression a + whole_expression b + 2
 whole_expression (Plus' p a q b) = whole_expression a + whole_expression b + 2
-whole_expression (Less' p a q b) = whole_expression a + whole_expression b + 2
+whole_expression (Difference' p a q b) = whole_expression a + whole_expression b + 2
 
 -- and what it weighs alone: its last part is alone too, once its first part is gone
 abbrev pub lone_expression : Expression → ℕ
@@ -29,7 +32,7 @@ lone_expression (Minus' p q e) = lone_expression e + 1
 lone_expression (Parens' p q e) = lone_expression e + 1
 lone_expression (Times' p a q b) = whole_expression a + lone_expression b + 1
 lone_expression (Plus' p a q b) = whole_expression a + lone_expression b + 1
-lone_expression (Less' p a q b) = whole_expression a + lone_expression b + 1
+lone_expression (Difference' p a q b) = whole_expression a + lone_expression b + 1
 
 -- what is at hand, and what waits
 abbrev pub left_of_expressions : Expression → Option Expression → ℕ

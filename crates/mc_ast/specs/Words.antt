@@ -2,7 +2,7 @@
 use Rattle.std.specs.Prelude.{◌≡◌, ℕ, List, [], ◌∷◌, ◌++◌, Option, Some, None, codes}
 use Rattle.std.proofs.Common.{cond}
 use Rattle.std.specs.Fmt.{decimal}
-use Rattle.mc_base.specs.declared.plain.Place.{Place}
+use Rattle.mc_text.specs.declared.place.Place.{Place}
 use Rattle.mc_ast.specs.declared.trees.Name.{Name}
 use Rattle.mc_ast.specs.Names.{mark_of, is_in}
 use Rattle.mc_ast.specs.declared.trees.Base.{Base}
@@ -14,8 +14,17 @@ use Rattle.mc_ast.specs.declared.trees.Malloc.{Malloc}
 use Rattle.mc_ast.specs.declared.trees.Argument.{Argument}
 use Rattle.mc_ast.specs.declared.trees.Returned.{Returned}
 use Rattle.mc_ast.specs.declared.trees.Parameter.{Parameter}
-use Rattle.mc_ast.specs.Trees.{Left, Expr, number, null, input, value, minus, parens, times, plus, less, Cond, plain, compare, negation, enclosed, both, either, CallTree, Right, expression, result_of, allocation}
-use Rattle.mc_ast.specs.Trees.{InitialTree, DeclarationTree, SimpleTree, assign, add, subtract, increment, decrement, increment_first, decrement_first, call, Start, nothing, declares, performs, Head, Stmt, declaration, block, empty, simple, free, assert, assume, assume_shape, assert_shape, assert_empty, if_only, if_else, while_loop, do_loop, for_loop, break_loop, continue_loop, returns, Stmts, no_more, then, stmts_of, FieldTree, StructTree, AliasedTree, of_base, of_struct, TypedefTree, ParametersTree, unnamed, void, listed, BodyTree, FunctionTree, ItemTree, structure, typedef, function, UnitTree}
+use Rattle.mc_ast.specs.Trees.{Left, Expr, number, null, input, value, minus, parens, times, plus, difference, Cond}
+use Rattle.mc_ast.specs.Trees.{plain, compare, negation, enclosed, both, either, CallTree, Right, expression}
+use Rattle.mc_ast.specs.Trees.{result_of, allocation}
+use Rattle.mc_ast.specs.Trees.{InitialTree, DeclarationTree, SimpleTree, assign, add, subtract, increment}
+use Rattle.mc_ast.specs.Trees.{decrement, increment_first, decrement_first, call, Start, nothing, declares}
+use Rattle.mc_ast.specs.Trees.{performs, Head, Stmt, declaration, block, empty, simple, free, assert, assume}
+use Rattle.mc_ast.specs.Trees.{assume_shape, assert_shape, assert_empty, if_only, if_else, while_loop, do_loop}
+use Rattle.mc_ast.specs.Trees.{for_loop, break_loop, continue_loop, returns, Stmts, no_more, then, stmts_of}
+use Rattle.mc_ast.specs.Trees.{FieldTree, StructTree, AliasedTree, of_base, of_struct, TypedefTree, ParametersTree}
+use Rattle.mc_ast.specs.Trees.{unnamed, void, listed, BodyTree, FunctionTree, ItemTree, structure, typedef}
+use Rattle.mc_ast.specs.Trees.{function, UnitTree}
 
 abbrev pub Words : Type 0
 Words = List (List ℕ)
@@ -53,7 +62,7 @@ expression_words (minus p e) more = codes "-" ∷ expression_words e more
 expression_words (parens p e) more = codes "(" ∷ expression_words e (codes ")" ∷ more)
 expression_words (times a b) more = expression_words a (codes "*" ∷ expression_words b more)
 expression_words (plus a b) more = expression_words a (codes "+" ∷ expression_words b more)
-expression_words (less a b) more = expression_words a (codes "-" ∷ expression_words b more)
+expression_words (difference a b) more = expression_words a (codes "-" ∷ expression_words b more)
 
 abbrev pub condition_words : Cond → Words → Words
 condition_words (plain e) more = expression_words e more
@@ -161,8 +170,12 @@ abbrev mutual
   statement_words (free p e) more = codes "free" ∷ codes "(" ∷ expression_words e (codes ")" ∷ codes ";" ∷ more)
   statement_words (assert p c) more = codes "assert" ∷ codes "(" ∷ condition_words c (codes ")" ∷ codes ";" ∷ more)
   statement_words (assume p c) more = codes "assume" ∷ codes "(" ∷ condition_words c (codes ")" ∷ codes ";" ∷ more)
-  statement_words (assume_shape p predicate variable args) more = codes "assume_shape" ∷ codes "(" ∷ predicate.text ∷ codes "," ∷ variable.text ∷ more_words argument_words args (codes ")" ∷ codes ";" ∷ more)
-  statement_words (assert_shape p predicate start args) more = codes "assert_shape" ∷ codes "(" ∷ predicate.text ∷ codes "," ∷ argument_words start (more_words argument_words args (codes ")" ∷ codes ";" ∷ more))
+  statement_words (assume_shape p predicate variable args) more = codes "assume_shape"
+      ∷ codes "(" ∷ predicate.text ∷ codes "," ∷ variable.text ∷ more_words argument_words args (codes ")"
+      ∷ codes ";" ∷ more)
+  statement_words (assert_shape p predicate start args) more = codes "assert_shape"
+      ∷ codes "(" ∷ predicate.text ∷ codes ","
+      ∷ argument_words start (more_words argument_words args (codes ")" ∷ codes ";" ∷ more))
   statement_words (assert_empty p) more = codes "assert_empty" ∷ codes "(" ∷ codes ")" ∷ codes ";" ∷ more
   statement_words (if_only p c s) more = codes "if" ∷ codes "(" ∷ condition_words c (codes ")" ∷ statement_words s more)
   statement_words (if_else p c s t) more = codes "if" ∷ codes "(" ∷ condition_words c (codes ")" ∷ statement_words s (codes "else" ∷ statement_words t more))
@@ -190,9 +203,9 @@ aliased_words (of_struct s) more = struct_words s more
 abbrev pub typedef_words : TypedefTree → Words → Words
 typedef_words t more = codes "typedef" ∷ aliased_words t.aliased (listed_words declarator_words t.declarators (codes ";" ∷ more))
 
-abbrev pub fixed_words : Option Place → Words → Words
-fixed_words None more = more
-fixed_words (Some p) more = codes "static" ∷ more
+abbrev pub static_words : Option Place → Words → Words
+static_words None more = more
+static_words (Some p) more = codes "static" ∷ more
 
 abbrev pub returned_words : Returned → Words → Words
 returned_words (Returned.Void p) more = codes "void" ∷ more
@@ -211,7 +224,7 @@ body_words None more = codes ";" ∷ more
 body_words (Some b) more = codes "{" ∷ statements_words (stmts_of b.statements) (codes "}" ∷ more)
 
 abbrev pub function_words : FunctionTree → Words → Words
-function_words f more = fixed_words f.fixed (returned_words f.returned (f.name.text ∷ codes "(" ∷ parameters_words f.parameters (codes ")" ∷ body_words f.body more)))
+function_words f more = static_words f.static_place (returned_words f.returned (f.name.text ∷ codes "(" ∷ parameters_words f.parameters (codes ")" ∷ body_words f.body more)))
 
 abbrev pub item_words : ItemTree → Words → Words
 item_words (structure s) more = struct_words s (codes ";" ∷ more)

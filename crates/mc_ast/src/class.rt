@@ -1,12 +1,12 @@
 // What a token is to the grammar.
 ghost use Rattle.mc_ast.specs.Classes.{Each, IsClass, IsMarkOf, IsWordOf, class_beside, grammar_marks};
-ghost use Rattle.mc_lex.specs.declared.token.TokenKind.TheVariants as TokenKind;
+ghost use Rattle.mc_text.specs.declared.token.TokenKind.TheVariants as TokenKind;
 ghost use Rattle.mc_ast.specs.Names.{is_in, is_reserved, is_same, name_of};
 ghost use Rattle.std.specs.List.{list_any};
 ghost use Rattle.std.specs.Prelude.{◌≡◌, IfOk, map};
 
 use crate::trees::{Comparison, Name};
-use mc_lex::{Text, Token, TokenKind, number_value};
+use mc_text::{Text, Token, TokenKind, number_value};
 use std::alloc::{AllocError, Global};
 
 /// What a token is to the grammar: a mark or word that it knows, another one, a name, a number or the end.

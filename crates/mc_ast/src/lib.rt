@@ -14,7 +14,7 @@ mod print_word;
 mod trees;
 
 pub use class::{Class, classify, is_reserved, name_at};
-pub use laws::{printed_words_are_read, trees_are_unique};
+pub use laws::trees_are_unique;
 pub use print::print_unit;
 pub use trees::{
     Aliased, Argument, AssertShape, AssumeShape, Base, Body, Call, Cast, Comparison, Condition,

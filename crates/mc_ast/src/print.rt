@@ -1,7 +1,9 @@
 // How functions and programs are printed.
 ghost use Rattle.mc_ast.specs.Trees.{stmts_of};
 ghost use Rattle.mc_ast.specs.Views.{body_of, function_of, item_of, parameters_of, statement_of, unit_of};
-ghost use Rattle.mc_ast.specs.Words.{Prints, all_words, body_words, fixed_words, function_words, item_words, listed_words, more_words, parameter_words, parameters_words, returned_words, statements_words, text_of, unit_words};
+ghost use Rattle.mc_ast.specs.Words.{Prints, all_words, body_words, static_words, function_words, item_words};
+ghost use Rattle.mc_ast.specs.Words.{listed_words, more_words, parameter_words, parameters_words, returned_words};
+ghost use Rattle.mc_ast.specs.Words.{statements_words, text_of, unit_words};
 ghost use Rattle.std.specs.Option.{option_map};
 ghost use Rattle.std.specs.Prelude.{◌≡◌, ◌∷◌, [], IfOk, codes, map};
 
@@ -10,7 +12,7 @@ use crate::print_statement::print_statements;
 use crate::print_struct::{print_struct, print_typedef};
 use crate::print_word::{print_name, print_opening, print_word};
 use crate::trees::{Body, Function, Item, Parameter, Parameters, Returned, Unit};
-use mc_base::Place;
+use mc_text::Place;
 use std::alloc::{AllocError, Global};
 
 /// The text of a program: its words, each with a blank behind it, or with a line feed behind a `;`, a `{` and a `}`.
@@ -48,7 +50,7 @@ fn print_item(alloc: Global, out: &mut Vec<u8>, item: &Item) -> Result<(), Alloc
 fn print_function(alloc: Global, out: &mut Vec<u8>, function: &Function) -> Result<(), AllocError>
     ensures { IfOk result (λ _. Prints out.old.items (function_words (function_of function.now)) out.new.items) }
 {
-    print_fixed(out, &function.fixed)?;
+    print_static(out, &function.static_place)?;
     print_returned(out, &function.returned)?;
     print_signature(alloc, out, function)?;
     Ok(())
@@ -56,7 +58,9 @@ fn print_function(alloc: Global, out: &mut Vec<u8>, function: &Function) -> Resu
 
 // The name, the parameters and the body.
 fn print_signature(alloc: Global, out: &mut Vec<u8>, function: &Function) -> Result<(), AllocError>
-    ensures { IfOk result (λ _. Prints out.old.items (λ more. function.now.name.text ∷ codes "(" ∷ parameters_words (parameters_of function.now.parameters) (codes ")" ∷ body_words (option_map body_of function.now.body) more)) out.new.items) }
+    ensures { IfOk result (λ _. Prints out.old.items (λ more. function.now.name.text
+        ∷ codes "(" ∷ parameters_words (parameters_of function.now.parameters) (codes ")"
+        ∷ body_words (option_map body_of function.now.body) more)) out.new.items) }
 {
     print_opening(out, function.name.text.as_slice())?;
     print_parameters(out, &function.parameters)?;
@@ -65,10 +69,10 @@ fn print_signature(alloc: Global, out: &mut Vec<u8>, function: &Function) -> Res
     Ok(())
 }
 
-fn print_fixed(out: &mut Vec<u8>, fixed: &Option<Place>) -> Result<(), AllocError>
-    ensures { IfOk result (λ _. Prints out.old.items (fixed_words fixed.now) out.new.items) }
+fn print_static(out: &mut Vec<u8>, static_place: &Option<Place>) -> Result<(), AllocError>
+    ensures { IfOk result (λ _. Prints out.old.items (static_words static_place.now) out.new.items) }
 {
-    match fixed {
+    match static_place {
         Some(_) => print_word(out, b"static")?,
         None => {}
     }

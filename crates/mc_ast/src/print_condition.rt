@@ -87,7 +87,9 @@ fn push_both<'a>(
     mark: &'static [u8],
     second: &'a Condition,
 ) -> Result<(), AllocError>
-    ensures words { IfOk result (λ _. (more : Words) → condition_parts_words parts.new.items more ≡ condition_words (condition_of first.now) (mark.now ∷ condition_words (condition_of second.now) (condition_parts_words parts.old.items more))) }
+    ensures words { IfOk result (λ _. (more : Words)
+        → condition_parts_words parts.new.items more ≡ condition_words (condition_of first.now) (mark.now
+        ∷ condition_words (condition_of second.now) (condition_parts_words parts.old.items more))) }
     ensures steps { IfOk result (λ _. condition_parts_steps parts.new.items ≡ condition_parts_steps parts.old.items + condition_steps (condition_of first.now) + condition_steps (condition_of second.now) + 1) }
 {
     push(parts, ConditionPart::Whole(second))?;

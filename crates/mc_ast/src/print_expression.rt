@@ -62,7 +62,7 @@ fn print_first<'a>(
         }
         Expression::Times(first, second) => push_both(parts, first, b"*", second)?,
         Expression::Plus(first, second) => push_both(parts, first, b"+", second)?,
-        Expression::Less(first, second) => push_both(parts, first, b"-", second)?,
+        Expression::Difference(first, second) => push_both(parts, first, b"-", second)?,
     }
     Ok(())
 }
@@ -74,7 +74,9 @@ fn push_both<'a>(
     mark: &'static [u8],
     second: &'a Expression,
 ) -> Result<(), AllocError>
-    ensures words { IfOk result (λ _. (more : Words) → expression_parts_words parts.new.items more ≡ expression_words (expression_of first.now) (mark.now ∷ expression_words (expression_of second.now) (expression_parts_words parts.old.items more))) }
+    ensures words { IfOk result (λ _. (more : Words)
+        → expression_parts_words parts.new.items more ≡ expression_words (expression_of first.now) (mark.now
+        ∷ expression_words (expression_of second.now) (expression_parts_words parts.old.items more))) }
     ensures steps { IfOk result (λ _. expression_parts_steps parts.new.items ≡ expression_parts_steps parts.old.items + expression_steps (expression_of first.now) + expression_steps (expression_of second.now) + 1) }
 {
     push(parts, ExpressionPart::Whole(second))?;

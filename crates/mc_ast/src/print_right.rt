@@ -1,12 +1,14 @@
 // How calls, allocations and right sides are printed.
 ghost use Rattle.mc_ast.specs.Views.{call_of, expression_of, right_of};
-ghost use Rattle.mc_ast.specs.Words.{Prints, base_words, call_words, cast_words, declarator_words, expression_words, listed_words, malloc_words, maybe_words, more_words, right_words, size_words, star_words};
+ghost use Rattle.mc_ast.specs.Words.{Prints, base_words, call_words, cast_words, declarator_words, expression_words};
+ghost use Rattle.mc_ast.specs.Words.{listed_words, malloc_words, maybe_words, more_words, right_words, size_words};
+ghost use Rattle.mc_ast.specs.Words.{star_words};
 ghost use Rattle.std.specs.Prelude.{IfOk, map};
 
 use crate::print_expression::print_expression;
 use crate::print_word::{print_name, print_opening, print_word};
 use crate::trees::{Base, Call, Cast, Declarator, Expression, Malloc, RightSide, Size};
-use mc_base::Place;
+use mc_text::Place;
 use std::alloc::{AllocError, Global};
 
 pub fn print_call(alloc: Global, out: &mut Vec<u8>, call: &Call) -> Result<(), AllocError>

@@ -1,6 +1,8 @@
 // How declarations and simple statements are printed.
 ghost use Rattle.mc_ast.specs.Views.{condition_of, declaration_of, head_of, initial_of, right_of, simple_of, start_of};
-ghost use Rattle.mc_ast.specs.Words.{Prints, argument_words, condition_words, declaration_words, head_words, initial_words, listed_words, maybe_words, more_words, simple_words, start_words, value_words};
+ghost use Rattle.mc_ast.specs.Words.{Prints, argument_words, condition_words, declaration_words, head_words};
+ghost use Rattle.mc_ast.specs.Words.{initial_words, listed_words, maybe_words, more_words, simple_words};
+ghost use Rattle.mc_ast.specs.Words.{start_words, value_words};
 ghost use Rattle.std.specs.Option.{option_map};
 ghost use Rattle.std.specs.Prelude.{◌∷◌, IfOk, codes, map};
 

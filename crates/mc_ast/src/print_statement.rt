@@ -152,7 +152,9 @@ fn print_assume_shape(
     out: &mut Vec<u8>,
     shape: &AssumeShape,
 ) -> Result<(), AllocError>
-    ensures { IfOk result (λ _. Prints out.old.items (λ more. codes "assume_shape" ∷ codes "(" ∷ shape.now.predicate.text ∷ codes "," ∷ shape.now.variable.text ∷ more_words argument_words shape.now.arguments.items (codes ")" ∷ codes ";" ∷ more)) out.new.items) }
+    ensures { IfOk result (λ _. Prints out.old.items (λ more. codes "assume_shape"
+        ∷ codes "(" ∷ shape.now.predicate.text ∷ codes "," ∷ shape.now.variable.text
+        ∷ more_words argument_words shape.now.arguments.items (codes ")" ∷ codes ";" ∷ more)) out.new.items) }
 {
     print_opening(out, b"assume_shape")?;
     print_name(out, &shape.predicate)?;
@@ -176,7 +178,10 @@ fn print_assert_shape(
     out: &mut Vec<u8>,
     shape: &AssertShape,
 ) -> Result<(), AllocError>
-    ensures { IfOk result (λ _. Prints out.old.items (λ more. codes "assert_shape" ∷ codes "(" ∷ shape.now.predicate.text ∷ codes "," ∷ argument_words shape.now.start (more_words argument_words shape.now.arguments.items (codes ")" ∷ codes ";" ∷ more))) out.new.items) }
+    ensures { IfOk result (λ _. Prints out.old.items (λ more. codes "assert_shape"
+        ∷ codes "(" ∷ shape.now.predicate.text ∷ codes ","
+        ∷ argument_words shape.now.start (more_words argument_words shape.now.arguments.items (codes ")"
+        ∷ codes ";" ∷ more))) out.new.items) }
 {
     print_opening(out, b"assert_shape")?;
     print_name(out, &shape.predicate)?;
@@ -186,7 +191,9 @@ fn print_assert_shape(
 
 // What stands behind the predicate.
 fn print_start(alloc: Global, out: &mut Vec<u8>, shape: &AssertShape) -> Result<(), AllocError>
-    ensures { IfOk result (λ _. Prints out.old.items (λ more. codes "," ∷ argument_words shape.now.start (more_words argument_words shape.now.arguments.items (codes ")" ∷ codes ";" ∷ more))) out.new.items) }
+    ensures { IfOk result (λ _. Prints out.old.items (λ more. codes ","
+        ∷ argument_words shape.now.start (more_words argument_words shape.now.arguments.items (codes ")"
+        ∷ codes ";" ∷ more))) out.new.items) }
 {
     print_word(out, b",")?;
     print_argument(alloc, out, &shape.start)?;
@@ -236,7 +243,9 @@ fn push_else<'a>(
     first: &'a Statement,
     second: &'a Statement,
 ) -> Result<(), AllocError>
-    ensures words { IfOk result (λ _. (more : Words) → statement_parts_words parts.new.items more ≡ statement_words (statement_of first.now) (codes "else" ∷ statement_words (statement_of second.now) (statement_parts_words parts.old.items more))) }
+    ensures words { IfOk result (λ _. (more : Words)
+        → statement_parts_words parts.new.items more ≡ statement_words (statement_of first.now) (codes "else"
+        ∷ statement_words (statement_of second.now) (statement_parts_words parts.old.items more))) }
     ensures steps { IfOk result (λ _. statement_parts_steps parts.new.items ≡ statement_parts_steps parts.old.items + statement_steps (statement_of first.now) + statement_steps (statement_of second.now) + 1) }
 {
     push(parts, StatementPart::Whole(second))?;
@@ -250,7 +259,8 @@ fn push_several<'a>(
     parts: &mut Vec<StatementPart<'a>>,
     several: &'a [Statement],
 ) -> Result<(), AllocError>
-    ensures words { IfOk result (λ _. (more : Words) → statement_parts_words parts.new.items more ≡ statements_words (stmts_of (map statement_of several.now)) (statement_parts_words parts.old.items more)) }
+    ensures words { IfOk result (λ _. (more : Words)
+        → statement_parts_words parts.new.items more ≡ statements_words (stmts_of (map statement_of several.now)) (statement_parts_words parts.old.items more)) }
     ensures steps { IfOk result (λ _. statement_parts_steps parts.new.items < statement_parts_steps parts.old.items + statements_steps (stmts_of (map statement_of several.now))) }
 {
     if let [first, rest @ ..] = several {

@@ -3,8 +3,7 @@ mod deep;
 mod printed;
 
 use crate::{Class, Comparison, classify, is_reserved, name_at};
-use mc_base::Place;
-use mc_lex::{Text, Token, TokenKind};
+use mc_text::{Place, Text, Token, TokenKind};
 use std::alloc::{AllocError, Global};
 use std::test::Fail;
 

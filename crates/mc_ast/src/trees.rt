@@ -1,6 +1,5 @@
 // The trees of programs: one type for each line of the grammar, with the places of their tokens.
-use mc_base::Place;
-use mc_lex::Text;
+use mc_text::{Place, Text};
 use std::mem;
 
 /// A name, at its place.
@@ -30,7 +29,7 @@ pub enum Expression {
     Parens(Place, Box<Expression>),
     Times(Box<Expression>, Box<Expression>),
     Plus(Box<Expression>, Box<Expression>),
-    Less(Box<Expression>, Box<Expression>),
+    Difference(Box<Expression>, Box<Expression>),
 }
 
 /// A loop, so that a tree of any depth needs no more stack than a leaf does, and no memory either. What is at hand is taken apart, and at
@@ -55,7 +54,7 @@ impl Drop for Expression {
                 }
                 Expression::Times(mut first, second)
                 | Expression::Plus(mut first, second)
-                | Expression::Less(mut first, second) => match waiting {
+                | Expression::Difference(mut first, second) => match waiting {
                     Some(next) => {
                         self = mem::replace(&mut *first, next);
                         waiting = Some(Expression::Times(second, first));
@@ -489,10 +488,10 @@ pub struct Body {
     pub statements: Vec<Statement>,
 }
 
-/// A function, or its prototype where it has no body. `fixed` is the place of `static`.
+/// A function, or its prototype where it has no body. `static_place` is the place of `static`.
 #[derive(Drop)]
 pub struct Function {
-    pub fixed: Option<Place>,
+    pub static_place: Option<Place>,
     pub returned: Returned,
     pub name: Name,
     pub parameters: Parameters,

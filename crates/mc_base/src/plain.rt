@@ -1,15 +1,8 @@
-// Places, kinds, atoms and variables.
+// Kinds, faults, atoms and variables.
 use crate::{Items, NodeId};
 
 /// The one error of calls that fail only for want of memory.
 pub type NoMemory = std::alloc::AllocError;
-
-/// A place in a text: line and column in bytes, both from 1.
-#[derive(Clone, Copy, Debug, PartialEq, Eq, PartialOrd, Ord)]
-pub struct Place {
-    pub line: u32,
-    pub column: u32,
-}
 
 /// The kind of a value. `Int` goes from -2147483648 to 2147483647, and `Ptr` from 0 to 2^62 - 1.
 #[derive(Clone, Copy, Debug, PartialEq, Eq, PartialOrd, Ord)]

@@ -1,6 +1,6 @@
 -- What follows the first token of a statement.
 use Rattle.std.proofs.Common.{◌≡◌, ℕ, List, [], ◌∷◌, inl, inr, refl, sym, subst}
-use Rattle.mc_lex.specs.declared.token.Token.{Token}
+use Rattle.mc_text.specs.declared.token.Token.{Token}
 use Rattle.mc_ast.specs.declared.class.Class.{Class}
 use Rattle.mc_ast.specs.Trees.{Stmt, block, break_loop, continue_loop, assert_empty, stmts_of}
 use Rattle.mc_ast.specs.Names.{Tokens}

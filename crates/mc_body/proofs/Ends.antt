@@ -3,9 +3,9 @@ use Rattle.std.proofs.Common.{◌≡◌, ℕ, List, [], ◌∷◌, ◌++◌, inl
 use Rattle.std.specs.Prelude.{codes}
 use Rattle.std.specs.Option.{option_map}
 use Rattle.std.proofs.Common.{zero-le}
-use Rattle.mc_base.specs.declared.plain.Place.{Place}
-use Rattle.mc_lex.specs.declared.token.Token.{Token}
-use Rattle.mc_lex.specs.declared.token.TokenKind.TheVariants as TokenKind
+use Rattle.mc_text.specs.declared.place.Place.{Place}
+use Rattle.mc_text.specs.declared.token.Token.{Token}
+use Rattle.mc_text.specs.declared.token.TokenKind.TheVariants as TokenKind
 use Rattle.mc_ast.specs.declared.class.Class.{Class}
 use Rattle.mc_ast.specs.declared.trees.Argument.{Argument}
 use Rattle.mc_ast.specs.declared.trees.Base.{Base}
@@ -27,7 +27,7 @@ use Rattle.mc_simple.specs.Simples.{CompletesSimple}
 use Rattle.mc_simple.specs.Declarations.{BehindBase, behind_initials, CompletesDeclaration}
 use Rattle.mc_simple.specs.Phrases.{Next, next, Ended, ended, Either}
 use Rattle.mc_body.specs.Phrases.{Expects, classes_of, expected_of, Conditions, Statements}
-use Rattle.mc_lex.specs.Numbers.{as_zero}
+use Rattle.mc_text.specs.Numbers.{as_zero}
 use Rattle.mc_ast.specs.declared.trees.Name.{Name}
 use Rattle.mc_body.specs.Shapes.{shaped, Arguments, BehindMinus, negative, BehindArguments, BehindUse, BehindComma, BehindPredicate, CompletesShape}
 use Rattle.mc_body.specs.Lines.{BehindSimple, CompletesLine}

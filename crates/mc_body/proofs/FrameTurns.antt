@@ -1,8 +1,8 @@
 -- What a token does to blocks and frames.
 use Rattle.std.proofs.Common.{◌≡◌, ℕ, suc, List, [], ◌∷◌, ◌++◌, ◌⊎◌, inl, refl, sym, ◌∙◌, ap, subst, map, reverse, length, IsTrue, Vec, Global, arith}
 use Rattle.std.specs.Prelude.{codes}
-use Rattle.mc_base.specs.declared.plain.Place.{Place}
-use Rattle.mc_lex.specs.declared.token.Token.{Token}
+use Rattle.mc_text.specs.declared.place.Place.{Place}
+use Rattle.mc_text.specs.declared.token.Token.{Token}
 use Rattle.mc_ast.specs.declared.class.Class.{Class}
 use Rattle.mc_ast.specs.declared.trees.Statement.{Statement}
 use Rattle.mc_ast.specs.Trees.{Cond, Stmt, if_only, if_else, block, stmts_of}

@@ -2,8 +2,8 @@
 use Rattle.std.proofs.Common.{◌≡◌, ℕ, List, [], ◌∷◌, ◌⊎◌, inl, inr, refl, sym, ◌∙◌, subst, IsTrue}
 use Rattle.std.specs.Prelude.{codes}
 use Rattle.std.specs.Bool.{IsFalse}
-use Rattle.mc_lex.specs.declared.token.Token.{Token}
-use Rattle.mc_lex.specs.declared.token.TokenKind.{TokenKind}
+use Rattle.mc_text.specs.declared.token.Token.{Token}
+use Rattle.mc_text.specs.declared.token.TokenKind.{TokenKind}
 use Rattle.mc_ast.specs.declared.class.Class.{Class}
 use Rattle.mc_ast.specs.declared.trees.Name.{Name}
 use Rattle.mc_ast.specs.declared.trees.Base.TheVariants as Base

@@ -1,6 +1,6 @@
 -- What statements without parts are seen as.
 use Rattle.std.proofs.Common.{◌≡◌, ap, sym, ◌∙◌, Some, None, Box, Global}
-use Rattle.mc_base.specs.declared.plain.Place.{Place}
+use Rattle.mc_text.specs.declared.place.Place.{Place}
 use Rattle.mc_ast.specs.declared.trees.Condition.{Condition}
 use Rattle.mc_ast.specs.declared.trees.Expression.{Expression}
 use Rattle.mc_ast.specs.declared.trees.RightSide.{RightSide}

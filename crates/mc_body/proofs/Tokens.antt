@@ -1,6 +1,6 @@
 -- What a token can't be besides its class, and how steps follow phrases.
 use Rattle.std.proofs.Common.{◌≡◌, ℕ, List, [], ◌∷◌, ◌⊎◌, inl, inr, refl, sym, ◌∙◌, subst, IsTrue, true, false, IfOk, Ok, Err, Result}
-use Rattle.mc_lex.specs.declared.token.Token.{Token}
+use Rattle.mc_text.specs.declared.token.Token.{Token}
 use Rattle.mc_ast.specs.declared.class.Class.{Class}
 use Rattle.mc_ast.specs.Names.{Tokens, IsMark, is_in}
 use Rattle.mc_ast.specs.Classes.{IsClass}

@@ -1,13 +1,13 @@
 -- A token is of one class.
 use Rattle.std.proofs.Common.{◌≡◌, ℕ, List, [], true, false, ◌⊎◌, inl, inr, refl, sym, ◌∙◌, ap}
 use Rattle.std.specs.Prelude.{codes, if◌then◌else◌}
-use Rattle.mc_lex.specs.declared.token.Token.{Token}
-use Rattle.mc_lex.specs.declared.token.TokenKind.{TokenKind}
+use Rattle.mc_text.specs.declared.token.Token.{Token}
+use Rattle.mc_text.specs.declared.token.TokenKind.{TokenKind}
 use Rattle.mc_ast.specs.declared.class.Class.{Class}
 use Rattle.mc_ast.specs.declared.trees.Comparison.TheVariants as Comparison
 use Rattle.std.specs.Prelude.{slice_index, ◌++◌}
 use Rattle.std.specs.Str.Parse.{digits_value}
-use Rattle.mc_lex.specs.Numbers.{Spells, as_zero, as_decimal, as_hexadecimal}
+use Rattle.mc_text.specs.Numbers.{Spells, as_zero, as_decimal, as_hexadecimal}
 use Rattle.mc_ast.specs.Names.{IsName, IsNumber, is_same, is_in, is_reserved, mark_of}
 use Rattle.mc_ast.specs.Classes.{IsClass, grammar_marks, grammar_words}
 

@@ -1,6 +1,6 @@
 -- What completes the statements of a function, of which some tokens are read.
 use Rattle.std.specs.Prelude.{ℕ, List, [], map}
-use Rattle.mc_lex.specs.declared.token.Token.{Token}
+use Rattle.mc_text.specs.declared.token.Token.{Token}
 use Rattle.mc_ast.specs.Names.{Tokens}
 use Rattle.mc_ast.specs.Trees.{Stmt}
 use Rattle.mc_ast.specs.Views.{statement_of}

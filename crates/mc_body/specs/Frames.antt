@@ -1,7 +1,7 @@
 -- What is asked of the tokens behind a statement, by what it stands in.
 use Rattle.std.specs.Prelude.{ℕ, List, [], ◌∷◌, ◌++◌, codes, map, reverse}
-use Rattle.mc_base.specs.declared.plain.Place.{Place}
-use Rattle.mc_lex.specs.declared.token.Token.{Token}
+use Rattle.mc_text.specs.declared.place.Place.{Place}
+use Rattle.mc_text.specs.declared.token.Token.{Token}
 use Rattle.mc_ast.specs.declared.class.Class.TheVariants as Class
 use Rattle.mc_ast.specs.Names.{Tokens, IsWord, IsNoElse}
 use Rattle.mc_ast.specs.Trees.{Cond, Stmt, block, if_only, if_else, while_loop, do_loop, for_loop, stmts_of}
@@ -20,7 +20,9 @@ InBlock aliases before next = InTurn (Listed aliases before) (λ ss. Expects (Cl
 -- behind the first part of an `if`: an `else` with the second part, or no `else`
 pub data BehindFirst (aliases : List (List ℕ)) (place : Place) (c : Cond) (next : Stmt → Tokens → Tokens → List Stmt → Type 0) (s : Stmt) : Tokens → Tokens → List Stmt → Type 0 where
   only : {tokens rest : Tokens} {all : List Stmt} → IsNoElse tokens → next (if_only place c s) tokens rest all → BehindFirst aliases place c next s tokens rest all
-  otherwise : {t : Stmt} {token : Token} {tokens mid rest : Tokens} {all : List Stmt} → IsWord (codes "else") token → IsStatement aliases t tokens mid → next (if_else place c s t) mid rest all → BehindFirst aliases place c next s (token ∷ tokens) rest all
+  otherwise : {t : Stmt} {token : Token} {tokens mid rest : Tokens} {all : List Stmt} → IsWord (codes "else") token
+      → IsStatement aliases t tokens mid → next (if_else place c s t) mid rest all
+      → BehindFirst aliases place c next s (token ∷ tokens) rest all
 
 -- behind the body of a `do`
 abbrev pub BehindDo : Place → (Stmt → Tokens → Tokens → List Stmt → Type 0) → Stmt → Tokens → Tokens → List Stmt → Type 0

@@ -2,7 +2,7 @@
 use Rattle.std.specs.Prelude.{ℕ, List, [], ◌∷◌, Option, Some, None}
 use Rattle.mc_ast.specs.declared.class.Class.{Class}
 use Rattle.mc_ast.specs.Classes.{IsClass}
-use Rattle.mc_lex.specs.declared.token.Token.{Token}
+use Rattle.mc_text.specs.declared.token.Token.{Token}
 use Rattle.mc_ast.specs.Names.{Tokens}
 use Rattle.mc_ast.specs.Trees.{Expr, Cond, Start, SimpleTree, Stmt}
 use Rattle.mc_ast.specs.Grammar.{IsSum, IsCondition, IsStart, IsMaybeCondition, IsMaybeSimple, IsStatement, MoreStatements}

@@ -1,7 +1,7 @@
 -- What completes a statement of which some tokens are read.
 use Rattle.std.specs.Prelude.{ℕ, List, [], ◌∷◌, Option, Some, None}
 use Rattle.std.specs.Option.{option_map}
-use Rattle.mc_base.specs.declared.plain.Place.{Place}
+use Rattle.mc_text.specs.declared.place.Place.{Place}
 use Rattle.mc_ast.specs.declared.class.Class.TheVariants as Class
 use Rattle.mc_ast.specs.Names.{Tokens}
 use Rattle.mc_ast.specs.Trees.{Expr, Cond, Right, SimpleTree, Start, nothing, declares, performs, Stmt, declaration, empty, simple, free, assert, assume, while_loop, do_loop, for_loop, returns}
@@ -41,7 +41,13 @@ BehindReturn aliases place next = Either (Expects (Class.Semicolon ∷ []) (next
 
 -- behind all that stands in the parentheses of a `for`
 abbrev pub BehindLast : List (List ℕ) → Place → Start → Option Cond → (Stmt → Tokens → Tokens → List Stmt → Type 0) → Option SimpleTree → Tokens → Tokens → List Stmt → Type 0
-BehindLast aliases place start c next last = Expects (Class.CloseParen ∷ []) (InTurn (Statements aliases) (λ s. next (for_loop (record { place = place; start = start; condition = c; last = last }) s)))
+BehindLast aliases place start c next last = Expects (Class.CloseParen
+    ∷ []) (InTurn (Statements aliases) (λ s. next (for_loop (record {
+      place = place;
+      start = start;
+      condition = c;
+      last = last;
+    }) s)))
 
 -- at the last part in the parentheses of a `for`
 abbrev pub AtLast : List (List ℕ) → Place → Start → (Stmt → Tokens → Tokens → List Stmt → Type 0) → Option Cond → Tokens → Tokens → List Stmt → Type 0

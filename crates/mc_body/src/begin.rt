@@ -24,9 +24,8 @@ use crate::phrase::Phrase;
 use crate::shape::{Command, ShapeReader};
 use crate::state::{BodyReader, BodyStep, LinePurpose, Purpose, State};
 use mc_ast::{Class, Statement};
-use mc_base::Place;
 use mc_expression::{ConditionReader, ExpressionReader};
-use mc_lex::Token;
+use mc_text::{Place, Token};
 use std::alloc::AllocError;
 use std::mem;
 
@@ -39,7 +38,8 @@ pub fn at_start(
 ) -> Result<BodyStep, AllocError>
     requires kind { IsClass token.now class }
     requires ready { reader.old.expected ≡ None }
-    ensures { (aliases : List (List ℕ)) → is_in aliases token.now.text ≡ alias → IfOk result (IsBodyStep (AtStart aliases (frames_of reader.old.nest) (body_of reader.old.nest)) (CompletesBody aliases reader.new) token.now) }
+    ensures { (aliases : List (List ℕ)) → is_in aliases token.now.text ≡ alias
+        → IfOk result (IsBodyStep (AtStart aliases (frames_of reader.old.nest) (body_of reader.old.nest)) (CompletesBody aliases reader.new) token.now) }
 {
     match class {
         Class::CloseBrace => Ok(close(reader, token)),
@@ -91,7 +91,8 @@ fn begin(
 ) -> Result<BodyStep, AllocError>
     requires kind { IsClass token.now class }
     requires ready { reader.old.expected ≡ None }
-    ensures { (aliases : List (List ℕ)) → is_in aliases token.now.text ≡ alias → IfOk result (IsBodyStep (InTurn (Statements aliases) (Around aliases reader.old.nest)) (CompletesBody aliases reader.new) token.now) }
+    ensures { (aliases : List (List ℕ)) → is_in aliases token.now.text ≡ alias
+        → IfOk result (IsBodyStep (InTurn (Statements aliases) (Around aliases reader.old.nest)) (CompletesBody aliases reader.new) token.now) }
 {
     let place = token.place;
     match class {
@@ -128,7 +129,9 @@ fn begin(
 
 /// Behind `free`.
 fn begin_free(reader: &mut BodyReader, place: Place) -> Result<BodyStep, AllocError>
-    ensures { IfOk result (λ step. (step ≡ BodyStep.Taken) × ((aliases : List (List ℕ)) → IsSame (CompletesBody aliases reader.new) (Expects (Class.OpenParen ∷ []) (InTurn Sums (BehindFreed place (Around aliases reader.old.nest)))))) }
+    ensures { IfOk result (λ step. (step ≡ BodyStep.Taken)
+        × ((aliases : List (List ℕ)) → IsSame (CompletesBody aliases reader.new) (Expects (Class.OpenParen
+        ∷ []) (InTurn Sums (BehindFreed place (Around aliases reader.old.nest)))))) }
 {
     let alloc = reader.nest.alloc;
     let fresh = ExpressionReader::new(alloc);
@@ -140,7 +143,9 @@ fn begin_free(reader: &mut BodyReader, place: Place) -> Result<BodyStep, AllocEr
 
 /// Behind the word of a statement that a condition follows.
 fn begin_condition(reader: &mut BodyReader, purpose: Purpose) -> Result<BodyStep, AllocError>
-    ensures { IfOk result (λ step. (step ≡ BodyStep.Taken) × ((aliases : List (List ℕ)) → IsSame (CompletesBody aliases reader.new) (Expects (Class.OpenParen ∷ []) (InTurn Conditions (BehindPurpose aliases purpose (Around aliases reader.old.nest)))))) }
+    ensures { IfOk result (λ step. (step ≡ BodyStep.Taken)
+        × ((aliases : List (List ℕ)) → IsSame (CompletesBody aliases reader.new) (Expects (Class.OpenParen
+        ∷ []) (InTurn Conditions (BehindPurpose aliases purpose (Around aliases reader.old.nest)))))) }
 {
     let alloc = reader.nest.alloc;
     let fresh = ConditionReader::new(alloc);
@@ -198,7 +203,8 @@ fn begin_line(
 ) -> Result<BodyStep, AllocError>
     requires kind { IsClass token.now class }
     requires ready { reader.old.expected ≡ None }
-    ensures { (aliases : List (List ℕ)) → is_in aliases token.now.text ≡ alias → IfOk result (IsBodyStep (AtState aliases reader.old.nest (State.Line (LinePurpose.Statement token.now.place) LineReader.Start)) (CompletesBody aliases reader.new) token.now) }
+    ensures { (aliases : List (List ℕ)) → is_in aliases token.now.text ≡ alias
+        → IfOk result (IsBodyStep (AtState aliases reader.old.nest (State.Line (LinePurpose.Statement token.now.place) LineReader.Start)) (CompletesBody aliases reader.new) token.now) }
 {
     reader.state = State::Line(LinePurpose::Statement(token.place), LineReader::Start);
     in_line(reader, token, class, alias)

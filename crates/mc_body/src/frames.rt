@@ -3,7 +3,7 @@ ghost use Rattle.std.specs.Prelude.{◌≡◌, IfOk, [], ◌∷◌};
 ghost use Rattle.mc_body.specs.Frames.{body_of, frames_of};
 
 use mc_ast::{Condition, ForHead, Statement};
-use mc_base::Place;
+use mc_text::Place;
 use std::alloc::{AllocError, Global};
 
 /// What a statement stands in.

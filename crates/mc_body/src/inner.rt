@@ -27,10 +27,9 @@ use crate::shape::{Command, ShapeReader, ShapeStep};
 use crate::state::{BodyReader, BodyStep, LinePurpose, Purpose, State};
 use crate::step::expect;
 use mc_ast::{Class, Condition, Expression, ForHead, ForStart, RightSide, Statement};
-use mc_base::Place;
 use mc_expression::{ConditionReader, ConditionStep, ExpressionReader, ExpressionStep};
-use mc_lex::Token;
 use mc_simple::{RightReader, RightStep, SimpleReader, SimpleStep};
+use mc_text::{Place, Token};
 use std::alloc::AllocError;
 use std::mem;
 
@@ -42,7 +41,9 @@ pub fn in_freed(
 ) -> Result<BodyStep, AllocError>
     requires kind { IsClass token.now class }
     requires ready { reader.old.expected ≡ None }
-    ensures { (place : Place) (freed : Box ExpressionReader Global) → reader.old.state ≡ State.Freed place freed → (aliases : List (List ℕ)) → IfOk result (IsBodyStep (AtState aliases reader.old.nest reader.old.state) (CompletesBody aliases reader.new) token.now) }
+    ensures { (place : Place) (freed : Box ExpressionReader Global) → reader.old.state ≡ State.Freed place freed
+        → (aliases : List (List ℕ))
+        → IfOk result (IsBodyStep (AtState aliases reader.old.nest reader.old.state) (CompletesBody aliases reader.new) token.now) }
 {
     match &mut reader.state {
         State::Freed(place, inner) => {
@@ -83,7 +84,9 @@ pub fn in_condition(
 ) -> Result<BodyStep, AllocError>
     requires kind { IsClass token.now class }
     requires ready { reader.old.expected ≡ None }
-    ensures { (purpose : Purpose) (condition : Box ConditionReader Global) → reader.old.state ≡ State.Condition purpose condition → (aliases : List (List ℕ)) → IfOk result (IsBodyStep (AtState aliases reader.old.nest reader.old.state) (CompletesBody aliases reader.new) token.now) }
+    ensures { (purpose : Purpose) (condition : Box ConditionReader Global)
+        → reader.old.state ≡ State.Condition purpose condition → (aliases : List (List ℕ))
+        → IfOk result (IsBodyStep (AtState aliases reader.old.nest reader.old.state) (CompletesBody aliases reader.new) token.now) }
 {
     match &mut reader.state {
         State::Condition(_, inner) => {
@@ -109,7 +112,9 @@ fn behind_condition(
     class: Class,
 ) -> Result<BodyStep, AllocError>
     requires { IsClass token.now class }
-    ensures { (purpose : Purpose) (inner : Box ConditionReader Global) → reader.old.state ≡ State.Condition purpose inner → (aliases : List (List ℕ)) → IfOk result (IsBodyStep (BehindPurpose aliases purpose (Around aliases reader.old.nest) (condition_of condition)) (CompletesBody aliases reader.new) token.now) }
+    ensures { (purpose : Purpose) (inner : Box ConditionReader Global)
+        → reader.old.state ≡ State.Condition purpose inner → (aliases : List (List ℕ))
+        → IfOk result (IsBodyStep (BehindPurpose aliases purpose (Around aliases reader.old.nest) (condition_of condition)) (CompletesBody aliases reader.new) token.now) }
 {
     match &mut reader.state {
         State::Condition(purpose, _) => {
@@ -129,7 +134,8 @@ fn behind_purpose(
     class: Class,
 ) -> Result<BodyStep, AllocError>
     requires { IsClass token.now class }
-    ensures { (aliases : List (List ℕ)) → IfOk result (IsBodyStep (BehindPurpose aliases purpose (Around aliases reader.old.nest) (condition_of condition)) (CompletesBody aliases reader.new) token.now) }
+    ensures { (aliases : List (List ℕ))
+        → IfOk result (IsBodyStep (BehindPurpose aliases purpose (Around aliases reader.old.nest) (condition_of condition)) (CompletesBody aliases reader.new) token.now) }
 {
     match purpose {
         Purpose::Assert(place) => {
@@ -162,7 +168,10 @@ fn enter(
     class: Class,
 ) -> Result<BodyStep, AllocError>
     requires { IsClass token.now class }
-    ensures { (aliases : List (List ℕ)) → IfOk result (IsBodyStep (Expects (Class.CloseParen ∷ []) (AtStart aliases (frame ∷ frames_of reader.old.nest) (body_of reader.old.nest))) (CompletesBody aliases reader.new) token.now) }
+    ensures { (aliases : List (List ℕ))
+        → IfOk result (IsBodyStep (Expects (Class.CloseParen
+        ∷ []) (AtStart aliases (frame
+        ∷ frames_of reader.old.nest) (body_of reader.old.nest))) (CompletesBody aliases reader.new) token.now) }
 {
     reader.nest.enter(frame)?;
     reader.state = State::Start;
@@ -178,7 +187,9 @@ pub fn in_line(
 ) -> Result<BodyStep, AllocError>
     requires kind { IsClass token.now class }
     requires ready { reader.old.expected ≡ None }
-    ensures { (purpose : LinePurpose) (line : LineReader) → reader.old.state ≡ State.Line purpose line → (aliases : List (List ℕ)) → is_in aliases token.now.text ≡ alias → IfOk result (IsBodyStep (AtState aliases reader.old.nest reader.old.state) (CompletesBody aliases reader.new) token.now) }
+    ensures { (purpose : LinePurpose) (line : LineReader) → reader.old.state ≡ State.Line purpose line
+        → (aliases : List (List ℕ)) → is_in aliases token.now.text ≡ alias
+        → IfOk result (IsBodyStep (AtState aliases reader.old.nest reader.old.state) (CompletesBody aliases reader.new) token.now) }
 {
     let alloc = reader.nest.alloc;
     match &mut reader.state {
@@ -234,7 +245,8 @@ pub fn behind_return(
 ) -> Result<BodyStep, AllocError>
     requires kind { IsClass token.now class }
     requires ready { reader.old.expected ≡ None }
-    ensures { (aliases : List (List ℕ)) → is_in aliases token.now.text ≡ alias → IfOk result (IsBodyStep (AtState aliases reader.old.nest (State.Return place)) (CompletesBody aliases reader.new) token.now) }
+    ensures { (aliases : List (List ℕ)) → is_in aliases token.now.text ≡ alias
+        → IfOk result (IsBodyStep (AtState aliases reader.old.nest (State.Return place)) (CompletesBody aliases reader.new) token.now) }
 {
     match class {
         Class::Semicolon => {
@@ -260,7 +272,9 @@ pub fn in_value(
 ) -> Result<BodyStep, AllocError>
     requires kind { IsClass token.now class }
     requires ready { reader.old.expected ≡ None }
-    ensures { (place : Place) (value : Box RightReader Global) → reader.old.state ≡ State.Value place value → (aliases : List (List ℕ)) → is_in aliases token.now.text ≡ alias → IfOk result (IsBodyStep (AtState aliases reader.old.nest reader.old.state) (CompletesBody aliases reader.new) token.now) }
+    ensures { (place : Place) (value : Box RightReader Global) → reader.old.state ≡ State.Value place value
+        → (aliases : List (List ℕ)) → is_in aliases token.now.text ≡ alias
+        → IfOk result (IsBodyStep (AtState aliases reader.old.nest reader.old.state) (CompletesBody aliases reader.new) token.now) }
 {
     match &mut reader.state {
         State::Value(place, inner) => {
@@ -330,7 +344,8 @@ pub fn at_last(
 ) -> Result<BodyStep, AllocError>
     requires kind { IsClass token.now class }
     requires ready { reader.old.expected ≡ None }
-    ensures { (aliases : List (List ℕ)) → is_in aliases token.now.text ≡ alias → IfOk result (IsBodyStep (AtState aliases reader.old.nest (State.ForLast place start condition)) (CompletesBody aliases reader.new) token.now) }
+    ensures { (aliases : List (List ℕ)) → is_in aliases token.now.text ≡ alias
+        → IfOk result (IsBodyStep (AtState aliases reader.old.nest (State.ForLast place start condition)) (CompletesBody aliases reader.new) token.now) }
 {
     match class {
         Class::CloseParen => {
@@ -362,7 +377,10 @@ pub fn in_last(
 ) -> Result<BodyStep, AllocError>
     requires kind { IsClass token.now class }
     requires ready { reader.old.expected ≡ None }
-    ensures { (place : Place) (start : ForStart) (condition : Option Condition) (last : Box SimpleReader Global) → reader.old.state ≡ State.Last place start condition last → (aliases : List (List ℕ)) → is_in aliases token.now.text ≡ alias → IfOk result (IsBodyStep (AtState aliases reader.old.nest reader.old.state) (CompletesBody aliases reader.new) token.now) }
+    ensures { (place : Place) (start : ForStart) (condition : Option Condition) (last : Box SimpleReader Global)
+        → reader.old.state ≡ State.Last place start condition last → (aliases : List (List ℕ))
+        → is_in aliases token.now.text ≡ alias
+        → IfOk result (IsBodyStep (AtState aliases reader.old.nest reader.old.state) (CompletesBody aliases reader.new) token.now) }
 {
     match &mut reader.state {
         State::Last(place, start, condition, inner) => {
@@ -394,7 +412,8 @@ pub fn in_shape(
 ) -> Result<BodyStep, AllocError>
     requires kind { IsClass token.now class }
     requires ready { reader.old.expected ≡ None }
-    ensures { (shape : ShapeReader) → reader.old.state ≡ State.Shape shape → (aliases : List (List ℕ)) → IfOk result (IsBodyStep (AtState aliases reader.old.nest reader.old.state) (CompletesBody aliases reader.new) token.now) }
+    ensures { (shape : ShapeReader) → reader.old.state ≡ State.Shape shape → (aliases : List (List ℕ))
+        → IfOk result (IsBodyStep (AtState aliases reader.old.nest reader.old.state) (CompletesBody aliases reader.new) token.now) }
 {
     let alloc = reader.nest.alloc;
     match &mut reader.state {

@@ -14,6 +14,3 @@ mod state;
 mod step;
 
 pub use state::{BodyReader, BodyStep, bodies_can_end};
-
-#[cfg(test)]
-mod tests;

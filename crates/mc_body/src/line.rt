@@ -15,9 +15,8 @@ ghost use Rattle.mc_body.specs.Phrases.{Starts};
 
 use crate::known::TypeName;
 use mc_ast::{Base, Class, ForStart, Name, Simple, name_at};
-use mc_base::Place;
-use mc_lex::Token;
 use mc_simple::{DeclarationReader, DeclarationStep, SimpleReader, SimpleStep};
+use mc_text::{Place, Token};
 use std::alloc::{AllocError, Global};
 use std::mem;
 
@@ -163,7 +162,9 @@ fn behind_alias(
     alias: bool,
 ) -> Result<LineStep, AllocError>
     requires { IsClass token.now class }
-    ensures { (known : TypeName) → line.old ≡ LineReader.Alias known → (aliases : List (List ℕ)) → is_in aliases token.now.text ≡ alias → IfOk result (IsLineStep (CompletesLine aliases line.old) (CompletesLine aliases line.new) token.now) }
+    ensures { (known : TypeName) → line.old ≡ LineReader.Alias known → (aliases : List (List ℕ))
+        → is_in aliases token.now.text ≡ alias
+        → IfOk result (IsLineStep (CompletesLine aliases line.old) (CompletesLine aliases line.new) token.now) }
 {
     match mem::replace(line, LineReader::Start) {
         LineReader::Alias(known) => behind_known(line, alloc, known, token, class, alias),
@@ -203,7 +204,8 @@ fn declare(
     alias: bool,
 ) -> Result<LineStep, AllocError>
     requires { IsClass token.now class }
-    ensures { (aliases : List (List ℕ)) → is_in aliases token.now.text ≡ alias → IfOk result (IsLineStep (DeclarationLine (BehindBase aliases (Base.Alias name))) (CompletesLine aliases line.new) token.now) }
+    ensures { (aliases : List (List ℕ)) → is_in aliases token.now.text ≡ alias
+        → IfOk result (IsLineStep (DeclarationLine (BehindBase aliases (Base.Alias name))) (CompletesLine aliases line.new) token.now) }
 {
     let fresh = DeclarationReader::behind_base(alloc, Base::Alias(name));
     let mut reader = Box::new(alloc, fresh)?;
@@ -238,7 +240,8 @@ fn in_declaration(
     alias: bool,
 ) -> Result<LineStep, AllocError>
     requires { IsClass token.now class }
-    ensures { (aliases : List (List ℕ)) → is_in aliases token.now.text ≡ alias → IfOk result (IsLineStep (DeclarationLine (CompletesDeclaration aliases reader.old)) (DeclarationLine (CompletesDeclaration aliases reader.new)) token.now) }
+    ensures { (aliases : List (List ℕ)) → is_in aliases token.now.text ≡ alias
+        → IfOk result (IsLineStep (DeclarationLine (CompletesDeclaration aliases reader.old)) (DeclarationLine (CompletesDeclaration aliases reader.new)) token.now) }
 {
     let step = reader.step(token, class, alias)?;
     match step {
@@ -258,7 +261,8 @@ fn in_simple(
     alias: bool,
 ) -> Result<LineStep, AllocError>
     requires { IsClass token.now class }
-    ensures { (aliases : List (List ℕ)) → is_in aliases token.now.text ≡ alias → IfOk result (IsLineStep (SimpleLine (CompletesSimple aliases reader.old)) (SimpleLine (CompletesSimple aliases reader.new)) token.now) }
+    ensures { (aliases : List (List ℕ)) → is_in aliases token.now.text ≡ alias
+        → IfOk result (IsLineStep (SimpleLine (CompletesSimple aliases reader.old)) (SimpleLine (CompletesSimple aliases reader.new)) token.now) }
 {
     let step = reader.step(token, class, alias)?;
     match step {

@@ -4,7 +4,7 @@ ghost use Rattle.mc_ast.specs.Trees.{block, do_loop, for_loop, if_else, if_only,
 ghost use Rattle.mc_ast.specs.Views.{condition_of, head_of, statement_of};
 
 use mc_ast::{Condition, ForHead, Statement};
-use mc_base::Place;
+use mc_text::Place;
 use std::alloc::{AllocError, Global};
 
 /// The block of these statements.

@@ -18,9 +18,8 @@ use crate::phrase::Phrase;
 use crate::state::{BodyReader, BodyStep, Purpose, State};
 use crate::step::expect;
 use mc_ast::{Class, Condition, Statement};
-use mc_base::Place;
 use mc_expression::ConditionReader;
-use mc_lex::Token;
+use mc_text::{Place, Token};
 use std::alloc::{AllocError, Global};
 use std::mem;
 
@@ -55,7 +54,8 @@ pub fn behind(
 ) -> Result<BodyStep, AllocError>
     requires kind { IsClass token.now class }
     requires ready { reader.old.expected ≡ None }
-    ensures { (aliases : List (List ℕ)) → is_in aliases token.now.text ≡ alias → IfOk result (IsBodyStep (Around aliases reader.old.nest (statement_of statement)) (CompletesBody aliases reader.new) token.now) }
+    ensures { (aliases : List (List ℕ)) → is_in aliases token.now.text ≡ alias
+        → IfOk result (IsBodyStep (Around aliases reader.old.nest (statement_of statement)) (CompletesBody aliases reader.new) token.now) }
 {
     let empty = Nest::new(reader.nest.alloc);
     let nest = mem::replace(&mut reader.nest, empty);
@@ -147,7 +147,8 @@ fn turned(
     class: Class,
 ) -> Result<Turn, AllocError>
     requires { IsClass token.now class }
-    ensures { IfOk result (λ turn. (aliases : List (List ℕ)) (frames : List Frame) (body : List Stmt) → AgreeAt (Inside aliases frame (Behind aliases frames body) (statement_of statement)) (AtTurn aliases frames body turn) token.now) }
+    ensures { IfOk result (λ turn. (aliases : List (List ℕ)) (frames : List Frame) (body : List Stmt)
+        → AgreeAt (Inside aliases frame (Behind aliases frames body) (statement_of statement)) (AtTurn aliases frames body turn) token.now) }
 {
     match frame {
         Frame::Block(place, mut statements) => {
@@ -181,7 +182,8 @@ fn first_part(
     class: Class,
 ) -> Result<Turn, AllocError>
     requires { IsClass token.now class }
-    ensures { IfOk result (λ turn. (aliases : List (List ℕ)) (frames : List Frame) (body : List Stmt) → AgreeAt (BehindFirst aliases place (condition_of condition) (Behind aliases frames body) (statement_of statement)) (AtTurn aliases frames body turn) token.now) }
+    ensures { IfOk result (λ turn. (aliases : List (List ℕ)) (frames : List Frame) (body : List Stmt)
+        → AgreeAt (BehindFirst aliases place (condition_of condition) (Behind aliases frames body) (statement_of statement)) (AtTurn aliases frames body turn) token.now) }
 {
     match class {
         Class::Else => Ok(Turn::Else(Frame::Else(place, condition, Box::new(alloc, statement)?))),

@@ -7,8 +7,7 @@ ghost use Rattle.mc_body.specs.Shapes.{BehindUse, CompletesShape, IsShapeStep, s
 ghost use Rattle.mc_body.specs.declared.shape.ShapeReader.TheVariants as ShapeReader;
 
 use mc_ast::{Argument, AssertShape, AssumeShape, Class, Name, Statement, name_at};
-use mc_base::Place;
-use mc_lex::Token;
+use mc_text::{Place, Token};
 use std::alloc::{AllocError, Global};
 
 /// Which of the two commands.

@@ -12,10 +12,9 @@ use crate::phrase::Phrase;
 use crate::shape::ShapeReader;
 use crate::step::{at_state, expect};
 use mc_ast::{Class, Condition, ForStart, Statement};
-use mc_base::Place;
 use mc_expression::{ConditionReader, ExpressionReader, conditions_can_end, expressions_can_end};
-use mc_lex::Token;
 use mc_simple::{RightReader, SimpleReader, declarations_can_end, rights_can_end, simples_can_end};
+use mc_text::{Place, Token};
 use std::alloc::{AllocError, Global};
 
 /// What a line is for.

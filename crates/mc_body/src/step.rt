@@ -21,8 +21,7 @@ use crate::phrase::Phrase;
 use crate::settle::behind;
 use crate::state::{BodyReader, BodyStep, State};
 use mc_ast::{Class, ForStart, Statement};
-use mc_base::Place;
-use mc_lex::Token;
+use mc_text::{Place, Token};
 use std::alloc::AllocError;
 use std::mem;
 
@@ -48,7 +47,8 @@ pub fn at_state(
 ) -> Result<BodyStep, AllocError>
     requires kind { IsClass token.now class }
     requires ready { reader.old.expected ≡ None }
-    ensures { (aliases : List (List ℕ)) → is_in aliases token.now.text ≡ alias → IfOk result (IsBodyStep (AtState aliases reader.old.nest reader.old.state) (CompletesBody aliases reader.new) token.now) }
+    ensures { (aliases : List (List ℕ)) → is_in aliases token.now.text ≡ alias
+        → IfOk result (IsBodyStep (AtState aliases reader.old.nest reader.old.state) (CompletesBody aliases reader.new) token.now) }
 {
     match &mut reader.state {
         State::Start => at_start(reader, token, class, alias),
@@ -78,7 +78,9 @@ fn behind_whole(
 ) -> Result<BodyStep, AllocError>
     requires kind { IsClass token.now class }
     requires ready { reader.old.expected ≡ None }
-    ensures { (statement : Statement) → reader.old.state ≡ State.Behind statement → (aliases : List (List ℕ)) → is_in aliases token.now.text ≡ alias → IfOk result (IsBodyStep (AtState aliases reader.old.nest reader.old.state) (CompletesBody aliases reader.new) token.now) }
+    ensures { (statement : Statement) → reader.old.state ≡ State.Behind statement → (aliases : List (List ℕ))
+        → is_in aliases token.now.text ≡ alias
+        → IfOk result (IsBodyStep (AtState aliases reader.old.nest reader.old.state) (CompletesBody aliases reader.new) token.now) }
 {
     match &mut reader.state {
         State::Behind(statement) => {
@@ -98,7 +100,9 @@ fn behind_for_start(
 ) -> Result<BodyStep, AllocError>
     requires kind { IsClass token.now class }
     requires ready { reader.old.expected ≡ None }
-    ensures { (place : Place) (start : ForStart) → reader.old.state ≡ State.ForCondition place start → (aliases : List (List ℕ)) → IfOk result (IsBodyStep (AtState aliases reader.old.nest reader.old.state) (CompletesBody aliases reader.new) token.now) }
+    ensures { (place : Place) (start : ForStart) → reader.old.state ≡ State.ForCondition place start
+        → (aliases : List (List ℕ))
+        → IfOk result (IsBodyStep (AtState aliases reader.old.nest reader.old.state) (CompletesBody aliases reader.new) token.now) }
 {
     match &mut reader.state {
         State::ForCondition(place, start) => {
@@ -120,7 +124,10 @@ fn behind_for_condition(
 ) -> Result<BodyStep, AllocError>
     requires kind { IsClass token.now class }
     requires ready { reader.old.expected ≡ None }
-    ensures { (place : Place) (start : ForStart) (condition : Option Condition) → reader.old.state ≡ State.ForLast place start condition → (aliases : List (List ℕ)) → is_in aliases token.now.text ≡ alias → IfOk result (IsBodyStep (AtState aliases reader.old.nest reader.old.state) (CompletesBody aliases reader.new) token.now) }
+    ensures { (place : Place) (start : ForStart) (condition : Option Condition)
+        → reader.old.state ≡ State.ForLast place start condition → (aliases : List (List ℕ))
+        → is_in aliases token.now.text ≡ alias
+        → IfOk result (IsBodyStep (AtState aliases reader.old.nest reader.old.state) (CompletesBody aliases reader.new) token.now) }
 {
     match &mut reader.state {
         State::ForLast(place, start, condition) => {

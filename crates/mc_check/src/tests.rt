@@ -1,6 +1,7 @@
 use crate::check;
-use mc_base::{Items, Place};
+use mc_base::Items;
 use mc_flow::{Defs, Flow, Instr, Point, Structs, valid};
+use mc_text::Place;
 use std::alloc::{AllocError, Global};
 use std::test::Fail;
 

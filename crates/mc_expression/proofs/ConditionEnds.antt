@@ -1,7 +1,7 @@
 -- Every condition that is begun can be completed.
 use Rattle.std.proofs.Common.{List, [], ◌∷◌, ◌++◌, refl}
 use Rattle.std.specs.Prelude.{codes}
-use Rattle.mc_base.specs.declared.plain.Place.{Place}
+use Rattle.mc_text.specs.declared.place.Place.{Place}
 use Rattle.mc_ast.specs.Trees.{Expr, null, value, parens, Cond, plain, compare, negation, enclosed, both, either}
 use Rattle.mc_ast.specs.Names.{Tokens, name_of}
 use Rattle.mc_ast.specs.Grammar.{named, none, sum_of, product, no_factor, no_term, plain_one, no_both, no_either}

@@ -1,6 +1,6 @@
 -- What stands behind parentheses.
 use Rattle.std.proofs.Common.{◌≡◌, List, [], ◌∷◌, refl, sym, subst}
-use Rattle.mc_base.specs.declared.plain.Place.{Place}
+use Rattle.mc_text.specs.declared.place.Place.{Place}
 use Rattle.mc_ast.specs.declared.trees.Condition.{Condition}
 use Rattle.mc_ast.specs.Trees.{Expr, Cond, plain, compare, negation, enclosed, both, either, parens}
 use Rattle.mc_ast.specs.Views.{condition_of}

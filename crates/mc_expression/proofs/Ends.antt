@@ -1,9 +1,9 @@
 -- Every expression that is begun can be completed.
 use Rattle.std.proofs.Common.{ℕ, List, [], ◌∷◌, ◌++◌, append_assoc, refl, sym, subst}
 use Rattle.std.specs.Prelude.{codes}
-use Rattle.mc_base.specs.declared.plain.Place.{Place}
-use Rattle.mc_lex.specs.declared.token.Token.{Token}
-use Rattle.mc_lex.specs.declared.token.TokenKind.TheVariants as TokenKind
+use Rattle.mc_text.specs.declared.place.Place.{Place}
+use Rattle.mc_text.specs.declared.token.Token.{Token}
+use Rattle.mc_text.specs.declared.token.TokenKind.TheVariants as TokenKind
 use Rattle.mc_ast.specs.Trees.{Expr, parens, null, input}
 use Rattle.mc_ast.specs.Names.{Tokens, IsMark, IsName}
 use Rattle.mc_ast.specs.Grammar.{none, IsUnary, null_word, no_factor, no_term}

@@ -1,7 +1,7 @@
 -- How expressions go on.
 use Rattle.std.proofs.Common.{◌≡◌, List, [], ◌∷◌, Some, None, refl, sym, subst, IsTrue, ◌⊎◌, inl, inr}
 use Rattle.std.specs.Prelude.{codes}
-use Rattle.mc_lex.specs.declared.token.Token.{Token}
+use Rattle.mc_text.specs.declared.token.Token.{Token}
 use Rattle.mc_ast.specs.declared.trees.Expression.{Expression}
 use Rattle.mc_ast.specs.Trees.{Expr, parens, times}
 use Rattle.mc_ast.specs.Views.{expression_of}
@@ -69,16 +69,16 @@ pub plus_takes : (gs : List Group) (a : Expression) (token : Token) → IsMark (
 plus_takes gs a token p = record { forward = λ tokens rest x h. plus_forward gs p h; backward = λ tokens rest x h. plus_backward gs p h }
 
 -- `-` behind an operand
-less_forward : (gs : List Group) {a : Expression} {token : Token} {tokens rest : Tokens} {e : Expr} → IsMark (codes "-") token → AtSum gs (expression_of a) (token ∷ tokens) rest e → AtOperand gs (record { sum = Some (Summed.Less a); factor = None; minuses = [] }) tokens rest e ⊎ ((rest ≡ token ∷ tokens) × IsTrue (is_in expression_marks token.text))
-less_forward gs p (in_turn no_term b) = inr (behind_ends gs _ _ _ _ _ (clash (codes "-") (codes ")") refl refl p) b, is_of expression_marks (codes "-") refl p)
-less_forward gs p (in_turn (added q t ts) b) = absurd (clash (codes "-") (codes "+") refl refl p q)
-less_forward gs p (in_turn (taken q (product u f) ts) b) = inl (in_turn u (goes_on f ts b))
+difference_forward : (gs : List Group) {a : Expression} {token : Token} {tokens rest : Tokens} {e : Expr} → IsMark (codes "-") token → AtSum gs (expression_of a) (token ∷ tokens) rest e → AtOperand gs (record { sum = Some (Summed.Difference a); factor = None; minuses = [] }) tokens rest e ⊎ ((rest ≡ token ∷ tokens) × IsTrue (is_in expression_marks token.text))
+difference_forward gs p (in_turn no_term b) = inr (behind_ends gs _ _ _ _ _ (clash (codes "-") (codes ")") refl refl p) b, is_of expression_marks (codes "-") refl p)
+difference_forward gs p (in_turn (added q t ts) b) = absurd (clash (codes "-") (codes "+") refl refl p q)
+difference_forward gs p (in_turn (taken q (product u f) ts) b) = inl (in_turn u (goes_on f ts b))
 
-less_backward : (gs : List Group) {a : Expression} {token : Token} {tokens rest : Tokens} {e : Expr} → IsMark (codes "-") token → AtOperand gs (record { sum = Some (Summed.Less a); factor = None; minuses = [] }) tokens rest e → AtSum gs (expression_of a) (token ∷ tokens) rest e
-less_backward gs p (in_turn u (goes_on f ts b)) = in_turn (taken p (product u f) ts) b
+difference_backward : (gs : List Group) {a : Expression} {token : Token} {tokens rest : Tokens} {e : Expr} → IsMark (codes "-") token → AtOperand gs (record { sum = Some (Summed.Difference a); factor = None; minuses = [] }) tokens rest e → AtSum gs (expression_of a) (token ∷ tokens) rest e
+difference_backward gs p (in_turn u (goes_on f ts b)) = in_turn (taken p (product u f) ts) b
 
-pub less_takes : (gs : List Group) (a : Expression) (token : Token) → IsMark (codes "-") token → Takes expression_marks (AtSum gs (expression_of a)) (AtOperand gs (record { sum = Some (Summed.Less a); factor = None; minuses = [] })) token
-less_takes gs a token p = record { forward = λ tokens rest x h. less_forward gs p h; backward = λ tokens rest x h. less_backward gs p h }
+pub difference_takes : (gs : List Group) (a : Expression) (token : Token) → IsMark (codes "-") token → Takes expression_marks (AtSum gs (expression_of a)) (AtOperand gs (record { sum = Some (Summed.Difference a); factor = None; minuses = [] })) token
+difference_takes gs a token p = record { forward = λ tokens rest x h. difference_forward gs p h; backward = λ tokens rest x h. difference_backward gs p h }
 
 -- behind a whole sum, outside all parentheses
 pub end_finds : (s : Expr) (token : Token) → (IsMark (codes "+") token → ⊥) → (IsMark (codes "-") token → ⊥) → Finds (AtSum [] s) token s

@@ -3,7 +3,7 @@ use Rattle.mc_expression.specs.Primaries.{primary_marks}
 use Rattle.mc_expression.specs.Expressions.{expression_marks}
 use Rattle.std.proofs.Common.{◌≡◌, ◌||◌, ℕ, List, Bool, true, false, refl, ap, sym, ◌∙◌, IsTrue}
 use Rattle.std.specs.Prelude.{codes}
-use Rattle.mc_lex.specs.declared.token.Token.{Token}
+use Rattle.mc_text.specs.declared.token.Token.{Token}
 use Rattle.mc_ast.specs.Names.{IsMark, IsWord, IsName, IsNumber, is_in, is_same, is_reserved}
 
 pub clash : {token : Token} (a b : List ℕ) → is_same a a ≡ true → is_same a b ≡ false → IsMark a token → IsMark b token → ⊥

@@ -1,6 +1,6 @@
 -- What expressions and conditions are seen as.
 use Rattle.std.proofs.Common.{◌≡◌, ℕ, ap, sym, ◌∙◌}
-use Rattle.mc_base.specs.declared.plain.Place.{Place}
+use Rattle.mc_text.specs.declared.place.Place.{Place}
 use Rattle.mc_ast.specs.declared.trees.LeftValue.{LeftValue}
 use Rattle.mc_ast.specs.declared.trees.Expression.{Expression}
 use Rattle.mc_ast.specs.declared.trees.Expression.TheVariants.{rolls-Input, rolls-Null, rolls-Number, rolls-Value}

@@ -1,6 +1,6 @@
 -- How relations that follow one another take a token.
 use Rattle.std.proofs.Common.{◌≡◌, ℕ, List, ◌∷◌, subst, IsTrue, ◌⊎◌, inl, inr, ⊎_elim}
-use Rattle.mc_lex.specs.declared.token.Token.{Token}
+use Rattle.mc_text.specs.declared.token.Token.{Token}
 use Rattle.mc_ast.specs.Names.{Tokens, is_in}
 use Rattle.mc_ast.specs.Readers.{Takes, Finds, Closes, IsStuckAt, IsSame}
 use Rattle.mc_expression.specs.Turns.{InTurn, in_turn, Moves}

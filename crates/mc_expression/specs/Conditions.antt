@@ -1,7 +1,7 @@
 -- What completes a condition of which some tokens are read.
 use Rattle.std.specs.Prelude.{◌≡◌, ℕ, List, [], ◌∷◌, ⊤, Option, Some, None, Result, Ok, Err, codes}
-use Rattle.mc_base.specs.declared.plain.Place.{Place}
-use Rattle.mc_lex.specs.declared.token.Token.{Token}
+use Rattle.mc_text.specs.declared.place.Place.{Place}
+use Rattle.mc_text.specs.declared.token.Token.{Token}
 use Rattle.mc_ast.specs.declared.trees.Condition.{Condition}
 use Rattle.mc_ast.specs.declared.trees.Expression.{Expression}
 use Rattle.mc_ast.specs.declared.trees.Comparison.{Comparison}
@@ -53,8 +53,12 @@ either_of (Some a) c = either (condition_of a) c
 pub data IsDenied : Cond → Tokens → Tokens → Type 0 where
   denied_bang : {c : Cond} {tokens rest : Tokens} → IsBang c tokens rest → IsDenied c tokens rest
   denied_variable : {l : _} {tokens rest : Tokens} → IsLeft l tokens rest → IsDenied (plain (value l)) tokens rest
-  denied_input : {word before after : Token} {tokens : Tokens} → IsWord (codes "input") word → IsMark (codes "(") before → IsMark (codes ")") after → IsDenied (plain (input word.place)) (word ∷ before ∷ after ∷ tokens) tokens
-  denied_parens : {c : Cond} {before after : Token} {tokens rest : Tokens} → IsMark (codes "(") before → IsCondition c tokens (after ∷ rest) → IsMark (codes ")") after → IsDenied (enclosed before.place c) (before ∷ tokens) rest
+  denied_input : {word before after : Token} {tokens : Tokens} → IsWord (codes "input") word
+      → IsMark (codes "(") before → IsMark (codes ")") after
+      → IsDenied (plain (input word.place)) (word ∷ before ∷ after ∷ tokens) tokens
+  denied_parens : {c : Cond} {before after : Token} {tokens rest : Tokens}
+      → IsMark (codes "(") before → IsCondition c tokens (after ∷ rest) → IsMark (codes ")") after
+      → IsDenied (enclosed before.place c) (before ∷ tokens) rest
 
 -- what comes next behind these `!` signs
 abbrev pub IsOperand : List Place → Cond → Tokens → Tokens → Type 0
@@ -63,12 +67,15 @@ IsOperand (place ∷ places) = IsDenied
 
 -- behind the operand c: what completes it with `&&` and `||`, up to what ends that
 pub data Joins (pending : ConditionPending) (c : Cond) (ends : Cond → Tokens → Tokens → Cond → Type 0) (tokens rest : Tokens) (x : Cond) : Type 0 where
-  joins : {b d : Cond} {mid more : Tokens} → Boths (both_of pending.both (denied pending.bangs c)) tokens b mid → Eithers (either_of pending.either b) mid d more → ends d more rest x → Joins pending c ends tokens rest x
+  joins : {b d : Cond} {mid more : Tokens} → Boths (both_of pending.both (denied pending.bangs c)) tokens b mid
+      → Eithers (either_of pending.either b) mid d more → ends d more rest x → Joins pending c ends tokens rest x
 
 -- behind an expression with which an operand begins: it is the operand, or is compared
 pub data MaybeCompared (pending : ConditionPending) (e : Expr) (ends : Cond → Tokens → Tokens → Cond → Type 0) : Tokens → Tokens → Cond → Type 0 where
   alone : {tokens rest : Tokens} {x : Cond} → Joins pending (plain e) ends tokens rest x → MaybeCompared pending e ends tokens rest x
-  compared : {mark : Token} {comparison : Comparison} {b : Expr} {tokens mid rest : Tokens} {x : Cond} → IsMark (mark_of comparison) mark → IsSum b tokens mid → Joins pending (compare comparison e b) ends mid rest x → MaybeCompared pending e ends (mark ∷ tokens) rest x
+  compared : {mark : Token} {comparison : Comparison} {b : Expr} {tokens mid rest : Tokens} {x : Cond}
+      → IsMark (mark_of comparison) mark → IsSum b tokens mid
+      → Joins pending (compare comparison e b) ends mid rest x → MaybeCompared pending e ends (mark ∷ tokens) rest x
 
 -- behind parentheses around a condition; around a plain expression they are an expression
 abbrev pub BehindParens : ConditionPending → Place → Cond → (Cond → Tokens → Tokens → Cond → Type 0) → Tokens → Tokens → Cond → Type 0

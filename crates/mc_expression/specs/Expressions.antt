@@ -1,10 +1,10 @@
 -- What completes an expression of which some tokens are read.
 use Rattle.std.specs.Prelude.{◌≡◌, ℕ, List, [], ◌∷◌, Option, Some, None, codes}
-use Rattle.mc_base.specs.declared.plain.Place.{Place}
-use Rattle.mc_lex.specs.declared.token.Token.{Token}
+use Rattle.mc_text.specs.declared.place.Place.{Place}
+use Rattle.mc_text.specs.declared.token.Token.{Token}
 use Rattle.mc_ast.specs.declared.trees.Name.{Name}
 use Rattle.mc_ast.specs.declared.trees.Expression.{Expression}
-use Rattle.mc_ast.specs.Trees.{Expr, value, minus, parens, times, plus, less}
+use Rattle.mc_ast.specs.Trees.{Expr, value, minus, parens, times, plus, difference}
 use Rattle.mc_ast.specs.Views.{expression_of}
 use Rattle.mc_ast.specs.Names.{Tokens}
 use Rattle.mc_ast.specs.Grammar.{Fields, IsUnary, Factors, Terms}
@@ -36,11 +36,13 @@ product_of (Some a) u = times (expression_of a) u
 abbrev pub sum_of : Option Summed → Expr → Expr
 sum_of None t = t
 sum_of (Some (Summed.Plus a)) t = plus (expression_of a) t
-sum_of (Some (Summed.Less a)) t = less (expression_of a) t
+sum_of (Some (Summed.Difference a)) t = difference (expression_of a) t
 
 -- behind the operand u: what completes its product and its sum, up to what ends that
 pub data GoesOn (pending : Pending) (u : Expr) (ends : Expr → Tokens → Tokens → Expr → Type 0) (tokens rest : Tokens) (e : Expr) : Type 0 where
-  goes_on : {t s : Expr} {mid more : Tokens} → Factors (product_of pending.factor (negated pending.minuses u)) tokens t mid → Terms (sum_of pending.sum t) mid s more → ends s more rest e → GoesOn pending u ends tokens rest e
+  goes_on : {t s : Expr} {mid more : Tokens}
+      → Factors (product_of pending.factor (negated pending.minuses u)) tokens t mid
+      → Terms (sum_of pending.sum t) mid s more → ends s more rest e → GoesOn pending u ends tokens rest e
 
 -- behind the sum s, within these parentheses
 abbrev pub Behind : List Group → Expr → Tokens → Tokens → Expr → Type 0

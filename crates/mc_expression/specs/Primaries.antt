@@ -1,7 +1,7 @@
 -- Variables, fields and `input()`, of which the first token is read.
 use Rattle.std.specs.Prelude.{ℕ, List, [], ◌∷◌, ◌++◌, codes}
-use Rattle.mc_base.specs.declared.plain.Place.{Place}
-use Rattle.mc_lex.specs.declared.token.Token.{Token}
+use Rattle.mc_text.specs.declared.place.Place.{Place}
+use Rattle.mc_text.specs.declared.token.Token.{Token}
 use Rattle.mc_ast.specs.declared.trees.LeftValue.{LeftValue}
 use Rattle.mc_ast.specs.Trees.{Left, Expr, input, value}
 use Rattle.mc_ast.specs.Views.{left_of, expression_of}
@@ -14,8 +14,12 @@ use Rattle.mc_expression.specs.declared.primary.PrimaryStep.{PrimaryStep}
 -- these tokens, up to the rest, complete it
 pub data CompletesPrimary : Primary → Tokens → Tokens → Expr → Type 0 where
   behind_left : {l : LeftValue} {all : Left} {tokens rest : Tokens} → Fields (left_of l) tokens all rest → CompletesPrimary (Primary.Left l) tokens rest (value all)
-  behind_arrow : {l : LeftValue} {all : Left} {name : Token} {tokens rest : Tokens} → IsName name → Fields (record { name = l.name; fields = l.fields.items ++ name_of name ∷ [] }) tokens all rest → CompletesPrimary (Primary.Arrow l) (name ∷ tokens) rest (value all)
-  behind_input : {place : Place} {before after : Token} {tokens : Tokens} → IsMark (codes "(") before → IsMark (codes ")") after → CompletesPrimary (Primary.Input place) (before ∷ after ∷ tokens) tokens (input place)
+  behind_arrow : {l : LeftValue} {all : Left} {name : Token} {tokens rest : Tokens} → IsName name
+      → Fields (record { name = l.name; fields = l.fields.items ++ name_of name ∷ [] }) tokens all rest
+      → CompletesPrimary (Primary.Arrow l) (name ∷ tokens) rest (value all)
+  behind_input : {place : Place} {before after : Token} {tokens : Tokens}
+      → IsMark (codes "(") before → IsMark (codes ")") after
+      → CompletesPrimary (Primary.Input place) (before ∷ after ∷ tokens) tokens (input place)
   behind_open : {place : Place} {after : Token} {tokens : Tokens} → IsMark (codes ")") after → CompletesPrimary (Primary.InputOpen place) (after ∷ tokens) tokens (input place)
 
 -- the marks with which a variable or field goes on

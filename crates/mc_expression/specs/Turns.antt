@@ -1,6 +1,6 @@
 -- How relations on tokens follow one another.
 use Rattle.std.specs.Prelude.{ℕ, List, ◌∷◌}
-use Rattle.mc_lex.specs.declared.token.Token.{Token}
+use Rattle.mc_text.specs.declared.token.Token.{Token}
 use Rattle.mc_ast.specs.Names.{Tokens, IsMark}
 
 -- the first up to some token, and from there the next

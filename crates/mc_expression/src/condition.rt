@@ -5,16 +5,18 @@ ghost use Rattle.mc_ast.specs.Grammar.{IsCondition, IsSum};
 ghost use Rattle.mc_ast.specs.Readers.{IsSame, CanEnd};
 ghost use Rattle.mc_ast.specs.Names.{IsMark};
 ghost use Rattle.mc_ast.specs.Views.{condition_of, expression_of};
-ghost use Rattle.mc_expression.specs.Conditions.{AtConditionOperand, AtConditionSpot, AtEither, BeginsDenied, BehindCondition, CompletesCondition, HasNoReader, IsEnclosed, IsSeen, Joins, MaybeCompared, StepsCondition, at_right, denied, either_of, both_of, nothing, whole_of};
+ghost use Rattle.mc_expression.specs.Conditions.{AtConditionOperand, AtConditionSpot, AtEither, BeginsDenied};
+ghost use Rattle.mc_expression.specs.Conditions.{BehindCondition, CompletesCondition, HasNoReader, IsEnclosed};
+ghost use Rattle.mc_expression.specs.Conditions.{IsSeen, Joins, MaybeCompared, StepsCondition, at_right, denied};
+ghost use Rattle.mc_expression.specs.Conditions.{either_of, both_of, nothing, whole_of};
 ghost use Rattle.mc_expression.specs.Turns.{InTurn, Moves};
 
 use crate::expression::{ExpressionReader, ExpressionStep};
 use crate::makes::{both_of, compare_of, either_of, enclosed_of, not_of, parens_of};
 use crate::primary::{Primary, PrimaryStep, variable};
 use mc_ast::{Class, Comparison, Condition, Expression};
-use mc_base::Place;
-use mc_lex::Token;
 use mc_stack::Stack;
+use mc_text::{Place, Token};
 use std::alloc::{AllocError, Global};
 use std::mem;
 

@@ -11,9 +11,8 @@ ghost use Rattle.mc_expression.specs.Expressions.{AtOperand, AtSpot, AtSum, Behi
 use crate::makes::{less_of, minus_of, parens_of, plus_of, times_of};
 use crate::primary::{Primary, PrimaryStep, variable};
 use mc_ast::{Class, Expression, LeftValue, Name};
-use mc_base::Place;
-use mc_lex::Token;
 use mc_stack::Stack;
+use mc_text::{Place, Token};
 use std::alloc::{AllocError, Global};
 use std::mem;
 
@@ -51,7 +50,7 @@ struct Pending {
 #[derive(Drop)]
 enum Summed {
     Plus(Expression),
-    Less(Expression),
+    Difference(Expression),
 }
 
 /// A `(` that is open, and what waits for what it begins.
@@ -245,7 +244,7 @@ impl ExpressionReader {
                 Ok(ExpressionStep::Taken)
             }
             Class::Minus => {
-                self.pending.sum = Some(Summed::Less(sum));
+                self.pending.sum = Some(Summed::Difference(sum));
                 self.spot = Spot::Operand;
                 Ok(ExpressionStep::Taken)
             }
@@ -339,7 +338,7 @@ fn added(alloc: Global, sum: Option<Summed>, product: Expression) -> Result<Expr
             let sum = plus_of(alloc, left, product)?;
             Ok(sum)
         }
-        Some(Summed::Less(left)) => {
+        Some(Summed::Difference(left)) => {
             let sum = less_of(alloc, left, product)?;
             Ok(sum)
         }

@@ -1,10 +1,10 @@
 // Expressions and conditions of smaller ones.
 ghost use Rattle.std.specs.Prelude.{◌≡◌, IfOk};
-ghost use Rattle.mc_ast.specs.Trees.{minus, parens, times, plus, less, compare, negation, enclosed, both, either};
+ghost use Rattle.mc_ast.specs.Trees.{minus, parens, times, plus, difference, compare, negation, enclosed, both, either};
 ghost use Rattle.mc_ast.specs.Views.{expression_of, condition_of};
 
 use mc_ast::{Comparison, Condition, Expression};
-use mc_base::Place;
+use mc_text::Place;
 use std::alloc::{AllocError, Global};
 
 pub fn minus_of(alloc: Global, place: Place, operand: Expression) -> Result<Expression, AllocError>
@@ -36,9 +36,9 @@ pub fn plus_of(alloc: Global, left: Expression, right: Expression) -> Result<Exp
 }
 
 pub fn less_of(alloc: Global, left: Expression, right: Expression) -> Result<Expression, AllocError>
-    ensures { IfOk result (λ e. expression_of e ≡ less (expression_of left) (expression_of right)) }
+    ensures { IfOk result (λ e. expression_of e ≡ difference (expression_of left) (expression_of right)) }
 {
-    Ok(Expression::Less(Box::new(alloc, left)?, Box::new(alloc, right)?))
+    Ok(Expression::Difference(Box::new(alloc, left)?, Box::new(alloc, right)?))
 }
 
 pub fn compare_of(

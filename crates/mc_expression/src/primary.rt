@@ -6,8 +6,7 @@ ghost use Rattle.mc_ast.specs.Classes.{IsClass};
 ghost use Rattle.mc_expression.specs.Primaries.{CompletesPrimary, StepsPrimary};
 
 use mc_ast::{Class, Expression, LeftValue, name_at};
-use mc_base::Place;
-use mc_lex::Token;
+use mc_text::{Place, Token};
 use std::alloc::{AllocError, Global};
 
 /// What is read of a variable, a field or `input()`.

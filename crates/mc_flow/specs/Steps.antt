@@ -10,7 +10,7 @@ use Rattle.mc_base.specs.declared.ids.VarId.{VarId}
 use Rattle.mc_base.specs.declared.plain.FaultKind.{FaultKind}
 use Rattle.mc_base.specs.declared.plain.FaultKind.TheVariants.{Null, Freed, Uninit, BadFree, Assertion, Shape, NotEmpty}
 use Rattle.mc_base.specs.declared.plain.Kind.TheVariants.{Int}
-use Rattle.mc_base.specs.declared.plain.Place.{Place}
+use Rattle.mc_text.specs.declared.place.Place.{Place}
 use Rattle.mc_base.specs.Kinds.{InKind}
 use Rattle.mc_base.specs.Runs.{Outcome, next, last, ended, fault, IsSafeFrom}
 use Rattle.mc_heap.specs.Heap.{Block, Heap, IsAddress, region_of}

@@ -1,6 +1,7 @@
 use crate::{Defs, Flow, Instr, Operand, Point, Structs, valid};
-use mc_base::{Items, Kind, Place, PointId, PredId, VarId, VarInfo};
+use mc_base::{Items, Kind, PointId, PredId, VarId, VarInfo};
 use mc_defs::{Def, DefAtom, Rule};
+use mc_text::Place;
 use std::alloc::{AllocError, Global};
 use std::test::Fail;
 

@@ -37,7 +37,7 @@ module _ (not_false : NoneStandsForFalse) where
     pub cell_folds : FoldsInd defs list_id 1 (node 1 ∷ node 2 ∷ node 3 ∷ []) (Some (edge 0)) (edge 1 ∷ []) cell_and_list (cell_folded ∷ [])
     cell_folds =
         record {
-          sound = cell_sound addresses st;
+          consistent = cell_sound addresses st;
           body = record {
             blocks = Block (node 1) cell_id (Some (node 2) ∷ Some (node 3) ∷ []) ∷ [];
             inds = rest_list ∷ [];
@@ -64,7 +64,7 @@ module _ (not_false : NoneStandsForFalse) where
     pub cell_folds_open : FoldsSeg defs list_id 1 (node 1 ∷ node 2 ∷ node 3 ∷ []) (edge 0) [] 0 cell_and_list (cell_as_segment ∷ [])
     cell_folds_open =
         record {
-          sound = cell_sound addresses st;
+          consistent = cell_sound addresses st;
           body = record {
             blocks = Block (node 1) cell_id (Some (node 2) ∷ Some (node 3) ∷ []) ∷ [];
             inds = [];
@@ -94,7 +94,7 @@ module _ (not_false : NoneStandsForFalse) where
   pub segment_closes : IsAtAddresses (blocks two_cells) → StandsBy defs (valued (pos 7 ∷ pos 9 ∷ [])) [] (blocks two_cells) segment_and_list → ClosesSeg (edge 0) (edge 1) segment_and_list (segment_closed ∷ [])
   segment_closes addresses st =
       record {
-        sound = λ wrong. not_false defs [] (blocks two_cells) segment_and_list addresses (valued (pos 7 ∷ pos 9 ∷ []), st) wrong;
+        consistent = λ wrong. not_false defs [] (blocks two_cells) segment_and_list addresses (valued (pos 7 ∷ pos 9 ∷ []), st) wrong;
         at = node 1;
         args = [];
         pred = list_id;
@@ -112,7 +112,7 @@ module _ (not_false : NoneStandsForFalse) where
   pub segments_join : IsAtAddresses (blocks two_cells) → StandsBy defs (valued (pos 7 ∷ pos 9 ∷ pos 0 ∷ [])) [] (blocks two_cells) two_segments → JoinsSegs (edge 0) (edge 1) two_segments (segments_joined ∷ [])
   segments_join addresses st =
       record {
-        sound = λ wrong. not_false defs [] (blocks two_cells) two_segments addresses (valued (pos 7 ∷ pos 9 ∷ pos 0 ∷ []), st) wrong;
+        consistent = λ wrong. not_false defs [] (blocks two_cells) two_segments addresses (valued (pos 7 ∷ pos 9 ∷ pos 0 ∷ []), st) wrong;
         at = node 1;
         args = [];
         pred = list_id;
@@ -132,7 +132,7 @@ module _ (not_false : NoneStandsForFalse) where
   pub segment_made : IsAtAddresses (blocks []) → StandsBy defs (valued []) [] (blocks []) pointer → MakesEmptySeg defs list_id (node 1) [] (node 1) [] pointer (with_segment ∷ [])
   segment_made addresses st =
       record {
-        sound = λ wrong. not_false defs [] (blocks []) pointer addresses (valued [], st) wrong;
+        consistent = λ wrong. not_false defs [] (blocks []) pointer addresses (valued [], st) wrong;
         at_is = inr refl;
         args_are = (list_def, refl, tt);
         stop_is = inr refl;

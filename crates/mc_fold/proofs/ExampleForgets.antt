@@ -119,7 +119,7 @@ module _ (truth : DerivedIsTrue) (not_false : NoneStandsForFalse) (grows : Follo
   pub pointer_forgotten : ForgetsNode (node 1) pointer (no_pointer ∷ [])
   pointer_forgotten =
       record {
-        sound = λ wrong. not_false defs [] (blocks []) pointer addresses (valued [], st) wrong;
+        consistent = λ wrong. not_false defs [] (blocks []) pointer addresses (valued [], st) wrong;
         there = (Ptr, inr refl);
         not_null = λ e. null_or_one (sym e);
         unnamed = record { vars = λ place e. absurd (cc e); edges = λ place id e there c. absurd (cc there) };

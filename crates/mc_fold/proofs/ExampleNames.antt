@@ -80,7 +80,7 @@ module _ (not_false : NoneStandsForFalse) where
   pub spare_named : IsAtAddresses (blocks []) → StandsBy defs (valued (pos 6 ∷ [])) [] (blocks []) small_number → NamesSpare (node 1) (pos 1) Int small_number (with_spare ∷ [])
   spare_named addresses st =
       record {
-        sound = λ wrong. not_false defs [] (blocks []) small_number addresses (valued (pos 6 ∷ []), st) wrong;
+        consistent = λ wrong. not_false defs [] (blocks []) small_number addresses (valued (pos 6 ∷ []), st) wrong;
         there = (Int, inr refl);
         lies = inl (pure.widened {lo = pos 5} {hi = pos 7} (pure.base (known.written 0 refl)) (omega (arith, ints)) (omega (arith, ints)));
         one_kind = inr refl;
@@ -90,7 +90,7 @@ module _ (not_false : NoneStandsForFalse) where
   pub nodes_merged : IsAtAddresses (blocks two_cells) → StandsBy defs (valued (pos 7 ∷ pos 7 ∷ [])) [] (blocks two_cells) named_twice → MergesNodes (node 1) (node 2) named_twice (named_once ∷ [])
   nodes_merged addresses st =
       record {
-        sound = λ wrong. not_false defs [] (blocks two_cells) named_twice addresses (valued (pos 7 ∷ pos 7 ∷ []), st) wrong;
+        consistent = λ wrong. not_false defs [] (blocks two_cells) named_twice addresses (valued (pos 7 ∷ pos 7 ∷ []), st) wrong;
         can = record { keep_is = (Ptr, inr refl); gone_is = (Ptr, inr refl); differ = λ e. absurd (one_or_two e); not_null = λ e. absurd (two_or_null e); kind = (Ptr, inr refl, inr refl) };
         equal = inl (pure.turned {a = node 2} {b = node 1} {c = pos 0} (pure.base (known.written 0 refl)));
         gives = refl;
@@ -100,7 +100,7 @@ module _ (not_false : NoneStandsForFalse) where
     pub goal_met : MeetsGoal list_goal (edge 0) lost_list
     goal_met =
         record {
-          sound = λ wrong. not_false defs [] (blocks two_cells) lost_list addresses (valued (pos 7 ∷ []), st) wrong;
+          consistent = λ wrong. not_false defs [] (blocks two_cells) lost_list addresses (valued (pos 7 ∷ []), st) wrong;
           at = node 1;
           args = [];
           there = refl;
@@ -124,7 +124,7 @@ module _ (not_false : NoneStandsForFalse) where
       pub edge_drops : DropsEdge (edge 0) lost_list (list_dropped ∷ [])
       edge_drops =
           record {
-            sound = λ wrong. not_false defs [] (blocks two_cells) lost_list addresses (valued (pos 7 ∷ []), st) wrong;
+            consistent = λ wrong. not_false defs [] (blocks two_cells) lost_list addresses (valued (pos 7 ∷ []), st) wrong;
             e = Ind (node 1) list_id [];
             there = refl;
             unreached = λ r. let seven : pos 7 ≡ pos 0 = reached_null (node 1) r in cc seven;

@@ -92,7 +92,7 @@ module _ (not_false : NoneStandsForFalse) where
   length_folds addresses st =
       let same = itself cell_and_length in
       record {
-        sound = λ wrong. not_false defs [] (blocks two_cells) cell_and_length addresses (valued (pos 7 ∷ pos 5 ∷ pos 9 ∷ pos 1 ∷ pos 2 ∷ []), st) wrong;
+        consistent = λ wrong. not_false defs [] (blocks two_cells) cell_and_length addresses (valued (pos 7 ∷ pos 5 ∷ pos 9 ∷ pos 1 ∷ pos 2 ∷ []), st) wrong;
         body = record {
           blocks = Block (node 1) cell_id (Some (node 2) ∷ Some (node 3) ∷ []) ∷ [];
           inds = Ind (node 3) lenlist_id (node 4 ∷ []) ∷ [];
@@ -122,7 +122,7 @@ module _ (not_false : NoneStandsForFalse) where
   fork_folds addresses st =
       let same = itself fork_and_tree in
       record {
-        sound = λ wrong. not_false defs [] (blocks two_forks) fork_and_tree addresses (valued (pos 7 ∷ pos 9 ∷ []), st) wrong;
+        consistent = λ wrong. not_false defs [] (blocks two_forks) fork_and_tree addresses (valued (pos 7 ∷ pos 9 ∷ []), st) wrong;
         body = record {
           blocks = Block (node 1) fork_id (Some (node 2) ∷ Some (node 3) ∷ []) ∷ [];
           inds = Ind (node 2) tree_id [] ∷ [];

@@ -87,7 +87,7 @@ module _ (laws : PartLaws) (empty : EmptyHeapIsEmpty) (insert : InsertChanges) (
       let some =
       sound defs tree_id 1 (node 1 ∷ node 2 ∷ node 2 ∷ []) (Some (edge 0)) (edge 1 ∷ edge 1 ∷ []) shared_tree (shared_folded ∷ []) bounded_shared
       (record {
-        sound = λ wrong. not_false defs [] (blocks shared_fork) shared_tree addresses (v, shared_stands) wrong;
+        consistent = λ wrong. not_false defs [] (blocks shared_fork) shared_tree addresses (v, shared_stands) wrong;
         blocks = Block (node 1) fork_id (Some (node 2) ∷ Some (node 2) ∷ []) ∷ [];
         inds = Ind (node 2) tree_id [] ∷ Ind (node 2) tree_id [] ∷ [];
         named = (refl, (refl, (refl, tt)));
@@ -132,7 +132,7 @@ not_any_args laws not_false addresses st no_list sound =
     let some =
     sound defs (edge 0) (edge 1) other_length (length_closed ∷ []) bounded_lengths
     (record {
-      sound = λ wrong. not_false defs [] (blocks two_cells) other_length addresses (v, st) wrong;
+      consistent = λ wrong. not_false defs [] (blocks two_cells) other_length addresses (v, st) wrong;
       at = node 1;
       args = node 2 ∷ [];
       pred = lenlist_id;

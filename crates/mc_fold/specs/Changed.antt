@@ -19,7 +19,7 @@ use Rattle.mc_state.specs.Fits.{AreNodes}
 
 -- L8: a new node of a kind is another node and a number more; it lies in the kind's range, and is of the node's kind, or the node is 0
 pub record NamesSpare (node : NodeId) (add : ℤ) (kind : Kind) (s : State) (next : List State) : Type 0 where
-  pub sound : IsFalse s → ⊥
+  pub consistent : IsFalse s → ⊥
   pub there : IsNode s.kinds node
   pub lies : LiesIn (pure_of s) kind node add
   pub one_kind : HasKind s.kinds kind node
@@ -27,14 +27,14 @@ pub record NamesSpare (node : NodeId) (add : ℤ) (kind : Kind) (s : State) (nex
 
 -- L9: a node stands in place of an equal one everywhere
 pub record MergesNodes (keep gone : NodeId) (s : State) (next : List State) : Type 0 where
-  pub sound : IsFalse s → ⊥
+  pub consistent : IsFalse s → ⊥
   pub can : CanMerge s.kinds keep gone
   pub equal : AreEqual s keep gone
   pub gives : next ≡ merged keep gone s ∷ []
 
 -- L10: an edge whose start is not reached is dropped, and the edges are all that is allocated no longer
 pub record DropsEdge (edge : EdgeId) (s : State) (next : List State) : Type 0 where
-  pub sound : IsFalse s → ⊥
+  pub consistent : IsFalse s → ⊥
   pub e : Edge
   pub there : edge_with s.graph.edges edge ≡ Some e
   pub unreached : IsReached s (start_of e) → ⊥
@@ -56,7 +56,7 @@ pub record Forgets (node : NodeId) (s t : State) : Type 0 where
 
 -- L11: a node that stands in no variable and in no edge is forgotten
 pub record ForgetsNode (node : NodeId) (s : State) (next : List State) : Type 0 where
-  pub sound : IsFalse s → ⊥
+  pub consistent : IsFalse s → ⊥
   pub there : IsNode s.kinds node
   pub not_null : node ≡ null → ⊥
   pub unnamed : IsUnnamed node s

@@ -85,13 +85,13 @@ pub record Matches (defs : List Def) (s : State) (pred : PredId) (rule : ℕ) (n
 
 -- L3: a rule's block and calls become an Ind
 pub record FoldsInd (defs : List Def) (pred : PredId) (rule : ℕ) (names : List NodeId) (block : Option EdgeId) (edges : List EdgeId) (s : State) (next : List State) : Type 0 where
-  pub sound : IsFalse s → ⊥
+  pub consistent : IsFalse s → ⊥
   pub body : Matches defs s pred rule names block edges (λ r. r.calls)
   pub gives : next ≡ folded s body.left (Ind body.this pred body.args) ∷ []
 
 -- L4: a rule's block and calls without one of the predicate become a Seg to that call
 pub record FoldsSeg (defs : List Def) (pred : PredId) (rule : ℕ) (names : List NodeId) (block : EdgeId) (edges : List EdgeId) (call : ℕ) (s : State) (next : List State) : Type 0 where
-  pub sound : IsFalse s → ⊥
+  pub consistent : IsFalse s → ⊥
   pub body : Matches defs s pred rule names (Some block) edges (λ r. remove r.calls call)
   pub open_call : Call
   pub called : slice_get body.by.calls call ≡ Some open_call
@@ -100,7 +100,7 @@ pub record FoldsSeg (defs : List Def) (pred : PredId) (rule : ℕ) (names : List
 
 -- L5: a Seg and an Ind of its predicate at its end, with equal arguments there, become an Ind
 pub record ClosesSeg (first second : EdgeId) (s : State) (next : List State) : Type 0 where
-  pub sound : IsFalse s → ⊥
+  pub consistent : IsFalse s → ⊥
   pub at : NodeId
   pub args : List NodeId
   pub pred : PredId
@@ -116,7 +116,7 @@ pub record ClosesSeg (first second : EdgeId) (s : State) (next : List State) : T
 
 -- L6: a Seg and another of its predicate at its end, with equal arguments there, become one
 pub record JoinsSegs (first second : EdgeId) (s : State) (next : List State) : Type 0 where
-  pub sound : IsFalse s → ⊥
+  pub consistent : IsFalse s → ⊥
   pub at : NodeId
   pub args : List NodeId
   pub pred : PredId
@@ -134,7 +134,7 @@ pub record JoinsSegs (first second : EdgeId) (s : State) (next : List State) : T
 
 -- L7: a Seg from a node to an equal one, with equal arguments, takes no memory
 pub record MakesEmptySeg (defs : List Def) (pred : PredId) (at : NodeId) (args : List NodeId) (stop : NodeId) (ends : List NodeId) (s : State) (next : List State) : Type 0 where
-  pub sound : IsFalse s → ⊥
+  pub consistent : IsFalse s → ⊥
   pub at_is : HasKind s.kinds Ptr at
   pub args_are : ArgsFit defs s.kinds pred args
   pub stop_is : HasKind s.kinds Ptr stop

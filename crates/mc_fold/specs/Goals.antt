@@ -10,7 +10,7 @@ use Rattle.mc_state.specs.Facts.{IsFalse, AreEqual, AreAllEqual}
 
 -- L14: an Ind of the goal's predicate, with start and arguments equal to the goal's
 pub record MeetsGoal (goal : Goal) (edge : EdgeId) (s : State) : Type 0 where
-  pub sound : IsFalse s → ⊥
+  pub consistent : IsFalse s → ⊥
   pub at : NodeId
   pub args : List NodeId
   pub there : edge_with s.graph.edges edge ≡ Some (Ind at goal.pred args)

@@ -31,7 +31,7 @@ without_all es (id ∷ ids) = without_all (without es id) ids
 
 -- L3 in which the named edges need not be distinct
 pub record FoldsShared (defs : List Def) (pred : PredId) (rule : ℕ) (names : List NodeId) (block : Option EdgeId) (edges : List EdgeId) (s : State) (next : List State) : Type 0 where
-  pub sound : IsFalse s → ⊥
+  pub consistent : IsFalse s → ⊥
   pub blocks : List Edge
   pub inds : List Edge
   pub named : AreNamed (option_to_list block ++ edges) s.graph.edges (blocks ++ inds)
@@ -59,7 +59,7 @@ SharedFoldIsSound =
 
 -- L5 in which the arguments at the Seg's end need not be those of the Ind
 pub record ClosesAnyArgs (first second : EdgeId) (s : State) (next : List State) : Type 0 where
-  pub sound : IsFalse s → ⊥
+  pub consistent : IsFalse s → ⊥
   pub at : NodeId
   pub args : List NodeId
   pub pred : PredId

@@ -11,7 +11,10 @@ ghost use Rattle.mc_state.specs.State.{State as Symbolic};
 ghost use Rattle.mc_fold.specs.Folded.{FoldsInd, FoldsSeg, ClosesSeg, JoinsSegs, MakesEmptySeg};
 ghost use Rattle.mc_fold.specs.Changed.{NamesSpare, MergesNodes, DropsEdge, ForgetsNode};
 ghost use Rattle.mc_fold.specs.Goals.{MeetsGoal};
-ghost use Rattle.mc_fold.specs.Examples.{edge, valued, cell_folded, cell_as_segment, length_folded, fork_as_segment, segment_closed, two_segments, segments_joined, pointer, with_segment, small_number, with_spare, named_twice, named_once, lost_list, list_dropped, no_pointer, list_goal, shared_tree, other_length};
+ghost use Rattle.mc_fold.specs.Examples.{edge, valued, cell_folded, cell_as_segment, length_folded, fork_as_segment};
+ghost use Rattle.mc_fold.specs.Examples.{segment_closed, two_segments, segments_joined, pointer, with_segment};
+ghost use Rattle.mc_fold.specs.Examples.{small_number, with_spare, named_twice, named_once, lost_list, list_dropped};
+ghost use Rattle.mc_fold.specs.Examples.{no_pointer, list_goal, shared_tree, other_length};
 
 use mc_defs::{example_predicates, example_premises, example_segments};
 use mc_heap::{changes_are_local, heaps_change_one_address, parts_regroup};

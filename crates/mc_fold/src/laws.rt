@@ -1,5 +1,9 @@
 // What holds of the rules that fold, name, merge and drop. Each law is what a function with no body ensures.
-ghost use Rattle.mc_fold.specs.Laws.{LawOfFoldInd, LawOfFoldSeg, LawOfCloseSeg, LawOfJoinSegs, LawOfEmptySeg, LawOfSpare, LawOfMerge, LawOfDrop, LawOfForget, LawOfGoal, FoldIndIsDetermined, FoldSegIsDetermined, CloseSegIsDetermined, JoinSegsIsDetermined, EmptySegIsDetermined, SpareIsDetermined, MergeIsDetermined, DropIsDetermined, ForgetIsDetermined};
+ghost use Rattle.mc_fold.specs.Laws.{LawOfFoldInd, LawOfFoldSeg, LawOfCloseSeg, LawOfJoinSegs, LawOfEmptySeg};
+ghost use Rattle.mc_fold.specs.Laws.{LawOfSpare, LawOfMerge, LawOfDrop, LawOfForget, LawOfGoal, FoldIndIsDetermined};
+ghost use Rattle.mc_fold.specs.Laws.{FoldSegIsDetermined, CloseSegIsDetermined, JoinSegsIsDetermined};
+ghost use Rattle.mc_fold.specs.Laws.{EmptySegIsDetermined, SpareIsDetermined, MergeIsDetermined, DropIsDetermined};
+ghost use Rattle.mc_fold.specs.Laws.{ForgetIsDetermined};
 
 use mc_defs::{predicates_are_bodies, segments_are_bodies, segments_join};
 use mc_heap::parts_regroup;

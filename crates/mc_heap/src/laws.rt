@@ -3,7 +3,10 @@ ghost use Rattle.std.specs.Prelude.{◌≡◌, ◌∷◌, [], Some, None};
 ghost use Rattle.std.specs.FinMap as map;
 ghost use Rattle.mc_heap.specs.Heap.{region_of, HasAddresses};
 ghost use Rattle.mc_heap.specs.Parts.{Split, IsEmpty, Star, StarAt, Changes};
-ghost use Rattle.mc_heap.specs.PartLaws.{SplitCommutes, SplitRegroupsLeft, SplitRegroupsRight, SplitDropsEmpty, SplitAddsEmpty, SplitKeepsAddresses, EmptyHeapIsEmpty, RegionTellsHeap, InsertChanges, RemoveChanges, InsertKeepsAddresses, RemoveKeepsAddresses, CellIsRead, CellIsAdded, CellIsReplaced, CellIsRemoved};
+ghost use Rattle.mc_heap.specs.PartLaws.{SplitCommutes, SplitRegroupsLeft, SplitRegroupsRight, SplitDropsEmpty};
+ghost use Rattle.mc_heap.specs.PartLaws.{SplitAddsEmpty, SplitKeepsAddresses, EmptyHeapIsEmpty, RegionTellsHeap};
+ghost use Rattle.mc_heap.specs.PartLaws.{InsertChanges, RemoveChanges, InsertKeepsAddresses, RemoveKeepsAddresses};
+ghost use Rattle.mc_heap.specs.PartLaws.{CellIsRead, CellIsAdded, CellIsReplaced, CellIsRemoved};
 ghost use Rattle.mc_heap.specs.Adding.{AreFree, BlocksAreAdded, BlocksKeepAddresses};
 ghost use Rattle.mc_heap.specs.Instances.{block_at, one_block, two_blocks, two_blocks_turned, nowhere, only_at, IsBlockAt, IsNothingAt};
 

@@ -96,13 +96,13 @@ module _ (law : TrueIsNotFalse) where
   reads = (
     path_of (moved_to (ex.at 1) (unknown 0)) ∷ [],
     failing_path ∷ [],
-    (record { plain = refl; open_still = refl; before_cut = inr refl }, (moved_to (ex.at 1) (unknown 0) ∷ [], record { q = ex.at 1; at = refl; sound = entry_sound; gives = refl }, refl)),
+    (record { plain = refl; open_still = refl; before_cut = inr refl }, (moved_to (ex.at 1) (unknown 0) ∷ [], record { q = ex.at 1; at = refl; consistent = entry_sound; gives = refl }, refl)),
     (
       [],
       failing_path ∷ [],
       record {
         may = record { plain = refl; at_cut = contains_here (ex.at 1) []; has_moved = refl };
-        sound = entry_sound;
+        consistent = entry_sound;
         head = state_of failing_state;
         there = refl;
         jumps = failing_jumps (unknown 0) refl;
@@ -111,11 +111,11 @@ module _ (law : TrueIsNotFalse) where
       (
         failing_path ∷ [],
         failing_path ∷ [],
-        (record { plain = refl; open_still = refl; before_cut = inr refl }, (moved_to (ex.at 2) (state_of failing_state) ∷ [], record { q = ex.at 2; at = refl; sound = head_sound; gives = refl }, refl)),
+        (record { plain = refl; open_still = refl; before_cut = inr refl }, (moved_to (ex.at 2) (state_of failing_state) ∷ [], record { q = ex.at 2; at = refl; consistent = head_sound; gives = refl }, refl)),
         (
           [],
           [],
-          record { chain = refl; plain = refl; open_still = refl; gap = Reached; unmet = record { sound = head_sound; code = instr.Fail; at = refl; lacks = (tt, tt) }; gives = refl },
+          record { chain = refl; plain = refl; open_still = refl; gap = Reached; unmet = record { consistent = head_sound; code = instr.Fail; at = refl; lacks = (tt, tt) }; gives = refl },
           (refl, refl),
           refl,
         ),

@@ -28,13 +28,13 @@ module _ (law : TrueIsNotFalse) where
   reads : ReadsAtOnce failing_flow defs setting (S1 ∷ L13 0 (null ∷ []) [] ∷ L13 0 (null ∷ []) [] ∷ []) (roots failing_flow setting.heads)
   reads = (
     path_of (moved_to (ex.at 1) (unknown 0)) ∷ [],
-    (record { plain = refl; open_still = refl; before_cut = inr refl }, (moved_to (ex.at 1) (unknown 0) ∷ [], record { q = ex.at 1; at = refl; sound = entry_sound law; gives = refl }, refl)),
+    (record { plain = refl; open_still = refl; before_cut = inr refl }, (moved_to (ex.at 1) (unknown 0) ∷ [], record { q = ex.at 1; at = refl; consistent = entry_sound law; gives = refl }, refl)),
     (
       [],
-      record { plain = refl; at_cut = contains_here (ex.at 1) []; sound = entry_sound law; head = state_of failing_state; there = refl; jumps = failing_jumps (unknown 0) refl; gives = refl },
+      record { plain = refl; at_cut = contains_here (ex.at 1) []; consistent = entry_sound law; head = state_of failing_state; there = refl; jumps = failing_jumps (unknown 0) refl; gives = refl },
       (
         [],
-        record { plain = refl; at_cut = contains_here (ex.at 1) []; sound = head_sound law; head = state_of failing_state; there = refl; jumps = failing_jumps (state_of failing_state) refl; gives = refl },
+        record { plain = refl; at_cut = contains_here (ex.at 1) []; consistent = head_sound law; head = state_of failing_state; there = refl; jumps = failing_jumps (state_of failing_state) refl; gives = refl },
         refl,
       ),
     ),

@@ -69,11 +69,11 @@ module _ (law : TrueIsNotFalse) where
   reads = (
     gone 1 entry ∷ [],
     [],
-    (record { plain = refl; open_still = refl; before_cut = inr refl }, (moved_to (ex.at 1) entry ∷ [], record { q = ex.at 1; at = refl; sound = entry_sound; gives = refl }, refl)),
+    (record { plain = refl; open_still = refl; before_cut = inr refl }, (moved_to (ex.at 1) entry ∷ [], record { q = ex.at 1; at = refl; consistent = entry_sound; gives = refl }, refl)),
     (
       gone 2 entry ∷ [],
       [],
-      (may 1 entry, (moved_to (ex.at 2) entry ∷ [], record { xs = ex.var 1 ∷ []; q = ex.at 2; at = refl; sound = entry_sound; gives = refl }, refl)),
+      (may 1 entry, (moved_to (ex.at 2) entry ∷ [], record { xs = ex.var 1 ∷ []; q = ex.at 2; at = refl; consistent = entry_sound; gives = refl }, refl)),
       (
         gone 3 with_list ∷ [],
         [],
@@ -87,7 +87,7 @@ module _ (law : TrueIsNotFalse) where
               os = [];
               q = ex.at 3;
               at = refl;
-              sound = entry_sound;
+              consistent = entry_sound;
               args = [];
               known = tt;
               before = entry;
@@ -110,7 +110,7 @@ module _ (law : TrueIsNotFalse) where
                 os = [];
                 q = ex.at 4;
                 at = refl;
-                sound = list_sound;
+                consistent = list_sound;
                 n = node 1;
                 known = refl;
                 args = [];
@@ -127,15 +127,15 @@ module _ (law : TrueIsNotFalse) where
           (
             [],
             [],
-            record { goal = goal; side = refl; meets = record { sound = list_sound; at = node 1; args = []; there = refl; meets = inl (itself (Ptr, inr refl)); args_meet = tt }; gives = refl },
+            record { goal = goal; side = refl; meets = record { consistent = list_sound; at = node 1; args = []; there = refl; meets = inl (itself (Ptr, inr refl)); args_meet = tt }; gives = refl },
             (
               gone 5 with_result ∷ [],
               [],
-              (may 4 with_list, (moved_to (ex.at 5) with_result ∷ [], record { x = ex.var 0; from = _; q = ex.at 5; at = refl; sound = list_sound; n = null; known = refl; gives = refl }, refl)),
+              (may 4 with_list, (moved_to (ex.at 5) with_result ∷ [], record { x = ex.var 0; from = _; q = ex.at 5; at = refl; consistent = list_sound; n = null; known = refl; gives = refl }, refl)),
               (
                 [],
                 [],
-                (may 5 with_result, ([], record { at = refl; sound = list_sound; gives = refl }, refl)),
+                (may 5 with_result, ([], record { at = refl; consistent = list_sound; gives = refl }, refl)),
                 (refl, refl),
                 refl,
               ),

@@ -77,9 +77,9 @@ may p s ne = record { plain = refl; open_still = refl; before_cut = inl (no_cut 
 
 -- where no variable is known, a branch jumps to the head
 jumps : (s : State) → s.env ≡ None ∷ None ∷ [] → (IsFalse s → ⊥) → JumpsTo setting 0 (null ∷ []) [] (gone 1 s) []
-jumps s unknown_vars sound = record {
+jumps s unknown_vars consistent = record {
   may = record { plain = refl; at_cut = contains_here (ex.at 1) []; has_moved = refl };
-  sound = sound;
+  consistent = sound;
   head = head;
   there = refl;
   jumps = record {
@@ -119,7 +119,7 @@ module _ (law : TrueIsNotFalse) where
   reads = (
     gone 1 entry ∷ [],
     [],
-    (record { plain = refl; open_still = refl; before_cut = inr refl }, (moved_to (ex.at 1) entry ∷ [], record { q = ex.at 1; at = refl; sound = entry_sound; gives = refl }, refl)),
+    (record { plain = refl; open_still = refl; before_cut = inr refl }, (moved_to (ex.at 1) entry ∷ [], record { q = ex.at 1; at = refl; consistent = entry_sound; gives = refl }, refl)),
     (
       [],
       [],
@@ -127,11 +127,11 @@ module _ (law : TrueIsNotFalse) where
       (
         gone 2 head ∷ [],
         [],
-        (record { plain = refl; open_still = refl; before_cut = inr refl }, (moved_to (ex.at 2) head ∷ [], record { q = ex.at 2; at = refl; sound = head_sound; gives = refl }, refl)),
+        (record { plain = refl; open_still = refl; before_cut = inr refl }, (moved_to (ex.at 2) head ∷ [], record { q = ex.at 2; at = refl; consistent = head_sound; gives = refl }, refl)),
         (
           gone 3 with_input ∷ [],
           [],
-          (may 2 head (omega arith), (moved_to (ex.at 3) with_input ∷ [], record { x = ex.var 1; q = ex.at 3; at = refl; sound = head_sound; gives = refl }, refl)),
+          (may 2 head (omega arith), (moved_to (ex.at 3) with_input ∷ [], record { x = ex.var 1; q = ex.at 3; at = refl; consistent = head_sound; gives = refl }, refl)),
           (
             gone 4 at_zero ∷ gone 7 not_zero ∷ [],
             [],
@@ -145,7 +145,7 @@ module _ (law : TrueIsNotFalse) where
                   t = ex.at 4;
                   f = ex.at 7;
                   at = refl;
-                  sound = input_sound;
+                  consistent = input_sound;
                   a = node 1;
                   left_known = refl;
                   b = null;
@@ -160,23 +160,23 @@ module _ (law : TrueIsNotFalse) where
             (
               gone 5 after_zero ∷ [],
               [],
-              (may 4 at_zero (omega arith), (moved_to (ex.at 5) after_zero ∷ [], record { xs = ex.var 1 ∷ []; q = ex.at 5; at = refl; sound = zero_sound; gives = refl }, refl)),
+              (may 4 at_zero (omega arith), (moved_to (ex.at 5) after_zero ∷ [], record { xs = ex.var 1 ∷ []; q = ex.at 5; at = refl; consistent = zero_sound; gives = refl }, refl)),
               (
                 gone 6 after_zero ∷ [],
                 [],
-                (may 5 after_zero (omega arith), (moved_to (ex.at 6) after_zero ∷ [], record { q = ex.at 6; at = refl; sound = zero_sound; gives = refl }, refl)),
+                (may 5 after_zero (omega arith), (moved_to (ex.at 6) after_zero ∷ [], record { q = ex.at 6; at = refl; consistent = zero_sound; gives = refl }, refl)),
                 (
                   gone 8 with_result ∷ [],
                   [],
-                  (may 6 after_zero (omega arith), (moved_to (ex.at 8) with_result ∷ [], record { x = ex.var 0; from = _; q = ex.at 8; at = refl; sound = zero_sound; n = null; known = refl; gives = refl }, refl)),
+                  (may 6 after_zero (omega arith), (moved_to (ex.at 8) with_result ∷ [], record { x = ex.var 0; from = _; q = ex.at 8; at = refl; consistent = zero_sound; n = null; known = refl; gives = refl }, refl)),
                   (
                     [],
                     [],
-                    (may 8 with_result (omega arith), ([], record { at = refl; sound = zero_sound; gives = refl }, refl)),
+                    (may 8 with_result (omega arith), ([], record { at = refl; consistent = zero_sound; gives = refl }, refl)),
                     (
                       gone 1 after_other ∷ [],
                       [],
-                      (may 7 not_zero (omega arith), (moved_to (ex.at 1) after_other ∷ [], record { xs = ex.var 1 ∷ []; q = ex.at 1; at = refl; sound = other_sound; gives = refl }, refl)),
+                      (may 7 not_zero (omega arith), (moved_to (ex.at 1) after_other ∷ [], record { xs = ex.var 1 ∷ []; q = ex.at 1; at = refl; consistent = other_sound; gives = refl }, refl)),
                       (
                         [],
                         [],

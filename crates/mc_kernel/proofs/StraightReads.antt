@@ -74,7 +74,7 @@ module _ (at_null : BlockAtNull) (nodes : NewNodesAreThere) (flow : Flow) (defs 
   instance_of S12 moved b next k i = by_step general.S12Is flow moved b next (s12 flow defs valid b next k i)
   instance_of S13 moved b next k i = by_step general.S13Is flow moved b next (s13 flow defs valid b next k i)
   instance_of S17 moved b next k i = by_step general.S17Is flow moved b next (s17 flow defs valid b next k i)
-  instance_of L12 moved b next k i = (refl, told_false at_null b.state k i.unsound, ap (map (path true)) i.gives)
+  instance_of L12 moved b next k i = (refl, told_false at_null b.state k i.contradictory, ap (map (path true)) i.gives)
   instance_of (Header version form) moved b next k i = absurd i
   instance_of End moved b next k i = absurd i
 

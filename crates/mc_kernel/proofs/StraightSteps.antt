@@ -92,13 +92,13 @@ step_of b = record { point = point_of b; goal = None; state = b.state }
 
 module _ (flow : Flow) (defs : List Def) (valid : IsValid flow defs) (b : Branch) (next : List Branch) (k : IsStraight b.state) where
   pub s1 : straight.S1Is flow b next → general.S1Is flow (point_of b) b.state (map step_of next)
-  s1 i = record { q = i.q; at = i.at; sound = told_sound b.state k i.sound; gives = ap (map step_of) i.gives }
+  s1 i = record { q = i.q; at = i.at; consistent = told_sound b.state k i.consistent; gives = ap (map step_of) i.gives }
 
   pub s2 : straight.S2Is flow b next → general.S2Is flow (point_of b) b.state (map step_of next)
-  s2 i = record { x = i.x; from = i.from; q = i.q; at = i.at; sound = told_sound b.state k i.sound; n = i.n; known = i.known; gives = ap (map step_of) i.gives }
+  s2 i = record { x = i.x; from = i.from; q = i.q; at = i.at; consistent = told_sound b.state k i.consistent; n = i.n; known = i.known; gives = ap (map step_of) i.gives }
 
   pub s3 : straight.S3Is flow b next → general.S3Is flow (point_of b) b.state (map step_of next)
-  s3 i = record { xs = i.xs; q = i.q; at = i.at; sound = told_sound b.state k i.sound; gives = ap (map step_of) i.gives }
+  s3 i = record { xs = i.xs; q = i.q; at = i.at; consistent = told_sound b.state k i.consistent; gives = ap (map step_of) i.gives }
 
   pub s8 : straight.S8Is flow b next → general.S8Is flow (point_of b) b.state (map step_of next)
   s8 i = record {
@@ -108,7 +108,7 @@ module _ (flow : Flow) (defs : List Def) (valid : IsValid flow defs) (b : Branch
     f = i.f;
     q = i.q;
     at = i.at;
-    sound = told_sound b.state k i.sound;
+    consistent = told_sound b.state k i.consistent;
     n = i.n;
     known = i.known;
     block = has_block b.state i.n i.shape i.place i.edge k (found_shaped b.state i.n i.shape i.place i.edge i.there i.block);
@@ -133,7 +133,7 @@ module _ (flow : Flow) (defs : List Def) (valid : IsValid flow defs) (b : Branch
         from = i.from;
         q = i.q;
         at = i.at;
-        sound = told_sound b.state k i.sound;
+        consistent = told_sound b.state k i.consistent;
         m = i.m;
         value = i.value;
         n = i.n;
@@ -146,7 +146,7 @@ module _ (flow : Flow) (defs : List Def) (valid : IsValid flow defs) (b : Branch
       }
 
   pub s10 : straight.S10Is flow b next → general.S10Is flow (point_of b) b.state (map step_of next)
-  s10 i = record { x = i.x; shape = i.shape; q = i.q; at = i.at; sound = told_sound b.state k i.sound; gives = ap (map step_of) i.gives }
+  s10 i = record { x = i.x; shape = i.shape; q = i.q; at = i.at; consistent = told_sound b.state k i.consistent; gives = ap (map step_of) i.gives }
 
   pub s11 : straight.S11Is flow b next → general.S11Is flow (point_of b) b.state (map step_of next)
   s11 i =
@@ -155,7 +155,7 @@ module _ (flow : Flow) (defs : List Def) (valid : IsValid flow defs) (b : Branch
         from = i.from;
         q = i.q;
         at = i.at;
-        sound = told_sound b.state k i.sound;
+        consistent = told_sound b.state k i.consistent;
         n = i.n;
         known = i.known;
         zero = subst (λ (t : State). AreEqual t i.n null) stays (inl (null_follows b.state i.n i.zero));
@@ -174,7 +174,7 @@ module _ (flow : Flow) (defs : List Def) (valid : IsValid flow defs) (b : Branch
         from = i.from;
         q = i.q;
         at = i.at;
-        sound = told_sound s k i.sound;
+        consistent = told_sound s k i.consistent;
         n = i.n;
         known = i.known;
         before = s;
@@ -193,7 +193,7 @@ module _ (flow : Flow) (defs : List Def) (valid : IsValid flow defs) (b : Branch
     t = i.t;
     f = i.f;
     at = i.at;
-    sound = told_sound b.state k i.sound;
+    consistent = told_sound b.state k i.consistent;
     a = i.n;
     left_known = i.known;
     b = null;
@@ -204,7 +204,7 @@ module _ (flow : Flow) (defs : List Def) (valid : IsValid flow defs) (b : Branch
   }
 
   pub s17 : straight.S17Is flow b next → general.S17Is flow (point_of b) b.state (map step_of next)
-  s17 i = record { at = i.at; sound = told_sound b.state k i.sound; gives = ap (map step_of) i.gives }
+  s17 i = record { at = i.at; consistent = told_sound b.state k i.consistent; gives = ap (map step_of) i.gives }
 
 -- ---- the states that come of it
 

@@ -9,7 +9,10 @@ use Rattle.mc_flow.specs.declared.instr.Instr.{Instr}
 use Rattle.mc_flow.specs.declared.instr.Instr.TheVariants as instr
 use Rattle.mc_state.specs.declared.goal.Goal.{Goal}
 use Rattle.mc_state.specs.declared.line.Line.{Line}
-use Rattle.mc_state.specs.declared.line.Line.TheVariants.{Header, Cut, Head, Pass, End, S1, S2, S3, S4, S5, S6, S7, S8, S9, S10, S11, S12, S13, S14, S15, S16, S17, S18, L1, L2, L3, L4, L5, L6, L7, L8, L9, L10, L11, L12, L13, L14, C1, C2, C3}
+use Rattle.mc_state.specs.declared.line.Line.TheVariants.{Header, Cut, Head, Pass, End, S1, S2, S3, S4, S5, S6, S7}
+use Rattle.mc_state.specs.declared.line.Line.TheVariants.{S8, S9, S10, S11, S12, S13, S14, S15, S16, S17, S18, L1}
+use Rattle.mc_state.specs.declared.line.Line.TheVariants.{L2, L3, L4, L5, L6, L7, L8, L9, L10, L11, L12, L13, L14}
+use Rattle.mc_state.specs.declared.line.Line.TheVariants.{C1, C2, C3}
 use Rattle.mc_state.specs.State.{State, var_node}
 use Rattle.mc_state.specs.Facts.{IsFalse}
 use Rattle.mc_unfold.specs.Unfolded.{UnfoldsInd, UnfoldsSeg}
@@ -77,7 +80,7 @@ EndsFalse b next = (b.closing ≡ false) × IsFalse b.state × (next ≡ [])
 -- L13: the state jumps to one of the cut's
 pub record JumpsTo (g : Setting) (j : ℕ) (images : List NodeId) (edges : List EdgeId) (b : Path) (next : List Path) : Type 0 where
   pub may : MayCut g b
-  pub sound : IsFalse b.state → ⊥
+  pub consistent : IsFalse b.state → ⊥
   pub head : State
   pub there : slice_get (states_at b.point g.heads) j ≡ Some head
   pub jumps : Jumps b.state head images edges

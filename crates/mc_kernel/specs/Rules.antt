@@ -40,7 +40,7 @@ moved_to q s = record { point = q.0; state = s }
 pub record S1Is (flow : Flow) (b : Branch) (next : List Branch) : Type 0 where
   pub q : PointId
   pub at : instr_at flow b.point ≡ Some (Skip q)
-  pub sound : is_false b.state ≡ false
+  pub consistent : is_false b.state ≡ false
   pub gives : next ≡ moved_to q b.state ∷ []
 
 -- S2: at a Copy the operand is known, and the variable gets its node
@@ -49,7 +49,7 @@ pub record S2Is (flow : Flow) (b : Branch) (next : List Branch) : Type 0 where
   pub from : Operand
   pub q : PointId
   pub at : instr_at flow b.point ≡ Some (Copy x from q)
-  pub sound : is_false b.state ≡ false
+  pub consistent : is_false b.state ≡ false
   pub n : NodeId
   pub known : operand_node b.state from ≡ Some n
   pub gives : next ≡ moved_to q (with_var (with_operand b.state from) x (Some n)) ∷ []
@@ -59,7 +59,7 @@ pub record S3Is (flow : Flow) (b : Branch) (next : List Branch) : Type 0 where
   pub xs : List VarId
   pub q : PointId
   pub at : instr_at flow b.point ≡ Some (Undef xs q)
-  pub sound : is_false b.state ≡ false
+  pub consistent : is_false b.state ≡ false
   pub gives : next ≡ moved_to q (without_vars b.state xs) ∷ []
 
 -- S8: at a Load a block of the struct lies where the variable points, and its field is known
@@ -70,7 +70,7 @@ pub record S8Is (flow : Flow) (b : Branch) (next : List Branch) : Type 0 where
   pub f : ℕ
   pub q : PointId
   pub at : instr_at flow b.point ≡ Some (Load x y shape f q)
-  pub sound : is_false b.state ≡ false
+  pub consistent : is_false b.state ≡ false
   pub n : NodeId
   pub known : var_node b.state y ≡ Some n
   pub place : ℕ
@@ -89,7 +89,7 @@ pub record S9Is (flow : Flow) (b : Branch) (next : List Branch) : Type 0 where
   pub from : Operand
   pub q : PointId
   pub at : instr_at flow b.point ≡ Some (Store y shape f from q)
-  pub sound : is_false b.state ≡ false
+  pub consistent : is_false b.state ≡ false
   pub m : NodeId
   pub value : operand_node b.state from ≡ Some m
   pub n : NodeId
@@ -107,7 +107,7 @@ pub record S10Is (flow : Flow) (b : Branch) (next : List Branch) : Type 0 where
   pub shape : StructId
   pub q : PointId
   pub at : instr_at flow b.point ≡ Some (Malloc x shape q)
-  pub sound : is_false b.state ≡ false
+  pub consistent : is_false b.state ≡ false
   pub gives : next ≡ moved_to q (with_var b.state x (Some null)) ∷ moved_to q (with_var (with_block b.state shape (field_count flow.structs shape)) x (Some (next_node b.state))) ∷ []
 
 -- S11: at a Free the operand is known to be null; a pointer that is a constant is null, so no node is made
@@ -115,7 +115,7 @@ pub record S11Is (flow : Flow) (b : Branch) (next : List Branch) : Type 0 where
   pub from : Operand
   pub q : PointId
   pub at : instr_at flow b.point ≡ Some (Free from q)
-  pub sound : is_false b.state ≡ false
+  pub consistent : is_false b.state ≡ false
   pub n : NodeId
   pub known : operand_node b.state from ≡ Some n
   pub zero : is_null b.state.atoms n ≡ true
@@ -126,7 +126,7 @@ pub record S12Is (flow : Flow) (b : Branch) (next : List Branch) : Type 0 where
   pub from : Operand
   pub q : PointId
   pub at : instr_at flow b.point ≡ Some (Free from q)
-  pub sound : is_false b.state ≡ false
+  pub consistent : is_false b.state ≡ false
   pub n : NodeId
   pub known : operand_node b.state from ≡ Some n
   pub place : ℕ
@@ -141,7 +141,7 @@ pub record S13Is (flow : Flow) (b : Branch) (next : List Branch) : Type 0 where
   pub t : PointId
   pub f : PointId
   pub at : instr_at flow b.point ≡ Some (TestEq (Var x) (Const (pos 0)) t f)
-  pub sound : is_false b.state ≡ false
+  pub consistent : is_false b.state ≡ false
   pub n : NodeId
   pub known : var_node b.state x ≡ Some n
   pub gives : next ≡ moved_to t (with_atom b.state (Eq n null (pos 0))) ∷ moved_to f (with_atom b.state (Ne n null (pos 0))) ∷ []
@@ -149,12 +149,12 @@ pub record S13Is (flow : Flow) (b : Branch) (next : List Branch) : Type 0 where
 -- S17: at an End the branch is closed
 pub record S17Is (flow : Flow) (b : Branch) (next : List Branch) : Type 0 where
   pub at : instr_at flow b.point ≡ Some instr.End
-  pub sound : is_false b.state ≡ false
+  pub consistent : is_false b.state ≡ false
   pub gives : next ≡ []
 
 -- L12: no configuration stands for the state, and the branch is closed
 pub record L12Is (b : Branch) (next : List Branch) : Type 0 where
-  pub unsound : is_false b.state ≡ true
+  pub contradictory : is_false b.state ≡ true
   pub gives : next ≡ []
 
 -- the line is an instance of its rule at the branch, and these branches come of it

@@ -75,7 +75,7 @@ two_cells_apart =
 pub record JumpsAtOnce (g : Setting) (j : ℕ) (images : List NodeId) (edges : List EdgeId) (b : Path) (next : List Path) : Type 0 where
   pub plain : IsPlain b
   pub at_cut : Contains g.cuts b.point
-  pub sound : IsFalse b.state → ⊥
+  pub consistent : IsFalse b.state → ⊥
   pub head : State
   pub there : slice_get (states_at b.point g.heads) j ≡ Some head
   pub jumps : Jumps b.state head images edges

@@ -288,7 +288,7 @@ fn end(flow: &Flow, branch: &mut Branch) -> Option<Next>
 }
 
 // L12
-fn unsound(branch: &mut Branch) -> Option<Next>
+fn contradictory(branch: &mut Branch) -> Option<Next>
     ensures { Becomes L12Is branch.old branch.new result }
 {
     if branch.state.is_false() {
@@ -319,7 +319,7 @@ pub fn advance(
         StraightLine::S12 => free(alloc, flow, branch),
         StraightLine::S13 => test(alloc, flow, branch),
         StraightLine::S17 => Ok(end(flow, branch)),
-        StraightLine::L12 => Ok(unsound(branch)),
+        StraightLine::L12 => Ok(contradictory(branch)),
         StraightLine::Header(_, _) => Ok(None),
         StraightLine::End => Ok(None),
     }

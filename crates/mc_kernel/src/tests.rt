@@ -1,8 +1,9 @@
 use crate::rules::{Next, advance};
 use crate::{ApplyFault, Branch, Complete, Proof, certified_is_safe, successors_are_determined};
-use mc_base::{Items, Kind, NodeId, Place, PointId, StructId, VarId, VarInfo};
+use mc_base::{Items, Kind, NodeId, PointId, StructId, VarId, VarInfo};
 use mc_flow::{Defs, FieldInfo, Flow, Instr, Operand, Point, StructInfo, Structs, valid};
 use mc_state::{Form, StraightLine, Version};
+use mc_text::Place;
 use std::alloc::{AllocError, Global};
 use std::test::Fail;
 

@@ -2,9 +2,9 @@
 use Rattle.std.proofs.Common.{◌≢◌, ℕ, List, [], ◌∷◌, Ok, Err, refl, sym, subst}
 use Rattle.mc_lex.specs.declared.spot.Spot.{Spot}
 use Rattle.mc_lex.specs.declared.piece.Piece.TheVariants.{Lexeme}
-use Rattle.mc_lex.specs.declared.token.Token.{Token}
-use Rattle.mc_lex.specs.declared.token.TokenKind.{TokenKind}
-use Rattle.mc_lex.specs.declared.token.TokenKind.TheVariants.{End}
+use Rattle.mc_text.specs.declared.token.Token.{Token}
+use Rattle.mc_text.specs.declared.token.TokenKind.{TokenKind}
+use Rattle.mc_text.specs.declared.token.TokenKind.TheVariants.{End}
 use Rattle.mc_lex.specs.Pieces.{IsPiece, name, number, mark}
 use Rattle.mc_lex.specs.Readings.{Reading, Reads, at_end, at_fault, past_gap, past_token, onto, EndsOnce}
 

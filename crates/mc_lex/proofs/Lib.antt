@@ -1,6 +1,4 @@
 pub mod Texts
-pub mod Numerals
-pub mod Spellings
 pub mod Prefixes
 pub mod Rooms
 pub mod Classes

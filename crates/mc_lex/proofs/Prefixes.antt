@@ -1,7 +1,7 @@
 -- A reading behind the tokens before it.
 use Rattle.std.proofs.Common.{◌≡◌, List, [], ◌∷◌, ◌++◌, Ok, Err, refl, ap}
-use Rattle.mc_lex.specs.declared.token.Token.{Token}
-use Rattle.mc_lex.specs.declared.token.LexFault.{LexFault}
+use Rattle.mc_text.specs.declared.token.Token.{Token}
+use Rattle.mc_lex.specs.declared.fault.LexFault.{LexFault}
 use Rattle.mc_lex.specs.Readings.{Reading, onto}
 
 -- a reading with these tokens before it

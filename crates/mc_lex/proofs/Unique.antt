@@ -5,9 +5,9 @@ use Rattle.std.proofs.lemmas.Bool.{cases_order}
 use Rattle.mc_lex.specs.declared.spot.Spot.{Spot}
 use Rattle.mc_lex.specs.declared.piece.Piece.{Piece}
 use Rattle.mc_lex.specs.declared.piece.Piece.TheVariants.{Gap, Lexeme}
-use Rattle.mc_lex.specs.declared.token.TokenKind.TheVariants.{Name, Number, Mark}
+use Rattle.mc_text.specs.declared.token.TokenKind.TheVariants.{Name, Number, Mark}
 use Rattle.mc_lex.specs.Pieces.{IsPiece, end, separator, line_comment, block_comment, include_line, name, number, mark, bad_byte, open_comment, bad_number, IsFirstClose, Begins, mark_len}
-use Rattle.mc_lex.specs.Numbers.{Spells, IsNoNumber}
+use Rattle.mc_text.specs.Numbers.{Spells, IsNoNumber}
 use Rattle.mc_lex.specs.Spots.{behind}
 use Rattle.mc_lex.specs.Readings.{Reading, Reads, at_end, at_fault, past_gap, past_token, onto, token_at}
 use Rattle.mc_lex.proofs.Classes.{class_is}

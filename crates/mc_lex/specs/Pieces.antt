@@ -2,13 +2,13 @@
 use Rattle.std.specs.Prelude.{◌≡◌, ◌+◌, ◌<◌, ◌≤◌, ◌==◌, ℕ, not, IsTrue, List, [], length, take, drop, codes, slice_index, if◌then◌else◌}
 use Rattle.std.specs.Bool.{IsFalse}
 use Rattle.std.specs.List.{prefix_len, take_while}
-use Rattle.mc_lex.specs.declared.token.TokenKind.TheVariants.{Name, Number, Mark}
-use Rattle.mc_lex.specs.declared.token.LexFault.TheVariants.{BadByte, OpenComment, BadNumber}
+use Rattle.mc_text.specs.declared.token.TokenKind.TheVariants.{Name, Number, Mark}
+use Rattle.mc_lex.specs.declared.fault.LexFault.TheVariants.{BadByte, OpenComment, BadNumber}
 use Rattle.mc_lex.specs.declared.piece.Piece.{Piece}
 use Rattle.mc_lex.specs.declared.piece.Piece.TheVariants.{End, Gap, Lexeme, Fault}
 use Rattle.mc_lex.specs.declared.spot.Spot.{Spot}
 use Rattle.mc_lex.specs.Bytes.{is_blank, is_separator, is_letter, is_digit, is_word, is_double_mark, is_single_mark}
-use Rattle.mc_lex.specs.Numbers.{max_number, Spells, IsNoNumber}
+use Rattle.mc_text.specs.Numbers.{max_number, Spells, IsNoNumber}
 
 -- the first byte
 abbrev pub first : List ℕ → ℕ

@@ -1,9 +1,9 @@
 -- What a text reads as.
 use Rattle.std.specs.Prelude.{◌≡◌, ◌≢◌, ℕ, List, [], ◌∷◌, take, drop, Result, Ok, Err}
-use Rattle.mc_lex.specs.declared.token.Token.{Token}
-use Rattle.mc_lex.specs.declared.token.TokenKind.{TokenKind}
-use Rattle.mc_lex.specs.declared.token.TokenKind.TheVariants.{End as end_kind}
-use Rattle.mc_lex.specs.declared.token.LexFault.{LexFault}
+use Rattle.mc_text.specs.declared.token.Token.{Token}
+use Rattle.mc_text.specs.declared.token.TokenKind.{TokenKind}
+use Rattle.mc_text.specs.declared.token.TokenKind.TheVariants.{End as end_kind}
+use Rattle.mc_lex.specs.declared.fault.LexFault.{LexFault}
 use Rattle.mc_lex.specs.declared.piece.Piece.TheVariants.{End, Gap, Lexeme, Fault}
 use Rattle.mc_lex.specs.declared.spot.Spot.{Spot}
 use Rattle.mc_lex.specs.Spots.{start, behind}
@@ -27,7 +27,9 @@ pub data Reads : Spot → List ℕ → Reading → Type 0 where
   at_end : {spot : Spot} {text : List ℕ} → IsPiece spot text End → Reads spot text (Ok (token_at spot end_kind [] ∷ []))
   at_fault : {spot : Spot} {text : List ℕ} {fault : LexFault} → IsPiece spot text (Fault fault) → Reads spot text (Err fault)
   past_gap : {spot : Spot} {text : List ℕ} {n : ℕ} {reading : Reading} → IsPiece spot text (Gap n) → Reads (behind spot (take n text)) (drop n text) reading → Reads spot text reading
-  past_token : {spot : Spot} {text : List ℕ} {kind : TokenKind} {n : ℕ} {rest whole : Reading} → IsPiece spot text (Lexeme kind n) → Reads (behind spot (take n text)) (drop n text) rest → whole ≡ onto (token_at spot kind (take n text)) rest → Reads spot text whole
+  past_token : {spot : Spot} {text : List ℕ} {kind : TokenKind} {n : ℕ} {rest whole : Reading}
+      → IsPiece spot text (Lexeme kind n) → Reads (behind spot (take n text)) (drop n text) rest
+      → whole ≡ onto (token_at spot kind (take n text)) rest → Reads spot text whole
 
 -- a whole text reads so
 abbrev pub Lexes : List ℕ → Reading → Type 0

@@ -2,11 +2,10 @@
 ghost use Rattle.std.specs.Prelude.{◌≡◌, ◌≢◌, ◌≤◌, List, ℕ, length, IfOk, MatchResult};
 ghost use Rattle.mc_lex.specs.Readings.{Reading, Lexes, EndsOnce};
 
+use crate::LexFault;
 use crate::piece::{Piece, first_piece};
 use crate::spot::{behind, start};
-use crate::text::Text;
-use crate::token::{LexFault, Token, TokenKind};
-use mc_base::Place;
+use mc_text::{Place, Text, Token, TokenKind};
 use std::alloc::{AllocError, Global};
 
 /// How many bytes a text may have, so that its lines and columns are numbers of 32 bits.

@@ -2,17 +2,13 @@
 #![tactic(auto)]
 
 mod bytes;
+mod fault;
 mod lexer;
-mod number;
 mod piece;
 mod spot;
-mod text;
-mod token;
 
+pub use fault::LexFault;
 pub use lexer::{MAX_BYTES, lex, readings_are_unique};
-pub use number::number_value;
-pub use text::Text;
-pub use token::{LexFault, Token, TokenKind};
 
 #[cfg(test)]
 mod tests;

@@ -4,12 +4,12 @@ ghost use Rattle.mc_lex.specs.Pieces.{Begins, line_len, word_len, blank_len, IsI
 ghost use Rattle.mc_lex.specs.Bytes.{is_separator, is_digit, is_word};
 ghost use Rattle.std.specs.Bool.{IsFalse};
 
+use crate::LexFault;
 use crate::bytes::{
     is_blank, is_digit, is_double_mark, is_letter, is_separator, is_single_mark, is_word,
 };
-use crate::number::number_value;
 use crate::spot::Spot;
-use crate::token::{LexFault, TokenKind};
+use mc_text::{TokenKind, number_value};
 
 /// What stands at the front of a text, with the number of its bytes.
 pub enum Piece {

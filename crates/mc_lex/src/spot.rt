@@ -3,7 +3,7 @@ ghost use Rattle.std.specs.Prelude.{◌≡◌, length};
 ghost use Rattle.mc_lex.specs.Spots.{start, step, behind, HasRoom};
 
 use crate::bytes::is_blank;
-use mc_base::Place;
+use mc_text::Place;
 
 /// A place in a text, and whether only blanks and tabs stand before it in its line.
 #[derive(Clone, Copy)]

@@ -1,8 +1,8 @@
 // Texts with the tokens and places that were worked out for them by hand.
 ghost use Rattle.std.specs.Prelude.{◌<◌, length};
 
-use crate::{LexFault, Token, TokenKind, lex, number_value, readings_are_unique};
-use mc_base::Place;
+use crate::{LexFault, lex, readings_are_unique};
+use mc_text::{Place, Token, TokenKind, number_value};
 use std::alloc::{AllocError, Global};
 use std::test::Fail;
 

@@ -1,13 +1,13 @@
 -- A step is determined by its choices.
 use Rattle.std.proofs.Common.{◌≡◌, zero, suc, ℤ, pos, ◌-ℤ◌, arith, List, [], ◌∷◌, Option, Some, None, refl, ap, sym, ◌∙◌, subst, inl, inr}
 use Rattle.mc_base.specs.declared.plain.FaultKind.{FaultKind}
-use Rattle.mc_base.specs.declared.plain.Place.{Place}
+use Rattle.mc_text.specs.declared.place.Place.{Place}
 use Rattle.mc_heap.specs.Heap.{Heap}
 use Rattle.mc_heap.specs.Choices.{Choice, input as choose_input, malloc as choose_malloc, shape as choose_shape}
 use Rattle.mc_defs.specs.declared.rules.Def.{Def}
 use Rattle.mc_ast.specs.declared.trees.Name.{Name}
 use Rattle.mc_ast.specs.declared.trees.Malloc.{Malloc}
-use Rattle.mc_ast.specs.Trees.{Left, Expr, number, null, input, value, minus, parens, times, plus, less, Cond, plain, compare, negation, enclosed, both, either, CallTree, Right, expression, result_of, allocation, SimpleTree, assign, add, subtract, increment, decrement, increment_first, decrement_first, call, Stmt, declaration, block, empty, simple, free, assert, assume, assume_shape, assert_shape, assert_empty, if_only, if_else, while_loop, do_loop, for_loop, break_loop, continue_loop, returns, FunctionTree}
+use Rattle.mc_ast.specs.Trees.{Left, Expr, number, null, input, value, minus, parens, times, plus, difference, Cond, plain, compare, negation, enclosed, both, either, CallTree, Right, expression, result_of, allocation, SimpleTree, assign, add, subtract, increment, decrement, increment_first, decrement_first, call, Stmt, declaration, block, empty, simple, free, assert, assume, assume_shape, assert_shape, assert_empty, if_only, if_else, while_loop, do_loop, for_loop, break_loop, continue_loop, returns, FunctionTree}
 use Rattle.mc_types.specs.Tables.{Tables, Variable, variable_of, called_function}
 use Rattle.mc_types.specs.Scopes.{visible, declare}
 use Rattle.mc_meaning.specs.Configs.{Program, Values, with_variable, Target, perform, declare_all, finish_turn, again, test, always, end_block, end_loop, end_turn, end_call, take_result, Tasks, done, task, Branch, Config, Result}
@@ -52,7 +52,7 @@ one_value h (minus p e) choices = negated_once h e choices (one_value h e choice
 one_value h (parens p e) choices = one_value h e choices
 one_value h (times a b) choices = operated_once h _ a b choices (one_value h a choices) (λ left. one_value h b left)
 one_value h (plus a b) choices = operated_once h _ a b choices (one_value h a choices) (λ left. one_value h b left)
-one_value h (less a b) choices = operated_once h _ a b choices (one_value h a choices) (λ left. one_value h b left)
+one_value h (difference a b) choices = operated_once h _ a b choices (one_value h a choices) (λ left. one_value h b left)
 
 after_value : (place : Place) (go : Option ℤ → List Choice → Result → Type 0) (one : Evaluated) → ((v : Option ℤ) (left : List Choice) → IsDetermined (go v left)) → IsDetermined (AfterValue place go one)
 after_value place go (fault_of kind) same r s i j = joined i j

@@ -1,7 +1,7 @@
 -- What is left to do of a program, what its variables hold, and what is allocated.
 use Rattle.std.specs.Prelude.{ℤ, ◌==◌, ◌&&◌, Bool, List, Option, None, if◌then◌else◌}
 use Rattle.std.specs.List.{list_any}
-use Rattle.mc_base.specs.declared.plain.Place.{Place}
+use Rattle.mc_text.specs.declared.place.Place.{Place}
 use Rattle.mc_base.specs.Runs.{Outcome}
 use Rattle.mc_heap.specs.Heap.{Heap}
 use Rattle.mc_heap.specs.Choices.{Choice}

@@ -1,6 +1,6 @@
 -- Small programs, and what their runs come to.
 use Rattle.std.specs.Prelude.{ℕ, List, [], ◌∷◌, Option, Some, None, codes}
-use Rattle.mc_base.specs.declared.plain.Place.{Place}
+use Rattle.mc_text.specs.declared.place.Place.{Place}
 use Rattle.mc_base.specs.Runs.{Reaches, Final}
 use Rattle.mc_heap.specs.Choices.{Choice}
 use Rattle.mc_ast.specs.declared.trees.Name.{Name}
@@ -8,7 +8,11 @@ use Rattle.mc_ast.specs.declared.trees.Base.{Base}
 use Rattle.mc_ast.specs.declared.trees.Returned.TheVariants as Returned
 use Rattle.mc_ast.specs.declared.trees.Size.TheVariants as Size
 use Rattle.mc_ast.specs.declared.trees.Comparison.TheVariants as Comparison
-use Rattle.mc_ast.specs.Trees.{Left, Expr, number, input, value, plus, plain, compare, negation, both, either, CallTree, Right, expression, result_of, allocation, assign, call, nothing, declares, Stmt, declaration, block, empty, simple, assert, assume, if_only, if_else, while_loop, do_loop, for_loop, break_loop, continue_loop, returns, no_more, then, unnamed, listed, FunctionTree, ItemTree, structure, function, UnitTree}
+use Rattle.mc_ast.specs.Trees.{Left, Expr, number, input, value, plus, plain, compare, negation, both, either}
+use Rattle.mc_ast.specs.Trees.{CallTree, Right, expression, result_of, allocation, assign, call, nothing, declares}
+use Rattle.mc_ast.specs.Trees.{Stmt, declaration, block, empty, simple, assert, assume, if_only, if_else}
+use Rattle.mc_ast.specs.Trees.{while_loop, do_loop, for_loop, break_loop, continue_loop, returns, no_more, then}
+use Rattle.mc_ast.specs.Trees.{unnamed, listed, FunctionTree, ItemTree, structure, function, UnitTree}
 use Rattle.mc_meaning.specs.Steps.{Step, start, program_of}
 
 -- the place of a token by its number
@@ -29,7 +33,7 @@ int_is n text right =
 -- `int main() { .. }`
 abbrev pub main_of : List Stmt → FunctionTree
 main_of ss =
-    record { fixed = None; returned = Returned.Value (Base.Int (at 0)) None; name = name 0 (codes "main"); parameters = unnamed; body = Some (record { place = at 0; statements = ss }) }
+    record { static_place = None; returned = Returned.Value (Base.Int (at 0)) None; name = name 0 (codes "main"); parameters = unnamed; body = Some (record { place = at 0; statements = ss }) }
 
 -- words
 abbrev pub x_word : List ℕ
@@ -117,7 +121,7 @@ turning =
 abbrev pub same_again : FunctionTree
 same_again =
     record {
-      fixed = None;
+      static_place = None;
       returned = Returned.Value (Base.Int (at 100)) None;
       name = name 100 (codes "f");
       parameters = listed (record { base = Base.Int (at 101); declarator = record { pointer = None; name = name 102 x_word } } ∷ []);

@@ -1,12 +1,18 @@
 -- What belongs to the next step: blocks and loops are entered and left, and conditions are taken apart.
 use Rattle.std.specs.Prelude.{◌≡◌, ℤ, List, [], ◌∷◌, Option, Some, None}
-use Rattle.mc_base.specs.declared.plain.Place.{Place}
+use Rattle.mc_text.specs.declared.place.Place.{Place}
 use Rattle.mc_ast.specs.declared.trees.Base.{Base}
-use Rattle.mc_ast.specs.Trees.{Cond, plain, compare, negation, enclosed, both, either, InitialTree, SimpleTree, Start, nothing, declares, performs, Stmt, declaration, block, empty, simple, free, assert, assume, assume_shape, assert_shape, assert_empty, if_only, if_else, while_loop, do_loop, for_loop, break_loop, continue_loop, returns, Stmts, no_more, then}
+use Rattle.mc_ast.specs.Trees.{Cond, plain, compare, negation, enclosed, both, either, InitialTree, SimpleTree}
+use Rattle.mc_ast.specs.Trees.{Start, nothing, declares, performs, Stmt, declaration, block, empty, simple, free}
+use Rattle.mc_ast.specs.Trees.{assert, assume, assume_shape, assert_shape, assert_empty, if_only, if_else}
+use Rattle.mc_ast.specs.Trees.{while_loop, do_loop, for_loop, break_loop, continue_loop, returns, Stmts, no_more}
+use Rattle.mc_ast.specs.Trees.{then}
 use Rattle.mc_types.specs.Tables.{Tables, Variable}
 use Rattle.mc_types.specs.Scopes.{Scope, visible, inside, behind, behind_start}
 use Rattle.mc_types.specs.Faults.{first_place}
-use Rattle.mc_meaning.specs.Configs.{Values, within, Target, nowhere, stored, returned, perform, declare_all, finish_turn, again, test, always, end_block, end_loop, end_turn, end_call, take_result, Tasks, done, task, Branch, go_on, fails, stops}
+use Rattle.mc_meaning.specs.Configs.{Values, within, Target, nowhere, stored, returned, perform, declare_all}
+use Rattle.mc_meaning.specs.Configs.{finish_turn, again, test, always, end_block, end_loop, end_turn, end_call}
+use Rattle.mc_meaning.specs.Configs.{take_result, Tasks, done, task, Branch, go_on, fails, stops}
 
 -- the first token of a base, and of a condition
 abbrev pub base_place : Base → Place

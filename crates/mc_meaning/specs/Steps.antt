@@ -1,12 +1,14 @@
 -- What a step does: a declarator, another simple statement, a command, a `return`, the passing of arguments, the taking of a result, or an atomic condition.
-use Rattle.std.specs.Prelude.{◌≡◌, ◌==◌, ◌⊎◌, ℕ, zero, suc, ℤ, pos, ◌+ℤ◌, ◌-ℤ◌, int_le, Bool, not, List, [], ◌∷◌, Option, Some, None, map, reverse, position, option_map, if◌then◌else◌, slice_get, unwrap_or, length}
+use Rattle.std.specs.Prelude.{◌≡◌, ◌==◌, ◌⊎◌, ℕ, zero, suc, ℤ, pos, ◌+ℤ◌, ◌-ℤ◌, int_le, Bool, not, List, [], ◌∷◌}
+use Rattle.std.specs.Prelude.{Option, Some, None, map, reverse, position, option_map, if◌then◌else◌, slice_get}
+use Rattle.std.specs.Prelude.{unwrap_or, length}
 use Rattle.std.specs.Option.{option_map_or}
 use Rattle.std.specs.Ordering.{int_eq}
 use Rattle.std.specs.FinMap as map
 use Rattle.mc_base.specs.declared.ids.PredId.{PredId}
 use Rattle.mc_base.specs.declared.plain.FaultKind.{FaultKind}
 use Rattle.mc_base.specs.declared.plain.FaultKind.TheVariants.{Uninit, BadFree, Assertion, Shape, NotEmpty}
-use Rattle.mc_base.specs.declared.plain.Place.{Place}
+use Rattle.mc_text.specs.declared.place.Place.{Place}
 use Rattle.mc_base.specs.Runs.{next, last, ended, stopped, fault, IsSafeFrom}
 use Rattle.mc_heap.specs.Heap.{Block, Heap, IsAddress, region_of}
 use Rattle.mc_heap.specs.Access.{fresh_block}
@@ -21,13 +23,21 @@ use Rattle.mc_ast.specs.declared.trees.Base.{Base}
 use Rattle.mc_ast.specs.declared.trees.Malloc.{Malloc}
 use Rattle.mc_ast.specs.declared.trees.Comparison.{Comparison}
 use Rattle.mc_ast.specs.declared.trees.Argument.{Argument}
-use Rattle.mc_ast.specs.Trees.{Left, Expr, Cond, plain, compare, negation, enclosed, both, either, CallTree, Right, expression, result_of, allocation, InitialTree, SimpleTree, assign, add, subtract, increment, decrement, increment_first, decrement_first, call, Stmt, declaration, block, empty, simple, free, assert, assume, assume_shape, assert_shape, assert_empty, if_only, if_else, while_loop, do_loop, for_loop, break_loop, continue_loop, returns, stmts_of, FunctionTree, UnitTree}
+use Rattle.mc_ast.specs.Trees.{Left, Expr, Cond, plain, compare, negation, enclosed, both, either, CallTree, Right}
+use Rattle.mc_ast.specs.Trees.{expression, result_of, allocation, InitialTree, SimpleTree, assign, add, subtract}
+use Rattle.mc_ast.specs.Trees.{increment, decrement, increment_first, decrement_first, call, Stmt, declaration}
+use Rattle.mc_ast.specs.Trees.{block, empty, simple, free, assert, assume, assume_shape, assert_shape, assert_empty}
+use Rattle.mc_ast.specs.Trees.{if_only, if_else, while_loop, do_loop, for_loop, break_loop, continue_loop, returns}
+use Rattle.mc_ast.specs.Trees.{stmts_of, FunctionTree, UnitTree}
 use Rattle.mc_ast.specs.Names.{is_same}
 use Rattle.mc_types.specs.declared.types.BaseType.{BaseType}
 use Rattle.mc_types.specs.Tables.{Tables, Variable, variable_of, fields_of, parameters_of, called_function, tables_of}
 use Rattle.mc_types.specs.Scopes.{Scope, visible, declare}
 use Rattle.mc_types.specs.Faults.{first_place, size_meaning}
-use Rattle.mc_meaning.specs.Configs.{Program, Values, no_values, with_variable, Target, nowhere, stored, returned, perform, declare_all, finish_turn, again, test, always, end_block, end_loop, end_turn, end_call, take_result, Tasks, done, task, Branch, go_on, fails, stops, Config, Result}
+use Rattle.mc_meaning.specs.Configs.{Program, Values, no_values, with_variable, Target, nowhere, stored, returned}
+use Rattle.mc_meaning.specs.Configs.{perform, declare_all, finish_turn, again, test, always, end_block, end_loop}
+use Rattle.mc_meaning.specs.Configs.{end_turn, end_call, take_result, Tasks, done, task, Branch, go_on, fails}
+use Rattle.mc_meaning.specs.Configs.{stops, Config, Result}
 use Rattle.mc_meaning.specs.Values.{Here, held, Evaluated, fault_of, value_of, Evaluates, Changed, fault_in, changed, set_variable, assigned, combined}
 use Rattle.mc_meaning.specs.Moves.{in_a_row, given, Arrives}
 

@@ -11,7 +11,7 @@ use Rattle.mc_heap.specs.Access.{block_field, field_at, with_field}
 use Rattle.mc_heap.specs.Choices.{Choice, input as choose_input, malloc as choose_malloc, shape as choose_shape}
 use Rattle.mc_flow.specs.Values.{address, wrapped}
 use Rattle.mc_ast.specs.declared.trees.Name.{Name}
-use Rattle.mc_ast.specs.Trees.{Left, Expr, number, null, input, value, minus, parens, times, plus, less}
+use Rattle.mc_ast.specs.Trees.{Left, Expr, number, null, input, value, minus, parens, times, plus, difference}
 use Rattle.mc_ast.specs.Names.{is_same}
 use Rattle.mc_types.specs.declared.types.VariableType.{VariableType}
 use Rattle.mc_types.specs.declared.types.VariableType.TheVariants.{Int, Pointer, Anything}
@@ -117,7 +117,7 @@ Evaluates h (minus p e) choices r = (one : Evaluated) × Evaluates h e choices o
 Evaluates h (parens p e) choices r = Evaluates h e choices r
 Evaluates h (times a b) choices r = (one : Evaluated) × Evaluates h a choices one × AfterLeft (λ x y. x *ℤ y) (λ rest two. Evaluates h b rest two) one r
 Evaluates h (plus a b) choices r = (one : Evaluated) × Evaluates h a choices one × AfterLeft (λ x y. x +ℤ y) (λ rest two. Evaluates h b rest two) one r
-Evaluates h (less a b) choices r = (one : Evaluated) × Evaluates h a choices one × AfterLeft (λ x y. x -ℤ y) (λ rest two. Evaluates h b rest two) one r
+Evaluates h (difference a b) choices r = (one : Evaluated) × Evaluates h a choices one × AfterLeft (λ x y. x -ℤ y) (λ rest two. Evaluates h b rest two) one r
 
 -- ---- what is changed
 -- what comes of a change: a fault, or what the variables hold and the heap

@@ -5,7 +5,7 @@ ghost use Rattle.mc_names.specs.Grouped.{Adds, Stays};
 
 use crate::table::HasName;
 use indexmap::IndexMap;
-use mc_lex::Text;
+use mc_text::Text;
 use std::alloc::{AllocError, Global};
 use std::marker::Model;
 

@@ -3,7 +3,7 @@ ghost use Rattle.std.specs.Prelude.{◌≡◌, ◌++◌, ◌∷◌, [], position
 ghost use Rattle.mc_ast.specs.Names.{is_same};
 
 use indexmap::IndexMap;
-use mc_lex::Text;
+use mc_text::Text;
 use std::alloc::{AllocError, Global};
 use std::marker::Model;
 

@@ -5,7 +5,7 @@ ghost use Rattle.mc_ast.specs.Names.{is_same};
 
 use crate::names::Names;
 use mc_ast::{Function, Struct};
-use mc_lex::Text;
+use mc_text::Text;
 use std::alloc::{AllocError, Global};
 use std::marker::Model;
 

@@ -2,7 +2,7 @@
 use Rattle.std.proofs.Common.{◌≤◌, ℕ, List, [], ◌∷◌, ◌++◌, flat_map, All, sym, subst}
 use Rattle.std.proofs.lemmas.List.Elements.{All-nil, All-cons}
 use Rattle.std.proofs.lemmas.Grind.{flat_map-append}
-use Rattle.mc_lex.specs.Numbers.{max_number}
+use Rattle.mc_text.specs.Numbers.{max_number}
 
 -- the numbers are at most 2147483647
 pub data AreSmall : List ℕ → Type 0 where

@@ -1,6 +1,6 @@
 -- A small program, to look at.
 use Rattle.std.specs.Prelude.{ℕ, [], ◌∷◌, Some, None, codes}
-use Rattle.mc_base.specs.declared.plain.Place.{Place}
+use Rattle.mc_text.specs.declared.place.Place.{Place}
 use Rattle.mc_ast.specs.declared.trees.Name.{Name}
 use Rattle.mc_ast.specs.declared.trees.Comparison.TheVariants as Comparison
 use Rattle.mc_ast.specs.declared.trees.Base.TheVariants as Base
@@ -23,7 +23,7 @@ variable_at column = record { name = x_at column; fields = [] }
 abbrev pub program_of : (first second third fourth fifth sixth : ℕ) → UnitTree
 program_of first second third fourth fifth sixth =
     function (record {
-      fixed = None;
+      static_place = None;
       returned = Returned.Value (Base.Int (at 1)) None;
       name = record { text = codes "f"; place = at 5 };
       parameters = unnamed;

@@ -1,9 +1,16 @@
 -- The numbers of a program.
 use Rattle.std.specs.Prelude.{◌≤◌, ℕ, List, [], ◌∷◌, ◌++◌, Option, Some, None, flat_map, All}
-use Rattle.mc_lex.specs.Numbers.{max_number}
+use Rattle.mc_text.specs.Numbers.{max_number}
 use Rattle.mc_ast.specs.declared.trees.Argument.{Argument}
-use Rattle.mc_ast.specs.Trees.{Expr, number, null, input, value, minus, parens, times, plus, less, Cond, plain, compare, negation, enclosed, both, either, CallTree, Right, expression, result_of, allocation, InitialTree, DeclarationTree, SimpleTree, assign, add, subtract, increment, decrement, increment_first, decrement_first, call, Start, nothing, declares, performs, Head}
-use Rattle.mc_ast.specs.Trees.{Stmt, declaration, block, empty, simple, free, assert, assume, assume_shape, assert_shape, assert_empty, if_only, if_else, while_loop, do_loop, for_loop, break_loop, continue_loop, returns, Stmts, no_more, then, stmts_of, BodyTree, ItemTree, structure, typedef, function, UnitTree}
+use Rattle.mc_ast.specs.Trees.{Expr, number, null, input, value, minus, parens, times, plus, difference, Cond}
+use Rattle.mc_ast.specs.Trees.{plain, compare, negation, enclosed, both, either, CallTree, Right, expression}
+use Rattle.mc_ast.specs.Trees.{result_of, allocation, InitialTree, DeclarationTree, SimpleTree, assign, add}
+use Rattle.mc_ast.specs.Trees.{subtract, increment, decrement, increment_first, decrement_first, call, Start}
+use Rattle.mc_ast.specs.Trees.{nothing, declares, performs, Head}
+use Rattle.mc_ast.specs.Trees.{Stmt, declaration, block, empty, simple, free, assert, assume, assume_shape}
+use Rattle.mc_ast.specs.Trees.{assert_shape, assert_empty, if_only, if_else, while_loop, do_loop, for_loop}
+use Rattle.mc_ast.specs.Trees.{break_loop, continue_loop, returns, Stmts, no_more, then, stmts_of, BodyTree}
+use Rattle.mc_ast.specs.Trees.{ItemTree, structure, typedef, function, UnitTree}
 
 -- the numbers of what may be missing
 abbrev pub maybe_numbers : {X : Type 0} → (X → List ℕ) → Option X → List ℕ
@@ -20,7 +27,7 @@ expression_numbers (minus p e) = expression_numbers e
 expression_numbers (parens p e) = expression_numbers e
 expression_numbers (times a b) = expression_numbers a ++ expression_numbers b
 expression_numbers (plus a b) = expression_numbers a ++ expression_numbers b
-expression_numbers (less a b) = expression_numbers a ++ expression_numbers b
+expression_numbers (difference a b) = expression_numbers a ++ expression_numbers b
 
 abbrev pub condition_numbers : Cond → List ℕ
 condition_numbers (plain e) = expression_numbers e

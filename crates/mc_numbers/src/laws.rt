@@ -1,7 +1,7 @@
 // Laws of the numbers of programs.
 ghost use Rattle.mc_ast.specs.Grammar.{IsUnit};
 ghost use Rattle.mc_ast.specs.Trees.{UnitTree};
-ghost use Rattle.mc_lex.specs.declared.token.Token.{Token};
+ghost use Rattle.mc_text.specs.declared.token.Token.{Token};
 ghost use Rattle.mc_numbers.specs.Examples.{program_of};
 ghost use Rattle.mc_numbers.specs.Numbers.{HasSmallNumbers, unit_numbers};
 ghost use Rattle.std.specs.Prelude.{◌≡◌, List, [], ◌∷◌};

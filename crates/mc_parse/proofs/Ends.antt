@@ -1,9 +1,9 @@
 -- A program has its end at its last token, and nowhere else.
 use native.Mathlib.Omega.{arith}
 use Rattle.std.proofs.Common.{◌≡◌, ℕ, List, [], ◌∷◌, ◌++◌, Option, refl}
-use Rattle.mc_base.specs.declared.plain.Place.{Place}
-use Rattle.mc_lex.specs.declared.token.Token.{Token}
-use Rattle.mc_lex.specs.declared.token.TokenKind.TheVariants as TokenKind
+use Rattle.mc_text.specs.declared.place.Place.{Place}
+use Rattle.mc_text.specs.declared.token.Token.{Token}
+use Rattle.mc_text.specs.declared.token.TokenKind.TheVariants as TokenKind
 use Rattle.mc_lex.specs.Readings.{EndsOnce}
 use Rattle.mc_ast.specs.declared.trees.Base.{Base}
 use Rattle.mc_ast.specs.declared.trees.Declarator.{Declarator}
@@ -14,8 +14,8 @@ use Rattle.mc_ast.specs.declared.trees.Returned.{Returned}
 use Rattle.mc_ast.specs.declared.trees.Parameter.{Parameter}
 use Rattle.mc_ast.specs.Names.{Tokens, IsMark, IsWord, IsName, IsNumber}
 use Rattle.mc_ast.specs.Trees.{Left, Expr, Cond, CallTree, Right, InitialTree, DeclarationTree, SimpleTree, Start, Head, Stmt, FieldTree, StructTree, AliasedTree, TypedefTree, ParametersTree, BodyTree, FunctionTree, ItemTree}
-use Rattle.mc_ast.specs.Grammar.{Boths, Eithers, Factors, Fields, IsAliased, IsArgument, IsBang, IsBase, IsBody, IsBoth, IsCall, IsCast, IsCondition, IsDeclaration, IsDeclarator, IsDeclarators, IsField, IsFixed, IsFunction, IsHead, IsInitial, IsItem, IsLeft, IsMaybeCondition, IsMaybeSimple, IsOne, IsParameter, IsParameters, IsReturned, IsRight, IsSimple, IsSize, IsStar, IsStart, IsStatement, IsStruct, IsSum, IsTerm, IsTypedef, IsUnary, MoreArguments, MoreDeclarators, MoreExpressions, MoreFields, MoreInitials, MoreItems, MoreParameters, MoreStatements, Terms}
-use Rattle.mc_ast.specs.Grammar.{added, adding, alias, all_of, allocated, any_of, assert_empty_statement, assert_shape_statement, assert_statement, assigned, assume_shape_statement, assume_statement, bang_bang, bang_input, bang_parens, bang_variable, bare, base_aliased, block_statement, body, break_statement, called, cast, comparison, condition, condition_parens, continue_statement, declarator, declarators, declared, declares_statement, decremented, decremented_first, defined, do_statement, empty_statement, factor, field, fixed, for_statement, free_statement, function_item, gives_nothing, gives_value, head, if_else_statement, if_statement, in_parens, incremented, incremented_first, input_call, int, introduces, last, last_argument, last_declarator, last_initial, last_parameter, more, name_argument, named, negated, negative, negative_argument, next, next_argument, next_declarator, next_field, next_initial, next_parameter, next_statement, no_both, no_cast, no_condition, no_either, no_factor, no_field, no_parameters, no_simple, no_star, no_statement, no_term, none, not_fixed, null_argument, null_word, number_argument, numeral, of_parens, of_type, of_value, one_more, or_else, parameter, performed, plain_one, product, prototype, return_statement, return_value, simple_statement, some_parameters, some_simple, star, starts_declaring, starts_empty, starts_performing, struct, struct_aliased, struct_item, subtracting, sum, sum_of, tagged, taken, typedef_item, variable, void_parameters, while_statement, with_some, with_value, without, no_item, next_item}
+use Rattle.mc_ast.specs.Grammar.{Boths, Eithers, Factors, Fields, IsAliased, IsArgument, IsBang, IsBase, IsBody, IsBoth, IsCall, IsCast, IsCondition, IsDeclaration, IsDeclarator, IsDeclarators, IsField, IsStatic, IsFunction, IsHead, IsInitial, IsItem, IsLeft, IsMaybeCondition, IsMaybeSimple, IsOne, IsParameter, IsParameters, IsReturned, IsRight, IsSimple, IsSize, IsStar, IsStart, IsStatement, IsStruct, IsSum, IsTerm, IsTypedef, IsUnary, MoreArguments, MoreDeclarators, MoreExpressions, MoreFields, MoreInitials, MoreItems, MoreParameters, MoreStatements, Terms}
+use Rattle.mc_ast.specs.Grammar.{added, adding, alias, all_of, allocated, any_of, assert_empty_statement, assert_shape_statement, assert_statement, assigned, assume_shape_statement, assume_statement, bang_bang, bang_input, bang_parens, bang_variable, bare, base_aliased, block_statement, body, break_statement, called, cast, comparison, condition, condition_parens, continue_statement, declarator, declarators, declared, declares_statement, decremented, decremented_first, defined, do_statement, empty_statement, factor, field, static_place, for_statement, free_statement, function_item, gives_nothing, gives_value, head, if_else_statement, if_statement, in_parens, incremented, incremented_first, input_call, int, introduces, last, last_argument, last_declarator, last_initial, last_parameter, more, name_argument, named, negated, negative, negative_argument, next, next_argument, next_declarator, next_field, next_initial, next_parameter, next_statement, no_both, no_cast, no_condition, no_either, no_factor, no_field, no_parameters, no_simple, no_star, no_statement, no_term, none, not_static, null_argument, null_word, number_argument, numeral, of_parens, of_type, of_value, one_more, or_else, parameter, performed, plain_one, product, prototype, return_statement, return_value, simple_statement, some_parameters, some_simple, star, starts_declaring, starts_empty, starts_performing, struct, struct_aliased, struct_item, subtracting, sum, sum_of, tagged, taken, typedef_item, variable, void_parameters, while_statement, with_some, with_value, without, no_item, next_item}
 
 -- no token before the rest is the end
 pub data Clear : Tokens → Tokens → Type 0 where
@@ -243,16 +243,16 @@ clear_is_parameters no_parameters = here
 clear_is_parameters (void_parameters a0) = past (word_ends a0) here
 clear_is_parameters (some_parameters a0 a1) = through (clear_is_parameter a0) (clear_more_parameters a1)
 
-clear_is_fixed : {tree : Option Place} {tokens rest : Tokens} → IsFixed tree tokens rest → Clear tokens rest
-clear_is_fixed (fixed a0) = past (word_ends a0) here
-clear_is_fixed not_fixed = here
+clear_is_static : {tree : Option Place} {tokens rest : Tokens} → IsStatic tree tokens rest → Clear tokens rest
+clear_is_static (static_place a0) = past (word_ends a0) here
+clear_is_static not_static = here
 
 clear_is_body : {aliases : List (List ℕ)} {tree : Option BodyTree} {tokens rest : Tokens} → IsBody aliases tree tokens rest → Clear tokens rest
 clear_is_body (prototype a0) = past (mark_ends a0) here
 clear_is_body (body a0 a1 a2) = past (mark_ends a0) (through (clear_more_statements a1) (past (mark_ends a2) here))
 
 clear_is_function : {aliases : List (List ℕ)} {tree : FunctionTree} {tokens rest : Tokens} → IsFunction aliases tree tokens rest → Clear tokens rest
-clear_is_function (defined a0 a1 a2 a3 a4 a5 a6) = through (clear_is_fixed a0) (through (clear_is_returned a1) (past (name_ends a2) (past (mark_ends a3) (through (clear_is_parameters a4) (past (mark_ends a5) (clear_is_body a6))))))
+clear_is_function (defined a0 a1 a2 a3 a4 a5 a6) = through (clear_is_static a0) (through (clear_is_returned a1) (past (name_ends a2) (past (mark_ends a3) (through (clear_is_parameters a4) (past (mark_ends a5) (clear_is_body a6))))))
 
 clear_is_item : {aliases : List (List ℕ)} {tree : ItemTree} {tokens rest : Tokens} → IsItem aliases tree tokens rest → Clear tokens rest
 clear_is_item (struct_item a0 a1) = through (clear_is_struct a0) (past (mark_ends a1) here)

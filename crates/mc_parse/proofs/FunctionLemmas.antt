@@ -4,14 +4,14 @@ use Rattle.std.specs.declared.alloc.Global.{Global}
 use native.Mathlib.Omega.{arith}
 use Rattle.std.proofs.Common.{◌≡◌, ℕ, List, [], ◌∷◌, Some, None, Option, refl, inl}
 use Rattle.std.specs.Prelude.{codes}
-use Rattle.mc_base.specs.declared.plain.Place.{Place}
-use Rattle.mc_lex.specs.declared.token.Token.{Token}
+use Rattle.mc_text.specs.declared.place.Place.{Place}
+use Rattle.mc_text.specs.declared.token.Token.{Token}
 use Rattle.mc_ast.specs.declared.class.Class.{Class}
 use Rattle.mc_ast.specs.Names.{Tokens, IsMark}
 use Rattle.mc_ast.specs.Classes.{IsClass}
 use Rattle.mc_ast.specs.Readers.{Takes, Closes, IsStuckAt, IsSame}
 use Rattle.mc_ast.specs.Trees.{Stmt, BodyTree, FunctionTree, ParametersTree}
-use Rattle.mc_ast.specs.Grammar.{MoreStatements, IsParameters, IsBody, prototype, body, IsFixed, IsFunction, defined}
+use Rattle.mc_ast.specs.Grammar.{MoreStatements, IsParameters, IsBody, prototype, body, IsStatic, IsFunction, defined}
 use Rattle.mc_expression.specs.Turns.{in_turn}
 use Rattle.mc_simple.specs.Phrases.{next, ended}
 use Rattle.mc_body.specs.Bodies.{Bodies, CompletesBody}
@@ -37,13 +37,13 @@ bodies_of_body (after, listed, is) = in_turn listed (next is ended)
 abbrev pub FunctionBehind : List (List ℕ) → Option Place → Tokens → Tokens → FunctionTree → Type 0
 FunctionBehind aliases place = Then (IsHeader aliases) (λ header. BehindHeader aliases place header)
 
-pub function_splits : {aliases : List (List ℕ)} {f : FunctionTree} {tokens rest : Tokens} → IsFunction aliases f tokens rest → (place : Option Place) × (mid : Tokens) × IsFixed place tokens mid × FunctionBehind aliases place mid rest f
+pub function_splits : {aliases : List (List ℕ)} {f : FunctionTree} {tokens rest : Tokens} → IsFunction aliases f tokens rest → (place : Option Place) × (mid : Tokens) × IsStatic place tokens mid × FunctionBehind aliases place mid rest f
 function_splits (defined fx returned n k ps close b) = (_, _, fx, (_, _, is_header returned n k, (_, _, (_, ps, close), (_, _, b, (refl, refl)))))
 
-behind_joins : {aliases : List (List ℕ)} {place : Option Place} {h : Header} {ps : ParametersTree} {f : FunctionTree} {before tokens mid behind rest : Tokens} {after : Token} → IsFixed place before tokens → IsHeader aliases tokens mid h → IsParameters aliases ps mid (after ∷ behind) → IsMark (codes ")") after → EndsFunction aliases place h ps behind rest f → IsFunction aliases f before rest
+behind_joins : {aliases : List (List ℕ)} {place : Option Place} {h : Header} {ps : ParametersTree} {f : FunctionTree} {before tokens mid behind rest : Tokens} {after : Token} → IsStatic place before tokens → IsHeader aliases tokens mid h → IsParameters aliases ps mid (after ∷ behind) → IsMark (codes ")") after → EndsFunction aliases place h ps behind rest f → IsFunction aliases f before rest
 behind_joins fx (is_header returned n k) ps close (b, end, one, e) = rw (e.0, e.1) (defined fx returned n k ps close one)
 
-pub function_joins : (aliases : List (List ℕ)) {place : Option Place} {f : FunctionTree} {before tokens rest : Tokens} → IsFixed place before tokens → FunctionBehind aliases place tokens rest f → IsFunction aliases f before rest
+pub function_joins : (aliases : List (List ℕ)) {place : Option Place} {f : FunctionTree} {before tokens rest : Tokens} → IsStatic place before tokens → FunctionBehind aliases place tokens rest f → IsFunction aliases f before rest
 function_joins aliases fx (h, mid, head, (ps, behind, (after, params, close), more)) = behind_joins fx head params close more
 
 ends : {aliases : List (List ℕ)} {b : Option BodyTree} {token : Token} {tokens rest : Tokens} → IsMark (codes ";") token → IsBody aliases b (token ∷ tokens) rest → (rest ≡ tokens) × (b ≡ None)
@@ -81,7 +81,7 @@ body_enters aliases function reader w same = let t = body_opens aliases function
 }
 
 pub not_in_body : (reader : FunctionReader) → ((signature : Signature) (place : Place) (inner : Box BodyReader Global) → reader ≡ FunctionReader.Body signature place inner → ⊥) → IsWithinBody reader → ⊥
-not_in_body (FunctionReader.Header fixed reader) other within = within
-not_in_body (FunctionReader.Parameters fixed header reader) other within = within
+not_in_body (FunctionReader.Header static_place reader) other within = within
+not_in_body (FunctionReader.Parameters static_place header reader) other within = within
 not_in_body (FunctionReader.Behind signature) other within = within
 not_in_body (FunctionReader.Body signature place inner) other within = other signature place inner refl

@@ -2,8 +2,8 @@
 use native.Mathlib.Omega.{arith}
 use Rattle.std.proofs.Common.{◌≡◌, ℕ, List, [], ◌∷◌, Some, None, Option, refl, inl, subst, ap}
 use Rattle.std.specs.Prelude.{codes, false}
-use Rattle.mc_base.specs.declared.plain.Place.{Place}
-use Rattle.mc_lex.specs.declared.token.Token.{Token}
+use Rattle.mc_text.specs.declared.place.Place.{Place}
+use Rattle.mc_text.specs.declared.token.Token.{Token}
 use Rattle.mc_ast.specs.declared.class.Class.{Class}
 use Rattle.mc_ast.specs.declared.trees.Base.{Base}
 use Rattle.mc_ast.specs.Names.{Tokens, IsMark, IsWord, IsName, IsAlias, name_of, is_in}
@@ -13,7 +13,7 @@ use Rattle.mc_ast.specs.declared.trees.Name.{Name}
 use Rattle.mc_ast.specs.declared.trees.Declarator.{Declarator}
 use Rattle.mc_ast.specs.Trees.{StructTree, AliasedTree, of_base, TypedefTree, ItemTree, structure, typedef, function, FunctionTree}
 use Rattle.mc_parse.specs.declared.header.Header.{Header}
-use Rattle.mc_ast.specs.Grammar.{star, no_star, IsDeclarator, declarator, declarators, IsBase, int, tagged, alias, gives_nothing, gives_value, IsFixed, fixed, not_fixed, struct, IsAliased, base_aliased, struct_aliased, introduces, IsItem, struct_item, typedef_item, function_item}
+use Rattle.mc_ast.specs.Grammar.{star, no_star, IsDeclarator, declarator, declarators, IsBase, int, tagged, alias, gives_nothing, gives_value, IsStatic, static_place, not_static, struct, IsAliased, base_aliased, struct_aliased, introduces, IsItem, struct_item, typedef_item, function_item}
 use Rattle.mc_parse.specs.declared.function.FunctionReader.{FunctionReader}
 use Rattle.mc_parse.specs.declared.item.ItemReader.{ItemReader}
 use Rattle.mc_parse.specs.Threads.{Then, Gives}
@@ -111,12 +111,12 @@ struct_stuck s class c other = λ tokens rest i n. no_struct_end class c other n
 abbrev pub FunctionItem : List (List ℕ) → Option Place → Tokens → Tokens → ItemTree → Type 0
 FunctionItem aliases place = Then (FunctionBehind aliases place) (λ f. Gives (function f))
 
-struct_function : (aliases : List (List ℕ)) {place : Option Place} {f : FunctionTree} {token : Token} {tokens mid rest : Tokens} → IsWord (codes "struct") token → IsFixed place (token ∷ tokens) mid → FunctionBehind aliases place mid rest f → IsTagOf (λ name. TaggedItem aliases token.place name) tokens rest (function f)
-struct_function aliases w (fixed v) b = grind arith
-struct_function aliases w not_fixed (h, behind, is_header (gives_nothing v) n k, more) = grind arith
-struct_function aliases w not_fixed (h, behind, is_header (gives_value (int v) s) n k, more) = grind arith
-struct_function aliases w not_fixed (h, behind, is_header (gives_value (tagged v m) s) n k, more) = tag_of m (without_fields (_, _, (_, _, is_header_of s n k, more), (refl, refl)))
-struct_function aliases w not_fixed (h, behind, is_header (gives_value (alias v) s) n k, more) = grind arith
+struct_function : (aliases : List (List ℕ)) {place : Option Place} {f : FunctionTree} {token : Token} {tokens mid rest : Tokens} → IsWord (codes "struct") token → IsStatic place (token ∷ tokens) mid → FunctionBehind aliases place mid rest f → IsTagOf (λ name. TaggedItem aliases token.place name) tokens rest (function f)
+struct_function aliases w (static_place v) b = grind arith
+struct_function aliases w not_static (h, behind, is_header (gives_nothing v) n k, more) = grind arith
+struct_function aliases w not_static (h, behind, is_header (gives_value (int v) s) n k, more) = grind arith
+struct_function aliases w not_static (h, behind, is_header (gives_value (tagged v m) s) n k, more) = tag_of m (without_fields (_, _, (_, _, is_header_of s n k, more), (refl, refl)))
+struct_function aliases w not_static (h, behind, is_header (gives_value (alias v) s) n k, more) = grind arith
 
 item_struct_in : {aliases : List (List ℕ)} {i : ItemTree} {token : Token} {tokens rest : Tokens} → IsWord (codes "struct") token → IsItem aliases i (token ∷ tokens) rest → IsTagOf (λ name. TaggedItem aliases token.place name) tokens rest i
 item_struct_in w (struct_item (struct v n k f more after) semicolon) = tag_of n (with_fields k (_, _, (_, _, f, (_, more, after)), struct_end semicolon))
@@ -124,7 +124,7 @@ item_struct_in w (typedef_item (introduces v a ds k)) = grind arith
 item_struct_in w (function_item f) = let s = function_splits f in struct_function _ w s.2 s.3
 
 valued_function : {aliases : List (List ℕ)} {base : Base} {h : Header} {f : FunctionTree} {before tokens mid rest : Tokens} → IsBase aliases base before tokens → IsHeaderOf base tokens mid h → BehindHeader aliases None h mid rest f → IsItem aliases (function f) before rest
-valued_function b (is_header_of s n k) more = function_item (function_joins _ not_fixed (_, _, is_header (gives_value b s) n k, more))
+valued_function b (is_header_of s n k) more = function_item (function_joins _ not_static (_, _, is_header (gives_value b s) n k, more))
 
 item_struct_out : {aliases : List (List ℕ)} {i : ItemTree} {token : Token} {tokens rest : Tokens} → IsWord (codes "struct") token → IsTagOf (λ name. TaggedItem aliases token.place name) tokens rest i → IsItem aliases i (token ∷ tokens) rest
 item_struct_out w (tag_of n (with_fields k (fs, mid, (f, behind, one, (after, more, close)), struct_end semicolon))) = struct_item (struct w n k one more close) semicolon
@@ -137,10 +137,10 @@ item_struct aliases w = record { forward = λ tokens rest i n. inl (item_struct_
 abbrev pub TypedefItem : List (List ℕ) → Place → Tokens → Tokens → ItemTree → Type 0
 TypedefItem aliases place = Then (Then (λ tokens rest a. IsAliased aliases a tokens rest) (λ a. EndsTypedef place a)) (λ t. Gives (typedef t))
 
-typedef_function : (aliases : List (List ℕ)) {place : Option Place} (f : FunctionTree) {token : Token} {tokens mid : Tokens} (rest : Tokens) → IsWord (codes "typedef") token → IsFixed place (token ∷ tokens) mid → FunctionBehind aliases place mid rest f → ⊥
-typedef_function aliases f rest w (fixed v) b = grind arith
-typedef_function aliases f rest w not_fixed (h, behind, is_header (gives_nothing v) n k, more) = grind arith
-typedef_function aliases f rest w not_fixed (h, behind, is_header (gives_value b s) n k, more) = typedef_no_base w b
+typedef_function : (aliases : List (List ℕ)) {place : Option Place} (f : FunctionTree) {token : Token} {tokens mid : Tokens} (rest : Tokens) → IsWord (codes "typedef") token → IsStatic place (token ∷ tokens) mid → FunctionBehind aliases place mid rest f → ⊥
+typedef_function aliases f rest w (static_place v) b = grind arith
+typedef_function aliases f rest w not_static (h, behind, is_header (gives_nothing v) n k, more) = grind arith
+typedef_function aliases f rest w not_static (h, behind, is_header (gives_value b s) n k, more) = typedef_no_base w b
 
 item_typedef_in : {aliases : List (List ℕ)} {i : ItemTree} {token : Token} {tokens rest : Tokens} → IsWord (codes "typedef") token → IsItem aliases i (token ∷ tokens) rest → TypedefItem aliases token.place tokens rest i
 item_typedef_in w (struct_item (struct v n k f more after) semicolon) = grind arith
@@ -154,10 +154,10 @@ pub item_typedef : (aliases : List (List ℕ)) {token : Token} → IsWord (codes
 item_typedef aliases w = record { forward = λ tokens rest i n. inl (item_typedef_in w n); backward = λ tokens rest i n. item_typedef_out w n }
 
 -- behind the word `static`
-static_function : (aliases : List (List ℕ)) {place : Option Place} {f : FunctionTree} {token : Token} {tokens mid rest : Tokens} → IsWord (codes "static") token → IsFixed place (token ∷ tokens) mid → FunctionBehind aliases place mid rest f → FunctionItem aliases (Some token.place) tokens rest (function f)
-static_function aliases w (fixed v) b = (_, _, b, (refl, refl))
-static_function aliases w not_fixed (h, behind, is_header (gives_nothing v) n k, more) = grind arith
-static_function aliases w not_fixed (h, behind, is_header (gives_value b s) n k, more) = absurd (static_no_base w b)
+static_function : (aliases : List (List ℕ)) {place : Option Place} {f : FunctionTree} {token : Token} {tokens mid rest : Tokens} → IsWord (codes "static") token → IsStatic place (token ∷ tokens) mid → FunctionBehind aliases place mid rest f → FunctionItem aliases (Some token.place) tokens rest (function f)
+static_function aliases w (static_place v) b = (_, _, b, (refl, refl))
+static_function aliases w not_static (h, behind, is_header (gives_nothing v) n k, more) = grind arith
+static_function aliases w not_static (h, behind, is_header (gives_value b s) n k, more) = absurd (static_no_base w b)
 
 item_static_in : {aliases : List (List ℕ)} {i : ItemTree} {token : Token} {tokens rest : Tokens} → IsWord (codes "static") token → IsItem aliases i (token ∷ tokens) rest → FunctionItem aliases (Some token.place) tokens rest i
 item_static_in w (struct_item (struct v n k f more after) semicolon) = grind arith
@@ -165,12 +165,12 @@ item_static_in w (typedef_item (introduces v a ds k)) = grind arith
 item_static_in w (function_item f) = let s = function_splits f in static_function _ w s.2 s.3
 
 pub item_static : (aliases : List (List ℕ)) {token : Token} → IsWord (codes "static") token → Takes [] (λ tokens rest (i : ItemTree). IsItem aliases i tokens rest) (FunctionItem aliases (Some token.place)) token
-item_static aliases w = record { forward = λ tokens rest i n. inl (item_static_in w n); backward = λ tokens rest i n. rw (n.3.0, n.3.1) (function_item (function_joins _ (fixed w) n.2)) }
+item_static aliases w = record { forward = λ tokens rest i n. inl (item_static_in w n); backward = λ tokens rest i n. rw (n.3.0, n.3.1) (function_item (function_joins _ (static_place w) n.2)) }
 
 -- at any other token
-other_function : (aliases : List (List ℕ)) {place : Option Place} {f : FunctionTree} {token : Token} {tokens mid rest : Tokens} (class : Class) → IsClass token class → (class ≡ Class.Static → ⊥) → IsFixed place (token ∷ tokens) mid → FunctionBehind aliases place mid rest f → FunctionItem aliases None (token ∷ tokens) rest (function f)
-other_function aliases class c not_static (fixed v) b = absurd (not_static (only_static class c v))
-other_function aliases class c not_static not_fixed b = (_, _, b, (refl, refl))
+other_function : (aliases : List (List ℕ)) {place : Option Place} {f : FunctionTree} {token : Token} {tokens mid rest : Tokens} (class : Class) → IsClass token class → (class ≡ Class.Static → ⊥) → IsStatic place (token ∷ tokens) mid → FunctionBehind aliases place mid rest f → FunctionItem aliases None (token ∷ tokens) rest (function f)
+other_function aliases class c not_static (static_place v) b = absurd (not_static (only_static class c v))
+other_function aliases class c not_static not_static b = (_, _, b, (refl, refl))
 
 item_other_in : {aliases : List (List ℕ)} {i : ItemTree} {token : Token} {tokens rest : Tokens} (class : Class) → IsClass token class → (class ≡ Class.Struct → ⊥) → (class ≡ Class.Typedef → ⊥) → (class ≡ Class.Static → ⊥) → IsItem aliases i (token ∷ tokens) rest → FunctionItem aliases None (token ∷ tokens) rest i
 item_other_in class c not_struct not_typedef not_static (struct_item (struct v n k f more after) semicolon) = absurd (not_struct (only_struct class c v))
@@ -178,7 +178,7 @@ item_other_in class c not_struct not_typedef not_static (typedef_item (introduce
 item_other_in class c not_struct not_typedef not_static (function_item f) = let s = function_splits f in other_function _ class c not_static s.2 s.3
 
 pub item_other : (aliases : List (List ℕ)) {token : Token} (class : Class) → IsClass token class → (class ≡ Class.Struct → ⊥) → (class ≡ Class.Typedef → ⊥) → (class ≡ Class.Static → ⊥) → SameAt (λ tokens rest (i : ItemTree). IsItem aliases i tokens rest) (FunctionItem aliases None) token
-item_other aliases class c not_struct not_typedef not_static = record { forward = λ tokens rest i n. item_other_in class c not_struct not_typedef not_static n; backward = λ tokens rest i n. rw (n.3.0, n.3.1) (function_item (function_joins _ not_fixed n.2)) }
+item_other aliases class c not_struct not_typedef not_static = record { forward = λ tokens rest i n. item_other_in class c not_struct not_typedef not_static n; backward = λ tokens rest i n. rw (n.3.0, n.3.1) (function_item (function_joins _ not_static n.2)) }
 
 -- neither names nor functions begin with `{`
 brace_no_declarator : {d : Declarator} {token : Token} {tokens rest : Tokens} → IsMark (codes "{") token → IsDeclarator d (token ∷ tokens) rest → ⊥

@@ -2,8 +2,8 @@
 use native.Mathlib.Omega.{arith}
 use Rattle.std.proofs.Common.{◌≡◌, ℕ, [], ◌∷◌, ◌++◌, ◌<◌, Some, None, Option, Bool, true, false, sym, subst, take, drop, get_or, length, append_assoc, suc, zero}
 use Rattle.std.specs.Prelude.{is_some, MatchBool}
-use Rattle.mc_lex.specs.declared.token.Token.{Token}
-use Rattle.mc_lex.specs.declared.token.TokenKind.TheVariants as TokenKind
+use Rattle.mc_text.specs.declared.token.Token.{Token}
+use Rattle.mc_text.specs.declared.token.TokenKind.TheVariants as TokenKind
 use Rattle.mc_lex.specs.Readings.{EndsOnce}
 use Rattle.mc_ast.specs.Names.{Tokens}
 use Rattle.mc_ast.specs.Trees.{UnitTree}

@@ -1,16 +1,16 @@
 -- The transitions of whole programs.
 use native.Mathlib.Omega.{arith}
 use Rattle.std.proofs.Common.{◌≡◌, ℕ, List, [], ◌∷◌, ◌++◌, Some, None, Option, refl, subst, inl, inr}
-use Rattle.mc_base.specs.declared.plain.Place.{Place}
-use Rattle.mc_lex.specs.declared.token.Token.{Token}
-use Rattle.mc_lex.specs.declared.token.TokenKind.TheVariants as TokenKind
+use Rattle.mc_text.specs.declared.place.Place.{Place}
+use Rattle.mc_text.specs.declared.token.Token.{Token}
+use Rattle.mc_text.specs.declared.token.TokenKind.TheVariants as TokenKind
 use Rattle.mc_ast.specs.declared.class.Class.{Class}
 use Rattle.mc_ast.specs.declared.trees.Base.{Base}
 use Rattle.mc_ast.specs.Names.{Tokens, is_in, is_same}
 use Rattle.mc_ast.specs.Trees.{ItemTree, UnitTree, FunctionTree}
 use Rattle.mc_ast.specs.Classes.{IsClass}
 use Rattle.mc_ast.specs.Readers.{Takes, Closes}
-use Rattle.mc_ast.specs.Grammar.{introduced, IsBase, int, tagged, alias, gives_nothing, gives_value, IsFixed, fixed, not_fixed, struct, introduces, IsItem, struct_item, typedef_item, function_item, MoreItems, no_item, next_item}
+use Rattle.mc_ast.specs.Grammar.{introduced, IsBase, int, tagged, alias, gives_nothing, gives_value, IsStatic, static_place, not_static, struct, introduces, IsItem, struct_item, typedef_item, function_item, MoreItems, no_item, next_item}
 use Rattle.mc_parse.specs.declared.item.ItemReader.{ItemReader}
 use Rattle.mc_parse.specs.declared.unit.UnitReader.{UnitReader}
 use Rattle.mc_parse.specs.declared.unit.UnitStep.{UnitStep}
@@ -56,10 +56,10 @@ end_no_base w (int v) = grind arith
 end_no_base w (tagged v n) = grind arith
 end_no_base w (alias a) = grind arith
 
-end_no_function : (aliases : List (List ℕ)) {place : Option Place} (f : FunctionTree) {token : Token} {tokens mid : Tokens} (rest : Tokens) → token.kind ≡ TokenKind.End → IsFixed place (token ∷ tokens) mid → FunctionBehind aliases place mid rest f → ⊥
-end_no_function aliases f rest w (fixed v) b = grind arith
-end_no_function aliases f rest w not_fixed (h, behind, is_header (gives_nothing v) n k, more) = grind arith
-end_no_function aliases f rest w not_fixed (h, behind, is_header (gives_value b s) n k, more) = end_no_base w b
+end_no_function : (aliases : List (List ℕ)) {place : Option Place} (f : FunctionTree) {token : Token} {tokens mid : Tokens} (rest : Tokens) → token.kind ≡ TokenKind.End → IsStatic place (token ∷ tokens) mid → FunctionBehind aliases place mid rest f → ⊥
+end_no_function aliases f rest w (static_place v) b = grind arith
+end_no_function aliases f rest w not_static (h, behind, is_header (gives_nothing v) n k, more) = grind arith
+end_no_function aliases f rest w not_static (h, behind, is_header (gives_value b s) n k, more) = end_no_base w b
 
 end_no_item : {aliases : List (List ℕ)} {i : ItemTree} {token : Token} {tokens rest : Tokens} → token.kind ≡ TokenKind.End → IsItem aliases i (token ∷ tokens) rest → ⊥
 end_no_item w (struct_item (struct v n k f more after) semicolon) = grind arith

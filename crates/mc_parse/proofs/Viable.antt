@@ -1,9 +1,9 @@
 -- What each reader has read can be completed.
 use Rattle.std.proofs.Common.{◌≡◌, ℕ, List, [], ◌∷◌, ◌++◌, Some, None, Option, refl, sym, subst, map, append_assoc}
 use Rattle.std.specs.Prelude.{codes}
-use Rattle.mc_base.specs.declared.plain.Place.{Place}
-use Rattle.mc_lex.specs.declared.token.Token.{Token}
-use Rattle.mc_lex.specs.declared.token.TokenKind.TheVariants as TokenKind
+use Rattle.mc_text.specs.declared.place.Place.{Place}
+use Rattle.mc_text.specs.declared.token.Token.{Token}
+use Rattle.mc_text.specs.declared.token.TokenKind.TheVariants as TokenKind
 use Rattle.mc_ast.specs.declared.trees.Name.{Name}
 use Rattle.mc_ast.specs.declared.trees.Base.{Base}
 use Rattle.mc_ast.specs.declared.trees.Declarator.{Declarator}
@@ -12,7 +12,7 @@ use Rattle.mc_ast.specs.declared.trees.Returned.TheVariants as Returned
 use Rattle.mc_ast.specs.Names.{Tokens, IsMark, IsWord, IsName, name_of}
 use Rattle.mc_ast.specs.Trees.{FieldTree, StructTree, AliasedTree, of_base, of_struct, ParametersTree, unnamed, void, listed, BodyTree, ItemTree, UnitTree, function, structure, typedef}
 use Rattle.mc_ast.specs.Views.{parameters_of, aliased_of, struct_of, field_of, item_of}
-use Rattle.mc_ast.specs.Grammar.{int, no_star, declarator, last_declarator, IsField, field, declarators, no_field, gives_nothing, not_fixed, defined, no_parameters, last_parameter, prototype, IsBody, IsAliased, base_aliased, function_item, no_item}
+use Rattle.mc_ast.specs.Grammar.{int, no_star, declarator, last_declarator, IsField, field, declarators, no_field, gives_nothing, not_static, defined, no_parameters, last_parameter, prototype, IsBody, IsAliased, base_aliased, function_item, no_item}
 use Rattle.mc_ast.specs.Readers.{CanEnd}
 use Rattle.mc_body.specs.declared.state.BodyReader.{BodyReader}
 use Rattle.mc_body.specs.Bodies.{CompletesBody}
@@ -138,21 +138,21 @@ can_header aliases (HeaderReader.Named returned name) = record { more = mark (co
 can_body : (aliases : List (List ℕ)) → CanEnd (λ tokens rest (b : Option BodyTree). IsBody aliases b tokens rest)
 can_body aliases = record { more = mark (codes ";") ∷ []; tree = None; completes = λ rest. prototype (is_mark (codes ";")) }
 
-can_end_function : (aliases : List (List ℕ)) (fixed : Option Place) (head : Header) (ps : ParametersTree) → CanEnd (EndsFunction aliases fixed head ps)
-can_end_function aliases fixed head ps = can_then (can_body aliases) (λ body. can_give (record { fixed = fixed; returned = head.returned; name = head.name; parameters = ps; body = body }))
+can_end_function : (aliases : List (List ℕ)) (static_place : Option Place) (head : Header) (ps : ParametersTree) → CanEnd (EndsFunction aliases static_place head ps)
+can_end_function aliases static_place head ps = can_then (can_body aliases) (λ body. can_give (record { static_place = static_place; returned = head.returned; name = head.name; parameters = ps; body = body }))
 
-can_behind_header : (aliases : List (List ℕ)) (fixed : Option Place) (head : Header) → CanEnd (BehindHeader aliases fixed head)
-can_behind_header aliases fixed head = can_then (can_start_parameters aliases) (λ ps. can_end_function aliases fixed head ps)
+can_behind_header : (aliases : List (List ℕ)) (static_place : Option Place) (head : Header) → CanEnd (BehindHeader aliases static_place head)
+can_behind_header aliases static_place head = can_then (can_start_parameters aliases) (λ ps. can_end_function aliases static_place head ps)
 
 -- the law of the reader of bodies
 abbrev pub Bodies : Type 0
 Bodies = (aliases : List (List ℕ)) (reader : BodyReader) → CanEnd (CompletesBody aliases reader)
 
 can_function : Bodies → (aliases : List (List ℕ)) (reader : FunctionReader) → CanEnd (CompletesFunction aliases reader)
-can_function bodies aliases (FunctionReader.Header fixed reader) = can_then (can_header aliases reader) (λ head. can_behind_header aliases fixed head)
-can_function bodies aliases (FunctionReader.Parameters fixed head reader) = can_then (can_parameters aliases reader) (λ ps. can_end_function aliases fixed head ps)
-can_function bodies aliases (FunctionReader.Behind signature) = can_end_function aliases signature.fixed signature.header (parameters_of signature.parameters)
-can_function bodies aliases (FunctionReader.Body signature place reader) = can_then (bodies aliases reader.value) (λ ss. can_give (record { fixed = signature.fixed; returned = signature.header.returned; name = signature.header.name; parameters = parameters_of signature.parameters; body = Some (record { place = place; statements = ss }) }))
+can_function bodies aliases (FunctionReader.Header static_place reader) = can_then (can_header aliases reader) (λ head. can_behind_header aliases static_place head)
+can_function bodies aliases (FunctionReader.Parameters static_place head reader) = can_then (can_parameters aliases reader) (λ ps. can_end_function aliases static_place head ps)
+can_function bodies aliases (FunctionReader.Behind signature) = can_end_function aliases signature.static_place signature.header (parameters_of signature.parameters)
+can_function bodies aliases (FunctionReader.Body signature place reader) = can_then (bodies aliases reader.value) (λ ss. can_give (record { static_place = signature.static_place; returned = signature.header.returned; name = signature.header.name; parameters = parameters_of signature.parameters; body = Some (record { place = place; statements = ss }) }))
 
 can_end_typedef : (place : Place) (aliased : AliasedTree) → CanEnd (EndsTypedef place aliased)
 can_end_typedef place aliased = can_then can_names (λ ds. can_give (record { place = place; aliased = aliased; declarators = ds }))
@@ -179,8 +179,8 @@ can_tagged_item aliases place name = let e = can_then {second = λ f. Gives (fun
 can_item : Bodies → (aliases : List (List ℕ)) (reader : ItemReader) → CanEnd (CompletesItem aliases reader)
 can_item bodies aliases ItemReader.Start = record {
   more = word (codes "void") ∷ some_name ∷ mark (codes "(") ∷ mark (codes ")") ∷ mark (codes ";") ∷ [];
-  tree = function (record { fixed = None; returned = Returned.Void at_start; name = name_of some_name; parameters = unnamed; body = None });
-  completes = λ rest. function_item (defined not_fixed (gives_nothing (is_word (codes "void"))) is_name (is_mark (codes "(")) no_parameters (is_mark (codes ")")) (prototype (is_mark (codes ";"))));
+  tree = function (record { static_place = None; returned = Returned.Void at_start; name = name_of some_name; parameters = unnamed; body = None });
+  completes = λ rest. function_item (defined not_static (gives_nothing (is_word (codes "void"))) is_name (is_mark (codes "(")) no_parameters (is_mark (codes ")")) (prototype (is_mark (codes ";"))));
 }
 can_item bodies aliases (ItemReader.Tag place) = let e = can_tagged_item aliases place (name_of some_name) in record { more = some_name ∷ e.more; tree = e.tree; completes = λ rest. tag_of is_name (e.completes rest) }
 can_item bodies aliases (ItemReader.Tagged place name) = can_tagged_item aliases place name

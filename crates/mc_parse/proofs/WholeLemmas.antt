@@ -1,8 +1,8 @@
 -- Programs token by token.
 use native.Mathlib.Omega.{arith}
 use Rattle.std.proofs.Common.{◌≡◌, ℕ, List, [], ◌∷◌, ◌++◌, ◌<◌, ◌≤◌, ◌+◌, zero, suc, None, Option, refl, sym, subst, ap, ◌∙◌, map, take, drop, get_or, length, append_assoc}
-use Rattle.mc_lex.specs.declared.token.Token.{Token}
-use Rattle.mc_lex.specs.declared.token.TokenKind.TheVariants as TokenKind
+use Rattle.mc_text.specs.declared.token.Token.{Token}
+use Rattle.mc_text.specs.declared.token.TokenKind.TheVariants as TokenKind
 use Rattle.mc_lex.specs.Readings.{EndsOnce}
 use Rattle.mc_ast.specs.declared.trees.Item.{Item}
 use Rattle.mc_ast.specs.Names.{Tokens}

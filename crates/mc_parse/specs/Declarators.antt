@@ -1,8 +1,8 @@
 -- What completes declarators.
 use Rattle.std.specs.declared.alloc.Global.{Global}
 use Rattle.std.specs.Prelude.{Vec, List, [], ◌∷◌, ◌++◌, Option, Some, None, codes}
-use Rattle.mc_base.specs.declared.plain.Place.{Place}
-use Rattle.mc_lex.specs.declared.token.Token.{Token}
+use Rattle.mc_text.specs.declared.place.Place.{Place}
+use Rattle.mc_text.specs.declared.token.Token.{Token}
 use Rattle.mc_ast.specs.declared.trees.Declarator.{Declarator}
 use Rattle.mc_ast.specs.Names.{Tokens, IsMark, IsName, name_of}
 use Rattle.mc_ast.specs.Grammar.{IsDeclarator, MoreDeclarators}

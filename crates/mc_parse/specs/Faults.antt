@@ -1,7 +1,7 @@
 -- The first token that no program can have where it stands.
 use Rattle.std.specs.Prelude.{◌≡◌, ℕ, List, [], ◌∷◌, ◌++◌, ◌⊎◌, IsTrue, codes}
-use Rattle.mc_lex.specs.declared.token.Token.{Token}
-use Rattle.mc_lex.specs.declared.token.TokenKind.TheVariants as TokenKind
+use Rattle.mc_text.specs.declared.token.Token.{Token}
+use Rattle.mc_text.specs.declared.token.TokenKind.TheVariants as TokenKind
 use Rattle.mc_ast.specs.Names.{Tokens, IsMark, IsName, is_in}
 use Rattle.mc_ast.specs.Trees.{UnitTree}
 use Rattle.mc_ast.specs.Grammar.{IsUnit}

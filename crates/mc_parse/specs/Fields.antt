@@ -1,7 +1,7 @@
 -- What completes the fields of a struct.
 use Rattle.std.specs.declared.alloc.Global.{Global}
 use Rattle.std.specs.Prelude.{Vec, ℕ, List, [], ◌∷◌, ◌++◌, Option, Some, None, codes, map}
-use Rattle.mc_lex.specs.declared.token.Token.{Token}
+use Rattle.mc_text.specs.declared.token.Token.{Token}
 use Rattle.mc_ast.specs.declared.trees.Field.{Field}
 use Rattle.mc_ast.specs.declared.trees.Struct.{Struct}
 use Rattle.mc_ast.specs.Names.{Tokens, IsMark}

@@ -1,7 +1,7 @@
 -- What completes a function.
 use Rattle.std.specs.Prelude.{◌≡◌, ℕ, List, ◌∷◌, Option, Some, codes}
-use Rattle.mc_base.specs.declared.plain.Place.{Place}
-use Rattle.mc_lex.specs.declared.token.Token.{Token}
+use Rattle.mc_text.specs.declared.place.Place.{Place}
+use Rattle.mc_text.specs.declared.token.Token.{Token}
 use Rattle.mc_ast.specs.declared.trees.Name.{Name}
 use Rattle.mc_ast.specs.declared.trees.Base.{Base}
 use Rattle.mc_ast.specs.declared.trees.Function.{Function}
@@ -22,11 +22,21 @@ use Rattle.mc_parse.specs.Parameters.{IsParametersEnd, CompletesParameters}
 
 -- what a function gives, its name, and a `(`
 pub data IsHeader (aliases : List (List ℕ)) : Tokens → Tokens → Header → Type 0 where
-  is_header : {returned : Returned} {name before : Token} {tokens rest : Tokens} → IsReturned aliases returned tokens (name ∷ before ∷ rest) → IsName name → IsMark (codes "(") before → IsHeader aliases tokens rest (record { returned = returned; name = name_of name })
+  is_header : {returned : Returned} {name before : Token} {tokens rest : Tokens}
+      → IsReturned aliases returned tokens (name ∷ before ∷ rest) → IsName name
+      → IsMark (codes "(") before → IsHeader aliases tokens rest (record {
+        returned = returned;
+        name = name_of name;
+      })
 
 -- the same, behind the base of what it gives
 pub data IsHeaderOf (base : Base) : Tokens → Tokens → Header → Type 0 where
-  is_header_of : {pointer : Option Place} {name before : Token} {tokens rest : Tokens} → IsStar pointer tokens (name ∷ before ∷ rest) → IsName name → IsMark (codes "(") before → IsHeaderOf base tokens rest (record { returned = Returned.Value base pointer; name = name_of name })
+  is_header_of : {pointer : Option Place} {name before : Token} {tokens rest : Tokens}
+      → IsStar pointer tokens (name ∷ before ∷ rest) → IsName name
+      → IsMark (codes "(") before → IsHeaderOf base tokens rest (record {
+        returned = Returned.Value base pointer;
+        name = name_of name;
+      })
 
 -- the same, behind what it gives
 pub data IsNamed (returned : Returned) : Tokens → Tokens → Header → Type 0 where
@@ -49,18 +59,18 @@ HeaderStepIs aliases reader token step = StepIs (CompletesHeader aliases) (λ he
 
 -- the body of a function with this head and these parameters, or the `;` of its prototype
 abbrev pub EndsFunction : List (List ℕ) → Option Place → Header → ParametersTree → Tokens → Tokens → FunctionTree → Type 0
-EndsFunction aliases fixed header parameters = Then (λ tokens rest body. IsBody aliases body tokens rest) (λ body. Gives (record { fixed = fixed; returned = header.returned; name = header.name; parameters = parameters; body = body }))
+EndsFunction aliases static_place header parameters = Then (λ tokens rest body. IsBody aliases body tokens rest) (λ body. Gives (record { static_place = static_place; returned = header.returned; name = header.name; parameters = parameters; body = body }))
 
 -- the parameters and the body
 abbrev pub BehindHeader : List (List ℕ) → Option Place → Header → Tokens → Tokens → FunctionTree → Type 0
-BehindHeader aliases fixed header = Then (IsParametersEnd aliases) (λ parameters. EndsFunction aliases fixed header parameters)
+BehindHeader aliases static_place header = Then (IsParametersEnd aliases) (λ parameters. EndsFunction aliases static_place header parameters)
 
 -- the tokens, up to the rest, complete what the reader has read to this function
 abbrev pub CompletesFunction : List (List ℕ) → FunctionReader → Tokens → Tokens → FunctionTree → Type 0
-CompletesFunction aliases (FunctionReader.Header fixed reader) = Then (CompletesHeader aliases reader) (λ header. BehindHeader aliases fixed header)
-CompletesFunction aliases (FunctionReader.Parameters fixed header reader) = Then (CompletesParameters aliases reader) (λ parameters. EndsFunction aliases fixed header parameters)
-CompletesFunction aliases (FunctionReader.Behind signature) = EndsFunction aliases signature.fixed signature.header (parameters_of signature.parameters)
-CompletesFunction aliases (FunctionReader.Body signature place reader) = Then (CompletesBody aliases reader.value) (λ ss. Gives (record { fixed = signature.fixed; returned = signature.header.returned; name = signature.header.name; parameters = parameters_of signature.parameters; body = Some (record { place = place; statements = ss }) }))
+CompletesFunction aliases (FunctionReader.Header static_place reader) = Then (CompletesHeader aliases reader) (λ header. BehindHeader aliases static_place header)
+CompletesFunction aliases (FunctionReader.Parameters static_place header reader) = Then (CompletesParameters aliases reader) (λ parameters. EndsFunction aliases static_place header parameters)
+CompletesFunction aliases (FunctionReader.Behind signature) = EndsFunction aliases signature.static_place signature.header (parameters_of signature.parameters)
+CompletesFunction aliases (FunctionReader.Body signature place reader) = Then (CompletesBody aliases reader.value) (λ ss. Gives (record { static_place = signature.static_place; returned = signature.header.returned; name = signature.header.name; parameters = parameters_of signature.parameters; body = Some (record { place = place; statements = ss }) }))
 
 abbrev pub FunctionStepIs : List (List ℕ) → FunctionReader → Token → Step FunctionReader Function → Type 0
 FunctionStepIs aliases reader token step = StepIs (CompletesFunction aliases) function_of (CompletesFunction aliases reader) token step
@@ -70,14 +80,14 @@ FunctionTookIs aliases reader behind token took = TookIs function_of (CompletesF
 
 -- the reader is within a body
 abbrev pub IsWithinBody : FunctionReader → Type 0
-IsWithinBody (FunctionReader.Header fixed reader) = ⊥
-IsWithinBody (FunctionReader.Parameters fixed header reader) = ⊥
+IsWithinBody (FunctionReader.Header static_place reader) = ⊥
+IsWithinBody (FunctionReader.Parameters static_place header reader) = ⊥
 IsWithinBody (FunctionReader.Behind signature) = ⊥
 IsWithinBody (FunctionReader.Body signature place reader) = Unit {0}
 
 -- the function that the reader is within, with these statements as its body
 abbrev pub IsBehindBody : FunctionReader → List Stmt → FunctionTree → Type 0
-IsBehindBody (FunctionReader.Header fixed reader) ss f = ⊥
-IsBehindBody (FunctionReader.Parameters fixed header reader) ss f = ⊥
+IsBehindBody (FunctionReader.Header static_place reader) ss f = ⊥
+IsBehindBody (FunctionReader.Parameters static_place header reader) ss f = ⊥
 IsBehindBody (FunctionReader.Behind signature) ss f = ⊥
-IsBehindBody (FunctionReader.Body signature place reader) ss f = f ≡ record { fixed = signature.fixed; returned = signature.header.returned; name = signature.header.name; parameters = parameters_of signature.parameters; body = Some (record { place = place; statements = ss }) }
+IsBehindBody (FunctionReader.Body signature place reader) ss f = f ≡ record { static_place = signature.static_place; returned = signature.header.returned; name = signature.header.name; parameters = parameters_of signature.parameters; body = Some (record { place = place; statements = ss }) }

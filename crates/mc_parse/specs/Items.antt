@@ -1,7 +1,7 @@
 -- What completes a struct, a typedef or a function.
 use Rattle.std.specs.Prelude.{ℕ, List, [], ◌∷◌, None, codes}
-use Rattle.mc_base.specs.declared.plain.Place.{Place}
-use Rattle.mc_lex.specs.declared.token.Token.{Token}
+use Rattle.mc_text.specs.declared.place.Place.{Place}
+use Rattle.mc_text.specs.declared.token.Token.{Token}
 use Rattle.mc_ast.specs.declared.trees.Name.{Name}
 use Rattle.mc_ast.specs.declared.trees.Base.{Base}
 use Rattle.mc_ast.specs.declared.trees.Typedef.{Typedef}
@@ -21,8 +21,14 @@ use Rattle.mc_parse.specs.Fields.{FieldsFrom, CompletesStruct}
 use Rattle.mc_parse.specs.Functions.{IsHeaderOf, BehindHeader, CompletesFunction}
 
 -- behind `struct S`: its fields and what goes on behind them, or what goes on where it is a base
-pub data IsTagged {X : Type 0} (aliases : List (List ℕ)) (place : Place) (name : Name) (struct : StructTree → Tokens → Tokens → X → Type 0) (bare : Tokens → Tokens → X → Type 0) : Tokens → Tokens → X → Type 0 where
-  with_fields : {before : Token} {tokens rest : Tokens} {x : X} → IsMark (codes "{") before → Then (FieldsFrom aliases [] None) (λ fs. struct (record { place = place; name = name; fields = fs })) tokens rest x → IsTagged aliases place name struct bare (before ∷ tokens) rest x
+pub data IsTagged {X : Type 0} (aliases : List (List ℕ)) (place : Place) (name : Name) (struct : StructTree
+    → Tokens → Tokens → X → Type 0) (bare : Tokens → Tokens → X → Type 0) : Tokens → Tokens → X → Type 0 where
+  with_fields : {before : Token} {tokens rest : Tokens} {x : X}
+      → IsMark (codes "{") before → Then (FieldsFrom aliases [] None) (λ fs. struct (record {
+        place = place;
+        name = name;
+        fields = fs;
+      })) tokens rest x → IsTagged aliases place name struct bare (before ∷ tokens) rest x
   without_fields : {tokens rest : Tokens} {x : X} → bare tokens rest x → IsTagged aliases place name struct bare tokens rest x
 
 -- behind `struct`: a name and the same

@@ -1,7 +1,7 @@
 -- What completes the parameters of a function.
 use Rattle.std.specs.Prelude.{◌≡◌, ℕ, List, [], ◌∷◌, ◌++◌, codes}
-use Rattle.mc_base.specs.declared.plain.Place.{Place}
-use Rattle.mc_lex.specs.declared.token.Token.{Token}
+use Rattle.mc_text.specs.declared.place.Place.{Place}
+use Rattle.mc_text.specs.declared.token.Token.{Token}
 use Rattle.mc_ast.specs.declared.trees.Parameter.{Parameter}
 use Rattle.mc_ast.specs.declared.trees.Parameters.{Parameters}
 use Rattle.mc_ast.specs.Views.{parameters_of}
@@ -26,7 +26,9 @@ pub data IsVoidEnd (place : Place) : Tokens → Tokens → ParametersTree → Ty
 
 -- behind these parameters: more of them, and a `)`
 abbrev pub EndsParameters : List (List ℕ) → List Parameter → Tokens → Tokens → ParametersTree → Type 0
-EndsParameters aliases ps tokens rest all = (listed_ones : List Parameter) × (after : Token) × MoreParameters aliases ps tokens listed_ones (after ∷ rest) × IsMark (codes ")") after × (all ≡ listed listed_ones)
+EndsParameters aliases ps tokens rest all = (listed_ones : List Parameter) × (after : Token)
+    × MoreParameters aliases ps tokens listed_ones (after ∷ rest) × IsMark (codes ")") after
+    × (all ≡ listed listed_ones)
 
 -- parameters, and a `)`
 abbrev pub IsParametersEnd : List (List ℕ) → Tokens → Tokens → ParametersTree → Type 0

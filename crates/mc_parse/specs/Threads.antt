@@ -1,6 +1,6 @@
 -- Readers made of readers, and what a step says.
 use Rattle.std.specs.Prelude.{◌≡◌, []}
-use Rattle.mc_lex.specs.declared.token.Token.{Token}
+use Rattle.mc_text.specs.declared.token.Token.{Token}
 use Rattle.mc_ast.specs.Names.{Tokens}
 use Rattle.mc_ast.specs.Readers.{Takes, Closes, IsStuckAt}
 use Rattle.mc_parse.specs.declared.step.Step.{Step}

@@ -1,7 +1,7 @@
 -- What completes a whole program.
 use Rattle.std.specs.Prelude.{◌≡◌, ℕ, List, [], ◌∷◌, ◌++◌, Option, Some, None, map}
-use Rattle.mc_lex.specs.declared.token.Token.{Token}
-use Rattle.mc_lex.specs.declared.token.TokenKind.TheVariants as TokenKind
+use Rattle.mc_text.specs.declared.token.Token.{Token}
+use Rattle.mc_text.specs.declared.token.TokenKind.TheVariants as TokenKind
 use Rattle.mc_ast.specs.Names.{Tokens, is_in}
 use Rattle.mc_ast.specs.Trees.{ItemTree, UnitTree}
 use Rattle.mc_ast.specs.Views.{item_of, unit_of}

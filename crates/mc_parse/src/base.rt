@@ -6,8 +6,7 @@ ghost use Rattle.std.specs.Prelude.{◌≡◌, ℕ, List, IfOk};
 
 use crate::step::Step;
 use mc_ast::{Base, Class, name_at};
-use mc_base::Place;
-use mc_lex::Token;
+use mc_text::{Place, Token};
 use std::alloc::{AllocError, Global};
 
 /// What has been read of a base.

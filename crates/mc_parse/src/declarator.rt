@@ -5,8 +5,7 @@ ghost use Rattle.std.specs.Prelude.{IfOk};
 
 use crate::step::Step;
 use mc_ast::{Class, Declarator, name_at};
-use mc_base::Place;
-use mc_lex::Token;
+use mc_text::{Place, Token};
 use std::alloc::{AllocError, Global};
 
 /// What has been read of a declarator.

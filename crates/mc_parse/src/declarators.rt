@@ -6,7 +6,7 @@ ghost use Rattle.std.specs.Prelude.{◌≡◌, [], IfOk};
 use crate::declarator::DeclaratorReader;
 use crate::step::Step;
 use mc_ast::{Class, Declarator};
-use mc_lex::Token;
+use mc_text::Token;
 use std::alloc::{AllocError, Global};
 
 /// What has been read of declarators that end with a `;`.

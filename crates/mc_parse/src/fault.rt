@@ -4,8 +4,7 @@ ghost use Rattle.mc_parse.specs.declared.fault.ParseFault.TheVariants.{NoMemory}
 ghost use Rattle.std.specs.Prelude.{◌≡◌};
 
 use crate::left_out::is_left_out;
-use mc_base::Place;
-use mc_lex::{Text, Token};
+use mc_text::{Place, Text, Token};
 use std::alloc::{AllocError, Global};
 
 /// Why a text is no program, and where: at the first token that no program can have there.

@@ -8,7 +8,7 @@ use crate::base::BaseReader;
 use crate::declarators::DeclaratorsReader;
 use crate::step::Step;
 use mc_ast::{Base, Class, Field};
-use mc_lex::Token;
+use mc_text::Token;
 use std::alloc::{AllocError, Global};
 
 /// What has been read of fields of one base.

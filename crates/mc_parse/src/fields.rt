@@ -9,7 +9,7 @@ use crate::base::BaseReader;
 use crate::field::FieldReader;
 use crate::step::Step;
 use mc_ast::{Class, Field};
-use mc_lex::Token;
+use mc_text::Token;
 use std::alloc::{AllocError, Global};
 
 /// What has been read of the fields of a struct, behind their `{`.

@@ -11,9 +11,8 @@ use crate::header::{Header, HeaderReader};
 use crate::parameters::ParametersReader;
 use crate::step::{Step, Took};
 use mc_ast::{Body, Class, Function, Parameters, Statement};
-use mc_base::Place;
 use mc_body::{BodyReader, BodyStep};
-use mc_lex::Token;
+use mc_text::{Place, Token};
 use std::alloc::{AllocError, Global};
 use std::mem;
 
@@ -21,7 +20,7 @@ use std::mem;
 #[derive(Drop)]
 pub struct Signature {
     /// The place of `static`.
-    pub fixed: Option<Place>,
+    pub static_place: Option<Place>,
     pub header: Header,
     pub parameters: Parameters,
 }
@@ -45,10 +44,10 @@ pub type FunctionTook = Took<Function>;
 
 impl FunctionReader {
     /// A reader at the start of a function, behind the word `static` at this place if it has one.
-    pub fn new(fixed: Option<Place>) -> FunctionReader
-        ensures { result ≡ FunctionReader.Header fixed HeaderReader.Start }
+    pub fn new(static_place: Option<Place>) -> FunctionReader
+        ensures { result ≡ FunctionReader.Header static_place HeaderReader.Start }
     {
-        FunctionReader::Header(fixed, HeaderReader::Start)
+        FunctionReader::Header(static_place, HeaderReader::Start)
     }
 
     /// Takes the next token.
@@ -126,11 +125,11 @@ impl FunctionReader {
         ensures { IfOk result (λ step. (aliases : List (List ℕ)) → is_in aliases token.now.text ≡ alias → FunctionStepIs aliases self token.now step) }
     {
         match self {
-            FunctionReader::Header(fixed, reader) => {
-                within_header(alloc, fixed, reader, token, class, alias)
+            FunctionReader::Header(static_place, reader) => {
+                within_header(alloc, static_place, reader, token, class, alias)
             }
-            FunctionReader::Parameters(fixed, header, reader) => {
-                within_parameters(alloc, fixed, header, reader, token, class, alias)
+            FunctionReader::Parameters(static_place, header, reader) => {
+                within_parameters(alloc, static_place, header, reader, token, class, alias)
             }
             FunctionReader::Behind(signature) => behind_signature(alloc, signature, token, class),
             FunctionReader::Body(_, _, _) => unreachable!(),
@@ -141,19 +140,19 @@ impl FunctionReader {
 /// Takes a token within the head of a function.
 pub fn within_header(
     alloc: Global,
-    fixed: Option<Place>,
+    static_place: Option<Place>,
     reader: HeaderReader,
     token: &Token,
     class: Class,
     alias: bool,
 ) -> Result<FunctionStep, AllocError>
     requires { IsClass token.now class }
-    ensures { IfOk result (λ step. (aliases : List (List ℕ)) → is_in aliases token.now.text ≡ alias → FunctionStepIs aliases (FunctionReader.Header fixed reader) token.now step) }
+    ensures { IfOk result (λ step. (aliases : List (List ℕ)) → is_in aliases token.now.text ≡ alias → FunctionStepIs aliases (FunctionReader.Header static_place reader) token.now step) }
 {
     match reader.step(alloc, token, class, alias)? {
-        Step::Taken(reader) => Ok(Step::Taken(FunctionReader::Header(fixed, reader))),
+        Step::Taken(reader) => Ok(Step::Taken(FunctionReader::Header(static_place, reader))),
         Step::Closed(header) => Ok(Step::Taken(FunctionReader::Parameters(
-            fixed,
+            static_place,
             header,
             ParametersReader::Start,
         ))),
@@ -163,7 +162,7 @@ pub fn within_header(
 
 fn within_parameters(
     alloc: Global,
-    fixed: Option<Place>,
+    static_place: Option<Place>,
     header: Header,
     reader: ParametersReader,
     token: &Token,
@@ -171,12 +170,16 @@ fn within_parameters(
     alias: bool,
 ) -> Result<FunctionStep, AllocError>
     requires { IsClass token.now class }
-    ensures { IfOk result (λ step. (aliases : List (List ℕ)) → is_in aliases token.now.text ≡ alias → FunctionStepIs aliases (FunctionReader.Parameters fixed header reader) token.now step) }
+    ensures { IfOk result (λ step. (aliases : List (List ℕ)) → is_in aliases token.now.text ≡ alias → FunctionStepIs aliases (FunctionReader.Parameters static_place header reader) token.now step) }
 {
     match reader.step(alloc, token, class, alias)? {
-        Step::Taken(reader) => Ok(Step::Taken(FunctionReader::Parameters(fixed, header, reader))),
+        Step::Taken(reader) => Ok(Step::Taken(FunctionReader::Parameters(
+            static_place,
+            header,
+            reader,
+        ))),
         Step::Closed(parameters) => Ok(Step::Taken(FunctionReader::Behind(Signature {
-            fixed,
+            static_place,
             header,
             parameters,
         }))),
@@ -205,10 +208,10 @@ fn behind_signature(
 }
 
 fn function_of(signature: Signature, body: Option<Body>) -> Function
-    ensures { result ≡ record { fixed = signature.fixed; returned = signature.header.returned; name = signature.header.name; parameters = signature.parameters; body = body } }
+    ensures { result ≡ record { static_place = signature.static_place; returned = signature.header.returned; name = signature.header.name; parameters = signature.parameters; body = body } }
 {
     Function {
-        fixed: signature.fixed,
+        static_place: signature.static_place,
         returned: signature.header.returned,
         name: signature.header.name,
         parameters: signature.parameters,

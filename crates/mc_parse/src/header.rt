@@ -7,7 +7,7 @@ ghost use Rattle.std.specs.Prelude.{◌≡◌, ℕ, List, IfOk};
 use crate::base::BaseReader;
 use crate::step::Step;
 use mc_ast::{Base, Class, Name, Returned, name_at};
-use mc_lex::Token;
+use mc_text::Token;
 use std::alloc::{AllocError, Global};
 
 /// What a function gives, and its name.

@@ -14,8 +14,7 @@ use crate::step::{Step, Took};
 use crate::structure::StructReader;
 use crate::typedef::{TypedefPart, TypedefReader};
 use mc_ast::{Base, Class, Function, Item, Name, Struct, name_at};
-use mc_base::Place;
-use mc_lex::Token;
+use mc_text::{Place, Token};
 use std::alloc::{AllocError, Global};
 use std::mem;
 
@@ -216,16 +215,17 @@ fn item_typedef(
 /// The first token of a function behind what is read of its head.
 fn item_header(
     alloc: Global,
-    fixed: Option<Place>,
+    static_place: Option<Place>,
     reader: HeaderReader,
     token: &Token,
     class: Class,
     alias: bool,
 ) -> Result<ItemStep, AllocError>
     requires { IsClass token.now class }
-    ensures { IfOk result (λ step. (aliases : List (List ℕ)) → is_in aliases token.now.text ≡ alias → ItemStepIs aliases (ItemReader.Function (FunctionReader.Header fixed reader)) token.now step) }
+    ensures { IfOk result (λ step. (aliases : List (List ℕ)) → is_in aliases token.now.text ≡ alias
+        → ItemStepIs aliases (ItemReader.Function (FunctionReader.Header static_place reader)) token.now step) }
 {
-    match within_header(alloc, fixed, reader, token, class, alias)? {
+    match within_header(alloc, static_place, reader, token, class, alias)? {
         Step::Taken(reader) => Ok(Step::Taken(ItemReader::Function(reader))),
         Step::Closed(function) => Ok(Step::Closed(Item::Function(function))),
         Step::Stuck => Ok(Step::Stuck),

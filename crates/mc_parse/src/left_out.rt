@@ -7,7 +7,7 @@ ghost use Rattle.std.specs.Prelude.{◌≡◌, IfOk, MatchBool};
 
 use crate::prefix::{can_begin, can_stand, mark_at, name_like};
 use mc_ast::{Class, classify};
-use mc_lex::Token;
+use mc_text::Token;
 use std::alloc::{AllocError, Global};
 
 /// The words and marks of C that the language leaves out everywhere.

@@ -8,7 +8,7 @@ use crate::base::BaseReader;
 use crate::declarator::DeclaratorReader;
 use crate::step::Step;
 use mc_ast::{Base, Class, Parameter};
-use mc_lex::Token;
+use mc_text::Token;
 use std::alloc::{AllocError, Global};
 
 /// What has been read of a parameter.

@@ -8,8 +8,7 @@ use crate::base::BaseReader;
 use crate::parameter::ParameterReader;
 use crate::step::Step;
 use mc_ast::{Class, Parameter, Parameters};
-use mc_base::Place;
-use mc_lex::Token;
+use mc_text::{Place, Token};
 use std::alloc::{AllocError, Global};
 
 /// What has been read of the parameters of a function.

@@ -8,7 +8,7 @@ use crate::fault::{ParseFault, fault_at};
 use crate::unit::{UnitReader, UnitStep};
 use mc_ast::Unit;
 use mc_body::bodies_can_end;
-use mc_lex::Token;
+use mc_text::Token;
 use std::alloc::Global;
 
 /// The program that these tokens spell, or the first token that no program can have there.

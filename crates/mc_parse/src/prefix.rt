@@ -4,9 +4,8 @@ ghost use Rattle.mc_parse.specs.Units.{CanGoOn, CompletesUnit, KnowsTypes, RunIs
 ghost use Rattle.std.specs.Prelude.{◌≡◌, ◌++◌, IfOk, MatchBool};
 
 use crate::unit::{UnitReader, UnitStep};
-use mc_base::Place;
 use mc_body::bodies_can_end;
-use mc_lex::{Text, Token, TokenKind};
+use mc_text::{Place, Text, Token, TokenKind};
 use std::alloc::{AllocError, Global};
 
 /// The reader behind these tokens; none where no program can have them there.

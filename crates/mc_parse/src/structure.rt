@@ -7,8 +7,7 @@ ghost use Rattle.std.specs.Prelude.{◌≡◌, ℕ, List, IfOk};
 use crate::fields::FieldsReader;
 use crate::step::Step;
 use mc_ast::{Class, Name, Struct};
-use mc_base::Place;
-use mc_lex::Token;
+use mc_text::{Place, Token};
 use std::alloc::{AllocError, Global};
 
 /// A struct of which the fields are being read.

@@ -11,8 +11,7 @@ use crate::fields::FieldsReader;
 use crate::step::Step;
 use crate::structure::StructReader;
 use mc_ast::{Aliased, Base, Class, Name, Typedef, name_at};
-use mc_base::Place;
-use mc_lex::Token;
+use mc_text::{Place, Token};
 use std::alloc::{AllocError, Global};
 
 /// Where in a typedef a reader is.

@@ -11,7 +11,7 @@ use crate::aliases::AliasNames;
 use crate::item::ItemReader;
 use crate::step::Took;
 use mc_ast::{Class, Declarator, Item, Unit, classify};
-use mc_lex::Token;
+use mc_text::Token;
 use std::alloc::{AllocError, Global};
 use std::mem;
 

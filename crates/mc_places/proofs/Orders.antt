@@ -1,7 +1,7 @@
 -- How places follow one another.
 use Rattle.std.proofs.Common.{◌≡◌, ◌<◌, ◌≤◌, ◌==◌, ℕ, Bool, true, false, cond, List, [], ◌∷◌, length, ◌⊎◌, inl, inr, ⊎_elim, refl, ap, sym, slice_index_or, arith}
 use Rattle.std.proofs.lemmas.Bool.{cases_order}
-use Rattle.mc_base.specs.declared.plain.Place.{Place}
+use Rattle.mc_text.specs.declared.place.Place.{Place}
 use Rattle.mc_lex.specs.declared.spot.Spot.{Spot}
 use Rattle.mc_lex.specs.Spots.{step, behind}
 use Rattle.mc_places.specs.Places.{IsBefore, AreAscending, AreDistinct}

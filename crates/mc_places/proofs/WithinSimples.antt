@@ -1,7 +1,7 @@
 -- The places that declarations give are those of tokens; right sides and simple statements declare nothing.
 use Rattle.std.proofs.Common.{ℕ, List, [], ◌∷◌, ◌++◌, Option, sym, map}
 use Rattle.std.proofs.lemmas.List.{append-nil}
-use Rattle.mc_base.specs.declared.plain.Place.{Place}
+use Rattle.mc_text.specs.declared.place.Place.{Place}
 use Rattle.mc_ast.specs.declared.trees.Base.{Base}
 use Rattle.mc_ast.specs.declared.trees.Declarator.{Declarator}
 use Rattle.mc_ast.specs.declared.trees.Cast.{Cast}

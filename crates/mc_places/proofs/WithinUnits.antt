@@ -1,13 +1,13 @@
 -- The places that a program gives are those of its tokens.
 use Rattle.std.proofs.Common.{ℕ, List, [], ◌∷◌, ◌++◌, Option, sym, subst, map}
 use Rattle.std.proofs.lemmas.List.{append-nil}
-use Rattle.mc_base.specs.declared.plain.Place.{Place}
+use Rattle.mc_text.specs.declared.place.Place.{Place}
 use Rattle.mc_ast.specs.declared.trees.Declarator.{Declarator}
 use Rattle.mc_ast.specs.declared.trees.Returned.{Returned}
 use Rattle.mc_ast.specs.declared.trees.Parameter.{Parameter}
 use Rattle.mc_ast.specs.Trees.{FieldTree, StructTree, AliasedTree, TypedefTree, ParametersTree, BodyTree, FunctionTree, ItemTree, UnitTree}
 use Rattle.mc_ast.specs.Names.{Tokens}
-use Rattle.mc_ast.specs.Grammar.{MoreDeclarators, last_declarator, next_declarator, IsDeclarators, declarators, IsField, field, MoreFields, no_field, next_field, IsStruct, struct, IsAliased, base_aliased, struct_aliased, IsTypedef, introduces, IsReturned, gives_nothing, gives_value, IsParameter, parameter, MoreParameters, last_parameter, next_parameter, IsParameters, no_parameters, void_parameters, some_parameters, IsFixed, fixed, not_fixed, IsBody, prototype, body, IsFunction, defined, IsItem, struct_item, typedef_item, function_item, MoreItems, no_item, next_item, IsUnit}
+use Rattle.mc_ast.specs.Grammar.{MoreDeclarators, last_declarator, next_declarator, IsDeclarators, declarators, IsField, field, MoreFields, no_field, next_field, IsStruct, struct, IsAliased, base_aliased, struct_aliased, IsTypedef, introduces, IsReturned, gives_nothing, gives_value, IsParameter, parameter, MoreParameters, last_parameter, next_parameter, IsParameters, no_parameters, void_parameters, some_parameters, IsStatic, static_place, not_static, IsBody, prototype, body, IsFunction, defined, IsItem, struct_item, typedef_item, function_item, MoreItems, no_item, next_item, IsUnit}
 use Rattle.mc_places.specs.Places.{declarator_place, parameters_places, body_places, function_places, item_places, declared_places}
 use Rattle.mc_places.proofs.Within.{Places, AreWithin, nowhere, past, Grown, grown, grown_by, from_one, from_none, in_turn}
 use Rattle.mc_places.proofs.WithinSimples.{base_past, star_past, declarator_past, declarator_within}
@@ -56,9 +56,9 @@ parameters_within no_parameters w = w
 parameters_within (void_parameters is) w = past w
 parameters_within (some_parameters one path) w = from_one (more_parameters_within path w) λ new n. parameter_within one n
 
-fixed_past : {x : Option Place} {ts rest : Tokens} {places : Places} → IsFixed x ts rest → AreWithin places rest → AreWithin places ts
-fixed_past (fixed is) w = past w
-fixed_past not_fixed w = w
+static_past : {x : Option Place} {ts rest : Tokens} {places : Places} → IsStatic x ts rest → AreWithin places rest → AreWithin places ts
+static_past (static_place is) w = past w
+static_past not_static w = w
 
 body_within : {aliases : List (List ℕ)} {x : Option BodyTree} {ts rest : Tokens} {places : Places} → IsBody aliases x ts rest → AreWithin places rest → AreWithin (body_places x ++ places) ts
 body_within (prototype is) w = past w
@@ -66,7 +66,7 @@ body_within (body before inner after) w = past (from_none (statements_within inn
 
 function_within : {aliases : List (List ℕ)} {x : FunctionTree} {ts rest : Tokens} {places : Places} → IsFunction aliases x ts rest → AreWithin places rest → AreWithin (function_places x ++ places) ts
 function_within {places = places} (defined {parameters = parameters} {body = block} static result name before ps after inner) w =
-    in_turn (parameters_places parameters) (body_places block) places (fixed_past static (returned_past result (past (past (parameters_within ps (past (body_within inner w)))))))
+    in_turn (parameters_places parameters) (body_places block) places (static_past static (returned_past result (past (past (parameters_within ps (past (body_within inner w)))))))
 
 item_within : {aliases : List (List ℕ)} {x : ItemTree} {ts rest : Tokens} {places : Places} → IsItem aliases x ts rest → AreWithin places rest → AreWithin (item_places x ++ places) ts
 item_within (struct_item inner is) w = struct_past inner (past w)

@@ -1,6 +1,6 @@
 -- A small program, to look at.
 use Rattle.std.specs.Prelude.{ℕ, ◌-◌, [], ◌∷◌, Some, None, codes}
-use Rattle.mc_base.specs.declared.plain.Place.{Place}
+use Rattle.mc_text.specs.declared.place.Place.{Place}
 use Rattle.mc_ast.specs.declared.trees.Base.TheVariants as Base
 use Rattle.mc_ast.specs.declared.trees.Declarator.{Declarator}
 use Rattle.mc_ast.specs.declared.trees.Returned.TheVariants as Returned
@@ -22,7 +22,7 @@ declares_x column = declaration (record { base = Base.Int (at (column - 4)); ite
 abbrev pub program_at : (parameter first second third fourth : ℕ) → UnitTree
 program_at parameter first second third fourth =
     function (record {
-      fixed = None;
+      static_place = None;
       returned = Returned.Value (Base.Int (at 1)) None;
       name = record { text = codes "f"; place = at 5 };
       parameters = listed (record { base = Base.Int (at 7); declarator = x_at parameter } ∷ []);
@@ -30,7 +30,15 @@ program_at parameter first second third fourth =
         place = at 14;
         statements =
             if_else (at 16) (plain (input (at 20))) (declares_x first) (block (at 41) (then (declares_x second) no_more))
-            ∷ for_loop (record { place = at 52; start = declares (record { base = Base.Int (at 57); items = record { declarator = x_at third; value = None } ∷ [] }); condition = None; last = None }) (declares_x fourth)
+            ∷ for_loop (record {
+              place = at 52;
+              start = declares (record {
+                base = Base.Int (at 57);
+                items = record { declarator = x_at third; value = None } ∷ [];
+              });
+              condition = None;
+              last = None;
+            }) (declares_x fourth)
             ∷ [];
       });
     })

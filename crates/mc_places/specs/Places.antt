@@ -1,8 +1,12 @@
 -- Where a program declares its variables.
 use Rattle.std.specs.Prelude.{◌≡◌, ◌<◌, ◌⊎◌, ℕ, List, length, slice_index_or, [], ◌++◌, Option, Some, None, map, flat_map, AllPairs}
-use Rattle.mc_base.specs.declared.plain.Place.{Place}
+use Rattle.mc_text.specs.declared.place.Place.{Place}
 use Rattle.mc_ast.specs.declared.trees.Declarator.{Declarator}
-use Rattle.mc_ast.specs.Trees.{DeclarationTree, Start, nothing, declares, performs, Stmt, declaration, block, empty, simple, free, assert, assume, assume_shape, assert_shape, assert_empty, if_only, if_else, while_loop, do_loop, for_loop, break_loop, continue_loop, returns, Stmts, no_more, then, stmts_of, ParametersTree, unnamed, void, listed, BodyTree, FunctionTree, ItemTree, structure, typedef, function, UnitTree}
+use Rattle.mc_ast.specs.Trees.{DeclarationTree, Start, nothing, declares, performs, Stmt, declaration, block, empty}
+use Rattle.mc_ast.specs.Trees.{simple, free, assert, assume, assume_shape, assert_shape, assert_empty, if_only}
+use Rattle.mc_ast.specs.Trees.{if_else, while_loop, do_loop, for_loop, break_loop, continue_loop, returns, Stmts}
+use Rattle.mc_ast.specs.Trees.{no_more, then, stmts_of, ParametersTree, unnamed, void, listed, BodyTree}
+use Rattle.mc_ast.specs.Trees.{FunctionTree, ItemTree, structure, typedef, function, UnitTree}
 
 -- one place stands before another: in an earlier line, or in an earlier column of the same line
 abbrev pub IsBefore : Place → Place → Type 0

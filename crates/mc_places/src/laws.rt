@@ -1,9 +1,9 @@
 // Laws of the places of variables.
 ghost use Rattle.mc_ast.specs.Grammar.{IsUnit};
 ghost use Rattle.mc_ast.specs.Trees.{UnitTree};
-ghost use Rattle.mc_base.specs.declared.plain.Place.{Place};
+ghost use Rattle.mc_text.specs.declared.place.Place.{Place};
 ghost use Rattle.mc_lex.specs.Readings.{Lexes};
-ghost use Rattle.mc_lex.specs.declared.token.Token.{Token};
+ghost use Rattle.mc_text.specs.declared.token.Token.{Token};
 ghost use Rattle.mc_places.specs.Examples.{at, program_at};
 ghost use Rattle.mc_places.specs.Places.{AreAscending, AreDistinct, HasDistinctPlaces, declared_places};
 ghost use Rattle.std.specs.Prelude.{◌≡◌, ℕ, List, [], ◌∷◌};

@@ -4,9 +4,9 @@ use Rattle.std.specs.Prelude.{slice_index}
 use Rattle.std.specs.Str.Parse.{digits_value}
 use Rattle.std.proofs.lemmas.List.{map-append}
 use native.Mathlib.Omega.{arith}
-use Rattle.mc_lex.specs.declared.token.Token.{Token}
-use Rattle.mc_lex.specs.declared.token.TokenKind.TheVariants as TokenKind
-use Rattle.mc_lex.specs.Numbers.{Spells, as_zero, as_decimal, as_hexadecimal}
+use Rattle.mc_text.specs.declared.token.Token.{Token}
+use Rattle.mc_text.specs.declared.token.TokenKind.TheVariants as TokenKind
+use Rattle.mc_text.specs.Numbers.{Spells, as_zero, as_decimal, as_hexadecimal}
 use Rattle.mc_ast.specs.declared.trees.Name.{Name}
 use Rattle.mc_ast.specs.Names.{Tokens, IsMark, IsWord, IsName, IsNumber, IsAlias, IsNoElse, is_reserved, is_in, name_of}
 use Rattle.mc_printed.specs.Aside.{nowhere, name_aside}

@@ -1,8 +1,8 @@
 -- Expressions that alike tokens spell.
 use Rattle.std.proofs.Common.{◌≡◌, List, [], ◌∷◌, ◌++◌, refl, ap, map}
-use Rattle.mc_lex.specs.declared.token.Token.{Token}
+use Rattle.mc_text.specs.declared.token.Token.{Token}
 use Rattle.mc_ast.specs.declared.trees.Name.{Name}
-use Rattle.mc_ast.specs.Trees.{Left, Expr, value, minus, parens, times, plus, less}
+use Rattle.mc_ast.specs.Trees.{Left, Expr, value, minus, parens, times, plus, difference}
 use Rattle.mc_ast.specs.Names.{Tokens, name_of}
 use Rattle.mc_ast.specs.Grammar.{Fields, none, more, IsLeft, named, IsUnary, negative, numeral, null_word, input_call, variable, in_parens, Factors, no_factor, factor, IsTerm, product, Terms, no_term, added, taken, IsSum, sum_of}
 use Rattle.mc_printed.specs.Aside.{nowhere, name_aside, left_aside, expression_aside}
@@ -51,7 +51,7 @@ mutual
   terms_again {b = b} (added is term path) (alike s r) e =
       and_then (term_again term r) λ y mid d q f. and_then (terms_again {b = plus b y} path q (ap_two plus e f)) λ z left d' q' g. again (added (mark_again s is) d d') q' g
   terms_again {b = b} (taken is term path) (alike s r) e =
-      and_then (term_again term r) λ y mid d q f. and_then (terms_again {b = less b y} path q (ap_two less e f)) λ z left d' q' g. again (taken (mark_again s is) d d') q' g
+      and_then (term_again term r) λ y mid d q f. and_then (terms_again {b = difference b y} path q (ap_two difference e f)) λ z left d' q' g. again (taken (mark_again s is) d d') q' g
 
   pub sum_again : {x : Expr} {ts rest us : Tokens} → IsSum x ts rest → Alike ts us → Again IsSum expression_aside x rest us
   sum_again (sum_of term path) r =

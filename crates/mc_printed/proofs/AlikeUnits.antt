@@ -1,14 +1,14 @@
 -- Programs that alike tokens spell.
 use Rattle.std.proofs.Common.{◌≡◌, ℕ, List, [], ◌∷◌, ◌++◌, Option, Some, refl, ap, sym, ◌∙◌, subst, map}
 use Rattle.std.specs.Option.{option_map}
-use Rattle.mc_base.specs.declared.plain.Place.{Place}
+use Rattle.mc_text.specs.declared.place.Place.{Place}
 use Rattle.mc_ast.specs.declared.trees.Name.{Name}
 use Rattle.mc_ast.specs.declared.trees.Declarator.{Declarator}
 use Rattle.mc_ast.specs.declared.trees.Returned.{Returned}
 use Rattle.mc_ast.specs.declared.trees.Parameter.{Parameter}
 use Rattle.mc_ast.specs.Trees.{FieldTree, StructTree, AliasedTree, of_base, of_struct, TypedefTree, ParametersTree, listed, BodyTree, FunctionTree, ItemTree, structure, typedef, function}
 use Rattle.mc_ast.specs.Names.{Tokens}
-use Rattle.mc_ast.specs.Grammar.{MoreDeclarators, last_declarator, next_declarator, IsDeclarators, declarators, IsField, field, MoreFields, no_field, next_field, IsStruct, struct, IsAliased, base_aliased, struct_aliased, IsTypedef, introduces, IsReturned, gives_nothing, gives_value, IsParameter, parameter, MoreParameters, last_parameter, next_parameter, IsParameters, no_parameters, void_parameters, some_parameters, IsFixed, fixed, not_fixed, IsBody, prototype, body, IsFunction, defined, IsItem, struct_item, typedef_item, function_item, introduced, MoreItems, no_item, next_item}
+use Rattle.mc_ast.specs.Grammar.{MoreDeclarators, last_declarator, next_declarator, IsDeclarators, declarators, IsField, field, MoreFields, no_field, next_field, IsStruct, struct, IsAliased, base_aliased, struct_aliased, IsTypedef, introduces, IsReturned, gives_nothing, gives_value, IsParameter, parameter, MoreParameters, last_parameter, next_parameter, IsParameters, no_parameters, void_parameters, some_parameters, IsStatic, static_place, not_static, IsBody, prototype, body, IsFunction, defined, IsItem, struct_item, typedef_item, function_item, introduced, MoreItems, no_item, next_item}
 use Rattle.mc_printed.specs.Aside.{nowhere, star_aside, declarator_aside, field_aside, struct_aside, aliased_aside, typedef_aside, returned_aside, parameter_aside, parameters_aside, body_aside, function_aside, item_aside}
 use Rattle.mc_printed.proofs.Alike.{Alike, none_alike, alike, Again, again, and_then, and_close, and_end, mark_again, word_again, name_again, named_again, end_again, ap_two, ap_three, one_more}
 use Rattle.mc_printed.proofs.AlikeSimples.{base_again, star_again, declarator_again}
@@ -67,9 +67,9 @@ parameters_again (void_parameters is) (alike s r) = again (void_parameters (word
 parameters_again (some_parameters one path) r =
     and_then (parameter_again one r) λ y mid d q e. and_then (more_parameters_again {fs = y ∷ []} path q (ap (λ x. x ∷ []) e)) λ z left d' q' f. again (some_parameters d d') q' (ap listed f)
 
-fixed_again : {x : Option Place} {ts rest us : Tokens} → IsFixed x ts rest → Alike ts us → Again IsFixed star_aside x rest us
-fixed_again (fixed is) (alike s r) = again (fixed (word_again s is)) r refl
-fixed_again not_fixed r = again not_fixed r refl
+static_again : {x : Option Place} {ts rest us : Tokens} → IsStatic x ts rest → Alike ts us → Again IsStatic star_aside x rest us
+static_again (static_place is) (alike s r) = again (static_place (word_again s is)) r refl
+static_again not_static r = again not_static r refl
 
 body_again : {aliases : List (List ℕ)} {x : Option BodyTree} {ts rest us : Tokens} → IsBody aliases x ts rest → Alike ts us → Again (IsBody aliases) (option_map body_aside) x rest us
 body_again (prototype is) (alike s r) = again (prototype (mark_again s is)) r refl
@@ -77,7 +77,7 @@ body_again (body before inner after) (alike s r) =
     and_close (statements_again {fs = []} inner r refl) λ y b left d t q e. again (body (mark_again s before) d (mark_again t after)) q (ap {B = Option BodyTree} (λ ss. Some (record { place = nowhere; statements = ss })) e)
 
 abbrev function_made : Option Place → Returned → Name → ParametersTree → Option BodyTree → FunctionTree
-function_made f r n p b = record { fixed = f; returned = r; name = n; parameters = p; body = b }
+function_made f r n p b = record { static_place = f; returned = r; name = n; parameters = p; body = b }
 
 same_function : {f g : Option Place} {r s : Returned} {m n : Name} {p q : ParametersTree} {b c : Option BodyTree} → f ≡ g → r ≡ s → m ≡ n → p ≡ q → b ≡ c → function_made f r m p b ≡ function_made g s n q c
 same_function {g = g} {s = s} {m = m} {p = p} {b = b} d e h i j =
@@ -85,7 +85,7 @@ same_function {g = g} {s = s} {m = m} {p = p} {b = b} d e h i j =
 
 function_again : {aliases : List (List ℕ)} {x : FunctionTree} {ts rest us : Tokens} → IsFunction aliases x ts rest → Alike ts us → Again (IsFunction aliases) function_aside x rest us
 function_again (defined static result name before ps after block) r =
-    and_then (fixed_again static r) λ f mid d q e. and_end (returned_again result q) λ v n b more d' s t q' g. and_close (parameters_again ps q') λ z c behind d'' u q'' h. and_then (body_again block q'') λ w left d''' q''' i.
+    and_then (static_again static r) λ f mid d q e. and_end (returned_again result q) λ v n b more d' s t q' g. and_close (parameters_again ps q') λ z c behind d'' u q'' h. and_then (body_again block q'') λ w left d''' q''' i.
     again (defined d d' (name_again s name) (mark_again t before) d'' (mark_again u after) d''') q''' (same_function e g (named_again s name) h i)
 
 item_again : {aliases : List (List ℕ)} {x : ItemTree} {ts rest us : Tokens} → IsItem aliases x ts rest → Alike ts us → Again (IsItem aliases) item_aside x rest us

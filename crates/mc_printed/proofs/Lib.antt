@@ -1,3 +1,4 @@
+mod Lexing
 mod Alike
 mod AlikeExpressions
 mod AlikeConditions

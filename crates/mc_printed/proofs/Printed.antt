@@ -6,10 +6,10 @@ use native.Mathlib.Omega.{arith}
 use Rattle.std.proofs.lemmas.Bool.{false≢true}
 use Rattle.std.proofs.lemmas.Bool.Decides.{nat_tests}
 use Rattle.std.proofs.lemmas.Slice.Eq.{bytes_eq-Decides}
-use Rattle.mc_lex.specs.declared.token.Token.{Token}
-use Rattle.mc_lex.specs.declared.token.TokenKind.{TokenKind}
+use Rattle.mc_text.specs.declared.token.Token.{Token}
+use Rattle.mc_text.specs.declared.token.TokenKind.{TokenKind}
 use Rattle.mc_lex.specs.Bytes.{is_letter, is_digit, is_word}
-use Rattle.mc_lex.specs.Numbers.{Spells}
+use Rattle.mc_text.specs.Numbers.{Spells}
 use Rattle.mc_lex.specs.Pieces.{first}
 use Rattle.mc_lex.specs.Readings.{Reading, Lexes}
 use Rattle.mc_ast.specs.Names.{Tokens, is_same, is_in}
@@ -17,7 +17,7 @@ use Rattle.mc_ast.specs.Classes.{grammar_marks}
 use Rattle.mc_ast.specs.Grammar.{IsUnit}
 use Rattle.mc_ast.specs.Trees.{UnitTree}
 use Rattle.mc_ast.specs.Words.{Words, text_of, unit_words}
-use Rattle.mc_ast.specs.Printed.{IsPrintable, ArePrintable, Carries, name_word, number_word, mark_word, carries_none, carries_one}
+use Rattle.mc_printed.specs.Printable.{IsPrintable, ArePrintable, Carries, name_word, number_word, mark_word, carries_none, carries_one}
 use Rattle.mc_printed.specs.Aside.{unit_aside, IsSameAside}
 use Rattle.mc_printed.specs.Texts.{IsReadAs, printed}
 use Rattle.mc_printed.proofs.SameWords.{same_words}

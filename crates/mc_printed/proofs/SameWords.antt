@@ -2,7 +2,7 @@
 use Rattle.std.proofs.Common.{◌≡◌, ℕ, List, [], ◌∷◌, Option, Some, None, refl, ap, sym, ◌∙◌, map}
 use Rattle.std.specs.Prelude.{codes}
 use Rattle.std.specs.Option.{option_map}
-use Rattle.mc_base.specs.declared.plain.Place.{Place}
+use Rattle.mc_text.specs.declared.place.Place.{Place}
 use Rattle.mc_ast.specs.declared.trees.Name.{Name}
 use Rattle.mc_ast.specs.declared.trees.Base.{Base}
 use Rattle.mc_ast.specs.declared.trees.Declarator.{Declarator}
@@ -13,10 +13,10 @@ use Rattle.mc_ast.specs.declared.trees.Malloc.{Malloc}
 use Rattle.mc_ast.specs.declared.trees.Argument.{Argument}
 use Rattle.mc_ast.specs.declared.trees.Returned.{Returned}
 use Rattle.mc_ast.specs.declared.trees.Parameter.{Parameter}
-use Rattle.mc_ast.specs.Trees.{Left, Expr, number, null, input, value, minus, parens, times, plus, less, Cond, plain, compare, negation, enclosed, both, either, CallTree, Right, expression, result_of, allocation}
+use Rattle.mc_ast.specs.Trees.{Left, Expr, number, null, input, value, minus, parens, times, plus, difference, Cond, plain, compare, negation, enclosed, both, either, CallTree, Right, expression, result_of, allocation}
 use Rattle.mc_ast.specs.Trees.{InitialTree, DeclarationTree, SimpleTree, assign, add, subtract, increment, decrement, increment_first, decrement_first, call, Start, nothing, declares, performs, Head, Stmt, declaration, block, empty, simple, free, assert, assume, assume_shape, assert_shape, assert_empty, if_only, if_else, while_loop, do_loop, for_loop, break_loop, continue_loop, returns, Stmts, no_more, then, stmts_of, FieldTree, StructTree, AliasedTree, of_base, of_struct, TypedefTree, ParametersTree, unnamed, void, listed, BodyTree, FunctionTree, ItemTree, structure, typedef, function, UnitTree}
 use Rattle.mc_ast.specs.Names.{mark_of}
-use Rattle.mc_ast.specs.Words.{Words, field_words, left_words, expression_words, condition_words, more_words, listed_words, all_words, maybe_words, call_words, base_words, star_words, declarator_words, cast_words, size_words, malloc_words, right_words, value_words, initial_words, declaration_words, simple_words, argument_words, start_words, head_words, statement_words, statements_words, field_list_words, struct_words, aliased_words, typedef_words, fixed_words, returned_words, parameter_words, parameters_words, body_words, function_words, item_words, unit_words}
+use Rattle.mc_ast.specs.Words.{Words, field_words, left_words, expression_words, condition_words, more_words, listed_words, all_words, maybe_words, call_words, base_words, star_words, declarator_words, cast_words, size_words, malloc_words, right_words, value_words, initial_words, declaration_words, simple_words, argument_words, start_words, head_words, statement_words, statements_words, field_list_words, struct_words, aliased_words, typedef_words, static_words, returned_words, parameter_words, parameters_words, body_words, function_words, item_words, unit_words}
 use Rattle.mc_printed.specs.Aside.{name_aside, left_aside, expression_aside, condition_aside, call_aside, base_aside, star_aside, declarator_aside, cast_aside, size_aside, malloc_aside, right_aside, initial_aside, declaration_aside, simple_aside, argument_aside, start_aside, head_aside, statement_aside, statements_aside, field_aside, struct_aside, aliased_aside, typedef_aside, returned_aside, parameter_aside, parameters_aside, body_aside, function_aside, item_aside, unit_aside}
 use Rattle.mc_printed.proofs.AlikeStatements.{same_statements}
 
@@ -61,7 +61,7 @@ expression_same (minus p e) w = after_word (codes "-") (expression_same e w)
 expression_same (parens p e) w = after_word (codes "(") (expression_same e (codes ")" ∷ w))
 expression_same (times a b) w = join (expression_words a) (expression_same a) (after_word (codes "*") (expression_same b w))
 expression_same (plus a b) w = join (expression_words a) (expression_same a) (after_word (codes "+") (expression_same b w))
-expression_same (less a b) w = join (expression_words a) (expression_same a) (after_word (codes "-") (expression_same b w))
+expression_same (difference a b) w = join (expression_words a) (expression_same a) (after_word (codes "-") (expression_same b w))
 
 condition_same : (c : Cond) (w : Words) → condition_words (condition_aside c) w ≡ condition_words c w
 condition_same (plain e) w = expression_same e w
@@ -194,9 +194,9 @@ aliased_same (of_struct s) w = struct_same s w
 typedef_same : (t : TypedefTree) (w : Words) → typedef_words (typedef_aside t) w ≡ typedef_words t w
 typedef_same t w = after_word (codes "typedef") (join (aliased_words t.aliased) (aliased_same t.aliased) (declarators_same t.declarators (codes ";" ∷ w)))
 
-fixed_same : (p : Option Place) (w : Words) → fixed_words (star_aside p) w ≡ fixed_words p w
-fixed_same None w = refl
-fixed_same (Some p) w = refl
+static_same : (p : Option Place) (w : Words) → static_words (star_aside p) w ≡ static_words p w
+static_same None w = refl
+static_same (Some p) w = refl
 
 returned_same : (r : Returned) (w : Words) → returned_words (returned_aside r) w ≡ returned_words r w
 returned_same (Returned.Void p) w = refl
@@ -216,7 +216,7 @@ body_same (Some b) w = after_word (codes "{") (list_same b.statements (codes "}"
 
 function_same : (f : FunctionTree) (w : Words) → function_words (function_aside f) w ≡ function_words f w
 function_same f w =
-    join (fixed_words f.fixed) (fixed_same f.fixed) (join (returned_words f.returned) (returned_same f.returned)
+    join (static_words f.static_place) (static_same f.static_place) (join (returned_words f.returned) (returned_same f.returned)
     (after_word f.name.text (after_word (codes "(") (join (parameters_words f.parameters) (parameters_same f.parameters) (after_word (codes ")") (body_same f.body w))))))
 
 item_same : (i : ItemTree) (w : Words) → item_words (item_aside i) w ≡ item_words i w

@@ -2,14 +2,14 @@
 use Rattle.std.proofs.Common.{ℕ, List, [], ◌∷◌, Option, refl, sym}
 use Rattle.std.specs.Prelude.{codes}
 use Rattle.std.proofs.lemmas.List.{append-nil}
-use Rattle.mc_base.specs.declared.plain.Place.{Place}
+use Rattle.mc_text.specs.declared.place.Place.{Place}
 use Rattle.mc_ast.specs.declared.trees.Declarator.{Declarator}
 use Rattle.mc_ast.specs.declared.trees.Returned.{Returned}
 use Rattle.mc_ast.specs.declared.trees.Parameter.{Parameter}
 use Rattle.mc_ast.specs.Trees.{FieldTree, StructTree, AliasedTree, TypedefTree, ParametersTree, BodyTree, FunctionTree, ItemTree, UnitTree, stmts_of}
 use Rattle.mc_ast.specs.Names.{Tokens}
-use Rattle.mc_ast.specs.Words.{Words, more_words, listed_words, all_words, declarator_words, statements_words, field_list_words, struct_words, aliased_words, typedef_words, fixed_words, returned_words, parameter_words, parameters_words, body_words, function_words, item_words, unit_words}
-use Rattle.mc_ast.specs.Grammar.{MoreDeclarators, last_declarator, next_declarator, IsDeclarators, declarators, IsField, field, MoreFields, no_field, next_field, IsStruct, struct, IsAliased, base_aliased, struct_aliased, IsTypedef, introduces, IsReturned, gives_nothing, gives_value, IsParameter, parameter, MoreParameters, last_parameter, next_parameter, IsParameters, no_parameters, void_parameters, some_parameters, IsFixed, fixed, not_fixed, IsBody, prototype, body, IsFunction, defined, IsItem, struct_item, typedef_item, function_item, MoreItems, no_item, next_item, IsUnit}
+use Rattle.mc_ast.specs.Words.{Words, more_words, listed_words, all_words, declarator_words, statements_words, field_list_words, struct_words, aliased_words, typedef_words, static_words, returned_words, parameter_words, parameters_words, body_words, function_words, item_words, unit_words}
+use Rattle.mc_ast.specs.Grammar.{MoreDeclarators, last_declarator, next_declarator, IsDeclarators, declarators, IsField, field, MoreFields, no_field, next_field, IsStruct, struct, IsAliased, base_aliased, struct_aliased, IsTypedef, introduces, IsReturned, gives_nothing, gives_value, IsParameter, parameter, MoreParameters, last_parameter, next_parameter, IsParameters, no_parameters, void_parameters, some_parameters, IsStatic, static_place, not_static, IsBody, prototype, body, IsFunction, defined, IsItem, struct_item, typedef_item, function_item, MoreItems, no_item, next_item, IsUnit}
 use Rattle.mc_printed.proofs.Spelled.{AreWordsOf, no_words, marked, worded, named, Grown, grown, grown_by, from_one, from_none}
 use Rattle.mc_printed.proofs.SpelledSimples.{base_spelled, star_spelled, declarator_spelled}
 use Rattle.mc_printed.proofs.SpelledStatements.{statements_spelled}
@@ -55,9 +55,9 @@ parameters_spelled no_parameters w = w
 parameters_spelled (void_parameters is) w = worded is w
 parameters_spelled {words = words} (some_parameters one path) w = from_one (λ ps. listed_words parameter_words ps words) (more_parameters_spelled path w) λ new n. parameter_spelled one n
 
-fixed_spelled : {x : Option Place} {ts rest : Tokens} {words : Words} → IsFixed x ts rest → AreWordsOf rest words → AreWordsOf ts (fixed_words x words)
-fixed_spelled (fixed is) w = worded is w
-fixed_spelled not_fixed w = w
+static_spelled : {x : Option Place} {ts rest : Tokens} {words : Words} → IsStatic x ts rest → AreWordsOf rest words → AreWordsOf ts (static_words x words)
+static_spelled (static_place is) w = worded is w
+static_spelled not_static w = w
 
 body_spelled : {aliases : List (List ℕ)} {x : Option BodyTree} {ts rest : Tokens} {words : Words} → IsBody aliases x ts rest → AreWordsOf rest words → AreWordsOf ts (body_words x words)
 body_spelled (prototype is) w = marked is refl w
@@ -66,7 +66,7 @@ body_spelled {words = words} (body before inner after) w =
 
 function_spelled : {aliases : List (List ℕ)} {x : FunctionTree} {ts rest : Tokens} {words : Words} → IsFunction aliases x ts rest → AreWordsOf rest words → AreWordsOf ts (function_words x words)
 function_spelled (defined static result name before ps after block) w =
-    fixed_spelled static (returned_spelled result (named name (marked before refl (parameters_spelled ps (marked after refl (body_spelled block w))))))
+    static_spelled static (returned_spelled result (named name (marked before refl (parameters_spelled ps (marked after refl (body_spelled block w))))))
 
 item_spelled : {aliases : List (List ℕ)} {x : ItemTree} {ts rest : Tokens} {words : Words} → IsItem aliases x ts rest → AreWordsOf rest words → AreWordsOf ts (item_words x words)
 item_spelled (struct_item inner is) w = struct_spelled inner (marked is refl w)

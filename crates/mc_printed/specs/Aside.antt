@@ -1,7 +1,7 @@
 -- What trees say, their places aside: each place is replaced by one and the same.
 use Rattle.std.specs.Prelude.{◌≡◌, Option, map}
 use Rattle.std.specs.Option.{option_map}
-use Rattle.mc_base.specs.declared.plain.Place.{Place}
+use Rattle.mc_text.specs.declared.place.Place.{Place}
 use Rattle.mc_ast.specs.declared.trees.Name.{Name}
 use Rattle.mc_ast.specs.declared.trees.Base.{Base}
 use Rattle.mc_ast.specs.declared.trees.Declarator.{Declarator}
@@ -12,8 +12,17 @@ use Rattle.mc_ast.specs.declared.trees.Malloc.{Malloc}
 use Rattle.mc_ast.specs.declared.trees.Argument.{Argument}
 use Rattle.mc_ast.specs.declared.trees.Returned.{Returned}
 use Rattle.mc_ast.specs.declared.trees.Parameter.{Parameter}
-use Rattle.mc_ast.specs.Trees.{Left, Expr, number, null, input, value, minus, parens, times, plus, less, Cond, plain, compare, negation, enclosed, both, either, CallTree, Right, expression, result_of, allocation}
-use Rattle.mc_ast.specs.Trees.{InitialTree, DeclarationTree, SimpleTree, assign, add, subtract, increment, decrement, increment_first, decrement_first, call, Start, nothing, declares, performs, Head, Stmt, declaration, block, empty, simple, free, assert, assume, assume_shape, assert_shape, assert_empty, if_only, if_else, while_loop, do_loop, for_loop, break_loop, continue_loop, returns, Stmts, no_more, then, FieldTree, StructTree, AliasedTree, of_base, of_struct, TypedefTree, ParametersTree, unnamed, void, listed, BodyTree, FunctionTree, ItemTree, structure, typedef, function, UnitTree}
+use Rattle.mc_ast.specs.Trees.{Left, Expr, number, null, input, value, minus, parens, times, plus, difference, Cond}
+use Rattle.mc_ast.specs.Trees.{plain, compare, negation, enclosed, both, either, CallTree, Right, expression}
+use Rattle.mc_ast.specs.Trees.{result_of, allocation}
+use Rattle.mc_ast.specs.Trees.{InitialTree, DeclarationTree, SimpleTree, assign, add, subtract, increment}
+use Rattle.mc_ast.specs.Trees.{decrement, increment_first, decrement_first, call, Start, nothing, declares}
+use Rattle.mc_ast.specs.Trees.{performs, Head, Stmt, declaration, block, empty, simple, free, assert, assume}
+use Rattle.mc_ast.specs.Trees.{assume_shape, assert_shape, assert_empty, if_only, if_else, while_loop, do_loop}
+use Rattle.mc_ast.specs.Trees.{for_loop, break_loop, continue_loop, returns, Stmts, no_more, then, FieldTree}
+use Rattle.mc_ast.specs.Trees.{StructTree, AliasedTree, of_base, of_struct, TypedefTree, ParametersTree, unnamed}
+use Rattle.mc_ast.specs.Trees.{void, listed, BodyTree, FunctionTree, ItemTree, structure, typedef, function}
+use Rattle.mc_ast.specs.Trees.{UnitTree}
 
 -- the place that stands for all
 abbrev pub nowhere : Place
@@ -38,7 +47,7 @@ expression_aside (minus p e) = minus nowhere (expression_aside e)
 expression_aside (parens p e) = parens nowhere (expression_aside e)
 expression_aside (times a b) = times (expression_aside a) (expression_aside b)
 expression_aside (plus a b) = plus (expression_aside a) (expression_aside b)
-expression_aside (less a b) = less (expression_aside a) (expression_aside b)
+expression_aside (difference a b) = difference (expression_aside a) (expression_aside b)
 
 abbrev pub condition_aside : Cond → Cond
 condition_aside (plain e) = plain (expression_aside e)
@@ -163,7 +172,7 @@ body_aside b = record { place = nowhere; statements = map statement_aside b.stat
 
 abbrev pub function_aside : FunctionTree → FunctionTree
 function_aside f =
-    record { fixed = star_aside f.fixed; returned = returned_aside f.returned; name = name_aside f.name; parameters = parameters_aside f.parameters; body = option_map body_aside f.body }
+    record { static_place = star_aside f.static_place; returned = returned_aside f.returned; name = name_aside f.name; parameters = parameters_aside f.parameters; body = option_map body_aside f.body }
 
 abbrev pub item_aside : ItemTree → ItemTree
 item_aside (structure s) = structure (struct_aside s)

@@ -1,6 +1,6 @@
 -- Small programs, to look at.
 use Rattle.std.specs.Prelude.{ℕ, List, [], ◌∷◌, None}
-use Rattle.mc_base.specs.declared.plain.Place.{Place}
+use Rattle.mc_text.specs.declared.place.Place.{Place}
 use Rattle.mc_ast.specs.declared.trees.Base.TheVariants as Base
 use Rattle.mc_ast.specs.declared.trees.Returned.TheVariants as Returned
 use Rattle.mc_ast.specs.Trees.{unnamed, function, UnitTree}
@@ -12,4 +12,4 @@ at line column = record { line = line; column = column }
 -- `int f();` on this line, with this name in place of f
 abbrev pub prototype_of : ℕ → List ℕ → UnitTree
 prototype_of line name =
-    function (record { fixed = None; returned = Returned.Value (Base.Int (at line 1)) None; name = record { text = name; place = at line 5 }; parameters = unnamed; body = None }) ∷ []
+    function (record { static_place = None; returned = Returned.Value (Base.Int (at line 1)) None; name = record { text = name; place = at line 5 }; parameters = unnamed; body = None }) ∷ []

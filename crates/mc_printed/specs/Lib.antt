@@ -1,3 +1,4 @@
+pub mod Printable
 pub mod Aside
 pub mod Texts
 pub mod Examples

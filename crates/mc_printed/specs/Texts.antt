@@ -1,6 +1,6 @@
 -- Texts and the programs that they are read as.
 use Rattle.std.specs.Prelude.{ℕ, List, [], Ok}
-use Rattle.mc_lex.specs.declared.token.Token.{Token}
+use Rattle.mc_text.specs.declared.token.Token.{Token}
 use Rattle.mc_lex.specs.Readings.{Lexes}
 use Rattle.mc_ast.specs.Grammar.{IsUnit}
 use Rattle.mc_ast.specs.Trees.{UnitTree}

@@ -1,12 +1,21 @@
 // Laws of printed programs.
 ghost use Rattle.mc_ast.specs.Trees.{UnitTree};
+ghost use Rattle.mc_ast.specs.Words.{Words, text_of};
+ghost use Rattle.mc_lex.specs.Readings.{Lexes};
 ghost use Rattle.mc_printed.specs.Aside.{IsSameAside};
 ghost use Rattle.mc_printed.specs.Examples.{prototype_of};
+ghost use Rattle.mc_printed.specs.Printable.{ArePrintable, Carries};
 ghost use Rattle.mc_printed.specs.Texts.{IsReadAs, printed};
-ghost use Rattle.std.specs.Prelude.{◌≡◌, ◌++◌, ℕ, List, [], ◌∷◌, ◌↔◌, codes};
+ghost use Rattle.std.specs.Prelude.{◌≡◌, ◌++◌, ℕ, List, [], ◌∷◌, ◌↔◌, Ok, codes};
+ghost use Rattle.mc_text.specs.declared.token.Token.{Token};
 
-use mc_ast::{printed_words_are_read, trees_are_unique};
+use mc_ast::trees_are_unique;
 use mc_lex::readings_are_unique;
+
+/// The text of words, each of which is one token, is read as tokens with these words.
+pub fn printed_words_are_read()
+    ensures { (words : Words) → ArePrintable words → (tokens : List Token) × Lexes (text_of words) (Ok tokens) × Carries tokens words }
+{}
 
 /// What is printed of a program that was read is read again, and as nothing but the same program, its places aside.
 pub fn printed_programs_are_read()

@@ -1,9 +1,9 @@
 -- Faults tell why a text is refused.
 use Rattle.std.proofs.Common.{◌≡◌, ◌≢◌, ℕ, List, refl, subst}
 use Rattle.std.specs.Prelude.{Ok, Err}
-use Rattle.mc_lex.specs.declared.token.Token.{Token}
-use Rattle.mc_lex.specs.declared.token.LexFault.{LexFault}
-use Rattle.mc_lex.specs.declared.token.LexFault.TheVariants as Lexical
+use Rattle.mc_text.specs.declared.token.Token.{Token}
+use Rattle.mc_lex.specs.declared.fault.LexFault.{LexFault}
+use Rattle.mc_lex.specs.declared.fault.LexFault.TheVariants as Lexical
 use Rattle.mc_lex.specs.Readings.{Lexes}
 use Rattle.mc_parse.specs.declared.fault.ParseFault.{ParseFault}
 use Rattle.mc_parse.specs.declared.fault.ParseFault.TheVariants as Grammatical

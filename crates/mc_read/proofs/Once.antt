@@ -1,8 +1,8 @@
 -- A text is read once, and refused once.
 use Rattle.std.proofs.Common.{◌≡◌, ◌++◌, ◌∙◌, ◌⊎◌, ℕ, List, [], ◌∷◌, ap, sym, subst, append_assoc, inl, inr, refl}
 use Rattle.std.specs.Prelude.{Some, Ok, Err}
-use Rattle.mc_lex.specs.declared.token.Token.{Token}
-use Rattle.mc_lex.specs.declared.token.LexFault.{LexFault}
+use Rattle.mc_text.specs.declared.token.Token.{Token}
+use Rattle.mc_lex.specs.declared.fault.LexFault.{LexFault}
 use Rattle.mc_lex.specs.Readings.{Reading, Lexes}
 use Rattle.mc_ast.specs.Names.{Tokens}
 use Rattle.mc_ast.specs.Trees.{UnitTree}

@@ -1,7 +1,7 @@
 -- What faults are told as.
 use Rattle.std.specs.Prelude.{Option, Some, None}
-use Rattle.mc_lex.specs.declared.token.LexFault.{LexFault}
-use Rattle.mc_lex.specs.declared.token.LexFault.TheVariants as Lexical
+use Rattle.mc_lex.specs.declared.fault.LexFault.{LexFault}
+use Rattle.mc_lex.specs.declared.fault.LexFault.TheVariants as Lexical
 use Rattle.mc_parse.specs.declared.fault.ParseFault.{ParseFault}
 use Rattle.mc_parse.specs.declared.fault.ParseFault.TheVariants as Grammatical
 use Rattle.mc_types.specs.declared.faults.Fault.{Fault}

@@ -1,7 +1,7 @@
 -- How a refusal is printed.
 use Rattle.std.specs.Prelude.{ℕ, List, ◌++◌, codes}
 use Rattle.std.specs.Fmt.{decimal}
-use Rattle.mc_base.specs.declared.plain.Place.{Place}
+use Rattle.mc_text.specs.declared.place.Place.{Place}
 use Rattle.mc_read.specs.declared.cause.Cause.{Cause}
 use Rattle.mc_read.specs.declared.cause.Cause.TheVariants.{BadByte, OpenComment, BadNumber, Unexpected, LeftOut, Unknown, Mismatch, Twice, Recursion, NoEntry, BadSizeof, Arity}
 use Rattle.mc_read.specs.declared.cause.Refusal.{Refusal}

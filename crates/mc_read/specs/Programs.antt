@@ -1,6 +1,6 @@
 -- What a text is read as.
 use Rattle.std.specs.Prelude.{ℕ, List, Ok}
-use Rattle.mc_lex.specs.declared.token.Token.{Token}
+use Rattle.mc_text.specs.declared.token.Token.{Token}
 use Rattle.mc_lex.specs.Readings.{Lexes}
 use Rattle.mc_ast.specs.Trees.{UnitTree}
 use Rattle.mc_ast.specs.Grammar.{IsUnit}

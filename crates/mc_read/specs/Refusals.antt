@@ -1,7 +1,7 @@
 -- Why a text is no program.
 use Rattle.std.specs.Prelude.{◌≡◌, ℕ, List, Some, Ok, Err}
-use Rattle.mc_lex.specs.declared.token.Token.{Token}
-use Rattle.mc_lex.specs.declared.token.LexFault.{LexFault}
+use Rattle.mc_text.specs.declared.token.Token.{Token}
+use Rattle.mc_lex.specs.declared.fault.LexFault.{LexFault}
 use Rattle.mc_lex.specs.Readings.{Lexes}
 use Rattle.mc_ast.specs.Trees.{UnitTree}
 use Rattle.mc_parse.specs.declared.fault.ParseFault.{ParseFault}

@@ -3,9 +3,9 @@ ghost use Rattle.mc_read.specs.Causes.{typing_cause, typing_refusal, fault_of, l
 ghost use Rattle.mc_read.specs.declared.cause.ReadFault.TheVariants.{NoMemory};
 ghost use Rattle.std.specs.Prelude.{◌≡◌};
 
-use mc_base::Place;
-use mc_lex::{LexFault, Text};
+use mc_lex::LexFault;
 use mc_parse::ParseFault;
+use mc_text::{Place, Text};
 use mc_types::{Fault, FaultName, TypeFault};
 use std::alloc::AllocError;
 

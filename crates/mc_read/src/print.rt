@@ -4,7 +4,7 @@ ghost use Rattle.std.specs.Fmt.{decimal};
 ghost use Rattle.std.specs.Prelude.{◌≡◌, ◌++◌, OnOk, codes};
 
 use crate::{Cause, Refusal};
-use mc_base::Place;
+use mc_text::Place;
 use std::alloc::{AllocError, Global};
 
 fn print_number(alloc: Global, out: &mut Vec<u8>, number: u32) -> Result<(), AllocError>

@@ -8,8 +8,9 @@ ghost use Rattle.std.specs.Prelude.{◌≡◌, ◌≤◌, List, ℕ, length, IfO
 use crate::cause::{of_grammatical, of_lexical};
 use crate::{ReadFault, Refusal};
 use mc_ast::Unit;
-use mc_lex::{MAX_BYTES, Token};
+use mc_lex::MAX_BYTES;
 use mc_numbers::numbers_are_small;
+use mc_text::Token;
 use mc_typed::{Typed, check_types};
 use mc_types::TypeFault;
 use std::alloc::Global;

@@ -1,8 +1,8 @@
 -- What a token does to an allocation.
 use Rattle.std.proofs.Common.{ℕ, List, [], inl, inr, Some, None, codes}
 use native.Mathlib.Omega.{arith}
-use Rattle.mc_base.specs.declared.plain.Place.{Place}
-use Rattle.mc_lex.specs.declared.token.Token.{Token}
+use Rattle.mc_text.specs.declared.place.Place.{Place}
+use Rattle.mc_text.specs.declared.token.Token.{Token}
 use Rattle.mc_ast.specs.declared.trees.Base.{Base}
 use Rattle.mc_ast.specs.Names.{IsMark}
 use Rattle.mc_ast.specs.Readers.{Takes, IsStuckAt}

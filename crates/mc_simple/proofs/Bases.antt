@@ -1,7 +1,7 @@
 -- What a token does to a base.
 use Rattle.std.proofs.Common.{◌≡◌, ℕ, List, [], ◌∷◌, ◌⊎◌, inl, refl, codes, IsTrue}
 use native.Mathlib.Omega.{arith}
-use Rattle.mc_lex.specs.declared.token.Token.{Token}
+use Rattle.mc_text.specs.declared.token.Token.{Token}
 use Rattle.mc_ast.specs.declared.trees.Base.{Base}
 use Rattle.mc_ast.specs.Names.{Tokens, IsWord, IsAlias, name_of, is_in}
 use Rattle.mc_ast.specs.Grammar.{IsBase, int, tagged, alias}

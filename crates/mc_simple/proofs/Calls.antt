@@ -2,7 +2,7 @@
 use Rattle.std.proofs.Common.{◌≡◌, List, [], ◌∷◌, ◌++◌, ◌⊎◌, inl, refl, codes, IsTrue, ap, ◌∙◌, subst}
 use Rattle.std.proofs.lemmas.List.{map-append}
 use native.Mathlib.Omega.{arith}
-use Rattle.mc_lex.specs.declared.token.Token.{Token}
+use Rattle.mc_text.specs.declared.token.Token.{Token}
 use Rattle.mc_ast.specs.declared.trees.Name.{Name}
 use Rattle.mc_ast.specs.declared.trees.Expression.{Expression}
 use Rattle.mc_ast.specs.Trees.{Expr, CallTree}

@@ -1,6 +1,6 @@
 -- What a token does to phrases that are put together from smaller ones.
 use Rattle.std.proofs.Common.{◌≡◌, ℕ, List, [], ◌∷◌, ◌⊎◌, inl, inr, refl, subst, IsTrue, true, false}
-use Rattle.mc_lex.specs.declared.token.Token.{Token}
+use Rattle.mc_text.specs.declared.token.Token.{Token}
 use Rattle.mc_ast.specs.Names.{Tokens, is_in}
 use Rattle.mc_ast.specs.Readers.{Takes, Finds, Closes, IsStuckAt, IsSame}
 use Rattle.mc_expression.specs.Turns.{InTurn, in_turn}

@@ -3,8 +3,8 @@ use Rattle.std.specs.Prelude.{Box}
 use Rattle.std.specs.declared.alloc.Global.{Global}
 use Rattle.std.proofs.Common.{◌≡◌, ℕ, List, [], ◌∷◌, ◌⊎◌, inl, inr, refl, codes, IsTrue, true, false, subst}
 use native.Mathlib.Omega.{arith}
-use Rattle.mc_base.specs.declared.plain.Place.{Place}
-use Rattle.mc_lex.specs.declared.token.Token.{Token}
+use Rattle.mc_text.specs.declared.place.Place.{Place}
+use Rattle.mc_text.specs.declared.token.Token.{Token}
 use Rattle.mc_ast.specs.declared.trees.Name.{Name}
 use Rattle.mc_ast.specs.Trees.{Left, SimpleTree, assign, increment, decrement, call}
 use Rattle.mc_ast.specs.Names.{Tokens, IsMark, IsName, name_of, is_in}

@@ -1,8 +1,8 @@
 -- What a token does to a size.
 use Rattle.std.proofs.Common.{◌≡◌, ℕ, List, [], ◌∷◌, ◌⊎◌, inl, inr, codes, IsTrue}
 use native.Mathlib.Omega.{arith}
-use Rattle.mc_base.specs.declared.plain.Place.{Place}
-use Rattle.mc_lex.specs.declared.token.Token.{Token}
+use Rattle.mc_text.specs.declared.place.Place.{Place}
+use Rattle.mc_text.specs.declared.token.Token.{Token}
 use Rattle.mc_ast.specs.declared.trees.Size.{Size}
 use Rattle.mc_ast.specs.Names.{Tokens, IsMark, IsWord, is_in}
 use Rattle.mc_ast.specs.Grammar.{IsBase, IsSize, of_type, of_parens, of_value}

@@ -1,7 +1,7 @@
 -- With which tokens an expression begins.
 use Rattle.std.proofs.Common.{◌≡◌, ℕ, List, ◌∷◌, ◌⊎◌, inl, inr, refl, codes}
 use native.Mathlib.Omega.{arith}
-use Rattle.mc_lex.specs.declared.token.Token.{Token}
+use Rattle.mc_text.specs.declared.token.Token.{Token}
 use Rattle.mc_ast.specs.Trees.{Expr}
 use Rattle.mc_ast.specs.Names.{Tokens, IsMark, IsWord, IsName, IsNumber}
 use Rattle.mc_ast.specs.Grammar.{named, IsUnary, negative, numeral, null_word, input_call, variable, in_parens, product, IsSum, sum_of}

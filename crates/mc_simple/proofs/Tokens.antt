@@ -1,7 +1,7 @@
 -- Each token is of one class.
 use Rattle.std.proofs.Common.{◌≡◌, ℕ, List, refl, sym, ◌∙◌, subst, codes, true, false, IsTrue, IsFalse}
 use native.Mathlib.Omega.{arith}
-use Rattle.mc_lex.specs.declared.token.Token.{Token}
+use Rattle.mc_text.specs.declared.token.Token.{Token}
 use Rattle.mc_ast.specs.declared.class.Class.{Class}
 use Rattle.mc_ast.specs.Names.{IsMark, IsWord, IsName, is_reserved, is_in}
 use Rattle.mc_ast.specs.Classes.{IsClass}

@@ -1,7 +1,7 @@
 -- What completes an allocation: `malloc(..)`, perhaps behind a cast.
 use Rattle.std.specs.Prelude.{ℕ, List, [], Option, Some, None, codes}
-use Rattle.mc_base.specs.declared.plain.Place.{Place}
-use Rattle.mc_lex.specs.declared.token.Token.{Token}
+use Rattle.mc_text.specs.declared.place.Place.{Place}
+use Rattle.mc_text.specs.declared.token.Token.{Token}
 use Rattle.mc_ast.specs.declared.trees.Base.{Base}
 use Rattle.mc_ast.specs.declared.trees.Cast.{Cast}
 use Rattle.mc_ast.specs.declared.trees.Malloc.{Malloc}

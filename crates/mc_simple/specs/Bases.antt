@@ -1,7 +1,7 @@
 -- What completes a base: `int`, `struct S`, or a name that a typedef introduced.
 use Rattle.std.specs.Prelude.{ℕ, List, []}
-use Rattle.mc_base.specs.declared.plain.Place.{Place}
-use Rattle.mc_lex.specs.declared.token.Token.{Token}
+use Rattle.mc_text.specs.declared.place.Place.{Place}
+use Rattle.mc_text.specs.declared.token.Token.{Token}
 use Rattle.mc_ast.specs.declared.trees.Base.{Base}
 use Rattle.mc_ast.specs.Names.{Tokens, IsName, name_of}
 use Rattle.mc_ast.specs.Grammar.{IsBase}

@@ -1,6 +1,6 @@
 -- What completes a call behind its `(`.
 use Rattle.std.specs.Prelude.{List, [], ◌∷◌, ◌++◌, codes}
-use Rattle.mc_lex.specs.declared.token.Token.{Token}
+use Rattle.mc_text.specs.declared.token.Token.{Token}
 use Rattle.mc_ast.specs.declared.trees.Name.{Name}
 use Rattle.mc_ast.specs.Trees.{Expr, CallTree}
 use Rattle.mc_ast.specs.Names.{Tokens, IsMark}
@@ -20,7 +20,9 @@ Sums tokens rest e = IsSum e tokens rest
 
 -- behind an argument, with those up to it
 pub data BehindArguments (name : Name) (es : List Expr) : Tokens → Tokens → CallTree → Type 0 where
-  behind_arguments : {all : List Expr} {after : Token} {tokens rest : Tokens} → MoreExpressions es tokens all (after ∷ rest) → IsMark (codes ")") after → BehindArguments name es tokens rest (record { function = name; arguments = all })
+  behind_arguments : {all : List Expr} {after : Token} {tokens rest : Tokens}
+      → MoreExpressions es tokens all (after ∷ rest) → IsMark (codes ")") after
+      → BehindArguments name es tokens rest (record { function = name; arguments = all })
 
 -- behind one argument more
 abbrev pub BehindArgument : Name → List Expr → Expr → Tokens → Tokens → CallTree → Type 0

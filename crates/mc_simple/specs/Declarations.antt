@@ -1,6 +1,6 @@
 -- What completes a declaration behind its base.
 use Rattle.std.specs.Prelude.{◌≡◌, ℕ, List, [], ◌∷◌, ◌++◌, Some, None, codes, map}
-use Rattle.mc_lex.specs.declared.token.Token.{Token}
+use Rattle.mc_text.specs.declared.token.Token.{Token}
 use Rattle.mc_ast.specs.declared.trees.Base.{Base}
 use Rattle.mc_ast.specs.declared.trees.Declarator.{Declarator}
 use Rattle.mc_ast.specs.Trees.{InitialTree, DeclarationTree}
@@ -18,7 +18,9 @@ use Rattle.mc_simple.specs.Rights.{Rights, CompletesRight}
 
 -- behind a declarator and its value, with those up to it
 pub data BehindInitials (aliases : List (List ℕ)) (base : Base) (is : List InitialTree) : Tokens → Tokens → DeclarationTree → Type 0 where
-  behind_initials : {all : List InitialTree} {semicolon : Token} {tokens rest : Tokens} → MoreInitials aliases is tokens all (semicolon ∷ rest) → IsMark (codes ";") semicolon → BehindInitials aliases base is tokens rest (record { base = base; items = all })
+  behind_initials : {all : List InitialTree} {semicolon : Token} {tokens rest : Tokens}
+      → MoreInitials aliases is tokens all (semicolon ∷ rest) → IsMark (codes ";") semicolon
+      → BehindInitials aliases base is tokens rest (record { base = base; items = all })
 
 -- a declarator, perhaps with its value
 abbrev pub Initials : List (List ℕ) → Tokens → Tokens → InitialTree → Type 0
@@ -38,7 +40,10 @@ BehindBase aliases base = BehindComma aliases base []
 
 -- behind a declarator's name
 abbrev pub BehindDeclarator : List (List ℕ) → Base → List InitialTree → Declarator → Tokens → Tokens → DeclarationTree → Type 0
-BehindDeclarator aliases base is d = Either (BehindInitial aliases base is (record { declarator = d; value = None })) (Next (IsMark (codes "=")) (λ mark. InTurn (Rights aliases) (λ r. BehindInitial aliases base is (record { declarator = d; value = Some r }))))
+BehindDeclarator aliases base is d = Either (BehindInitial aliases base is (record {
+  declarator = d;
+  value = None;
+})) (Next (IsMark (codes "=")) (λ mark. InTurn (Rights aliases) (λ r. BehindInitial aliases base is (record { declarator = d; value = Some r }))))
 
 -- the tokens complete what was read of a declaration
 abbrev pub CompletesDeclarationState : List (List ℕ) → Base → List InitialTree → DeclarationState → Tokens → Tokens → DeclarationTree → Type 0

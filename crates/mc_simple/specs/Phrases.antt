@@ -1,6 +1,6 @@
 -- Phrases put together from smaller ones. A phrase is a relation: these tokens, up to the rest, spell this tree.
 use Rattle.std.specs.Prelude.{◌∷◌, ◌⊎◌}
-use Rattle.mc_lex.specs.declared.token.Token.{Token}
+use Rattle.mc_text.specs.declared.token.Token.{Token}
 use Rattle.mc_ast.specs.Names.{Tokens}
 
 -- no token more: the tree is there

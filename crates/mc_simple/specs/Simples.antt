@@ -1,7 +1,7 @@
 -- What completes a simple statement.
 use Rattle.std.specs.Prelude.{ℕ, List, [], ◌∷◌, ◌++◌, codes}
-use Rattle.mc_base.specs.declared.plain.Place.{Place}
-use Rattle.mc_lex.specs.declared.token.Token.{Token}
+use Rattle.mc_text.specs.declared.place.Place.{Place}
+use Rattle.mc_text.specs.declared.token.Token.{Token}
 use Rattle.mc_ast.specs.declared.trees.Name.{Name}
 use Rattle.mc_ast.specs.Trees.{Left, Expr, Right, SimpleTree, assign, add, subtract, increment, decrement, increment_first, decrement_first, call}
 use Rattle.mc_ast.specs.Names.{Tokens, IsMark, IsName, name_of}

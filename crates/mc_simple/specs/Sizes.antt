@@ -1,7 +1,7 @@
 -- What completes the size that `malloc` is given: `sizeof(struct S)`, `sizeof(*p)`, `sizeof *p`.
 use Rattle.std.specs.Prelude.{ℕ, List, [], codes}
-use Rattle.mc_base.specs.declared.plain.Place.{Place}
-use Rattle.mc_lex.specs.declared.token.Token.{Token}
+use Rattle.mc_text.specs.declared.place.Place.{Place}
+use Rattle.mc_text.specs.declared.token.Token.{Token}
 use Rattle.mc_ast.specs.declared.trees.Base.{Base}
 use Rattle.mc_ast.specs.declared.trees.Size.{Size}
 use Rattle.mc_ast.specs.Names.{Tokens, IsMark, IsName, name_of}

@@ -10,8 +10,7 @@ ghost use Rattle.mc_simple.specs.Allocations.{ClosingMalloc, BehindSize, BehindM
 use crate::base::{BaseReader, BaseStep};
 use crate::size::{SizeReader, SizeStep};
 use mc_ast::{Base, Cast, Class, Malloc};
-use mc_base::Place;
-use mc_lex::Token;
+use mc_text::{Place, Token};
 use std::alloc::{AllocError, Global};
 
 /// Reads `malloc(..)`, perhaps behind a cast.

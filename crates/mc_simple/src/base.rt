@@ -7,8 +7,7 @@ ghost use Rattle.mc_simple.specs.Bases.{Bases, BehindStruct, CompletesBase, IsBa
 ghost use Rattle.mc_simple.specs.declared.base.BaseReader.{BaseReader};
 
 use mc_ast::{Base, Class, name_at};
-use mc_base::Place;
-use mc_lex::Token;
+use mc_text::{Place, Token};
 use std::alloc::{AllocError, Global};
 
 /// Reads a base: `int`, `struct S`, or a name that a typedef introduced.

@@ -11,7 +11,7 @@ ghost use Rattle.mc_simple.specs.declared.call.CallReader.{CallReader};
 use crate::sum::fresh_sum;
 use mc_ast::{Call, Class, Expression, Name};
 use mc_expression::{ExpressionReader, ExpressionStep, expressions_can_end};
-use mc_lex::Token;
+use mc_text::Token;
 use std::alloc::{AllocError, Global};
 
 /// Reads a call behind its `(`.

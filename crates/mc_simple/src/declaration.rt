@@ -3,7 +3,9 @@ ghost use Rattle.std.specs.Prelude.{◌≡◌, ℕ, List, Some, IfOk, map};
 ghost use Rattle.mc_ast.specs.Classes.{IsClass};
 ghost use Rattle.mc_ast.specs.Names.{is_in, IsName, name_of};
 ghost use Rattle.mc_ast.specs.Readers.{IsSame, CanEnd};
-ghost use Rattle.mc_simple.specs.Declarations.{BehindBase, BehindComma, BehindDeclarator, BehindInitial, BehindInitials, CompletesDeclaration, IsDeclarationMove, IsDeclarationPut, IsDeclarationStep, IsInInitial};
+ghost use Rattle.mc_simple.specs.Declarations.{BehindBase, BehindComma, BehindDeclarator, BehindInitial};
+ghost use Rattle.mc_simple.specs.Declarations.{BehindInitials, CompletesDeclaration, IsDeclarationMove};
+ghost use Rattle.mc_simple.specs.Declarations.{IsDeclarationPut, IsDeclarationStep, IsInInitial};
 ghost use Rattle.mc_simple.specs.Phrases.{Next};
 ghost use Rattle.mc_ast.specs.Views.{initial_of, right_of};
 ghost use Rattle.mc_ast.specs.declared.trees.Declarator.{Declarator};
@@ -13,9 +15,8 @@ ghost use Rattle.mc_simple.specs.declared.declaration.DeclarationReader.{Declara
 
 use crate::right::{RightReader, RightStep};
 use mc_ast::{Base, Class, Declaration, Declarator, Initial, RightSide, name_at};
-use mc_base::Place;
 use mc_expression::expressions_can_end;
-use mc_lex::Token;
+use mc_text::{Place, Token};
 use std::alloc::{AllocError, Global};
 use std::mem;
 
@@ -93,7 +94,8 @@ impl DeclarationReader {
         alias: bool,
     ) -> Result<DeclarationStep, AllocError>
         requires { IsClass token.now class }
-        ensures { (aliases : List (List ℕ)) → is_in aliases token.now.text ≡ alias → IfOk result (IsDeclarationStep (CompletesDeclaration aliases self.old) (CompletesDeclaration aliases self.new) token.now) }
+        ensures { (aliases : List (List ℕ)) → is_in aliases token.now.text ≡ alias
+            → IfOk result (IsDeclarationStep (CompletesDeclaration aliases self.old) (CompletesDeclaration aliases self.new) token.now) }
     {
         match &mut self.state {
             DeclarationState::Value(_, reader) => match reader.step(token, class, alias)? {
@@ -138,7 +140,9 @@ impl DeclarationReader {
         class: Class,
     ) -> Result<DeclarationMove, AllocError>
         requires { IsClass token.now class }
-        ensures { (declarator : Declarator) (reader : RightReader) → self.state ≡ DeclarationState.Value declarator reader → (aliases : List (List ℕ)) → IfOk result (IsDeclarationMove aliases (BehindInitial aliases self.base (map initial_of self.items.items) (record { declarator = declarator; value = Some (right_of right) })) token.now) }
+        ensures { (declarator : Declarator) (reader : RightReader)
+            → self.state ≡ DeclarationState.Value declarator reader → (aliases : List (List ℕ))
+            → IfOk result (IsDeclarationMove aliases (BehindInitial aliases self.base (map initial_of self.items.items) (record { declarator = declarator; value = Some (right_of right) })) token.now) }
     {
         let DeclarationReader {
             alloc,
@@ -240,7 +244,8 @@ fn behind_star(
     class: Class,
 ) -> Result<DeclarationMove, AllocError>
     requires { IsClass token.now class }
-    ensures { (aliases : List (List ℕ)) → IfOk result (IsDeclarationMove aliases (Next IsName (λ name. BehindDeclarator aliases base (map initial_of items.items) (record { pointer = Some place; name = name_of name }))) token.now) }
+    ensures { (aliases : List (List ℕ))
+        → IfOk result (IsDeclarationMove aliases (Next IsName (λ name. BehindDeclarator aliases base (map initial_of items.items) (record { pointer = Some place; name = name_of name }))) token.now) }
 {
     match class {
         Class::Name => {

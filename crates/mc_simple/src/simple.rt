@@ -1,6 +1,6 @@
 // Reads a simple statement.
 ghost use Rattle.std.specs.Prelude.{◌≡◌, ◌∷◌, ℕ, List, IfOk};
-ghost use Rattle.mc_lex.specs.declared.token.Token.{Token};
+ghost use Rattle.mc_text.specs.declared.token.Token.{Token};
 ghost use Rattle.mc_ast.specs.Classes.{IsClass};
 ghost use Rattle.mc_ast.specs.Names.{is_in, IsName, name_of};
 ghost use Rattle.mc_ast.specs.Grammar.{IsSimple};
@@ -17,9 +17,8 @@ use crate::call::{CallReader, CallStep};
 use crate::right::{RightReader, RightStep};
 use crate::sum::fresh_sum;
 use mc_ast::{Class, Expression, LeftValue, Name, Simple, name_at};
-use mc_base::Place;
 use mc_expression::{ExpressionReader, ExpressionStep, expressions_can_end};
-use mc_lex::{Text, Token};
+use mc_text::{Place, Text, Token};
 use std::alloc::{AllocError, Global};
 use std::mem;
 
@@ -95,7 +94,8 @@ impl SimpleReader {
 
     /// Behind a name with which the statement begins.
     pub fn behind_name(alloc: Global, name: Name) -> SimpleReader
-        ensures { (aliases : List (List ℕ)) (token : Token) → IsName token → name_of token ≡ name → IsSame (CompletesSimple aliases result) (λ tokens rest s. IsSimple aliases s (token ∷ tokens) rest) }
+        ensures { (aliases : List (List ℕ)) (token : Token) → IsName token → name_of token ≡ name
+            → IsSame (CompletesSimple aliases result) (λ tokens rest s. IsSimple aliases s (token ∷ tokens) rest) }
     {
         SimpleReader {
             alloc,

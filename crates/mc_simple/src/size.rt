@@ -8,8 +8,7 @@ ghost use Rattle.mc_expression.specs.Turns.{InTurn};
 
 use crate::base::{BaseReader, BaseStep};
 use mc_ast::{Class, Size, name_at};
-use mc_base::Place;
-use mc_lex::Token;
+use mc_text::{Place, Token};
 use std::alloc::{AllocError, Global};
 
 /// Reads `sizeof(struct S)`, `sizeof(*p)` or `sizeof *p`. Each place is that of `sizeof`.

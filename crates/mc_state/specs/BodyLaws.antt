@@ -56,4 +56,5 @@ abbrev pub SegCoverMakesSegment : Type 0
 SegCoverMakesSegment =
     (defs : List Def) (v : Valuation) (values : List (Option ℤ)) (region whole : Region) (s : State) (pred : PredId) (at : Term) (args : List Term) («end» : Term) (ends : List Term) (es left : Edges)
     → IsDefs defs → IsAtAddresses whole → StandsBy defs v values whole s → SegCover defs s pred at args end ends es left → EdgesMeet defs v es region
-    → (part : Region) × (rest : Region) × Split region part rest × Seg defs pred (term_value v at) (map (term_value v) args) (term_value v end) (map (term_value v) ends) part × EdgesMeet defs v left rest
+    → (part : Region) × (rest : Region) × Split region part rest
+    × Seg defs pred (term_value v at) (map (term_value v) args) (term_value v end) (map (term_value v) ends) part × EdgesMeet defs v left rest

@@ -51,7 +51,7 @@ pub record CanMerge (kinds : Kinds) (keep gone : NodeId) : Type 0 where
 
 -- nothing can be dropped or merged, and the state is not false
 pub record IsTidy (s : State) : Type 0 where
-  pub sound : IsFalse s → ⊥
+  pub consistent : IsFalse s → ⊥
   pub reached : (place : ℕ) (id : EdgeId) (e : Edge) → slice_get s.graph.edges place ≡ Some (id, e) → IsReached s (start_of e)
   pub merged : (keep gone : NodeId) → CanMerge s.kinds keep gone → AreEqual s keep gone → ⊥
 

@@ -1,5 +1,7 @@
 -- The arguments with which a predicate may hold at a term.
-use Rattle.std.specs.Prelude.{◌≡◌, ◌⊎◌, ◌≤◌, ◌<◌, ℕ, zero, suc, List, [], ◌∷◌, ◌++◌, ℤ, pos, negsuc, ◌+ℤ◌, ◌-ℤ◌, ◌≤ℤ◌, int_le, ◌&&◌, Bool, true, false, Option, Some, None, length, map, replicate, slice_get, slice_set, if◌then◌else◌}
+use Rattle.std.specs.Prelude.{◌≡◌, ◌⊎◌, ◌≤◌, ◌<◌, ℕ, zero, suc, List, [], ◌∷◌, ◌++◌, ℤ, pos, negsuc, ◌+ℤ◌, ◌-ℤ◌}
+use Rattle.std.specs.Prelude.{◌≤ℤ◌, int_le, ◌&&◌, Bool, true, false, Option, Some, None, length, map, replicate}
+use Rattle.std.specs.Prelude.{slice_get, slice_set, if◌then◌else◌}
 use Rattle.mc_base.specs.declared.ids.EdgeId.{EdgeId}
 use Rattle.mc_base.specs.declared.ids.NodeId.{NodeId}
 use Rattle.mc_base.specs.declared.ids.PredId.{PredId}
@@ -149,7 +151,8 @@ abbrev pub ByBlock : Guessing → Def → State → PredId → Term → Edges �
 ByBlock M def s pred at es guess =
     (place : ℕ) × (rule : Rule) × (shape : StructId) × (id : EdgeId) × (contents : List NodeId)
     × (slice_get def.rules place ≡ Some rule) × (rule.block ≡ Some shape) × HasWholeBlock s at es shape id contents
-    × ((earlier : ℕ) (other : Rule) (own : StructId) (i : EdgeId) (ns : List NodeId) → earlier < place → slice_get def.rules earlier ≡ Some other → other.block ≡ Some own → HasWholeBlock s at es own i ns → ⊥)
+    × ((earlier : ℕ) (other : Rule) (own : StructId) (i : EdgeId) (ns : List NodeId) → earlier < place
+    → slice_get def.rules earlier ≡ Some other → other.block ≡ Some own → HasWholeBlock s at es own i ns → ⊥)
     × ((i : EdgeId) (ns : List NodeId) → HasWholeBlock s at es shape i ns → id.0 ≤ i.0)
     × ByRule M pred def rule at contents (without es id) guess
 

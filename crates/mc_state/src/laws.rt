@@ -1,5 +1,14 @@
 // What holds of states and of what stands for them. Each law is what a function with no body ensures.
-ghost use Rattle.mc_state.specs.Laws.{DerivedIsTrue, NoneStandsForFalse, EqualNodesAreOne, LiesInItsKind, UnknownStands, WholeWithoutEdges, StandsByAgreement, ValuesAgree, NodesAreAdded, NodesHaveValues, AtomsAreAdded, VarIsSet, VarIsForgotten, VarIsKnown, EdgesAreTaken, EdgesArePut, EdgeIsReplaced, AtomsAreDropped, EdgesAreDropped, NodeIsDropped, RenamedStands, StandsRenamed, StandsMerged, MergedStands, UnknownIsBounded, VarStaysBounded, NodesStayBounded, NodesAreBelow, NewNodesAreThere, NewNodesHaveKinds, AtomsStayBounded, EdgesStayBounded, FewerEdgesStayBounded, ReplacedStaysBounded, PickedNodesAreThere, RenamedStaysBounded, MergedStaysBounded, DroppedStaysBounded};
+ghost use Rattle.mc_state.specs.Laws.{DerivedIsTrue, NoneStandsForFalse, EqualNodesAreOne, LiesInItsKind};
+ghost use Rattle.mc_state.specs.Laws.{UnknownStands, WholeWithoutEdges, StandsByAgreement, ValuesAgree};
+ghost use Rattle.mc_state.specs.Laws.{NodesAreAdded, NodesHaveValues, AtomsAreAdded, VarIsSet, VarIsForgotten};
+ghost use Rattle.mc_state.specs.Laws.{VarIsKnown, EdgesAreTaken, EdgesArePut, EdgeIsReplaced, AtomsAreDropped};
+ghost use Rattle.mc_state.specs.Laws.{EdgesAreDropped, NodeIsDropped, RenamedStands, StandsRenamed, StandsMerged};
+ghost use Rattle.mc_state.specs.Laws.{MergedStands, UnknownIsBounded, VarStaysBounded, NodesStayBounded};
+ghost use Rattle.mc_state.specs.Laws.{NodesAreBelow, NewNodesAreThere, NewNodesHaveKinds, AtomsStayBounded};
+ghost use Rattle.mc_state.specs.Laws.{EdgesStayBounded, FewerEdgesStayBounded, ReplacedStaysBounded};
+ghost use Rattle.mc_state.specs.Laws.{PickedNodesAreThere, RenamedStaysBounded, MergedStaysBounded};
+ghost use Rattle.mc_state.specs.Laws.{DroppedStaysBounded};
 
 /// What is derived in a state is true wherever a configuration stands for it.
 pub fn derived_is_true()

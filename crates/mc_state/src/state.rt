@@ -4,7 +4,9 @@ ghost use Rattle.std.specs.List.{list_any, position_from};
 ghost use Rattle.mc_base.specs.declared.plain.Atom.TheVariants.{Eq, Ne, In};
 ghost use Rattle.mc_base.specs.Nodes.{null};
 ghost use Rattle.mc_state.specs.State.{unknown, var_node, with_var, without_vars, with_number, with_atom, with_block, next_node};
-ghost use Rattle.mc_state.specs.Straight.{with_field, without_block, is_null, is_wrong, is_at_null, is_false, is_block_at, is_shaped_block_at, block_place, shaped_block_place, edge_at, apart, put_field};
+ghost use Rattle.mc_state.specs.Straight.{with_field, without_block, is_null, is_wrong, is_at_null, is_false};
+ghost use Rattle.mc_state.specs.Straight.{is_block_at, is_shaped_block_at, block_place, shaped_block_place, edge_at};
+ghost use Rattle.mc_state.specs.Straight.{apart, put_field};
 
 use crate::facts::Facts;
 use mc_base::{Atom, EdgeId, Items, Kind, NodeId, StructId, VarId};

@@ -18,16 +18,16 @@ lacks = (
 
 module _ (law : NoneStandsForFalse) where
   pub uninit : IsUnmet ex.flow defs (ex.at 19) ex.one_cell (Uninit ex.z)
-  uninit = record { sound = one_cell_sound law; code = _; at = refl; lacks = inl (refl, refl) }
+  uninit = record { consistent = one_cell_sound law; code = _; at = refl; lacks = inl (refl, refl) }
 
   pub no_block : IsUnmet ex.flow defs (ex.at 7) ex.no_cell (NoBlock (node 1))
-  no_block = record { sound = no_cell_sound law; code = _; at = refl; lacks = (((node 1, refl), tt), (refl, lacks)) }
+  no_block = record { consistent = no_cell_sound law; code = _; at = refl; lacks = (((node 1, refl), tt), (refl, lacks)) }
 
   pub reached : IsUnmet ex.flow defs (ex.at 20) ex.one_cell Reached
-  reached = record { sound = one_cell_sound law; code = _; at = refl; lacks = (tt, tt) }
+  reached = record { consistent = one_cell_sound law; code = _; at = refl; lacks = (tt, tt) }
 
   pub uninit_field : IsUnmet ex.flow defs (ex.at 18) ex.one_cell (UninitField (node 1) 0)
-  uninit_field = record { sound = one_cell_sound law; code = _; at = refl; lacks = (((node 1, refl), tt), (refl, refl, (here, refl))) }
+  uninit_field = record { consistent = one_cell_sound law; code = _; at = refl; lacks = (((node 1, refl), tt), (refl, refl, (here, refl))) }
 
   pub not_empty : IsUnmet ex.flow defs (ex.at 16) ex.not_whole (NotEmpty false)
-  not_empty = record { sound = not_whole_sound law; code = _; at = refl; lacks = (tt, (refl, inl (λ (e : false ≡ true). cc))) }
+  not_empty = record { consistent = not_whole_sound law; code = _; at = refl; lacks = (tt, (refl, inl (λ (e : false ≡ true). cc))) }

@@ -40,19 +40,19 @@ here = record { id = record { 0 = 0 }; at = node 1; fields = None ∷ Some null 
 
 module _ (sound : IsFalse ex.one_cell → ⊥) where
   pub skip : IsStep ex.flow (ex.at 0) ex.one_cell (moved_to (ex.at 1) ex.one_cell ∷ [])
-  skip = S1 (record { q = ex.at 1; at = refl; sound = sound; gives = refl })
+  skip = S1 (record { q = ex.at 1; at = refl; consistent = sound; gives = refl })
 
   pub copy : IsStep ex.flow (ex.at 1) ex.one_cell (moved_to (ex.at 2) (with_var ex.one_cell ex.t (Some (node 1))) ∷ [])
-  copy = S2 (record { x = ex.t; from = Var ex.x; q = ex.at 2; at = refl; sound = sound; n = node 1; known = refl; gives = refl })
+  copy = S2 (record { x = ex.t; from = Var ex.x; q = ex.at 2; at = refl; consistent = sound; n = node 1; known = refl; gives = refl })
 
   pub undef : IsStep ex.flow (ex.at 2) ex.one_cell (moved_to (ex.at 3) ex.one_cell ∷ [])
-  undef = S3 (record { xs = ex.z ∷ ex.t ∷ []; q = ex.at 3; at = refl; sound = sound; gives = refl })
+  undef = S3 (record { xs = ex.z ∷ ex.t ∷ []; q = ex.at 3; at = refl; consistent = sound; gives = refl })
 
   pub input : IsStep ex.flow (ex.at 3) ex.one_cell (moved_to (ex.at 4) (ex.with_z ex.one_cell) ∷ [])
-  input = S4 (record { x = ex.z; q = ex.at 4; at = refl; sound = sound; gives = refl })
+  input = S4 (record { x = ex.z; q = ex.at 4; at = refl; consistent = sound; gives = refl })
 
   pub «end» : IsStep ex.flow (ex.at 17) ex.one_cell []
-  «end» = S17 (record { at = refl; sound = sound; gives = refl })
+  «end» = S17 (record { at = refl; consistent = sound; gives = refl })
 
   module _ (law : DerivedIsTrue) where
     pub sum : IsStep ex.flow (ex.at 4) ex.one_cell ex.after_sum
@@ -63,7 +63,7 @@ module _ (sound : IsFalse ex.one_cell → ⊥) where
           o' = Const (pos 1);
           q = ex.at 5;
           at = refl;
-          sound = sound;
+          consistent = sound;
           computes = record {
             a = node 2;
             left_known = refl;
@@ -89,7 +89,7 @@ module _ (sound : IsFalse ex.one_cell → ⊥) where
           o' = Const (pos 1);
           q = ex.at 22;
           at = refl;
-          sound = sound;
+          consistent = sound;
           computes = record {
             a = node 3;
             left_known = refl;
@@ -115,7 +115,7 @@ module _ (sound : IsFalse ex.one_cell → ⊥) where
           o' = Const (pos 1);
           q = ex.at 6;
           at = refl;
-          sound = sound;
+          consistent = sound;
           computes = record {
             a = node 2;
             left_known = refl;
@@ -141,7 +141,7 @@ module _ (sound : IsFalse ex.one_cell → ⊥) where
           o' = Const (pos 1);
           q = ex.at 7;
           at = refl;
-          sound = sound;
+          consistent = sound;
           computes = record {
             a = node 2;
             left_known = refl;
@@ -167,7 +167,7 @@ module _ (sound : IsFalse ex.one_cell → ⊥) where
           t = ex.at 14;
           f = ex.at 15;
           at = refl;
-          sound = sound;
+          consistent = sound;
           a = node 2;
           left_known = refl;
           b = node 3;
@@ -182,7 +182,7 @@ module _ (sound : IsFalse ex.one_cell → ⊥) where
         })
 
   pub load : IsStep ex.flow (ex.at 7) ex.one_cell (moved_to (ex.at 8) (with_var ex.one_cell ex.t (Some null)) ∷ [])
-  load = S8 (record { x = ex.t; y = ex.x; shape = cell_id; f = 1; q = ex.at 8; at = refl; sound = sound; n = node 1; known = refl; block = here; m = null; field = refl; gives = refl })
+  load = S8 (record { x = ex.t; y = ex.x; shape = cell_id; f = 1; q = ex.at 8; at = refl; consistent = sound; n = node 1; known = refl; block = here; m = null; field = refl; gives = refl })
 
   pub store : IsStep ex.flow (ex.at 8) ex.one_cell ex.after_store
   store =
@@ -193,7 +193,7 @@ module _ (sound : IsFalse ex.one_cell → ⊥) where
         from = Var ex.y;
         q = ex.at 9;
         at = refl;
-        sound = sound;
+        consistent = sound;
         m = node 2;
         value = refl;
         n = node 1;
@@ -206,13 +206,13 @@ module _ (sound : IsFalse ex.one_cell → ⊥) where
       })
 
   pub malloc : IsStep ex.flow (ex.at 9) ex.one_cell ex.after_malloc
-  malloc = S10 (record { x = ex.t; shape = cell_id; q = ex.at 10; at = refl; sound = sound; gives = refl })
+  malloc = S10 (record { x = ex.t; shape = cell_id; q = ex.at 10; at = refl; consistent = sound; gives = refl })
 
   pub free_null : IsStep ex.flow (ex.at 10) ex.one_cell (moved_to (ex.at 11) ex.one_cell ∷ [])
-  free_null = S11 (record { from = Const (pos 0); q = ex.at 11; at = refl; sound = sound; n = null; known = refl; zero = inl (itself (Ptr, inl refl)); gives = refl })
+  free_null = S11 (record { from = Const (pos 0); q = ex.at 11; at = refl; consistent = sound; n = null; known = refl; zero = inl (itself (Ptr, inl refl)); gives = refl })
 
   pub free : IsStep ex.flow (ex.at 11) ex.one_cell ex.after_free
-  free = S12 (record { from = Var ex.x; q = ex.at 12; at = refl; sound = sound; n = node 1; known = refl; before = ex.one_cell; operand = refl; shape = cell_id; block = here; gives = refl })
+  free = S12 (record { from = Var ex.x; q = ex.at 12; at = refl; consistent = sound; n = node 1; known = refl; before = ex.one_cell; operand = refl; shape = cell_id; block = here; gives = refl })
 
   pub equal : IsStep ex.flow (ex.at 12) ex.one_cell ex.after_equal
   equal =
@@ -222,7 +222,7 @@ module _ (sound : IsFalse ex.one_cell → ⊥) where
         t = ex.at 13;
         f = ex.at 14;
         at = refl;
-        sound = sound;
+        consistent = sound;
         a = node 1;
         left_known = refl;
         b = null;
@@ -234,7 +234,7 @@ module _ (sound : IsFalse ex.one_cell → ⊥) where
 
   pub assume : IsStep ex.flow (ex.at 14) ex.one_cell ex.after_assume
   assume =
-      S15 (record { pred = lenlist_id; x = ex.t; os = Const (pos 0) ∷ []; q = ex.at 15; at = refl; sound = sound; args = null ∷ []; known = (refl, tt); before = ex.one_cell; operands = refl; gives = refl })
+      S15 (record { pred = lenlist_id; x = ex.t; os = Const (pos 0) ∷ []; q = ex.at 15; at = refl; consistent = sound; args = null ∷ []; known = (refl, tt); before = ex.one_cell; operands = refl; gives = refl })
 
   pub assert : IsStep ex.flow (ex.at 15) ex.one_cell ex.after_assert
   assert =
@@ -244,7 +244,7 @@ module _ (sound : IsFalse ex.one_cell → ⊥) where
         os = [];
         q = ex.at 16;
         at = refl;
-        sound = sound;
+        consistent = sound;
         n = null;
         known = refl;
         args = [];
@@ -257,7 +257,7 @@ module _ (sound : IsFalse ex.one_cell → ⊥) where
       })
 
 pub empty : (IsFalse ex.no_cell → ⊥) → IsStep ex.flow (ex.at 16) ex.no_cell (moved_to (ex.at 17) ex.no_cell ∷ [])
-empty sound = S18 (record { q = ex.at 17; at = refl; sound = sound; whole = refl; none = refl; gives = refl })
+empty consistent = S18 (record { q = ex.at 17; at = refl; consistent = sound; whole = refl; none = refl; gives = refl })
 
 -- ---- the side branch
 pub joins_none : (whole part : Option Block) → part ≡ None → Joins whole part whole

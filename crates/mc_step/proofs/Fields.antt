@@ -7,7 +7,7 @@ use Rattle.mc_base.specs.declared.ids.PointId.{PointId}
 use Rattle.mc_base.specs.declared.ids.StructId.{StructId}
 use Rattle.mc_base.specs.declared.ids.VarId.{VarId}
 use Rattle.mc_base.specs.declared.plain.FaultKind.TheVariants as faults
-use Rattle.mc_base.specs.declared.plain.Place.{Place}
+use Rattle.mc_text.specs.declared.place.Place.{Place}
 use Rattle.mc_base.specs.Nodes.{Valuation}
 use Rattle.mc_base.specs.Runs.{next, last, fault}
 use Rattle.mc_heap.specs.Access.{block_field, field_at, with_field}

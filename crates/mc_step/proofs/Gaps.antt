@@ -99,7 +99,7 @@ module _ (law : BlocksAtOneNode) (flow : Flow) (defs : List Def) (p : PointId) (
       let same : n ≡ i.n = same_node (var_node s i.y) n i.n l.0 i.known in
       let other = l.2.0 in
       let here : HasBlock s i.n i.shape = record { id = other.id; at = other.at; fields = other.fields; there = other.there; equal = subst (λ (m : NodeId). AreEqual s m other.at) same other.equal } in
-      let fields : other.fields ≡ i.block.fields = one_block law s i.n i.shape here i.block i.sound in
+      let fields : other.fields ≡ i.block.fields = one_block law s i.n i.shape here i.block i.consistent in
       let clash : Some (Some i.m) ≡ Some None = sym i.field ∙ ap (λ (xs : List (Option NodeId)). slice_get xs i.f) (sym fields) ∙ l.2.1 in
       cc)
       (λ flag noshape l. l)

@@ -4,7 +4,7 @@ use Rattle.std.specs.Prelude.{option_map}
 use Rattle.mc_base.specs.declared.ids.NodeId.{NodeId}
 use Rattle.mc_base.specs.declared.ids.PointId.{PointId}
 use Rattle.mc_base.specs.declared.ids.VarId.{VarId}
-use Rattle.mc_base.specs.declared.plain.Place.{Place}
+use Rattle.mc_text.specs.declared.place.Place.{Place}
 use Rattle.mc_base.specs.Nodes.{Valuation}
 use Rattle.mc_base.specs.Runs as runs
 use Rattle.mc_heap.specs.Choices.{Choice}

@@ -36,7 +36,7 @@ moved_to q s = record { point = q; goal = None; state = s }
 pub record S1Is (flow : Flow) (p : PointId) (s : State) (next : List Next) : Type 0 where
   pub q : PointId
   pub at : code_at flow p ≡ Some (instr.Skip q)
-  pub sound : IsFalse s → ⊥
+  pub consistent : IsFalse s → ⊥
   pub gives : next ≡ moved_to q s ∷ []
 
 -- S2: at a Copy the operand is known, and the variable gets its node
@@ -45,7 +45,7 @@ pub record S2Is (flow : Flow) (p : PointId) (s : State) (next : List Next) : Typ
   pub from : Operand
   pub q : PointId
   pub at : code_at flow p ≡ Some (instr.Copy x from q)
-  pub sound : IsFalse s → ⊥
+  pub consistent : IsFalse s → ⊥
   pub n : NodeId
   pub known : operand_node s from ≡ Some n
   pub gives : next ≡ moved_to q (with_var (with_operand s from) x (Some n)) ∷ []
@@ -55,7 +55,7 @@ pub record S3Is (flow : Flow) (p : PointId) (s : State) (next : List Next) : Typ
   pub xs : List VarId
   pub q : PointId
   pub at : code_at flow p ≡ Some (instr.Undef xs q)
-  pub sound : IsFalse s → ⊥
+  pub consistent : IsFalse s → ⊥
   pub gives : next ≡ moved_to q (without_vars s xs) ∷ []
 
 -- S4: at an Input the variable gets a new node of kind Int
@@ -63,7 +63,7 @@ pub record S4Is (flow : Flow) (p : PointId) (s : State) (next : List Next) : Typ
   pub x : VarId
   pub q : PointId
   pub at : code_at flow p ≡ Some (instr.Input x q)
-  pub sound : IsFalse s → ⊥
+  pub consistent : IsFalse s → ⊥
   pub gives : next ≡ moved_to q (with_var (with_nodes s (Int ∷ [])) x (Some (next_node s))) ∷ []
 
 -- ---- sums, differences and products
@@ -127,7 +127,7 @@ pub record S5Is (flow : Flow) (p : PointId) (s : State) (next : List Next) : Typ
   pub o' : Operand
   pub q : PointId
   pub at : code_at flow p ≡ Some (instr.Add x o o' q)
-  pub sound : IsFalse s → ⊥
+  pub consistent : IsFalse s → ⊥
   pub computes : Computes (λ a b. a +ℤ b) sum_offsets x o o' q s next
 
 -- S6: at a Sub
@@ -137,7 +137,7 @@ pub record S6Is (flow : Flow) (p : PointId) (s : State) (next : List Next) : Typ
   pub o' : Operand
   pub q : PointId
   pub at : code_at flow p ≡ Some (instr.Sub x o o' q)
-  pub sound : IsFalse s → ⊥
+  pub consistent : IsFalse s → ⊥
   pub computes : Computes (λ a b. a -ℤ b) difference_offsets x o o' q s next
 
 -- S7: at a Mul
@@ -147,7 +147,7 @@ pub record S7Is (flow : Flow) (p : PointId) (s : State) (next : List Next) : Typ
   pub o' : Operand
   pub q : PointId
   pub at : code_at flow p ≡ Some (instr.Mul x o o' q)
-  pub sound : IsFalse s → ⊥
+  pub consistent : IsFalse s → ⊥
   pub computes : Computes (λ a b. a *ℤ b) no_offsets x o o' q s next
 
 -- ---- blocks
@@ -160,7 +160,7 @@ pub record S8Is (flow : Flow) (p : PointId) (s : State) (next : List Next) : Typ
   pub f : ℕ
   pub q : PointId
   pub at : code_at flow p ≡ Some (instr.Load x y shape f q)
-  pub sound : IsFalse s → ⊥
+  pub consistent : IsFalse s → ⊥
   pub n : NodeId
   pub known : var_node s y ≡ Some n
   pub block : HasBlock s n shape
@@ -176,7 +176,7 @@ pub record S9Is (flow : Flow) (p : PointId) (s : State) (next : List Next) : Typ
   pub from : Operand
   pub q : PointId
   pub at : code_at flow p ≡ Some (instr.Store y shape f from q)
-  pub sound : IsFalse s → ⊥
+  pub consistent : IsFalse s → ⊥
   pub m : NodeId
   pub value : operand_node s from ≡ Some m
   pub n : NodeId
@@ -193,7 +193,7 @@ pub record S10Is (flow : Flow) (p : PointId) (s : State) (next : List Next) : Ty
   pub shape : StructId
   pub q : PointId
   pub at : code_at flow p ≡ Some (instr.Malloc x shape q)
-  pub sound : IsFalse s → ⊥
+  pub consistent : IsFalse s → ⊥
   pub gives : next ≡ moved_to q (with_var s x (Some null)) ∷ moved_to q (with_var (with_block s shape (field_count flow.structs shape)) x (Some (next_node s))) ∷ []
 
 -- S11: at a Free the operand is known to be null
@@ -201,7 +201,7 @@ pub record S11Is (flow : Flow) (p : PointId) (s : State) (next : List Next) : Ty
   pub from : Operand
   pub q : PointId
   pub at : code_at flow p ≡ Some (instr.Free from q)
-  pub sound : IsFalse s → ⊥
+  pub consistent : IsFalse s → ⊥
   pub n : NodeId
   pub known : operand_node s from ≡ Some n
   pub zero : AreEqual (with_operand s from) n null
@@ -216,7 +216,7 @@ pub record S12Is (flow : Flow) (p : PointId) (s : State) (next : List Next) : Ty
   pub from : Operand
   pub q : PointId
   pub at : code_at flow p ≡ Some (instr.Free from q)
-  pub sound : IsFalse s → ⊥
+  pub consistent : IsFalse s → ⊥
   pub n : NodeId
   pub known : operand_node s from ≡ Some n
   pub before : State
@@ -235,7 +235,7 @@ pub record S13Is (flow : Flow) (p : PointId) (s : State) (next : List Next) : Ty
   pub t : PointId
   pub f : PointId
   pub at : code_at flow p ≡ Some (instr.TestEq o o' t f)
-  pub sound : IsFalse s → ⊥
+  pub consistent : IsFalse s → ⊥
   pub a : NodeId
   pub left_known : operand_node s o ≡ Some a
   pub b : NodeId
@@ -260,7 +260,7 @@ pub record S14Is (flow : Flow) (p : PointId) (s : State) (next : List Next) : Ty
   pub t : PointId
   pub f : PointId
   pub at : code_at flow p ≡ Some (instr.TestLe o o' t f)
-  pub sound : IsFalse s → ⊥
+  pub consistent : IsFalse s → ⊥
   pub a : NodeId
   pub left_known : operand_node s o ≡ Some a
   pub b : NodeId
@@ -282,7 +282,7 @@ pub record S15Is (flow : Flow) (p : PointId) (s : State) (next : List Next) : Ty
   pub os : List Operand
   pub q : PointId
   pub at : code_at flow p ≡ Some (instr.AssumeShape pred x os q)
-  pub sound : IsFalse s → ⊥
+  pub consistent : IsFalse s → ⊥
   pub args : List NodeId
   pub known : AreNodesOf s os args
   pub before : State
@@ -296,7 +296,7 @@ pub record S16Is (flow : Flow) (p : PointId) (s : State) (next : List Next) : Ty
   pub os : List Operand
   pub q : PointId
   pub at : code_at flow p ≡ Some (instr.AssertShape pred o os q)
-  pub sound : IsFalse s → ⊥
+  pub consistent : IsFalse s → ⊥
   pub n : NodeId
   pub known : operand_node s o ≡ Some n
   pub args : List NodeId
@@ -310,14 +310,14 @@ pub record S16Is (flow : Flow) (p : PointId) (s : State) (next : List Next) : Ty
 -- S17: at an End the branch ends
 pub record S17Is (flow : Flow) (p : PointId) (s : State) (next : List Next) : Type 0 where
   pub at : code_at flow p ≡ Some instr.End
-  pub sound : IsFalse s → ⊥
+  pub consistent : IsFalse s → ⊥
   pub gives : next ≡ []
 
 -- S18: at an AssertEmpty the edges are all that is allocated, and there is none
 pub record S18Is (flow : Flow) (p : PointId) (s : State) (next : List Next) : Type 0 where
   pub q : PointId
   pub at : code_at flow p ≡ Some (instr.AssertEmpty q)
-  pub sound : IsFalse s → ⊥
+  pub consistent : IsFalse s → ⊥
   pub whole : s.whole ≡ true
   pub none : s.graph.edges ≡ []
   pub gives : next ≡ moved_to q s ∷ []

@@ -123,7 +123,7 @@ IsGap defs code s (NotEmpty flag) = AreKnown s (taken code) × Lacks defs code s
 
 -- the instruction at the point is unmet at the state, which is not false
 pub record IsUnmet (flow : Flow) (defs : List Def) (p : PointId) (s : State) (gap : Gap) : Type 0 where
-  pub sound : IsFalse s → ⊥
+  pub consistent : IsFalse s → ⊥
   pub code : Instr
   pub at : code_at flow p ≡ Some code
   pub lacks : IsGap defs code s gap

@@ -2,7 +2,7 @@
 use Rattle.std.proofs.Common.{◌≡◌, List, [], ◌∷◌, ◌++◌, Some, None, false, refl, subst}
 use Rattle.std.specs.Prelude.{◌↔◌, codes}
 use Rattle.std.proofs.lemmas.List.{append-nil}
-use Rattle.mc_base.specs.declared.plain.Place.{Place}
+use Rattle.mc_text.specs.declared.place.Place.{Place}
 use Rattle.mc_base.specs.declared.plain.VarInfo.{VarInfo}
 use Rattle.mc_base.specs.Runs.{Final}
 use Rattle.mc_heap.specs.Choices.{Choice}
@@ -35,7 +35,7 @@ abbrev context_of : UnitTree → Context
 context_of unit = record { tables = tables_of unit; result = Some Int; in_loop = false }
 
 abbrev function_of : Place → Place → Place → List Statement → FunctionTree
-function_of p q r ss = record { fixed = None; returned = Returned.Value (Base.Int p) None; name = record { text = codes "main"; place = q }; parameters = unnamed; body = Some (record { place = r; statements = ss }) }
+function_of p q r ss = record { static_place = None; returned = Returned.Value (Base.Int p) None; name = record { text = codes "main"; place = q }; parameters = unnamed; body = Some (record { place = r; statements = ss }) }
 
 standing : (unit : UnitTree) (ss : List Statement) → AreAscending (statements_places (stmts_of ss) ++ []) → statements_faults (context_of unit) (scope_of []) (stmts_of ss) ≡ [] → Standing (context_of unit) [] ss
 standing unit ss ascends faultless = record {

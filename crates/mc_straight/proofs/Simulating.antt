@@ -1,7 +1,7 @@
 -- Runs of a program and of its flow graph, step by step.
 use Rattle.std.proofs.Common.{◌≡◌, ◌==◌, ◌+◌, ◌⊎◌, inl, inr, ℕ, zero, suc, List, [], ◌∷◌, ◌++◌, length, Option, Some, None, true, false, refl, sym, ap, subst, arith, length-append, ℤ, pos}
 use Rattle.std.specs.Prelude.{slice_get, if◌then◌else◌}
-use Rattle.mc_base.specs.declared.plain.Place.{Place}
+use Rattle.mc_text.specs.declared.place.Place.{Place}
 use Rattle.mc_base.specs.Runs.{next, last, Final, ended, fault, Reaches}
 use Rattle.mc_base.specs.declared.plain.FaultKind.TheVariants.{Null}
 use Rattle.mc_heap.specs.Heap.{Block, Heap, region_of}

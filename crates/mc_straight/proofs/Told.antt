@@ -10,7 +10,7 @@ use Rattle.std.specs.Cmp.Lexicographic.{same_text}
 use Rattle.mc_base.specs.declared.ids.VarId.{VarId}
 use Rattle.mc_base.specs.declared.plain.Kind.{Kind}
 use Rattle.mc_base.specs.declared.plain.Kind.TheVariants.{Int, Ptr}
-use Rattle.mc_base.specs.declared.plain.Place.{Place}
+use Rattle.mc_text.specs.declared.place.Place.{Place}
 use Rattle.mc_base.specs.declared.plain.VarInfo.{VarInfo}
 use Rattle.mc_base.specs.Kinds.{InKind}
 use Rattle.mc_flow.specs.declared.instr.Operand.{Operand}
@@ -21,7 +21,7 @@ use Rattle.mc_ast.specs.declared.trees.Base.{Base}
 use Rattle.mc_ast.specs.declared.trees.Cast.{Cast}
 use Rattle.mc_ast.specs.declared.trees.Malloc.{Malloc as MallocTree}
 use Rattle.mc_ast.specs.declared.trees.Size.{Size}
-use Rattle.mc_ast.specs.Trees.{Left, Expr, number, null, input, value, minus, parens, times, plus, less, allocation}
+use Rattle.mc_ast.specs.Trees.{Left, Expr, number, null, input, value, minus, parens, times, plus, difference, allocation}
 use Rattle.mc_ast.specs.Names.{is_same}
 use Rattle.mc_straight.specs.Typing.{fields_of}
 use Rattle.mc_straight.specs.Straight.{IsVariable, IsField, IsType, int, pointer, IsMalloc, of_struct, IsStored, variable, null_word, null_number, numeral, IsFreed, pointed, nothing, alone}
@@ -197,7 +197,7 @@ stored_reads vars kind (minus p x) a e = absurd (none-some a e)
 stored_reads vars kind (parens p x) a e = absurd (none-some a e)
 stored_reads vars kind (times x y) a e = absurd (none-some a e)
 stored_reads vars kind (plus x y) a e = absurd (none-some a e)
-stored_reads vars kind (less x y) a e = absurd (none-some a e)
+stored_reads vars kind (difference x y) a e = absurd (none-some a e)
 
 pub freed_told : (vars : List VarInfo) (e : Expr) (a : Operand) → IsFreed vars e a → read_freed vars e ≡ Some a
 freed_told vars e a (pointed {name = name} {x = x} is) = ap (λ o. option_map Var o) (variable_told vars Ptr name x is)
@@ -217,4 +217,4 @@ freed_reads vars (minus p x) a e = absurd (none-some a e)
 freed_reads vars (parens p x) a e = absurd (none-some a e)
 freed_reads vars (times x y) a e = absurd (none-some a e)
 freed_reads vars (plus x y) a e = absurd (none-some a e)
-freed_reads vars (less x y) a e = absurd (none-some a e)
+freed_reads vars (difference x y) a e = absurd (none-some a e)

@@ -5,7 +5,7 @@ use Rattle.std.specs.Option.{option_map, option_and_then}
 use Rattle.std.proofs.lemmas.Option.{none-some}
 use Rattle.std.specs.declared.alloc.AllocError.{AllocError}
 use Rattle.std.specs.Cmp.Lexicographic.{same_text}
-use Rattle.mc_base.specs.declared.plain.Place.{Place}
+use Rattle.mc_text.specs.declared.place.Place.{Place}
 use Rattle.mc_base.specs.declared.plain.VarInfo.{VarInfo}
 use Rattle.mc_defs.specs.declared.shapes.FieldInfo.{FieldInfo}
 use Rattle.mc_defs.specs.declared.shapes.StructInfo.{StructInfo}
@@ -84,10 +84,10 @@ none_reads : {X : Type 0} (o : Option X) → is_none o ≡ true → o ≡ None
 none_reads None e = refl
 none_reads (Some x) e = cc
 
-body_reads : (s : Option StructInfo) (f : FunctionTree) (body : Option BodyTree) (p : Program) → f.fixed ≡ None → IsIntResult f.returned → f.name.text ≡ codes "main" → f.parameters ≡ unnamed → f.body ≡ body
+body_reads : (s : Option StructInfo) (f : FunctionTree) (body : Option BodyTree) (p : Program) → f.static_place ≡ None → IsIntResult f.returned → f.name.text ≡ codes "main" → f.parameters ≡ unnamed → f.body ≡ body
     → read_body s body ≡ Some p → IsMainOf s (function f) p
-body_reads s f None p fixed returned name parameters body e = absurd (none-some p e)
-body_reads s f (Some block) p fixed returned name parameters body e =
+body_reads s f None p static_place returned name parameters body e = absurd (none-some p e)
+body_reads s f (Some block) p static_place returned name parameters body e =
     let h = map_some (λ r. record { structure = s; vars = r.1; body = r.0 }) (read_statements s [] block.statements) p e in
     record {
       int_place = returned.place;
@@ -97,11 +97,11 @@ body_reads s f (Some block) p fixed returned name parameters body e =
       body = h.0.0;
       vars = h.0.1;
       item_is =
-          ap (λ x. function (record { fixed = x; returned = f.returned; name = f.name; parameters = f.parameters; body = f.body })) fixed
-          ∙ ap (λ x. function (record { fixed = None; returned = x; name = f.name; parameters = f.parameters; body = f.body })) returned.result_is
-          ∙ ap (λ x. function (record { fixed = None; returned = Returned.Value (Base.Int returned.place) None; name = record { text = x; place = f.name.place }; parameters = f.parameters; body = f.body })) name
-          ∙ ap (λ x. function (record { fixed = None; returned = Returned.Value (Base.Int returned.place) None; name = record { text = codes "main"; place = f.name.place }; parameters = x; body = f.body })) parameters
-          ∙ ap (λ x. function (record { fixed = None; returned = Returned.Value (Base.Int returned.place) None; name = record { text = codes "main"; place = f.name.place }; parameters = unnamed; body = x })) body;
+          ap (λ x. function (record { static_place = x; returned = f.returned; name = f.name; parameters = f.parameters; body = f.body })) static_place
+          ∙ ap (λ x. function (record { static_place = None; returned = x; name = f.name; parameters = f.parameters; body = f.body })) returned.result_is
+          ∙ ap (λ x. function (record { static_place = None; returned = Returned.Value (Base.Int returned.place) None; name = record { text = x; place = f.name.place }; parameters = f.parameters; body = f.body })) name
+          ∙ ap (λ x. function (record { static_place = None; returned = Returned.Value (Base.Int returned.place) None; name = record { text = codes "main"; place = f.name.place }; parameters = x; body = f.body })) parameters
+          ∙ ap (λ x. function (record { static_place = None; returned = Returned.Value (Base.Int returned.place) None; name = record { text = codes "main"; place = f.name.place }; parameters = unnamed; body = x })) body;
       program_is = sym h.2;
       are = statements_read s [] block.statements h.0 h.1;
     }
@@ -111,10 +111,10 @@ main_reads s (structure t) p e = absurd (none-some p e)
 main_reads s (typedef t) p e = absurd (none-some p e)
 main_reads s (function f) p e =
     let h = if_some (is_main f) (read_body s f.body) p e in
-    let abc = both_true (is_none f.fixed && is_int_result f.returned && is_same f.name.text (codes "main")) (is_unnamed f.parameters) h.0 in
-    let ab = both_true (is_none f.fixed && is_int_result f.returned) (is_same f.name.text (codes "main")) abc.0 in
-    let a = both_true (is_none f.fixed) (is_int_result f.returned) ab.0 in
-    body_reads s f f.body p (none_reads f.fixed a.0) (result_reads f.returned a.1) (same_text f.name.text (codes "main") (sym ab.1)) (unnamed_reads f.parameters abc.1) refl h.1
+    let abc = both_true (is_none f.static_place && is_int_result f.returned && is_same f.name.text (codes "main")) (is_unnamed f.parameters) h.0 in
+    let ab = both_true (is_none f.static_place && is_int_result f.returned) (is_same f.name.text (codes "main")) abc.0 in
+    let a = both_true (is_none f.static_place) (is_int_result f.returned) ab.0 in
+    body_reads s f f.body p (none_reads f.static_place a.0) (result_reads f.returned a.1) (same_text f.name.text (codes "main") (sym ab.1)) (unnamed_reads f.parameters abc.1) refl h.1
 
 main_told : (s : Option StructInfo) (p q r : Place) (ss : List Statement) (body : List Stmt) (vars : List VarInfo) → AreStatements s [] ss body vars
     → read_main s (main_of p q r ss) ≡ Some (record { structure = s; vars = vars; body = body })

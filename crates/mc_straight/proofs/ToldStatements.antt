@@ -7,7 +7,7 @@ use Rattle.std.proofs.lemmas.Bool.{eqb-true}
 use Rattle.mc_base.specs.declared.ids.VarId.{VarId}
 use Rattle.mc_base.specs.declared.plain.Kind.{Kind}
 use Rattle.mc_base.specs.declared.plain.Kind.TheVariants.{Int, Ptr}
-use Rattle.mc_base.specs.declared.plain.Place.{Place}
+use Rattle.mc_text.specs.declared.place.Place.{Place}
 use Rattle.mc_base.specs.declared.plain.VarInfo.{VarInfo}
 use Rattle.mc_defs.specs.declared.shapes.StructInfo.{StructInfo}
 use Rattle.mc_ast.specs.declared.trees.Name.{Name}
@@ -15,7 +15,7 @@ use Rattle.mc_ast.specs.declared.trees.Base.{Base}
 use Rattle.mc_ast.specs.declared.trees.Size.TheVariants as Size
 use Rattle.mc_ast.specs.declared.trees.Comparison.{Comparison}
 use Rattle.mc_ast.specs.declared.trees.Comparison.TheVariants.{Equal, Unequal, Below, AtMost, Above, AtLeast}
-use Rattle.mc_ast.specs.Trees.{Expr, number, null, input, value, minus, parens, times, plus, less, Cond, plain, compare, negation, enclosed, both, either, Right, expression, result_of, allocation, InitialTree, SimpleTree, assign, add, subtract, increment, decrement, increment_first, decrement_first, call, Stmt as Statement, declaration, block, empty, simple, free, assert, assume, assume_shape, assert_shape, assert_empty, if_only, if_else, while_loop, do_loop, for_loop, break_loop, continue_loop, returns}
+use Rattle.mc_ast.specs.Trees.{Expr, number, null, input, value, minus, parens, times, plus, difference, Cond, plain, compare, negation, enclosed, both, either, Right, expression, result_of, allocation, InitialTree, SimpleTree, assign, add, subtract, increment, decrement, increment_first, decrement_first, call, Stmt as Statement, declaration, block, empty, simple, free, assert, assume, assume_shape, assert_shape, assert_empty, if_only, if_else, while_loop, do_loop, for_loop, break_loop, continue_loop, returns}
 use Rattle.mc_meaning.specs.Moves.{base_place}
 use Rattle.mc_straight.specs.declared.tree.Stmt.{Stmt}
 use Rattle.mc_straight.specs.declared.tree.Stmt.TheVariants.{DeclareMalloc, Malloc, Load, Store, Free, ReturnIfNull, ReturnZero}
@@ -53,7 +53,7 @@ load_reads s vars kind base star x (minus p e) a is h = absurd (none-some a h)
 load_reads s vars kind base star x (parens p e) a is h = absurd (none-some a h)
 load_reads s vars kind base star x (times e f) a is h = absurd (none-some a h)
 load_reads s vars kind base star x (plus e f) a is h = absurd (none-some a h)
-load_reads s vars kind base star x (less e f) a is h = absurd (none-some a h)
+load_reads s vars kind base star x (difference e f) a is h = absurd (none-some a h)
 
 first_reads : (s : Option StructInfo) (vars : List VarInfo) (kind : Kind) (base : Base) (star : Option Place) (x : Name) (right : Option Right) (a : Stmt) → IsType s kind base star
     → read_first s (with_next vars kind x) (next_of vars) kind (base_place base) right ≡ Some a → IsStatement s vars (declaring base star x right) a (with_next vars kind x)
@@ -137,7 +137,7 @@ zero_reads (Some (expression (minus p x))) e = cc
 zero_reads (Some (expression (parens p x))) e = cc
 zero_reads (Some (expression (times x y))) e = cc
 zero_reads (Some (expression (plus x y))) e = cc
-zero_reads (Some (expression (less x y))) e = cc
+zero_reads (Some (expression (difference x y))) e = cc
 zero_reads (Some (result_of c)) e = cc
 zero_reads (Some (allocation m)) e = cc
 
@@ -201,7 +201,7 @@ null_reads (minus p x) e = cc
 null_reads (parens p x) e = cc
 null_reads (times x y) e = cc
 null_reads (plus x y) e = cc
-null_reads (less x y) e = cc
+null_reads (difference x y) e = cc
 
 equality_reads : (c : Comparison) → is_equality c ≡ true → c ≡ Equal
 equality_reads Equal e = refl
@@ -230,7 +230,7 @@ compared_reads vars (minus p x) tested e = absurd (none-some tested e)
 compared_reads vars (parens p x) tested e = absurd (none-some tested e)
 compared_reads vars (times x y) tested e = absurd (none-some tested e)
 compared_reads vars (plus x y) tested e = absurd (none-some tested e)
-compared_reads vars (less x y) tested e = absurd (none-some tested e)
+compared_reads vars (difference x y) tested e = absurd (none-some tested e)
 
 test_reads : (vars : List VarInfo) (c : Cond) (tested : VarId × Place) → read_test vars c ≡ Some tested → IsNullTest vars c tested
 test_reads vars (compare mark a b) tested e =

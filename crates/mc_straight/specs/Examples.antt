@@ -1,7 +1,7 @@
 -- A straight program, and what it is in short.
 use Rattle.std.specs.Prelude.{ℕ, ◌+◌, List, [], ◌∷◌, pos, Some, None, codes}
 use Rattle.mc_base.specs.declared.plain.Kind.TheVariants.{Int, Ptr}
-use Rattle.mc_base.specs.declared.plain.Place.{Place}
+use Rattle.mc_text.specs.declared.place.Place.{Place}
 use Rattle.mc_base.specs.declared.ids.VarId.{VarId}
 use Rattle.mc_flow.specs.declared.instr.Operand.TheVariants.{Var, Const}
 use Rattle.mc_ast.specs.declared.trees.Base.{Base}
@@ -62,7 +62,13 @@ every_form =
     ∷ simple (assign (alone (named (codes "q") 6 3)) (new_node 6 7))
     ∷ simple (assign (field_of (named (codes "p") 7 3) (named (codes "data") 7 6)) (expression (number 7 (at 7 13))))
     ∷ simple (assign (field_of (named (codes "p") 8 3) (named (codes "next") 8 6)) (expression (null (at 8 13))))
-    ∷ declaration (record { base = Base.Int (at 9 3); items = record { declarator = record { pointer = None; name = named (codes "x") 9 7 }; value = Some (expression (value (field_of (named (codes "p") 9 11) (named (codes "data") 9 14)))) } ∷ [] })
+    ∷ declaration (record {
+      base = Base.Int (at 9 3);
+      items = record {
+        declarator = record { pointer = None; name = named (codes "x") 9 7 };
+        value = Some (expression (value (field_of (named (codes "p") 9 11) (named (codes "data") 9 14))));
+      } ∷ [];
+    })
     ∷ simple (assign (field_of (named (codes "p") 10 3) (named (codes "data") 10 6)) (expression (value (alone (named (codes "x") 10 13)))))
     ∷ free (at 11 3) (value (alone (named (codes "p") 11 8)))
     ∷ free (at 12 3) (null (at 12 8))

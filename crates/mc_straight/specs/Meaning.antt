@@ -4,7 +4,7 @@ use Rattle.std.specs.Ordering.{int_eq}
 use Rattle.std.specs.FinMap as map
 use Rattle.mc_base.specs.declared.ids.VarId.{VarId}
 use Rattle.mc_base.specs.declared.plain.FaultKind.TheVariants.{Null, Freed, Uninit, BadFree}
-use Rattle.mc_base.specs.declared.plain.Place.{Place}
+use Rattle.mc_text.specs.declared.place.Place.{Place}
 use Rattle.mc_base.specs.Runs.{Outcome, next, last, ended, fault, IsSafeFrom}
 use Rattle.mc_heap.specs.Heap.{Block, Heap, IsAddress, region_of}
 use Rattle.mc_heap.specs.Access.{field_at, fresh_block}

@@ -4,7 +4,7 @@ use Rattle.std.specs.Option.{option_map, option_map_or, option_and_then}
 use Rattle.mc_base.specs.declared.ids.VarId.{VarId}
 use Rattle.mc_base.specs.declared.plain.Kind.{Kind}
 use Rattle.mc_base.specs.declared.plain.Kind.TheVariants.{Int, Ptr}
-use Rattle.mc_base.specs.declared.plain.Place.{Place}
+use Rattle.mc_text.specs.declared.place.Place.{Place}
 use Rattle.mc_base.specs.declared.plain.VarInfo.{VarInfo}
 use Rattle.mc_flow.specs.declared.instr.Operand.{Operand}
 use Rattle.mc_flow.specs.declared.instr.Operand.TheVariants.{Var, Const}
@@ -18,7 +18,11 @@ use Rattle.mc_ast.specs.declared.trees.Declarator.{Declarator}
 use Rattle.mc_ast.specs.declared.trees.Malloc.{Malloc as MallocTree}
 use Rattle.mc_ast.specs.declared.trees.Returned.{Returned}
 use Rattle.mc_ast.specs.declared.trees.Size.{Size}
-use Rattle.mc_ast.specs.Trees.{Left, Expr, number, null, value, Cond, compare, Right, expression, result_of, allocation, InitialTree, DeclarationTree, SimpleTree, assign, Stmt as Statement, declaration, simple, free, if_only, returns, FieldTree, StructTree, ParametersTree, unnamed, void, listed, BodyTree, FunctionTree, ItemTree, structure, typedef, function, UnitTree}
+use Rattle.mc_ast.specs.Trees.{Left, Expr, number, null, value, Cond, compare, Right, expression, result_of}
+use Rattle.mc_ast.specs.Trees.{allocation, InitialTree, DeclarationTree, SimpleTree, assign, Stmt as Statement}
+use Rattle.mc_ast.specs.Trees.{declaration, simple, free, if_only, returns, FieldTree, StructTree, ParametersTree}
+use Rattle.mc_ast.specs.Trees.{unnamed, void, listed, BodyTree, FunctionTree, ItemTree, structure, typedef}
+use Rattle.mc_ast.specs.Trees.{function, UnitTree}
 use Rattle.mc_ast.specs.Names.{is_same}
 use Rattle.mc_meaning.specs.Moves.{base_place}
 use Rattle.mc_straight.specs.declared.tree.Program.{Program}
@@ -259,7 +263,7 @@ is_unnamed (void p) = false
 is_unnamed (listed ps) = false
 
 abbrev pub is_main : FunctionTree → Bool
-is_main f = is_none f.fixed && is_int_result f.returned && is_same f.name.text (codes "main") && is_unnamed f.parameters
+is_main f = is_none f.static_place && is_int_result f.returned && is_same f.name.text (codes "main") && is_unnamed f.parameters
 
 abbrev pub read_body : Option StructInfo → Option BodyTree → Option Program
 read_body s None = None

@@ -4,7 +4,7 @@ use Rattle.std.specs.Option.{option_map}
 use Rattle.mc_base.specs.declared.ids.VarId.{VarId}
 use Rattle.mc_base.specs.declared.plain.Kind.{Kind}
 use Rattle.mc_base.specs.declared.plain.Kind.TheVariants.{Int, Ptr}
-use Rattle.mc_base.specs.declared.plain.Place.{Place}
+use Rattle.mc_text.specs.declared.place.Place.{Place}
 use Rattle.mc_base.specs.declared.plain.VarInfo.{VarInfo}
 use Rattle.mc_base.specs.Kinds.{InKind}
 use Rattle.mc_flow.specs.declared.instr.Operand.{Operand}
@@ -16,7 +16,9 @@ use Rattle.mc_ast.specs.declared.trees.Base.{Base}
 use Rattle.mc_ast.specs.declared.trees.Comparison.TheVariants.{Equal}
 use Rattle.mc_ast.specs.declared.trees.Returned.TheVariants as Returned
 use Rattle.mc_ast.specs.declared.trees.Size.TheVariants as Size
-use Rattle.mc_ast.specs.Trees.{Left, Expr, number, null, value, compare, Right, expression, allocation, assign, Stmt as Statement, declaration, simple, free, if_only, returns, FieldTree, unnamed, ItemTree, structure, function, UnitTree}
+use Rattle.mc_ast.specs.Trees.{Left, Expr, number, null, value, compare, Right, expression, allocation, assign}
+use Rattle.mc_ast.specs.Trees.{Stmt as Statement, declaration, simple, free, if_only, returns, FieldTree, unnamed}
+use Rattle.mc_ast.specs.Trees.{ItemTree, structure, function, UnitTree}
 use Rattle.mc_ast.specs.Names.{is_same}
 use Rattle.mc_meaning.specs.Moves.{base_place}
 use Rattle.mc_straight.specs.declared.tree.Program.{Program}
@@ -56,7 +58,12 @@ pub data IsType : Option StructInfo → Kind → Base → Option Place → Type 
 
 -- `malloc(sizeof(struct S))`
 pub data IsMalloc : Option StructInfo → Right → Type 0 where
-  of_struct : {s : StructInfo} {p q r place : Place} → IsMalloc (Some s) (allocation (record { cast = None; place = p; size = Size.OfType q (Base.Struct r (record { text = s.name; place = place })) }))
+  of_struct : {s : StructInfo} {p q r place : Place}
+      → IsMalloc (Some s) (allocation (record {
+        cast = None;
+        place = p;
+        size = Size.OfType q (Base.Struct r (record { text = s.name; place = place }));
+      }))
 
 -- what is stored in a field of a kind: a variable, `NULL`, or a number that the kind has
 pub data IsStored (vars : List VarInfo) : Kind → Expr → Operand → Type 0 where
@@ -121,7 +128,7 @@ pub data IsStruct (s : StructInfo) : ItemTree → Type 0 where
 abbrev pub main_of : Place → Place → Place → List Statement → ItemTree
 main_of p q r statements =
     function (record {
-      fixed = None;
+      static_place = None;
       returned = Returned.Value (Base.Int p) None;
       name = record { text = codes "main"; place = q };
       parameters = unnamed;

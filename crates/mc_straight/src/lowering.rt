@@ -2,11 +2,14 @@
 ghost use Rattle.std.specs.Prelude.{◌≡◌, ◌++◌, ◌∷◌, [], length, IfOk, OnOk, ℕ};
 ghost use Rattle.mc_flow.specs.Valid.{IsValid};
 ghost use Rattle.mc_straight.specs.Typing.{IsTyped};
-ghost use Rattle.mc_straight.specs.Lowering.{nowhere, flow_var, flow_operand, returned, lowered, size_of, end_of, points_of, merges_at, merges_of, with_number, with_operand, with_constants, thresholds_of, structs_of, result_var, flow_of};
+ghost use Rattle.mc_straight.specs.Lowering.{nowhere, flow_var, flow_operand, returned, lowered, size_of, end_of};
+ghost use Rattle.mc_straight.specs.Lowering.{points_of, merges_at, merges_of, with_number, with_operand};
+ghost use Rattle.mc_straight.specs.Lowering.{with_constants, thresholds_of, structs_of, result_var, flow_of};
 
 use crate::{IfPlaces, Program, Stmt};
-use mc_base::{Items, Kind, Place, PointId, StructId, VarId, VarInfo};
+use mc_base::{Items, Kind, PointId, StructId, VarId, VarInfo};
 use mc_flow::{FieldInfo, Flow, Instr, Operand, Point, StructInfo, Structs};
+use mc_text::Place;
 use std::alloc::{AllocError, Global};
 
 // The place of what has none of its own.

@@ -5,8 +5,9 @@ ghost use Rattle.mc_straight.specs.Typing.{fields_of};
 ghost use Rattle.mc_straight.specs.Reading.{same_kind, read_variable, read_field, field_kind, is_struct, read_type, is_struct_base, is_struct_size, is_malloc};
 
 use mc_ast::{Base, Malloc, Size};
-use mc_base::{Kind, Place, VarId, VarInfo};
+use mc_base::{Kind, VarId, VarInfo};
 use mc_flow::{FieldInfo, StructInfo};
+use mc_text::Place;
 
 pub fn same_kind(a: Kind, b: Kind) -> bool
     ensures { result ≡ same_kind a b }

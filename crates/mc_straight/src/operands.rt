@@ -6,8 +6,9 @@ ghost use Rattle.mc_straight.specs.Reading.{read_alone, null_operand, number_ope
 
 use crate::names::variable;
 use mc_ast::{Comparison, Condition, Expression, LeftValue, RightSide};
-use mc_base::{Kind, Place, VarId, VarInfo};
+use mc_base::{Kind, VarId, VarInfo};
 use mc_flow::Operand;
+use mc_text::Place;
 
 // The largest number that an `int` holds.
 const MAX_INT: u32 = 2147483647;
@@ -72,7 +73,7 @@ pub fn stored(vars: &[VarInfo], kind: Kind, expression: &Expression) -> Option<O
         | Expression::Parens(_, _)
         | Expression::Times(_, _)
         | Expression::Plus(_, _)
-        | Expression::Less(_, _) => None,
+        | Expression::Difference(_, _) => None,
     }
 }
 
@@ -89,7 +90,7 @@ pub fn freed(vars: &[VarInfo], expression: &Expression) -> Option<Operand>
         | Expression::Parens(_, _)
         | Expression::Times(_, _)
         | Expression::Plus(_, _)
-        | Expression::Less(_, _) => None,
+        | Expression::Difference(_, _) => None,
     }
 }
 
@@ -105,7 +106,7 @@ fn is_zero_number(tree: &Expression) -> bool
         | Expression::Parens(_, _)
         | Expression::Times(_, _)
         | Expression::Plus(_, _)
-        | Expression::Less(_, _) => false,
+        | Expression::Difference(_, _) => false,
     }
 }
 
@@ -133,7 +134,7 @@ fn is_null_word(expression: &Expression) -> bool
         | Expression::Parens(_, _)
         | Expression::Times(_, _)
         | Expression::Plus(_, _)
-        | Expression::Less(_, _) => false,
+        | Expression::Difference(_, _) => false,
     }
 }
 
@@ -152,7 +153,7 @@ fn compared(vars: &[VarInfo], expression: &Expression) -> Option<(VarId, Place)>
         | Expression::Parens(_, _)
         | Expression::Times(_, _)
         | Expression::Plus(_, _)
-        | Expression::Less(_, _) => None,
+        | Expression::Difference(_, _) => None,
     }
 }
 

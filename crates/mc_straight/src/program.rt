@@ -140,7 +140,7 @@ fn is_unnamed(parameters: &Parameters) -> bool
 fn is_main(tree: &Function) -> bool
     ensures { result ≡ is_main (function_of tree.now) }
 {
-    tree.fixed.is_none()
+    tree.static_place.is_none()
         && is_int_result(&tree.returned)
         && tree.name.text.as_slice() == b"main".as_slice()
         && is_unnamed(&tree.parameters)

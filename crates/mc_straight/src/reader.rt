@@ -3,7 +3,9 @@ ghost use Rattle.std.specs.Prelude.{◌≡◌, IfOk, MatchOption, map};
 ghost use Rattle.std.specs.Option.{option_map};
 ghost use Rattle.mc_ast.specs.Views.{left_of, expression_of, right_of, initial_of, declaration_of, simple_of, condition_of, statement_of};
 ghost use Rattle.mc_meaning.specs.Moves.{base_place};
-ghost use Rattle.mc_straight.specs.Reading.{read_behind, read_load, if_pointer, read_first, read_item, read_declaration, read_malloc, read_store_of, read_store, read_assign, read_simple, read_leave, read_if, read_other, read_statement};
+ghost use Rattle.mc_straight.specs.Reading.{read_behind, read_load, if_pointer, read_first, read_item};
+ghost use Rattle.mc_straight.specs.Reading.{read_declaration, read_malloc, read_store_of, read_store, read_assign};
+ghost use Rattle.mc_straight.specs.Reading.{read_simple, read_leave, read_if, read_other, read_statement};
 
 use crate::names::{field, field_kind, is_malloc, same_kind, type_of, variable};
 use crate::operands::{freed, is_zero, stored, tested};
@@ -12,8 +14,9 @@ use mc_ast::{
     Base, Condition, Declaration, Expression, Initial, LeftValue, Name, RightSide, Simple,
     Statement,
 };
-use mc_base::{Items, Kind, Place, VarId, VarInfo};
+use mc_base::{Items, Kind, VarId, VarInfo};
 use mc_flow::StructInfo;
+use mc_text::Place;
 use std::alloc::{AllocError, Global};
 
 // What a declared variable is: its number, its kind, and the place of its declaration.
@@ -75,7 +78,7 @@ fn load(
         | Expression::Parens(_, _)
         | Expression::Times(_, _)
         | Expression::Plus(_, _)
-        | Expression::Less(_, _) => None,
+        | Expression::Difference(_, _) => None,
     }
 }
 

@@ -7,8 +7,7 @@ use mc_ast::{
     Initial, Item, LeftValue, Name, Parameters, Returned, RightSide, Simple, Statement, Struct,
     Unit,
 };
-use mc_base::Place;
-use mc_lex::Text;
+use mc_text::{Place, Text};
 use std::alloc::{AllocError, Global};
 use std::test::Fail;
 
@@ -87,7 +86,7 @@ fn leaves(alloc: Global, returned: u32) -> Result<Statement, AllocError> {
 // `int main() { .. }`
 fn main_of(alloc: Global, statements: Vec<Statement>) -> Result<Item, AllocError> {
     Ok(Item::Function(Function {
-        fixed: None,
+        static_place: None,
         returned: Returned::Value(Base::Int(HERE), None),
         name: name(alloc, b"main")?,
         parameters: Parameters::Empty,

@@ -1,6 +1,7 @@
 // Straight programs: their struct, their variables and their statements.
-use mc_base::{Items, Place, VarId, VarInfo};
+use mc_base::{Items, VarId, VarInfo};
 use mc_flow::{Operand, StructInfo};
+use mc_text::Place;
 
 /// A program: at most one struct, the variables in the order of their declarations, and what `main` does.
 #[derive(Drop)]

@@ -11,12 +11,12 @@ ghost use Rattle.mc_types.specs.declared.faults.FaultName.TheVariants.{Twice};
 
 use crate::structs::check_declarator;
 use mc_ast::{Argument, Base, Declarator, Expression, Function};
-use mc_types::{FaultName, NameTables, Sight, Told, VariableType};
+use mc_types::{FaultName, FirstFault, NameTables, VariableType, VisibleNames};
 use mc_walk::{Part, Walk, visits_give_faults};
 use std::alloc::{AllocError, Global};
 
 /// Notes which names among these arguments of a shape command are not visible.
-fn check_arguments(told: &mut Told, sight: Sight, arguments: &[Argument])
+fn check_arguments(told: &mut FirstFault, sight: VisibleNames, arguments: &[Argument])
     ensures { told.new.fault ≡ told_of told.old.fault (flat_map (shape_argument_faults (variables_held sight.entry.scope.now)) arguments.now) }
 {
     for argument in arguments {
@@ -27,8 +27,8 @@ fn check_arguments(told: &mut Told, sight: Sight, arguments: &[Argument])
 /// Notes that what is freed is no pointer.
 fn check_freed(
     alloc: Global,
-    told: &mut Told,
-    sight: Sight,
+    told: &mut FirstFault,
+    sight: VisibleNames,
     pointer: &Expression,
 ) -> Result<(), AllocError>
     ensures { OnOk result (told.new.fault ≡ told_of told.old.fault (expression_faults (tables_held sight.entry.tables.now) (variables_held sight.entry.scope.now) (expression_of pointer.now) ++ no_pointer (tables_held sight.entry.tables.now) (variables_held sight.entry.scope.now) (expression_of pointer.now))) }
@@ -40,7 +40,7 @@ fn check_freed(
 
 /// Notes that the variable of a declarator has no type, or that its block has its name already.
 fn check_declared(
-    told: &mut Told,
+    told: &mut FirstFault,
     tables: &NameTables,
     walk: &Walk,
     base: &Base,
@@ -59,7 +59,7 @@ fn check_declared(
 /// Notes the faults of a part of a body, in a function with this result.
 fn check_part<'a>(
     alloc: Global,
-    told: &mut Told,
+    told: &mut FirstFault,
     tables: &NameTables<'a>,
     walk: &Walk<'a>,
     returned: Option<VariableType>,
@@ -67,7 +67,7 @@ fn check_part<'a>(
 ) -> Result<(), AllocError>
     ensures { OnOk result (told.new.fault ≡ told_of told.old.fault (part_faults (tables_held tables.now) returned walk.now.scope (part_of part.entry))) }
 {
-    let sight = Sight {
+    let sight = VisibleNames {
         tables,
         scope: walk.visible(),
     };
@@ -103,11 +103,11 @@ fn check_part<'a>(
             check_arguments(told, sight, shape.arguments.as_slice());
             Ok(())
         }
-        Part::LeftLoop(place, in_loop) => {
+        Part::LoopExit(place, in_loop) => {
             told.unless(in_loop, FaultName::Mismatch, place);
             Ok(())
         }
-        Part::GivenBack(place, value) => {
+        Part::Returning(place, value) => {
             sight.check_return(alloc, told, returned, place, value)?;
             Ok(())
         }
@@ -117,7 +117,7 @@ fn check_part<'a>(
 /// Notes the faults of the body of a function, if it has one.
 pub fn check_body<'a>(
     alloc: Global,
-    told: &mut Told,
+    told: &mut FirstFault,
     tables: &NameTables<'a>,
     function: &'a Function,
 ) -> Result<(), AllocError>

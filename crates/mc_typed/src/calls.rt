@@ -13,7 +13,7 @@ ghost use Rattle.mc_typed.specs.Graphs.{edge_of, number_in};
 use crate::graph::Edge;
 use mc_ast::{Function, Item, Name, RightSide, Simple};
 use mc_base::Items;
-use mc_lex::Text;
+use mc_text::Text;
 use mc_types::NameTables;
 use mc_walk::{Part, Walk, visits_give_calls};
 use std::alloc::{AllocError, Global};
@@ -67,8 +67,8 @@ fn called_in<'a>(part: Part<'a>) -> Option<&'a Name>
         Part::Tested(_) => None,
         Part::Assumed(_) => None,
         Part::Asserted(_) => None,
-        Part::LeftLoop(_, _) => None,
-        Part::GivenBack(_, value) => maybe_called(value),
+        Part::LoopExit(_, _) => None,
+        Part::Returning(_, value) => maybe_called(value),
     }
 }
 

@@ -18,15 +18,14 @@ use crate::prototypes::check_tables;
 use crate::recursion::check_recursion;
 use crate::typed::Typed;
 use mc_ast::{Function, Unit};
-use mc_base::Place;
-use mc_lex::Text;
-use mc_types::{Fault, FaultName, NameTables, Told, TypeFault, parameters};
+use mc_text::{Place, Text};
+use mc_types::{Fault, FaultName, FirstFault, NameTables, TypeFault, parameters};
 use std::alloc::{AllocError, Global};
 
 /// Notes all faults of a program but recursion and a missing entry.
 fn check_plain<'a>(
     alloc: Global,
-    told: &mut Told,
+    told: &mut FirstFault,
     tables: &NameTables<'a>,
     unit: &'a Unit,
 ) -> Result<(), AllocError>
@@ -47,7 +46,7 @@ fn check_rules<'a>(
     requires { tables_held tables.now ≡ tables_of (unit_of unit.now) }
     ensures { IfOk result (λ fault. IsToldOfRules (unit_of unit.now) fault) }
 {
-    let mut told = Told::new();
+    let mut told = FirstFault::new();
     check_plain(alloc, &mut told, tables, unit)?;
     check_recursion(alloc, &mut told, tables, unit.items.as_slice())?;
     Ok(told.fault)

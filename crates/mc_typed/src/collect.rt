@@ -8,8 +8,8 @@ ghost use Rattle.mc_types.specs.Tables.{alias_meaning, aliased_meaning, aliases_
 ghost use Rattle.mc_typed.specs.Collected.{at_most_one, structs_held, functions_held};
 
 use mc_ast::{Aliased, Declarator, Function, Item, Struct, Typedef, Unit};
-use mc_base::Place;
 use mc_names::Table;
+use mc_text::Place;
 use mc_types::{Aliases, BaseType, Functions, Meaning, NameTables};
 use std::alloc::{AllocError, Global};
 

@@ -11,11 +11,11 @@ use crate::repeated::check_repeated;
 use crate::structs::{check_declarator, check_struct, check_typedef};
 use mc_ast::{Function, Item, Name, Parameter, Returned};
 use mc_base::Items;
-use mc_types::{NameTables, Told, parameters};
+use mc_types::{FirstFault, NameTables, parameters};
 use std::alloc::{AllocError, Global};
 
 /// Notes that the result of a function has no type.
-fn check_returned(told: &mut Told, tables: &NameTables, function: &Function)
+fn check_returned(told: &mut FirstFault, tables: &NameTables, function: &Function)
     ensures { told.new.fault ≡ told_of told.old.fault (returned_faults (tables_held tables.now) (function_of function.now) function.now.returned) }
 {
     match &function.returned {
@@ -25,7 +25,7 @@ fn check_returned(told: &mut Told, tables: &NameTables, function: &Function)
 }
 
 /// Notes which of these parameters have no type.
-fn check_parameters(told: &mut Told, tables: &NameTables, parameters: &[Parameter])
+fn check_parameters(told: &mut FirstFault, tables: &NameTables, parameters: &[Parameter])
     ensures { told.new.fault ≡ told_of told.old.fault (flat_map (λ p. declarator_faults (tables_held tables.now) p.base p.declarator) parameters.now) }
 {
     for parameter in parameters {
@@ -50,7 +50,7 @@ fn parameter_names<'a>(
 /// Notes the faults of a function.
 fn check_function<'a>(
     alloc: Global,
-    told: &mut Told,
+    told: &mut FirstFault,
     tables: &NameTables<'a>,
     function: &'a Function,
 ) -> Result<(), AllocError>
@@ -68,7 +68,7 @@ fn check_function<'a>(
 /// Notes the faults of a struct, typedef or function.
 fn check_item<'a>(
     alloc: Global,
-    told: &mut Told,
+    told: &mut FirstFault,
     tables: &NameTables<'a>,
     item: &'a Item,
 ) -> Result<(), AllocError>
@@ -93,7 +93,7 @@ fn check_item<'a>(
 /// Notes the faults of structs, typedefs and functions.
 pub fn check_items<'a>(
     alloc: Global,
-    told: &mut Told,
+    told: &mut FirstFault,
     tables: &NameTables<'a>,
     items: &'a [Item],
 ) -> Result<(), AllocError>

@@ -3,7 +3,7 @@ ghost use Rattle.std.specs.Prelude.{ℕ, ◌≡◌, ◌+◌, ◌<◌, ◌≤◌,
 ghost use Rattle.std.specs.Bool.{IsFalse};
 ghost use Rattle.mc_typed.specs.Graphs.{IsWithin, IsClosed, Leads, LeadsToMarked, Keeps, is_marked, unmarked};
 
-use mc_base::Place;
+use mc_text::Place;
 use std::alloc::{AllocError, Global};
 
 /// A call, by the numbers of the functions, with its place.

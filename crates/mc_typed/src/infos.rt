@@ -10,7 +10,7 @@ use crate::collect::collect_tables;
 use mc_ast::{Base, Declarator, Field, Struct, Unit};
 use mc_base::{Items, Kind};
 use mc_defs::{FieldInfo, StructInfo, Structs};
-use mc_lex::Text;
+use mc_text::Text;
 use mc_types::{NameTables, VariableType};
 use std::alloc::{AllocError, Global};
 

@@ -14,7 +14,7 @@ use crate::structs::add_names;
 use mc_ast::{Function, Item, Name, Parameter, Struct};
 use mc_base::Items;
 use mc_names::Groups;
-use mc_types::{FaultName, NameTables, Told, VariableType, is_same, parameters};
+use mc_types::{FaultName, FirstFault, NameTables, VariableType, is_same, parameters};
 use std::alloc::{AllocError, Global};
 
 /// Whether two results are alike.
@@ -80,7 +80,11 @@ fn differs(tables: &NameTables, function: &Function, others: &[&Function]) -> bo
 }
 
 /// Notes each function that differs from one of its name before it.
-fn check_prototypes(alloc: Global, told: &mut Told, tables: &NameTables) -> Result<(), AllocError>
+fn check_prototypes(
+    alloc: Global,
+    told: &mut FirstFault,
+    tables: &NameTables,
+) -> Result<(), AllocError>
     ensures { OnOk result (told.new.fault ≡ told_of told.old.fault (prototype_faults (tables_held tables.now) [] (tables_held tables.now).functions)) }
 {
     let functions = tables.functions.as_slice();
@@ -143,7 +147,7 @@ fn defined_names<'a>(
 #[tactic(auto, using(crate::proofs::Rows::told_append))]
 pub fn check_tables(
     alloc: Global,
-    told: &mut Told,
+    told: &mut FirstFault,
     tables: &NameTables,
     items: &[Item],
 ) -> Result<(), AllocError>

@@ -10,11 +10,11 @@ use crate::calls::collect_edges;
 use crate::graph::{Edge, leads};
 use crate::ranks::are_ranked;
 use mc_ast::Item;
-use mc_types::{Fault, FaultName, NameTables, Told};
+use mc_types::{Fault, FaultName, FirstFault, NameTables};
 use std::alloc::{AllocError, Global};
 
 /// Whether a fault that is told already is told rather than this one.
-fn is_behind(told: &Told, fault: Fault) -> bool
+fn is_behind(told: &FirstFault, fault: Fault) -> bool
     ensures { IsTrue result ↔ IsBehind told.now.fault fault }
 {
     match told.fault {
@@ -26,7 +26,7 @@ fn is_behind(told: &Told, fault: Fault) -> bool
 /// Notes that a call can come back to its caller.
 fn check_edge(
     alloc: Global,
-    told: &mut Told,
+    told: &mut FirstFault,
     edges: &[Edge],
     count: usize,
     edge: Edge,
@@ -52,7 +52,7 @@ fn check_edge(
 /// Notes which of these calls can come back to their callers.
 fn check_edges(
     alloc: Global,
-    told: &mut Told,
+    told: &mut FirstFault,
     edges: &[Edge],
     count: usize,
 ) -> Result<(), AllocError>
@@ -71,7 +71,7 @@ fn check_edges(
 /// Notes which calls of a program can come back to their callers.
 pub fn check_recursion<'a>(
     alloc: Global,
-    told: &mut Told,
+    told: &mut FirstFault,
     tables: &NameTables<'a>,
     items: &'a [Item],
 ) -> Result<(), AllocError>

@@ -6,11 +6,15 @@ ghost use Rattle.mc_typed.specs.Collected.{names_held};
 
 use mc_ast::Name;
 use mc_names::Names;
-use mc_types::{FaultName, Told};
+use mc_types::{FaultName, FirstFault};
 use std::alloc::{AllocError, Global};
 
 /// Notes each of these names that stands among those before it.
-pub fn check_repeated(alloc: Global, told: &mut Told, names: &[&Name]) -> Result<(), AllocError>
+pub fn check_repeated(
+    alloc: Global,
+    told: &mut FirstFault,
+    names: &[&Name],
+) -> Result<(), AllocError>
     ensures { OnOk result (told.new.fault ≡ told_of told.old.fault (repeated [] (names_held names.now))) }
 {
     let mut before = Names::new(alloc);

@@ -13,10 +13,10 @@ ghost use Rattle.mc_walk.specs.Visits.{body_visits};
 
 use crate::collect::collect_tables;
 use mc_ast::{Argument, Function, Item, Name, Unit};
-use mc_base::{Kind, Place};
+use mc_base::Kind;
 use mc_defs::Def;
-use mc_lex::Text;
-use mc_types::{Fault, FaultName, NameTables, Sight, Told, ValueType, VariableType};
+use mc_text::{Place, Text};
+use mc_types::{Fault, FaultName, FirstFault, NameTables, ValueType, VariableType, VisibleNames};
 use mc_walk::{Part, Walk, visits_give_uses};
 use std::alloc::{AllocError, Global};
 
@@ -31,7 +31,7 @@ fn kind_fits(kind: Kind, value: ValueType) -> bool
 }
 
 /// What an argument of a shape command can be.
-fn argument_type(sight: Sight, argument: &Argument) -> ValueType
+fn argument_type(sight: VisibleNames, argument: &Argument) -> ValueType
     ensures { result ≡ (argument_given (variables_held sight.entry.scope.now) argument.now).type }
 {
     match argument {
@@ -55,7 +55,7 @@ fn argument_place(argument: &Argument) -> Place
 }
 
 /// Notes which arguments are not of their kinds.
-fn check_kinds(told: &mut Told, sight: Sight, kinds: &[Kind], arguments: &[Argument])
+fn check_kinds(told: &mut FirstFault, sight: VisibleNames, kinds: &[Kind], arguments: &[Argument])
     ensures { told.new.fault ≡ told_of told.old.fault (given_faults kinds.now (map (argument_given (variables_held sight.entry.scope.now)) arguments.now)) }
 {
     for (i, argument) in arguments.iter().enumerate() {
@@ -78,15 +78,19 @@ fn find_def<'d>(defs: &'d [Def], name: &Text) -> Option<&'d Def>
 
 /// Notes that a shape command does not fit the definitions.
 fn check_command(
-    told: &mut Told,
-    sight: Sight,
+    told: &mut FirstFault,
+    sight: VisibleNames,
     defs: &[Def],
     predicate: &Name,
     start: ValueType,
     place: Place,
     arguments: &[Argument],
 )
-    ensures { told.new.fault ≡ told_of told.old.fault (use_faults defs.now (record { predicate = predicate.now; start = record { type = start; place = place }; arguments = map (argument_given (variables_held sight.entry.scope.now)) arguments.now })) }
+    ensures { told.new.fault ≡ told_of told.old.fault (use_faults defs.now (record {
+      predicate = predicate.now;
+      start = record { type = start; place = place };
+      arguments = map (argument_given (variables_held sight.entry.scope.now)) arguments.now;
+    })) }
 {
     match find_def(defs, &predicate.text) {
         None => told.note(FaultName::Unknown, predicate.place),
@@ -104,7 +108,7 @@ fn check_command(
 
 /// Notes that a part of a body is a shape command that does not fit the definitions.
 fn check_shape<'a>(
-    told: &mut Told,
+    told: &mut FirstFault,
     tables: &NameTables<'a>,
     defs: &[Def],
     walk: &Walk<'a>,
@@ -112,7 +116,7 @@ fn check_shape<'a>(
 )
     ensures { told.new.fault ≡ told_of told.old.fault (flat_map (use_faults defs.now) (part_uses walk.now.scope (part_of part.entry))) }
 {
-    let sight = Sight {
+    let sight = VisibleNames {
         tables,
         scope: walk.visible(),
     };
@@ -148,15 +152,15 @@ fn check_shape<'a>(
                 shape.arguments.as_slice(),
             );
         }
-        Part::LeftLoop(_, _) => {}
-        Part::GivenBack(_, _) => {}
+        Part::LoopExit(_, _) => {}
+        Part::Returning(_, _) => {}
     }
 }
 
 /// Notes which parts of a function are shape commands that do not fit the definitions.
 fn check_parts<'a>(
     alloc: Global,
-    told: &mut Told,
+    told: &mut FirstFault,
     tables: &NameTables<'a>,
     defs: &[Def],
     function: &'a Function,
@@ -173,7 +177,7 @@ fn check_parts<'a>(
 /// Notes which shape commands of a function do not fit the definitions.
 fn check_function<'a>(
     alloc: Global,
-    told: &mut Told,
+    told: &mut FirstFault,
     tables: &NameTables<'a>,
     defs: &[Def],
     function: &'a Function,
@@ -188,7 +192,7 @@ fn check_function<'a>(
 /// The same of a struct, typedef or function.
 fn check_item<'a>(
     alloc: Global,
-    told: &mut Told,
+    told: &mut FirstFault,
     tables: &NameTables<'a>,
     defs: &[Def],
     item: &'a Item,
@@ -208,7 +212,7 @@ fn check_item<'a>(
 /// The same of several.
 fn check_items<'a>(
     alloc: Global,
-    told: &mut Told,
+    told: &mut FirstFault,
     tables: &NameTables<'a>,
     defs: &[Def],
     items: &'a [Item],
@@ -226,7 +230,7 @@ pub fn first_misfit(alloc: Global, unit: &Unit, defs: &[Def]) -> Result<Option<F
     ensures { IfOk result (λ fault. fault ≡ told_of None (bind_faults (unit_of unit.now) defs.now)) }
 {
     let tables = collect_tables(alloc, unit)?;
-    let mut told = Told::new();
+    let mut told = FirstFault::new();
     check_items(alloc, &mut told, &tables, defs, unit.items.as_slice())?;
     Ok(told.fault)
 }

@@ -9,8 +9,9 @@ ghost use Rattle.mc_typed.specs.Collected.{names_held, field_names};
 use crate::collect::aliased_meaning;
 use crate::repeated::check_repeated;
 use mc_ast::{Aliased, Base, Declarator, Field, Name, Struct, Typedef};
-use mc_base::{Items, Place};
-use mc_types::{FaultName, NameTables, Told};
+use mc_base::Items;
+use mc_text::Place;
+use mc_types::{FaultName, FirstFault, NameTables};
 use std::alloc::{AllocError, Global};
 
 /// The place of the first token of a declarator.
@@ -24,14 +25,24 @@ fn declarator_place(declarator: &Declarator) -> Place
 }
 
 /// Notes that a declarator has no type.
-pub fn check_declarator(told: &mut Told, tables: &NameTables, base: &Base, declarator: &Declarator)
+pub fn check_declarator(
+    told: &mut FirstFault,
+    tables: &NameTables,
+    base: &Base,
+    declarator: &Declarator,
+)
     ensures { told.new.fault ≡ told_of told.old.fault (declarator_faults (tables_held tables.now) base.now declarator.now) }
 {
     tables.check_type(told, base, declarator.pointer, declarator_place(declarator));
 }
 
 /// Notes which of these declarators have no type.
-fn check_declarators(told: &mut Told, tables: &NameTables, base: &Base, declarators: &[Declarator])
+fn check_declarators(
+    told: &mut FirstFault,
+    tables: &NameTables,
+    base: &Base,
+    declarators: &[Declarator],
+)
     ensures { told.new.fault ≡ told_of told.old.fault (flat_map (declarator_faults (tables_held tables.now) base.now) declarators.now) }
 {
     for declarator in declarators {
@@ -40,7 +51,7 @@ fn check_declarators(told: &mut Told, tables: &NameTables, base: &Base, declarat
 }
 
 /// Notes which of these fields have no type.
-fn check_fields(told: &mut Told, tables: &NameTables, fields: &[Field])
+fn check_fields(told: &mut FirstFault, tables: &NameTables, fields: &[Field])
     ensures { told.new.fault ≡ told_of told.old.fault (flat_map (λ field. flat_map (declarator_faults (tables_held tables.now) field.base) field.declarators) (map field_of fields.now)) }
 {
     for field in fields {
@@ -78,7 +89,7 @@ fn collect_field_names<'a>(
 /// Notes the faults of a struct.
 pub fn check_struct(
     alloc: Global,
-    told: &mut Told,
+    told: &mut FirstFault,
     tables: &NameTables,
     tree: &Struct,
 ) -> Result<(), AllocError>
@@ -93,7 +104,7 @@ pub fn check_struct(
 /// Notes the faults of the struct that a typedef defines.
 fn check_aliased(
     alloc: Global,
-    told: &mut Told,
+    told: &mut FirstFault,
     tables: &NameTables,
     aliased: &Aliased,
 ) -> Result<(), AllocError>
@@ -109,7 +120,12 @@ fn check_aliased(
 }
 
 /// Notes that the base of a typedef is not known, or what a pointer points to is not defined.
-fn check_aliased_base(told: &mut Told, tables: &NameTables, aliased: &Aliased, star: Option<Place>)
+fn check_aliased_base(
+    told: &mut FirstFault,
+    tables: &NameTables,
+    aliased: &Aliased,
+    star: Option<Place>,
+)
     ensures { told.new.fault ≡ told_of told.old.fault (base_faults (tables_held tables.now) (aliased_base (aliased_of aliased.now)) star) }
 {
     match aliased {
@@ -123,7 +139,12 @@ fn check_aliased_base(told: &mut Told, tables: &NameTables, aliased: &Aliased, s
 }
 
 /// Notes the faults of a declarator of a typedef.
-fn check_alias(told: &mut Told, tables: &NameTables, aliased: &Aliased, declarator: &Declarator)
+fn check_alias(
+    told: &mut FirstFault,
+    tables: &NameTables,
+    aliased: &Aliased,
+    declarator: &Declarator,
+)
     ensures { told.new.fault ≡ told_of told.old.fault (alias_faults (tables_held tables.now) (aliased_base (aliased_of aliased.now)) declarator.now) }
 {
     let star = declarator.pointer;
@@ -137,7 +158,7 @@ fn check_alias(told: &mut Told, tables: &NameTables, aliased: &Aliased, declarat
 
 /// Notes the faults of the declarators of a typedef.
 fn check_aliases(
-    told: &mut Told,
+    told: &mut FirstFault,
     tables: &NameTables,
     aliased: &Aliased,
     declarators: &[Declarator],
@@ -152,7 +173,7 @@ fn check_aliases(
 /// Notes the faults of a typedef.
 pub fn check_typedef(
     alloc: Global,
-    told: &mut Told,
+    told: &mut FirstFault,
     tables: &NameTables,
     typedef: &Typedef,
 ) -> Result<(), AllocError>

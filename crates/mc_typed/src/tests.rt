@@ -9,9 +9,9 @@ use mc_ast::{
     Argument, AssertShape, Body, Call, Function, Item, Name, Parameters, Returned, Simple,
     Statement, Unit,
 };
-use mc_base::{Items, Kind, Place};
+use mc_base::{Items, Kind};
 use mc_defs::{Def, Defs, Rule};
-use mc_lex::Text;
+use mc_text::{Place, Text};
 use mc_types::{Fault, FaultName, TypeFault};
 use std::alloc::{AllocError, Global};
 use std::test::Fail;
@@ -37,7 +37,7 @@ fn function(
     ensures { IfOk result (λ item. item_numbers (item_of item) ≡ statements_numbers (stmts_of (map statement_of statements.items))) }
 {
     Ok(Item::Function(Function {
-        fixed: None,
+        static_place: None,
         returned: Returned::Void(at(column)),
         name: name(alloc, text, column)?,
         parameters: Parameters::Empty,

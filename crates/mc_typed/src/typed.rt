@@ -7,7 +7,7 @@ ghost use Rattle.std.specs.Prelude.{◌≡◌};
 
 use mc_ast::Unit;
 use mc_defs::Structs;
-use mc_lex::Text;
+use mc_text::Text;
 
 /// A program that is well typed for its entry and has small numbers, with its structs.
 #[derive(Drop)]

@@ -4,7 +4,7 @@ use Rattle.std.proofs.Common.{append_assoc}
 use Rattle.std.proofs.Common.{inl, inr, sym, length, suc, zero}
 use Rattle.std.proofs.lemmas.Option.{same_Some, none-some}
 use Rattle.std.specs.Prelude.{Contains, Option, Some, None, cond, IsTrue, nat_lt, nat_le, ◌==◌, ◌&&◌, ◌||◌}
-use Rattle.mc_base.specs.declared.plain.Place.{Place}
+use Rattle.mc_text.specs.declared.place.Place.{Place}
 use Rattle.mc_types.specs.declared.faults.Fault.{Fault}
 use Rattle.mc_types.specs.declared.faults.FaultName.{FaultName}
 use Rattle.mc_types.specs.declared.faults.FaultName.TheVariants as FaultName

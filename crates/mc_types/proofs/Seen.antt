@@ -1,17 +1,17 @@
 -- What expressions are seen as.
 use Rattle.std.proofs.Common.{◌≡◌, refl, ap, sym, ◌∙◌, Box, Global, box_value}
-use Rattle.mc_base.specs.declared.plain.Place.{Place}
+use Rattle.mc_text.specs.declared.place.Place.{Place}
 use Rattle.mc_ast.specs.declared.trees.LeftValue.{LeftValue}
 use Rattle.mc_ast.specs.declared.trees.Expression.{Expression}
 use Rattle.mc_ast.specs.declared.trees.Expression.TheVariants as Expression
-use Rattle.mc_ast.specs.declared.trees.Expression.TheVariants.{rolls-Value, rolls-Minus, rolls-Parens, rolls-Times, rolls-Plus, rolls-Less}
+use Rattle.mc_ast.specs.declared.trees.Expression.TheVariants.{rolls-Value, rolls-Minus, rolls-Parens, rolls-Times, rolls-Plus, rolls-Difference}
 use Rattle.mc_ast.specs.declared.trees.Expression.TheFolds.{fold-roll-Expression}
 use Rattle.mc_ast.specs.declared.trees.Comparison.{Comparison}
 use Rattle.mc_ast.specs.declared.trees.Condition.{Condition}
 use Rattle.mc_ast.specs.declared.trees.Condition.TheVariants as Condition
 use Rattle.mc_ast.specs.declared.trees.Condition.TheVariants.{rolls-Plain, rolls-Compare, rolls-Not, rolls-Both, rolls-Either}
 use Rattle.mc_ast.specs.declared.trees.Condition.TheFolds.{fold-roll-Condition}
-use Rattle.mc_ast.specs.Trees.{Cond, plain, compare, negation, enclosed, both, either, Expr, value, minus, parens, times, plus, less}
+use Rattle.mc_ast.specs.Trees.{Cond, plain, compare, negation, enclosed, both, either, Expr, value, minus, parens, times, plus, difference}
 use Rattle.mc_ast.specs.Views.{condition_of, condition_step, expression_of, expression_step, left_of}
 
 pub value_seen : (l : LeftValue) → expression_of (Expression.Value l) ≡ value (left_of l)
@@ -29,8 +29,8 @@ times_seen a b = ap expression_of (sym (rolls-Times a b)) ∙ fold-roll-Expressi
 pub plus_seen : (a b : Box Expression Global) → expression_of (Expression.Plus a b) ≡ plus (expression_of a.value) (expression_of b.value)
 plus_seen a b = ap expression_of (sym (rolls-Plus a b)) ∙ fold-roll-Expression Expr expression_step _
 
-pub less_seen : (a b : Box Expression Global) → expression_of (Expression.Less a b) ≡ less (expression_of a.value) (expression_of b.value)
-less_seen a b = ap expression_of (sym (rolls-Less a b)) ∙ fold-roll-Expression Expr expression_step _
+pub difference_seen : (a b : Box Expression Global) → expression_of (Expression.Difference a b) ≡ difference (expression_of a.value) (expression_of b.value)
+difference_seen a b = ap expression_of (sym (rolls-Difference a b)) ∙ fold-roll-Expression Expr expression_step _
 
 -- ---- conditions
 pub plain_seen : (e : Expression) → condition_of (Condition.Plain e) ≡ plain (expression_of e)

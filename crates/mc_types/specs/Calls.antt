@@ -1,7 +1,13 @@
 -- Which functions call which.
 use Rattle.std.specs.Prelude.{ℕ, List, [], ◌∷◌, ◌++◌, Option, Some, None, Contains, map, flat_map}
 use Rattle.mc_ast.specs.declared.trees.Name.{Name}
-use Rattle.mc_ast.specs.Trees.{CallTree, Right, expression, result_of, allocation, InitialTree, DeclarationTree, SimpleTree, assign, add, subtract, increment, decrement, increment_first, decrement_first, call, Start, nothing, declares, performs, Head, Stmt, declaration, block, empty, simple, free, assert, assume, assume_shape, assert_shape, assert_empty, if_only, if_else, while_loop, do_loop, for_loop, break_loop, continue_loop, returns, Stmts, no_more, then, stmts_of, BodyTree, FunctionTree, ItemTree, structure, typedef, function, UnitTree}
+use Rattle.mc_ast.specs.Trees.{CallTree, Right, expression, result_of, allocation, InitialTree, DeclarationTree}
+use Rattle.mc_ast.specs.Trees.{SimpleTree, assign, add, subtract, increment, decrement, increment_first}
+use Rattle.mc_ast.specs.Trees.{decrement_first, call, Start, nothing, declares, performs, Head, Stmt, declaration}
+use Rattle.mc_ast.specs.Trees.{block, empty, simple, free, assert, assume, assume_shape, assert_shape, assert_empty}
+use Rattle.mc_ast.specs.Trees.{if_only, if_else, while_loop, do_loop, for_loop, break_loop, continue_loop, returns}
+use Rattle.mc_ast.specs.Trees.{Stmts, no_more, then, stmts_of, BodyTree, FunctionTree, ItemTree, structure, typedef}
+use Rattle.mc_ast.specs.Trees.{function, UnitTree}
 
 -- the names that are called
 abbrev pub right_calls : Right → List Name

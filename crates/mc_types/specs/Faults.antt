@@ -1,7 +1,9 @@
 -- The faults of a program, rule by rule; Recursion and NoEntry apart.
-use Rattle.std.specs.Prelude.{ℕ, Bool, true, false, not, ◌==◌, ◌&&◌, ◌||◌, List, [], ◌∷◌, ◌++◌, Option, Some, None, map, flat_map, reverse, is_some, is_none, length, filter, unwrap_or, option_and_then, slice_get}
+use Rattle.std.specs.Prelude.{ℕ, Bool, true, false, not, ◌==◌, ◌&&◌, ◌||◌, List, [], ◌∷◌, ◌++◌, Option, Some, None}
+use Rattle.std.specs.Prelude.{map, flat_map, reverse, is_some, is_none, length, filter, unwrap_or, option_and_then}
+use Rattle.std.specs.Prelude.{slice_get}
 use Rattle.std.specs.List.{list_any}
-use Rattle.mc_base.specs.declared.plain.Place.{Place}
+use Rattle.mc_text.specs.declared.place.Place.{Place}
 use Rattle.mc_ast.specs.declared.trees.Name.{Name}
 use Rattle.mc_ast.specs.declared.trees.Comparison.{Comparison}
 use Rattle.mc_ast.specs.declared.trees.Comparison.TheVariants.{Equal, Unequal, Below, AtMost, Above, AtLeast}
@@ -17,11 +19,22 @@ use Rattle.mc_ast.specs.declared.trees.Argument.TheVariants as Argument
 use Rattle.mc_ast.specs.declared.trees.Returned.{Returned}
 use Rattle.mc_ast.specs.declared.trees.Returned.TheVariants as Returned
 use Rattle.mc_ast.specs.declared.trees.Parameter.{Parameter}
-use Rattle.mc_ast.specs.Trees.{Left, Expr, number, null, input, value, minus, parens, times, plus, less, Cond, plain, compare, negation, enclosed, both, either, CallTree, Right, expression, result_of, allocation}
-use Rattle.mc_ast.specs.Trees.{InitialTree, DeclarationTree, SimpleTree, assign, add, subtract, increment, decrement, increment_first, decrement_first, call, Start, nothing, declares, performs, Head, Stmt, declaration, block, empty, simple, free, assert, assume, assume_shape, assert_shape, assert_empty, if_only, if_else, while_loop, do_loop, for_loop, break_loop, continue_loop, returns, Stmts, no_more, then, stmts_of, FieldTree, StructTree, AliasedTree, of_base, of_struct, TypedefTree, ParametersTree, unnamed, void, listed, BodyTree, FunctionTree, ItemTree, structure, typedef, function, UnitTree}
+use Rattle.mc_ast.specs.Trees.{Left, Expr, number, null, input, value, minus, parens, times, plus, difference, Cond}
+use Rattle.mc_ast.specs.Trees.{plain, compare, negation, enclosed, both, either, CallTree, Right, expression}
+use Rattle.mc_ast.specs.Trees.{result_of, allocation}
+use Rattle.mc_ast.specs.Trees.{InitialTree, DeclarationTree, SimpleTree, assign, add, subtract, increment}
+use Rattle.mc_ast.specs.Trees.{decrement, increment_first, decrement_first, call, Start, nothing, declares}
+use Rattle.mc_ast.specs.Trees.{performs, Head, Stmt, declaration, block, empty, simple, free, assert, assume}
+use Rattle.mc_ast.specs.Trees.{assume_shape, assert_shape, assert_empty, if_only, if_else, while_loop, do_loop}
+use Rattle.mc_ast.specs.Trees.{for_loop, break_loop, continue_loop, returns, Stmts, no_more, then, stmts_of}
+use Rattle.mc_ast.specs.Trees.{FieldTree, StructTree, AliasedTree, of_base, of_struct, TypedefTree, ParametersTree}
+use Rattle.mc_ast.specs.Trees.{unnamed, void, listed, BodyTree, FunctionTree, ItemTree, structure, typedef}
+use Rattle.mc_ast.specs.Trees.{function, UnitTree}
 use Rattle.mc_ast.specs.Names.{is_same, is_in}
 use Rattle.mc_types.specs.Types.{agree, fits, number_type, is_int, is_pointer, are_comparable, result_fits, allocates, is_declarable}
-use Rattle.mc_types.specs.Tables.{Variable, type_in, Tables, struct_number, alias_in, is_undefined, meaning_of, declared_type, variable_of, fields_of, parameters_of, listed_parameters, returned_type, same_type, is_defined, called_function, unit_structs, tables_of}
+use Rattle.mc_types.specs.Tables.{Variable, type_in, Tables, struct_number, alias_in, is_undefined, meaning_of}
+use Rattle.mc_types.specs.Tables.{declared_type, variable_of, fields_of, parameters_of, listed_parameters}
+use Rattle.mc_types.specs.Tables.{returned_type, same_type, is_defined, called_function, unit_structs, tables_of}
 use Rattle.mc_types.specs.Scopes.{Scope, visible, inside, declare, behind, behind_start}
 use Rattle.mc_types.specs.declared.types.VariableType.{VariableType}
 use Rattle.mc_types.specs.declared.types.VariableType.TheVariants.{Int, Pointer, Anything}
@@ -110,7 +123,7 @@ first_place (minus p e) = p
 first_place (parens p e) = p
 first_place (times a b) = first_place a
 first_place (plus a b) = first_place a
-first_place (less a b) = first_place a
+first_place (difference a b) = first_place a
 
 -- what an expression can be; parentheses change nothing
 abbrev pub value_type : Tables → List Variable → Expr → ValueType
@@ -122,7 +135,7 @@ value_type t vs (minus p e) = Typed Int
 value_type t vs (parens p e) = value_type t vs e
 value_type t vs (times a b) = Typed Int
 value_type t vs (plus a b) = Typed Int
-value_type t vs (less a b) = Typed Int
+value_type t vs (difference a b) = Typed Int
 
 -- the expression is an `int`; is a pointer; fits where the type is wanted
 abbrev pub no_int : Tables → List Variable → Expr → List Fault
@@ -144,7 +157,7 @@ expression_faults t vs (minus p e) = no_int t vs e ++ expression_faults t vs e
 expression_faults t vs (parens p e) = expression_faults t vs e
 expression_faults t vs (times a b) = no_int t vs a ++ no_int t vs b ++ expression_faults t vs a ++ expression_faults t vs b
 expression_faults t vs (plus a b) = no_int t vs a ++ no_int t vs b ++ expression_faults t vs a ++ expression_faults t vs b
-expression_faults t vs (less a b) = no_int t vs a ++ no_int t vs b ++ expression_faults t vs a ++ expression_faults t vs b
+expression_faults t vs (difference a b) = no_int t vs a ++ no_int t vs b ++ expression_faults t vs a ++ expression_faults t vs b
 
 -- ---- conditions
 -- `==` and `!=` compare what is comparable, the others compare `int`s

@@ -1,7 +1,10 @@
 -- Which variables are visible where.
 use Rattle.std.specs.Prelude.{ℕ, List, [], ◌∷◌, ◌++◌}
 use Rattle.mc_ast.specs.declared.trees.Base.{Base}
-use Rattle.mc_ast.specs.Trees.{InitialTree, DeclarationTree, SimpleTree, Start, nothing, declares, performs, Head, Stmt, declaration, block, empty, simple, free, assert, assume, assume_shape, assert_shape, assert_empty, if_only, if_else, while_loop, do_loop, for_loop, break_loop, continue_loop, returns}
+use Rattle.mc_ast.specs.Trees.{InitialTree, DeclarationTree, SimpleTree, Start, nothing, declares, performs, Head}
+use Rattle.mc_ast.specs.Trees.{Stmt, declaration, block, empty, simple, free, assert, assume, assume_shape}
+use Rattle.mc_ast.specs.Trees.{assert_shape, assert_empty, if_only, if_else, while_loop, do_loop, for_loop}
+use Rattle.mc_ast.specs.Trees.{break_loop, continue_loop, returns}
 use Rattle.mc_types.specs.Tables.{Tables, Variable, variable_of}
 
 -- the variables of the heads of `for` around, of this block so far, and of what is around the block; inner and later ones first

@@ -2,13 +2,16 @@
 use Rattle.std.specs.Prelude.{◌≡◌, ℕ, Bool, false, ◌==◌, List, [], ◌∷◌, ◌++◌, Option, Some, None, find, flat_map, length, map, reverse}
 use Rattle.mc_base.specs.declared.plain.Kind.{Kind}
 use Rattle.mc_base.specs.declared.plain.Kind.TheVariants as Kind
-use Rattle.mc_base.specs.declared.plain.Place.{Place}
+use Rattle.mc_text.specs.declared.place.Place.{Place}
 use Rattle.mc_defs.specs.declared.rules.Def.{Def}
 use Rattle.mc_ast.specs.declared.trees.Argument.{Argument}
 use Rattle.mc_ast.specs.declared.trees.Argument.TheVariants as Argument
 use Rattle.mc_ast.specs.declared.trees.Name.{Name}
 use Rattle.mc_ast.specs.Names.{is_same}
-use Rattle.mc_ast.specs.Trees.{Stmt, declaration, block, empty, simple, free, assert, assume, assume_shape, assert_shape, assert_empty, if_only, if_else, while_loop, do_loop, for_loop, break_loop, continue_loop, returns, Stmts, no_more, then, stmts_of, BodyTree, FunctionTree, ItemTree, structure, typedef, function, UnitTree}
+use Rattle.mc_ast.specs.Trees.{Stmt, declaration, block, empty, simple, free, assert, assume, assume_shape}
+use Rattle.mc_ast.specs.Trees.{assert_shape, assert_empty, if_only, if_else, while_loop, do_loop, for_loop}
+use Rattle.mc_ast.specs.Trees.{break_loop, continue_loop, returns, Stmts, no_more, then, stmts_of, BodyTree}
+use Rattle.mc_ast.specs.Trees.{FunctionTree, ItemTree, structure, typedef, function, UnitTree}
 use Rattle.mc_types.specs.Faults.{unless, variable_type}
 use Rattle.mc_types.specs.First.{told_of}
 use Rattle.mc_types.specs.Scopes.{Scope, visible, inside, behind, behind_start}

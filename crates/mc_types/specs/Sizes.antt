@@ -4,7 +4,7 @@ use Rattle.std.specs.Prelude.{ℕ, ◌+◌, suc, List, [], ◌∷◌}
 use Rattle.mc_ast.specs.declared.trees.Condition.{Condition}
 use Rattle.mc_ast.specs.declared.trees.Expression.{Expression}
 use Rattle.mc_ast.specs.Views.{condition_of, expression_of}
-use Rattle.mc_ast.specs.Trees.{Expr, number, null, input, value, minus, parens, times, plus, less, Cond, plain, compare, negation, enclosed, both, either}
+use Rattle.mc_ast.specs.Trees.{Expr, number, null, input, value, minus, parens, times, plus, difference, Cond, plain, compare, negation, enclosed, both, either}
 
 abbrev pub expression_size : Expr → ℕ
 expression_size (number n p) = 1
@@ -15,7 +15,7 @@ expression_size (minus p e) = suc (expression_size e)
 expression_size (parens p e) = suc (expression_size e)
 expression_size (times a b) = suc (expression_size a + expression_size b)
 expression_size (plus a b) = suc (expression_size a + expression_size b)
-expression_size (less a b) = suc (expression_size a + expression_size b)
+expression_size (difference a b) = suc (expression_size a + expression_size b)
 
 abbrev pub condition_size : Cond → ℕ
 condition_size (plain e) = 1

@@ -1,10 +1,12 @@
 -- What the names of a program mean: its structs, typedefs and functions.
-use Rattle.std.specs.Prelude.{ℕ, Bool, true, false, not, ◌&&◌, ◌||◌, List, [], ◌∷◌, ◌++◌, Option, Some, None, map, flat_map, find, position, filter, option_map, option_and_then, unwrap_or, is_some, slice_get}
+use Rattle.std.specs.Prelude.{ℕ, Bool, true, false, not, ◌&&◌, ◌||◌, List, [], ◌∷◌, ◌++◌, Option, Some, None, map}
+use Rattle.std.specs.Prelude.{flat_map, find, position, filter, option_map, option_and_then, unwrap_or, is_some}
+use Rattle.std.specs.Prelude.{slice_get}
 use Rattle.std.specs.List.{list_any}
 use Rattle.mc_base.specs.declared.ids.StructId.{StructId}
 use Rattle.mc_base.specs.declared.plain.Kind.{Kind}
 use Rattle.mc_base.specs.declared.plain.Kind.TheVariants as Kind
-use Rattle.mc_base.specs.declared.plain.Place.{Place}
+use Rattle.mc_text.specs.declared.place.Place.{Place}
 use Rattle.mc_defs.specs.declared.shapes.StructInfo.{StructInfo}
 use Rattle.mc_defs.specs.declared.shapes.FieldInfo.{FieldInfo}
 use Rattle.mc_ast.specs.declared.trees.Name.{Name}
@@ -14,7 +16,9 @@ use Rattle.mc_ast.specs.declared.trees.Declarator.{Declarator}
 use Rattle.mc_ast.specs.declared.trees.Returned.{Returned}
 use Rattle.mc_ast.specs.declared.trees.Returned.TheVariants as Returned
 use Rattle.mc_ast.specs.declared.trees.Parameter.{Parameter}
-use Rattle.mc_ast.specs.Trees.{FieldTree, StructTree, AliasedTree, of_base, of_struct, TypedefTree, ParametersTree, unnamed, void, listed, FunctionTree, ItemTree, structure, typedef, function, UnitTree}
+use Rattle.mc_ast.specs.Trees.{FieldTree, StructTree, AliasedTree, of_base, of_struct, TypedefTree, ParametersTree}
+use Rattle.mc_ast.specs.Trees.{unnamed, void, listed, FunctionTree, ItemTree, structure, typedef, function}
+use Rattle.mc_ast.specs.Trees.{UnitTree}
 use Rattle.mc_ast.specs.Names.{is_same}
 use Rattle.mc_types.specs.Types.{agree, all_agree}
 use Rattle.mc_types.specs.declared.types.VariableType.{VariableType}

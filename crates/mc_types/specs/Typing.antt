@@ -1,7 +1,7 @@
 -- When a program is well typed, and what its first fault is.
 use Rattle.std.specs.Prelude.{◌≡◌, ℕ, Bool, true, false, IsTrue, ◌&&◌, List, [], ◌∷◌, Contains}
 use Rattle.std.specs.List.{list_any}
-use Rattle.mc_base.specs.declared.plain.Place.{Place}
+use Rattle.mc_text.specs.declared.place.Place.{Place}
 use Rattle.mc_ast.specs.Trees.{FunctionTree, UnitTree}
 use Rattle.mc_ast.specs.Names.{is_same}
 use Rattle.mc_types.specs.Tables.{Tables, tables_of, is_defined, listed_parameters}

@@ -5,8 +5,8 @@ ghost use Rattle.mc_ast.specs.Names.{is_same};
 ghost use Rattle.mc_types.specs.Held.{alias_held};
 
 use crate::tables::Meaning;
-use mc_lex::Text;
 use mc_names::Names;
+use mc_text::Text;
 use std::alloc::{AllocError, Global};
 use std::marker::Model;
 

@@ -4,16 +4,16 @@ ghost use Rattle.mc_ast.specs.Views.{function_of};
 ghost use Rattle.mc_types.specs.Tables.{listed_parameters};
 ghost use Rattle.mc_types.specs.Faults.{size_place};
 
-use crate::expressions::Sight;
+use crate::expressions::VisibleNames;
 use crate::faults::FaultName;
 use crate::tables::NameTables;
-use crate::told::Told;
+use crate::told::FirstFault;
 use crate::types::{BaseType, ValueType, VariableType};
 use mc_ast::{
     Base, Call, Cast, Expression, Function, Malloc, Name, Parameter, Parameters, Returned,
     RightSide, Size,
 };
-use mc_base::Place;
+use mc_text::Place;
 use std::alloc::{AllocError, Global};
 
 /// The parameters of a function.
@@ -55,7 +55,7 @@ impl<'a> NameTables<'a> {
     }
 
     /// Notes that a base is not known, or what a pointer points to is not defined.
-    pub fn check_base(&self, told: &mut Told, base: &Base, star: Option<Place>)
+    pub fn check_base(&self, told: &mut FirstFault, base: &Base, star: Option<Place>)
         ensures { told.new.fault ≡ told_of told.old.fault (base_faults (tables_held self.now) base.now star) }
     {
         match base {
@@ -70,7 +70,7 @@ impl<'a> NameTables<'a> {
     }
 
     /// Notes that a base and perhaps a `*` can't be the type of something.
-    pub fn check_type(&self, told: &mut Told, base: &Base, star: Option<Place>, place: Place)
+    pub fn check_type(&self, told: &mut FirstFault, base: &Base, star: Option<Place>, place: Place)
         ensures { told.new.fault ≡ told_of told.old.fault (type_faults (tables_held self.now) base.now star place) }
     {
         self.check_base(told, base, star);
@@ -82,7 +82,7 @@ impl<'a> NameTables<'a> {
     }
 
     /// Notes that a cast has not the wanted type.
-    pub fn check_cast(&self, told: &mut Told, wanted: VariableType, cast: &Option<Cast>)
+    pub fn check_cast(&self, told: &mut FirstFault, wanted: VariableType, cast: &Option<Cast>)
         ensures { told.new.fault ≡ told_of told.old.fault (cast_faults (tables_held self.now) wanted cast.now) }
     {
         match cast {
@@ -101,7 +101,7 @@ impl<'a> NameTables<'a> {
     }
 }
 
-impl<'s, 'a> Sight<'s, 'a> {
+impl<'s, 'a> VisibleNames<'s, 'a> {
     ghost use Rattle.std.specs.Prelude.{OnOk, map, flat_map, option_map};
     ghost use Rattle.std.specs.Option.{option_copied};
     ghost use Rattle.mc_ast.specs.Views.{expression_of, call_of, right_of};
@@ -111,7 +111,12 @@ impl<'s, 'a> Sight<'s, 'a> {
     ghost use Rattle.mc_types.specs.Held.{tables_held, variables_held};
 
     /// Notes which arguments do not fit their parameters.
-    fn check_arguments(&self, told: &mut Told, parameters: &[Parameter], arguments: &[Expression])
+    fn check_arguments(
+        &self,
+        told: &mut FirstFault,
+        parameters: &[Parameter],
+        arguments: &[Expression],
+    )
         ensures { told.new.fault ≡ told_of told.old.fault (argument_faults (tables_held self.now.tables.now) (variables_held self.now.scope.now) parameters.now (map expression_of arguments.now)) }
     {
         for (i, argument) in arguments.iter().enumerate() {
@@ -129,7 +134,7 @@ impl<'s, 'a> Sight<'s, 'a> {
     fn check_expressions(
         &self,
         alloc: Global,
-        told: &mut Told,
+        told: &mut FirstFault,
         expressions: &[Expression],
     ) -> Result<(), AllocError>
         ensures { OnOk result (told.new.fault ≡ told_of told.old.fault (flat_map (expression_faults (tables_held self.now.tables.now) (variables_held self.now.scope.now)) (map expression_of expressions.now))) }
@@ -141,7 +146,7 @@ impl<'s, 'a> Sight<'s, 'a> {
     }
 
     /// Notes that a called function is not there, or has other parameters.
-    fn check_callee(&self, told: &mut Told, call: &Call, callee: Option<&Function>)
+    fn check_callee(&self, told: &mut FirstFault, call: &Call, callee: Option<&Function>)
         ensures { told.new.fault ≡ told_of told.old.fault (callee_faults (tables_held self.now.tables.now) (variables_held self.now.scope.now) (call_of call.now) (option_map function_of (option_copied callee.entry))) }
     {
         match callee {
@@ -160,7 +165,12 @@ impl<'s, 'a> Sight<'s, 'a> {
     }
 
     /// Notes the faults of a call.
-    pub fn check_call(&self, alloc: Global, told: &mut Told, call: &Call) -> Result<(), AllocError>
+    pub fn check_call(
+        &self,
+        alloc: Global,
+        told: &mut FirstFault,
+        call: &Call,
+    ) -> Result<(), AllocError>
         ensures { OnOk result (told.new.fault ≡ told_of told.old.fault (call_faults (tables_held self.now.tables.now) (variables_held self.now.scope.now) (call_of call.now))) }
     {
         let callee = self.tables.called_function(&call.function.text);
@@ -183,7 +193,7 @@ impl<'s, 'a> Sight<'s, 'a> {
     fn check_result(
         &self,
         alloc: Global,
-        told: &mut Told,
+        told: &mut FirstFault,
         wanted: VariableType,
         call: &Call,
     ) -> Result<(), AllocError>
@@ -203,7 +213,7 @@ impl<'s, 'a> Sight<'s, 'a> {
     fn check_value(
         &self,
         alloc: Global,
-        told: &mut Told,
+        told: &mut FirstFault,
         wanted: VariableType,
         expression: &Expression,
     ) -> Result<(), AllocError>
@@ -226,7 +236,7 @@ impl<'s, 'a> Sight<'s, 'a> {
     }
 
     /// Notes that a name is no visible pointer.
-    fn check_pointed(&self, told: &mut Told, name: &Name)
+    fn check_pointed(&self, told: &mut FirstFault, name: &Name)
         ensures { told.new.fault ≡ told_of told.old.fault (pointed_faults (variables_held self.now.scope.now) name.now) }
     {
         self.check_variable(told, name);
@@ -238,7 +248,7 @@ impl<'s, 'a> Sight<'s, 'a> {
     }
 
     /// Notes the faults of a size.
-    fn check_size(&self, told: &mut Told, size: &Size)
+    fn check_size(&self, told: &mut FirstFault, size: &Size)
         ensures { told.new.fault ≡ told_of told.old.fault (size_faults (tables_held self.now.tables.now) (variables_held self.now.scope.now) size.now) }
     {
         match size {
@@ -249,7 +259,7 @@ impl<'s, 'a> Sight<'s, 'a> {
     }
 
     /// Notes the faults of `malloc`.
-    fn check_malloc(&self, told: &mut Told, wanted: VariableType, malloc: &Malloc)
+    fn check_malloc(&self, told: &mut FirstFault, wanted: VariableType, malloc: &Malloc)
         ensures { told.new.fault ≡ told_of told.old.fault (right_faults (tables_held self.now.tables.now) (variables_held self.now.scope.now) wanted (allocation malloc.now)) }
     {
         self.tables.check_cast(told, wanted, &malloc.cast);
@@ -265,7 +275,7 @@ impl<'s, 'a> Sight<'s, 'a> {
     pub fn check_right(
         &self,
         alloc: Global,
-        told: &mut Told,
+        told: &mut FirstFault,
         wanted: VariableType,
         right: &RightSide,
     ) -> Result<(), AllocError>

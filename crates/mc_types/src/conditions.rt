@@ -1,12 +1,12 @@
 // The faults of conditions.
-use crate::expressions::{Sight, first_place};
+use crate::expressions::{VisibleNames, first_place};
 use crate::faults::FaultName;
-use crate::told::Told;
+use crate::told::FirstFault;
 use mc_ast::{Comparison, Condition, Expression};
 use mc_stack::Stack;
 use std::alloc::{AllocError, Global};
 
-impl<'s, 'a> Sight<'s, 'a> {
+impl<'s, 'a> VisibleNames<'s, 'a> {
     ghost use Rattle.std.specs.Prelude.{◌≡◌, ◌∷◌, ◌++◌, ◌+◌, ◌<◌, OnOk};
     ghost use Rattle.mc_ast.specs.declared.trees.Comparison.TheVariants.{Equal, Below};
     ghost use Rattle.mc_ast.specs.Trees.{compare};
@@ -17,7 +17,7 @@ impl<'s, 'a> Sight<'s, 'a> {
     ghost use Rattle.mc_types.specs.Sizes.{condition_size, conditions_size};
 
     /// Notes that two expressions can't be compared by `==`.
-    fn want_comparable(&self, told: &mut Told, left: &Expression, right: &Expression)
+    fn want_comparable(&self, told: &mut FirstFault, left: &Expression, right: &Expression)
         ensures { told.new.fault ≡ told_of told.old.fault (comparison_faults (tables_held self.now.tables.now) (variables_held self.now.scope.now) Equal (expression_of left.now) (expression_of right.now)) }
     {
         if !self.value_type(left).is_comparable(self.value_type(right)) {
@@ -26,7 +26,7 @@ impl<'s, 'a> Sight<'s, 'a> {
     }
 
     /// Notes that two expressions are no `int`s.
-    fn want_ints(&self, told: &mut Told, left: &Expression, right: &Expression)
+    fn want_ints(&self, told: &mut FirstFault, left: &Expression, right: &Expression)
         ensures { told.new.fault ≡ told_of told.old.fault (comparison_faults (tables_held self.now.tables.now) (variables_held self.now.scope.now) Below (expression_of left.now) (expression_of right.now)) }
     {
         self.want_int(told, left);
@@ -36,7 +36,7 @@ impl<'s, 'a> Sight<'s, 'a> {
     /// Notes that two expressions can't be compared so.
     fn check_comparison(
         &self,
-        told: &mut Told,
+        told: &mut FirstFault,
         comparison: Comparison,
         left: &Expression,
         right: &Expression,
@@ -57,7 +57,7 @@ impl<'s, 'a> Sight<'s, 'a> {
     fn check_compared(
         &self,
         alloc: Global,
-        told: &mut Told,
+        told: &mut FirstFault,
         comparison: Comparison,
         left: &Expression,
         right: &Expression,
@@ -74,7 +74,7 @@ impl<'s, 'a> Sight<'s, 'a> {
     fn visit_condition<'c>(
         &self,
         alloc: Global,
-        told: &mut Told,
+        told: &mut FirstFault,
         stack: &mut Stack<&'c Condition>,
         current: &'c Condition,
     ) -> Result<(), AllocError>
@@ -113,7 +113,7 @@ impl<'s, 'a> Sight<'s, 'a> {
     pub fn check_condition(
         &self,
         alloc: Global,
-        told: &mut Told,
+        told: &mut FirstFault,
         condition: &Condition,
     ) -> Result<(), AllocError>
         ensures { OnOk result (told.new.fault ≡ told_of told.old.fault (condition_faults (tables_held self.now.tables.now) (variables_held self.now.scope.now) (condition_of condition.now))) }

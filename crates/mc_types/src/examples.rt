@@ -2,7 +2,10 @@
 ghost use Rattle.std.specs.Prelude.{codes};
 ghost use Rattle.mc_types.specs.declared.faults.FaultName.TheVariants.{Unknown, Mismatch, Twice, Recursion, NoEntry, BadSizeof, Arity};
 ghost use Rattle.mc_types.specs.Typing.{IsWellTyped, IsFirstFault};
-ghost use Rattle.mc_types.specs.Examples.{fault, builds_a_list, later_struct, hidden_variable, twice_in_a_block, loop_variable, pointer_added, wrong_cast, wrong_size, too_few_arguments, no_result, break_outside, no_function, entry_with_parameter, entry_after_others, calls_itself, calls_in_a_ring};
+ghost use Rattle.mc_types.specs.Examples.{fault, builds_a_list, later_struct, hidden_variable, twice_in_a_block};
+ghost use Rattle.mc_types.specs.Examples.{loop_variable, pointer_added, wrong_cast, wrong_size, too_few_arguments};
+ghost use Rattle.mc_types.specs.Examples.{no_result, break_outside, no_function, entry_with_parameter};
+ghost use Rattle.mc_types.specs.Examples.{entry_after_others, calls_itself, calls_in_a_ring};
 
 /// Programs that meet every rule.
 pub fn examples_well_typed()

@@ -2,16 +2,16 @@
 use crate::faults::FaultName;
 use crate::scope::{Named, type_in};
 use crate::tables::NameTables;
-use crate::told::Told;
+use crate::told::FirstFault;
 use crate::types::{ValueType, VariableType};
 use mc_ast::{Expression, LeftValue, Name};
-use mc_base::Place;
 use mc_stack::Stack;
+use mc_text::Place;
 use std::alloc::{AllocError, Global};
 
 /// What names mean at one point of a program.
 #[derive(Clone, Copy)]
-pub struct Sight<'s, 'a> {
+pub struct VisibleNames<'s, 'a> {
     pub tables: &'s NameTables<'a>,
     pub scope: &'s [Named<'a>],
 }
@@ -35,12 +35,12 @@ pub fn first_place(expression: &Expression) -> Place
             Expression::Parens(place, _) => return *place,
             Expression::Times(left, _) => current = left,
             Expression::Plus(left, _) => current = left,
-            Expression::Less(left, _) => current = left,
+            Expression::Difference(left, _) => current = left,
         }
     }
 }
 
-impl<'s, 'a> Sight<'s, 'a> {
+impl<'s, 'a> VisibleNames<'s, 'a> {
     ghost use Rattle.std.specs.Prelude.{OnOk, [], ◌∷◌, ◌++◌, ◌+◌, ◌<◌};
     ghost use Rattle.mc_ast.specs.Views.{left_of};
     ghost use Rattle.mc_types.specs.Faults.{variable_type, variable_faults, left_type, left_faults, value_type, no_int, no_pointer, no_fit, expression_faults, behind_fields, field_faults};
@@ -59,7 +59,7 @@ impl<'s, 'a> Sight<'s, 'a> {
     }
 
     /// Notes that a variable is not visible.
-    pub fn check_variable(&self, told: &mut Told, name: &Name)
+    pub fn check_variable(&self, told: &mut FirstFault, name: &Name)
         ensures { told.new.fault ≡ told_of told.old.fault (variable_faults (variables_held self.now.scope.now) name.now) }
     {
         told.unless(
@@ -91,7 +91,7 @@ impl<'s, 'a> Sight<'s, 'a> {
     }
 
     /// Notes which of these fields are not there.
-    fn check_fields(&self, told: &mut Told, start: VariableType, fields: &[Name])
+    fn check_fields(&self, told: &mut FirstFault, start: VariableType, fields: &[Name])
         ensures { told.new.fault ≡ told_of told.old.fault (field_faults (tables_held self.now.tables.now) start fields.now) }
     {
         let mut found = start;
@@ -113,7 +113,7 @@ impl<'s, 'a> Sight<'s, 'a> {
     }
 
     /// Notes that a variable is not visible, and that fields are not there.
-    pub fn check_left(&self, told: &mut Told, left: &LeftValue)
+    pub fn check_left(&self, told: &mut FirstFault, left: &LeftValue)
         ensures { told.new.fault ≡ told_of told.old.fault (left_faults (tables_held self.now.tables.now) (variables_held self.now.scope.now) (left_of left.now)) }
     {
         self.check_variable(told, &left.name);
@@ -135,13 +135,13 @@ impl<'s, 'a> Sight<'s, 'a> {
                 Expression::Parens(_, inner) => current = inner,
                 Expression::Times(_, _) => return ValueType::Typed(VariableType::Int),
                 Expression::Plus(_, _) => return ValueType::Typed(VariableType::Int),
-                Expression::Less(_, _) => return ValueType::Typed(VariableType::Int),
+                Expression::Difference(_, _) => return ValueType::Typed(VariableType::Int),
             }
         }
     }
 
     /// Notes that an expression is no `int`.
-    pub fn want_int(&self, told: &mut Told, expression: &Expression)
+    pub fn want_int(&self, told: &mut FirstFault, expression: &Expression)
         ensures { told.new.fault ≡ told_of told.old.fault (no_int (tables_held self.now.tables.now) (variables_held self.now.scope.now) (expression_of expression.now)) }
     {
         if !self.value_type(expression).is_int() {
@@ -150,7 +150,7 @@ impl<'s, 'a> Sight<'s, 'a> {
     }
 
     /// Notes that an expression is no pointer.
-    pub fn want_pointer(&self, told: &mut Told, expression: &Expression)
+    pub fn want_pointer(&self, told: &mut FirstFault, expression: &Expression)
         ensures { told.new.fault ≡ told_of told.old.fault (no_pointer (tables_held self.now.tables.now) (variables_held self.now.scope.now) (expression_of expression.now)) }
     {
         if !self.value_type(expression).is_pointer() {
@@ -159,7 +159,7 @@ impl<'s, 'a> Sight<'s, 'a> {
     }
 
     /// Notes that an expression does not fit where a type is wanted.
-    pub fn want_type(&self, told: &mut Told, wanted: VariableType, expression: &Expression)
+    pub fn want_type(&self, told: &mut FirstFault, wanted: VariableType, expression: &Expression)
         ensures { told.new.fault ≡ told_of told.old.fault (no_fit (tables_held self.now.tables.now) (variables_held self.now.scope.now) wanted (expression_of expression.now)) }
     {
         if !wanted.takes(self.value_type(expression)) {
@@ -170,7 +170,7 @@ impl<'s, 'a> Sight<'s, 'a> {
     /// Notes that operands are no `int`s, and keeps them for later.
     fn visit_operands<'e>(
         &self,
-        told: &mut Told,
+        told: &mut FirstFault,
         stack: &mut Stack<&'e Expression>,
         left: &'e Expression,
         right: &'e Expression,
@@ -188,7 +188,7 @@ impl<'s, 'a> Sight<'s, 'a> {
     /// Notes the faults of an expression itself, and keeps what is in it for later.
     fn visit<'e>(
         &self,
-        told: &mut Told,
+        told: &mut FirstFault,
         stack: &mut Stack<&'e Expression>,
         current: &'e Expression,
     ) -> Result<(), AllocError>
@@ -220,7 +220,7 @@ impl<'s, 'a> Sight<'s, 'a> {
                 self.visit_operands(told, stack, left, right)?;
                 Ok(())
             }
-            Expression::Less(left, right) => {
+            Expression::Difference(left, right) => {
                 self.visit_operands(told, stack, left, right)?;
                 Ok(())
             }
@@ -231,7 +231,7 @@ impl<'s, 'a> Sight<'s, 'a> {
     pub fn check_expression(
         &self,
         alloc: Global,
-        told: &mut Told,
+        told: &mut FirstFault,
         expression: &Expression,
     ) -> Result<(), AllocError>
         ensures { OnOk result (told.new.fault ≡ told_of told.old.fault (expression_faults (tables_held self.now.tables.now) (variables_held self.now.scope.now) (expression_of expression.now))) }

@@ -1,5 +1,5 @@
 // What keeps a program from being typed.
-use mc_base::Place;
+use mc_text::Place;
 use std::alloc::AllocError;
 use thiserror::Error;
 

@@ -3,7 +3,7 @@ use crate::names::is_same;
 use crate::tables::NameTables;
 use crate::types::VariableType;
 use mc_ast::{Base, Declarator, Field};
-use mc_lex::Text;
+use mc_text::Text;
 
 impl<'a> NameTables<'a> {
     ghost use Rattle.std.specs.Prelude.{◌≡◌, map, flat_map};

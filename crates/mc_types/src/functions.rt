@@ -6,8 +6,8 @@ ghost use Rattle.mc_ast.specs.Views.{function_of};
 ghost use Rattle.mc_types.specs.Tables.{is_defined};
 
 use mc_ast::Function;
-use mc_lex::Text;
 use mc_names::Table;
+use mc_text::Text;
 use std::alloc::{AllocError, Global};
 use std::marker::Model;
 

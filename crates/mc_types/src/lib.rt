@@ -23,12 +23,12 @@ pub use examples::{
     examples_of_calls, examples_of_entries, examples_of_recursion, examples_of_scopes,
     examples_of_types, examples_well_typed,
 };
-pub use expressions::Sight;
+pub use expressions::VisibleNames;
 pub use faults::{Fault, FaultName, TypeFault};
 pub use functions::Functions;
 pub use laws::{first_fault_is_told_once, well_typed_is_faultless};
 pub use names::is_same;
 pub use scope::{Named, type_in};
 pub use tables::{Meaning, NameTables};
-pub use told::Told;
+pub use told::FirstFault;
 pub use types::{BaseType, ValueType, VariableType};

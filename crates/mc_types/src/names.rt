@@ -2,7 +2,7 @@
 ghost use Rattle.std.specs.Prelude.{◌≡◌};
 ghost use Rattle.mc_ast.specs.Names.{is_same};
 
-use mc_lex::Text;
+use mc_text::Text;
 
 /// Whether two names are the same.
 pub fn is_same(left: &Text, right: &Text) -> bool

@@ -1,8 +1,7 @@
 // The variables that are visible.
 use crate::names::is_same;
 use crate::types::VariableType;
-use mc_base::Place;
-use mc_lex::Text;
+use mc_text::{Place, Text};
 
 /// A variable, field or parameter, with the place of its name.
 #[derive(Clone, Copy)]

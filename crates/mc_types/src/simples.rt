@@ -1,13 +1,13 @@
 // The faults of simple statements, and of the parts of other statements.
-use crate::expressions::Sight;
+use crate::expressions::VisibleNames;
 use crate::faults::FaultName;
-use crate::told::Told;
+use crate::told::FirstFault;
 use crate::types::{ValueType, VariableType};
 use mc_ast::{Argument, Condition, Expression, LeftValue, RightSide, Simple};
-use mc_base::Place;
+use mc_text::Place;
 use std::alloc::{AllocError, Global};
 
-impl<'s, 'a> Sight<'s, 'a> {
+impl<'s, 'a> VisibleNames<'s, 'a> {
     ghost use Rattle.std.specs.Prelude.{◌≡◌, OnOk, flat_map, option_map};
     ghost use Rattle.mc_ast.specs.Trees.{assign, add};
     ghost use Rattle.mc_ast.specs.Views.{expression_of, condition_of, left_of, right_of, simple_of};
@@ -16,7 +16,7 @@ impl<'s, 'a> Sight<'s, 'a> {
     ghost use Rattle.mc_types.specs.Held.{tables_held, variables_held};
 
     /// Notes that what `++` and the like change is no `int`.
-    fn check_changed(&self, told: &mut Told, left: &LeftValue)
+    fn check_changed(&self, told: &mut FirstFault, left: &LeftValue)
         ensures { told.new.fault ≡ told_of told.old.fault (changed_faults (tables_held self.now.tables.now) (variables_held self.now.scope.now) (left_of left.now)) }
     {
         self.check_left(told, left);
@@ -31,7 +31,7 @@ impl<'s, 'a> Sight<'s, 'a> {
     fn check_assignment(
         &self,
         alloc: Global,
-        told: &mut Told,
+        told: &mut FirstFault,
         left: &LeftValue,
         right: &RightSide,
     ) -> Result<(), AllocError>
@@ -46,7 +46,7 @@ impl<'s, 'a> Sight<'s, 'a> {
     fn check_addition(
         &self,
         alloc: Global,
-        told: &mut Told,
+        told: &mut FirstFault,
         left: &LeftValue,
         expression: &Expression,
     ) -> Result<(), AllocError>
@@ -62,7 +62,7 @@ impl<'s, 'a> Sight<'s, 'a> {
     pub fn check_simple(
         &self,
         alloc: Global,
-        told: &mut Told,
+        told: &mut FirstFault,
         simple: &Simple,
     ) -> Result<(), AllocError>
         ensures { OnOk result (told.new.fault ≡ told_of told.old.fault (simple_faults (tables_held self.now.tables.now) (variables_held self.now.scope.now) (simple_of simple.now))) }
@@ -107,7 +107,7 @@ impl<'s, 'a> Sight<'s, 'a> {
     pub fn check_first_value(
         &self,
         alloc: Global,
-        told: &mut Told,
+        told: &mut FirstFault,
         wanted: VariableType,
         value: &Option<RightSide>,
     ) -> Result<(), AllocError>
@@ -126,7 +126,7 @@ impl<'s, 'a> Sight<'s, 'a> {
     pub fn check_return(
         &self,
         alloc: Global,
-        told: &mut Told,
+        told: &mut FirstFault,
         returned: Option<VariableType>,
         place: Place,
         value: &Option<RightSide>,
@@ -154,7 +154,7 @@ impl<'s, 'a> Sight<'s, 'a> {
     }
 
     /// Notes that a name among the arguments of a shape command is not visible.
-    pub fn check_argument(&self, told: &mut Told, argument: &Argument)
+    pub fn check_argument(&self, told: &mut FirstFault, argument: &Argument)
         ensures { told.new.fault ≡ told_of told.old.fault (shape_argument_faults (variables_held self.now.scope.now) argument.now) }
     {
         match argument {
@@ -169,7 +169,7 @@ impl<'s, 'a> Sight<'s, 'a> {
     pub fn check_maybe_condition(
         &self,
         alloc: Global,
-        told: &mut Told,
+        told: &mut FirstFault,
         condition: &Option<Condition>,
     ) -> Result<(), AllocError>
         ensures { OnOk result (told.new.fault ≡ told_of told.old.fault (maybe_condition_faults (tables_held self.now.tables.now) (variables_held self.now.scope.now) (option_map condition_of condition.now))) }
@@ -187,7 +187,7 @@ impl<'s, 'a> Sight<'s, 'a> {
     pub fn check_maybe_simple(
         &self,
         alloc: Global,
-        told: &mut Told,
+        told: &mut FirstFault,
         simple: &Option<Simple>,
     ) -> Result<(), AllocError>
         ensures { OnOk result (told.new.fault ≡ told_of told.old.fault (maybe_simple_faults (tables_held self.now.tables.now) (variables_held self.now.scope.now) (option_map simple_of simple.now))) }

@@ -3,9 +3,9 @@ use crate::aliases::Aliases;
 use crate::functions::Functions;
 use crate::types::{BaseType, VariableType};
 use mc_ast::{Base, Function, Struct};
-use mc_base::{Place, StructId};
-use mc_lex::Text;
+use mc_base::StructId;
 use mc_names::Table;
+use mc_text::{Place, Text};
 
 /// What a typedef made of a name.
 #[derive(Clone, Copy)]

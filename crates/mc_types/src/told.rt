@@ -4,7 +4,7 @@ ghost use Rattle.mc_types.specs.First.{is_told, number_of, told_of};
 ghost use Rattle.mc_types.specs.Faults.{unless};
 
 use crate::faults::{Fault, FaultName};
-use mc_base::Place;
+use mc_text::Place;
 
 impl FaultName {
     /// Its number: at one place the fault with the least number is told.
@@ -39,16 +39,16 @@ impl Fault {
 
 /// The fault to be told of those found so far.
 #[derive(Drop)]
-pub struct Told {
+pub struct FirstFault {
     pub fault: Option<Fault>,
 }
 
-impl Told {
+impl FirstFault {
     /// None is found.
-    pub fn new() -> Told
+    pub fn new() -> FirstFault
         ensures { result.fault ≡ None }
     {
-        Told { fault: None }
+        FirstFault { fault: None }
     }
 
     /// Takes note of a fault.

@@ -4,7 +4,8 @@ ghost use Rattle.mc_types.specs.Types.{agree, fits, number_type, is_int, is_poin
 ghost use Rattle.mc_types.specs.Tables.{declared_type, is_undefined};
 ghost use Rattle.mc_types.specs.Faults.{pointed_meaning};
 
-use mc_base::{Place, StructId};
+use mc_base::StructId;
+use mc_text::Place;
 
 /// The type of a variable, field, parameter or result.
 #[derive(Clone, Copy, Debug, PartialEq, Eq)]

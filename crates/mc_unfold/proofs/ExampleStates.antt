@@ -57,7 +57,7 @@ module _ (not_false : NoneStandsForFalse) where
   pub list_unfolds : IsAtAddresses (blocks two_cells) → StandsBy defs at_seven [] (blocks two_cells) one_list → UnfoldsInd defs (Some (node 1)) (edge 0) one_list (no_cell ∷ cell_then_list ∷ [])
   list_unfolds addresses st =
       record {
-        sound = λ wrong. not_false defs [] (blocks two_cells) one_list addresses (at_seven, st) wrong;
+        consistent = λ wrong. not_false defs [] (blocks two_cells) one_list addresses (at_seven, st) wrong;
         at = node 1;
         pred = list_id;
         args = [];
@@ -71,7 +71,7 @@ module _ (not_false : NoneStandsForFalse) where
   pub segment_unfolds : (region : Region) → IsAtAddresses region → StandsBy defs (first_two 7 9) [] region one_segment → UnfoldsSeg defs (Some (node 1)) (edge 0) one_segment (no_segment ∷ cell_then_segment ∷ [])
   segment_unfolds region addresses st =
       record {
-        sound = λ wrong. not_false defs [] region one_segment addresses (first_two 7 9, st) wrong;
+        consistent = λ wrong. not_false defs [] region one_segment addresses (first_two 7 9, st) wrong;
         at = node 1;
         args = [];
         pred = list_id;

@@ -235,7 +235,7 @@ module _ (commutes : SplitCommutes) (adds_empty : SplitAddsEmpty) (empty : Empty
       let addresses = fork_addresses none in
       let all : UnfoldsSeg defs (Some (node 1)) (edge 0) tree_segment (no_segment ∷ goes_left ∷ goes_right ∷ []) =
       record {
-        sound = λ wrong. not_false defs [] (blocks right_fork) tree_segment addresses (first_two 7 9, tree_stands) wrong;
+        consistent = λ wrong. not_false defs [] (blocks right_fork) tree_segment addresses (first_two 7 9, tree_stands) wrong;
         at = node 1;
         args = [];
         pred = tree_id;

@@ -57,7 +57,7 @@ own_places pred place (call ∷ calls) = if call.pred.0 == pred.0 then place ∷
 
 -- L1: the Ind of an edge, at null or at the accessed node, is the body of one of its predicate's rules
 pub record UnfoldsInd (defs : List Def) (accessed : Option NodeId) (edge : EdgeId) (s : State) (next : List State) : Type 0 where
-  pub sound : IsFalse s → ⊥
+  pub consistent : IsFalse s → ⊥
   pub at : NodeId
   pub pred : PredId
   pub args : List NodeId
@@ -70,7 +70,7 @@ pub record UnfoldsInd (defs : List Def) (accessed : Option NodeId) (edge : EdgeI
 -- L2: the Seg of an edge, at null or at the accessed node, is empty, or the body of one of its predicate's rules
 -- of which one call of the predicate goes on as the segment
 pub record UnfoldsSeg (defs : List Def) (accessed : Option NodeId) (edge : EdgeId) (s : State) (next : List State) : Type 0 where
-  pub sound : IsFalse s → ⊥
+  pub consistent : IsFalse s → ⊥
   pub at : NodeId
   pub args : List NodeId
   pub pred : PredId

@@ -7,7 +7,7 @@ use Rattle.mc_ast.specs.Trees.{Cond, Head, InitialTree, SimpleTree, Start, nothi
 use Rattle.mc_types.specs.Calls.{body_sites, maybe_right_calls, maybe_simple_calls, start_calls, statement_calls, statements_calls}
 use Rattle.mc_types.specs.Scopes.{Scope, inside, declare, behind, behind_start}
 use Rattle.mc_types.specs.Tables.{Tables, variable_of}
-use Rattle.mc_walk.specs.Visits.{performed, tested, given_back, visit, items_visits, start_visits, maybe_tested, maybe_performed, head_visits, statement_visits, statements_visits, start_scope, body_visits}
+use Rattle.mc_walk.specs.Visits.{performed, tested, returning, visit, items_visits, start_visits, maybe_tested, maybe_performed, head_visits, statement_visits, statements_visits, start_scope, body_visits}
 use Rattle.mc_walk.specs.Gives.{visit_calls, site_in, GivesCalls}
 use Rattle.mc_walk.proofs.Lists.{alone, before_one, joined}
 
@@ -54,7 +54,7 @@ mutual
       joined visit_calls (head_visits t s h) (statement_visits t true (behind_start t s h.start) a) (start_calls h.start ++ maybe_simple_calls h.last) (statement_calls a) (head_given t s h) (statement_given t true (behind_start t s h.start) a)
   statement_given t l s (break_loop p) = refl
   statement_given t l s (continue_loop p) = refl
-  statement_given t l s (returns p value) = alone visit_calls (visit s (given_back p value))
+  statement_given t l s (returns p value) = alone visit_calls (visit s (returning p value))
 
   statements_given : (t : Tables) (l : Bool) (s : Scope) (ss : Stmts) → statements_calls ss ≡ flat_map visit_calls (statements_visits t l s ss)
   statements_given t l s no_more = refl

@@ -6,7 +6,7 @@ use Rattle.mc_types.specs.Faults.{body_faults, head_faults, items_faults, maybe_
 use Rattle.mc_types.specs.Scopes.{Scope, inside, declare, behind, behind_start, visible}
 use Rattle.mc_types.specs.Tables.{Tables, returned_type, variable_of}
 use Rattle.mc_types.specs.declared.types.VariableType.{VariableType}
-use Rattle.mc_walk.specs.Visits.{declared, valued, performed, freed, tested, assumed, asserted, left_loop, given_back, visit, items_visits, start_visits, maybe_tested, maybe_performed, statement_visits, statements_visits, start_scope, body_visits}
+use Rattle.mc_walk.specs.Visits.{declared, valued, performed, freed, tested, assumed, asserted, loop_exit, returning, visit, items_visits, start_visits, maybe_tested, maybe_performed, statement_visits, statements_visits, start_scope, body_visits}
 use Rattle.mc_walk.specs.Gives.{visit_faults, GivesFaults}
 use Rattle.mc_walk.proofs.Lists.{alone, behind_one, behind_two, before_one, joined, one_and_two}
 
@@ -52,9 +52,9 @@ mutual
       before_one (visit_faults t r) (visit (behind t s a) (tested c)) (statement_visits t true s a) (statement_faults (record { tables = t; result = r; in_loop = true }) s a) (statement_given t r true s a)
   statement_given t r l s (for_loop h a) =
       joined (visit_faults t r) (start_visits t s h.start ++ maybe_tested (behind_start t s h.start) h.condition ++ maybe_performed (behind_start t s h.start) h.last) (statement_visits t true (behind_start t s h.start) a) (head_faults t s h) (statement_faults (record { tables = t; result = r; in_loop = true }) (behind_start t s h.start) a) (joined (visit_faults t r) (start_visits t s h.start ++ maybe_tested (behind_start t s h.start) h.condition) (maybe_performed (behind_start t s h.start) h.last) (start_faults t s h.start ++ maybe_condition_faults t (visible (behind_start t s h.start)) h.condition) (maybe_simple_faults t (visible (behind_start t s h.start)) h.last) (joined (visit_faults t r) (start_visits t s h.start) (maybe_tested (behind_start t s h.start) h.condition) (start_faults t s h.start) (maybe_condition_faults t (visible (behind_start t s h.start)) h.condition) (start_given t r s h.start) (condition_given t r (behind_start t s h.start) h.condition)) (last_given t r (behind_start t s h.start) h.last)) (statement_given t r true (behind_start t s h.start) a)
-  statement_given t r l s (break_loop p) = alone (visit_faults t r) (visit s (left_loop p l))
-  statement_given t r l s (continue_loop p) = alone (visit_faults t r) (visit s (left_loop p l))
-  statement_given t r l s (returns p value) = alone (visit_faults t r) (visit s (given_back p value))
+  statement_given t r l s (break_loop p) = alone (visit_faults t r) (visit s (loop_exit p l))
+  statement_given t r l s (continue_loop p) = alone (visit_faults t r) (visit s (loop_exit p l))
+  statement_given t r l s (returns p value) = alone (visit_faults t r) (visit s (returning p value))
 
   statements_given : (t : Tables) (r : Option VariableType) (l : Bool) (s : Scope) (ss : Stmts)
       → statements_faults (record { tables = t; result = r; in_loop = l }) s ss ≡ flat_map (visit_faults t r) (statements_visits t l s ss)

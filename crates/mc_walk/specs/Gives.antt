@@ -3,14 +3,16 @@ use Rattle.std.specs.Prelude.{◌≡◌, ℕ, List, [], ◌∷◌, ◌++◌, Opt
 use Rattle.mc_ast.specs.declared.trees.Name.{Name}
 use Rattle.mc_ast.specs.Trees.{FunctionTree}
 use Rattle.mc_types.specs.Calls.{CallSite, body_sites, maybe_right_calls, simple_calls}
-use Rattle.mc_types.specs.Faults.{body_faults, condition_faults, declarator_faults, expression_faults, no_pointer, return_faults, shape_argument_faults, simple_faults, unless, value_faults, variable_faults}
+use Rattle.mc_types.specs.Faults.{body_faults, condition_faults, declarator_faults, expression_faults, no_pointer}
+use Rattle.mc_types.specs.Faults.{return_faults, shape_argument_faults, simple_faults, unless, value_faults}
+use Rattle.mc_types.specs.Faults.{variable_faults}
 use Rattle.mc_types.specs.Scopes.{Scope, visible}
 use Rattle.mc_types.specs.Shapes.{ShapeUse, argument_given, body_uses, variable_given}
 use Rattle.mc_types.specs.Tables.{Tables, returned_type, type_in, variable_of}
 use Rattle.mc_types.specs.declared.faults.Fault.{Fault}
 use Rattle.mc_types.specs.declared.faults.FaultName.TheVariants.{Mismatch, Twice}
 use Rattle.mc_types.specs.declared.types.VariableType.{VariableType}
-use Rattle.mc_walk.specs.Visits.{PartTree, declared, valued, performed, freed, tested, assumed, asserted, left_loop, given_back, Visit, body_visits}
+use Rattle.mc_walk.specs.Visits.{PartTree, declared, valued, performed, freed, tested, assumed, asserted, loop_exit, returning, Visit, body_visits}
 
 -- the faults of a part, in a function with this result
 abbrev pub part_faults : Tables → Option VariableType → Scope → PartTree → List Fault
@@ -21,8 +23,8 @@ part_faults t result s (freed e) = expression_faults t (visible s) e ++ no_point
 part_faults t result s (tested c) = condition_faults t (visible s) c
 part_faults t result s (assumed p predicate x args) = variable_faults (visible s) x ++ flat_map (shape_argument_faults (visible s)) args
 part_faults t result s (asserted p predicate a args) = flat_map (shape_argument_faults (visible s)) (a ∷ args)
-part_faults t result s (left_loop p in_loop) = unless in_loop Mismatch p
-part_faults t result s (given_back p value) = return_faults t (visible s) result p value
+part_faults t result s (loop_exit p in_loop) = unless in_loop Mismatch p
+part_faults t result s (returning p value) = return_faults t (visible s) result p value
 
 abbrev pub visit_faults : Tables → Option VariableType → Visit → List Fault
 visit_faults t result v = part_faults t result v.scope v.part
@@ -36,8 +38,8 @@ part_calls (freed e) = []
 part_calls (tested c) = []
 part_calls (assumed p predicate x args) = []
 part_calls (asserted p predicate a args) = []
-part_calls (left_loop p in_loop) = []
-part_calls (given_back p value) = maybe_right_calls value
+part_calls (loop_exit p in_loop) = []
+part_calls (returning p value) = maybe_right_calls value
 
 abbrev pub visit_calls : Visit → List Name
 visit_calls v = part_calls v.part
@@ -57,8 +59,8 @@ part_uses s (assumed p predicate x args) =
     record { predicate = predicate; start = variable_given (visible s) x; arguments = map (argument_given (visible s)) args } ∷ []
 part_uses s (asserted p predicate a args) =
     record { predicate = predicate; start = argument_given (visible s) a; arguments = map (argument_given (visible s)) args } ∷ []
-part_uses s (left_loop p in_loop) = []
-part_uses s (given_back p value) = []
+part_uses s (loop_exit p in_loop) = []
+part_uses s (returning p value) = []
 
 abbrev pub visit_uses : Visit → List ShapeUse
 visit_uses v = part_uses v.scope v.part

@@ -1,6 +1,9 @@
 -- What is still to be done of a walk, the next first.
 use Rattle.std.specs.Prelude.{◌≡◌, ℕ, ◌+◌, Bool, List, [], ◌∷◌, ◌++◌, Option, Some, None, map}
-use Rattle.mc_ast.specs.Trees.{InitialTree, Start, nothing, declares, performs, Stmt, declaration, block, empty, simple, free, assert, assume, assume_shape, assert_shape, assert_empty, if_only, if_else, while_loop, do_loop, for_loop, break_loop, continue_loop, returns, Stmts, no_more, then, stmts_of}
+use Rattle.mc_ast.specs.Trees.{InitialTree, Start, nothing, declares, performs, Stmt, declaration, block, empty}
+use Rattle.mc_ast.specs.Trees.{simple, free, assert, assume, assume_shape, assert_shape, assert_empty, if_only}
+use Rattle.mc_ast.specs.Trees.{if_else, while_loop, do_loop, for_loop, break_loop, continue_loop, returns, Stmts}
+use Rattle.mc_ast.specs.Trees.{no_more, then, stmts_of}
 use Rattle.mc_ast.specs.Views.{initial_of, statement_of}
 use Rattle.mc_types.specs.Scopes.{Scope, behind, behind_items, declare}
 use Rattle.mc_types.specs.Tables.{Tables, variable_of}

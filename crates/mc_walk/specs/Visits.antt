@@ -1,11 +1,15 @@
 -- The parts of a function's body in the order of its text, each with what is visible there.
 use Rattle.std.specs.Prelude.{Bool, true, false, List, [], ◌∷◌, ◌++◌, Option, Some, None, reverse}
-use Rattle.mc_base.specs.declared.plain.Place.{Place}
+use Rattle.mc_text.specs.declared.place.Place.{Place}
 use Rattle.mc_ast.specs.declared.trees.Name.{Name}
 use Rattle.mc_ast.specs.declared.trees.Base.{Base}
 use Rattle.mc_ast.specs.declared.trees.Declarator.{Declarator}
 use Rattle.mc_ast.specs.declared.trees.Argument.{Argument}
-use Rattle.mc_ast.specs.Trees.{Expr, Cond, Right, InitialTree, SimpleTree, Start, nothing, declares, performs, Head, Stmt, declaration, block, empty, simple, free, assert, assume, assume_shape, assert_shape, assert_empty, if_only, if_else, while_loop, do_loop, for_loop, break_loop, continue_loop, returns, Stmts, no_more, then, stmts_of, BodyTree, FunctionTree}
+use Rattle.mc_ast.specs.Trees.{Expr, Cond, Right, InitialTree, SimpleTree, Start, nothing, declares, performs, Head}
+use Rattle.mc_ast.specs.Trees.{Stmt, declaration, block, empty, simple, free, assert, assume, assume_shape}
+use Rattle.mc_ast.specs.Trees.{assert_shape, assert_empty, if_only, if_else, while_loop, do_loop, for_loop}
+use Rattle.mc_ast.specs.Trees.{break_loop, continue_loop, returns, Stmts, no_more, then, stmts_of, BodyTree}
+use Rattle.mc_ast.specs.Trees.{FunctionTree}
 use Rattle.mc_types.specs.Scopes.{Scope, inside, declare, behind, behind_start}
 use Rattle.mc_types.specs.Tables.{Tables, parameters_of, variable_of}
 
@@ -21,8 +25,8 @@ pub data PartTree : Type 0 where
   assumed : Place → (predicate variable : Name) → List Argument → PartTree
   asserted : Place → (predicate : Name) → Argument → List Argument → PartTree
   -- a `break` or a `continue`, and whether a loop is around it
-  left_loop : Place → Bool → PartTree
-  given_back : Place → Option Right → PartTree
+  loop_exit : Place → Bool → PartTree
+  returning : Place → Option Right → PartTree
 
 -- a part where it stands
 pub record Visit : Type 0 where
@@ -77,9 +81,9 @@ abbrev mutual
   statement_visits t in_loop s (while_loop p c a) = visit s (tested c) ∷ statement_visits t true s a
   statement_visits t in_loop s (do_loop p a c) = statement_visits t true s a ++ visit (behind t s a) (tested c) ∷ []
   statement_visits t in_loop s (for_loop h a) = head_visits t s h ++ statement_visits t true (behind_start t s h.start) a
-  statement_visits t in_loop s (break_loop p) = visit s (left_loop p in_loop) ∷ []
-  statement_visits t in_loop s (continue_loop p) = visit s (left_loop p in_loop) ∷ []
-  statement_visits t in_loop s (returns p value) = visit s (given_back p value) ∷ []
+  statement_visits t in_loop s (break_loop p) = visit s (loop_exit p in_loop) ∷ []
+  statement_visits t in_loop s (continue_loop p) = visit s (loop_exit p in_loop) ∷ []
+  statement_visits t in_loop s (returns p value) = visit s (returning p value) ∷ []
 
   pub statements_visits : Tables → Bool → Scope → Stmts → List Visit
   statements_visits t in_loop s no_more = []

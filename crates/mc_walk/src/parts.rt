@@ -2,7 +2,7 @@
 use mc_ast::{
     AssertShape, AssumeShape, Base, Condition, Declarator, Expression, RightSide, Simple,
 };
-use mc_base::Place;
+use mc_text::Place;
 
 /// A part of a statement.
 #[derive(Clone, Copy)]
@@ -20,7 +20,7 @@ pub enum Part<'a> {
     Assumed(&'a AssumeShape),
     Asserted(&'a AssertShape),
     /// A `break` or a `continue`, and whether a loop is around it.
-    LeftLoop(Place, bool),
+    LoopExit(Place, bool),
     /// A `return`, perhaps with a value.
-    GivenBack(Place, &'a Option<RightSide>),
+    Returning(Place, &'a Option<RightSide>),
 }

@@ -39,7 +39,8 @@ pub fn push_items<'a>(
     base: &'a Base,
     items: &'a [Initial],
 ) -> Result<(), AllocError>
-    ensures pending { OnOk result ((t : Tables) (s : Scope) → pending t s tasks.new ≡ items_visits t base.now s (map initial_of items.now) ++ pending t (behind_items t base.now s (map initial_of items.now)) tasks.old) }
+    ensures pending { OnOk result ((t : Tables) (s : Scope)
+        → pending t s tasks.new ≡ items_visits t base.now s (map initial_of items.now) ++ pending t (behind_items t base.now s (map initial_of items.now)) tasks.old) }
     ensures steps { OnOk result (tasks_steps tasks.new < items_steps (map initial_of items.now) + tasks_steps tasks.old) }
 {
     if let [first, rest @ ..] = items {

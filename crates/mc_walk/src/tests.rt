@@ -4,9 +4,8 @@ use mc_ast::{
     Base, Body, Condition, Declaration, Declarator, Expression, ForHead, ForStart, Function,
     Initial, Name, Parameter, Parameters, Returned, Statement,
 };
-use mc_base::Place;
-use mc_lex::Text;
 use mc_names::Table;
+use mc_text::{Place, Text};
 use mc_types::{Aliases, Functions, NameTables};
 use std::alloc::{AllocError, Global};
 use std::test::Fail;
@@ -101,7 +100,7 @@ fn function(alloc: Global) -> Result<Function, AllocError> {
         place: HERE,
     };
     Ok(Function {
-        fixed: None,
+        static_place: None,
         returned: Returned::Void(HERE),
         name,
         parameters: Parameters::Listed(parameters),
@@ -119,9 +118,9 @@ fn letter(part: Part) -> u8 {
         Part::Tested(_) => b'T',
         Part::Assumed(_) => b'A',
         Part::Asserted(_) => b'S',
-        Part::LeftLoop(_, true) => b'L',
-        Part::LeftLoop(_, false) => b'l',
-        Part::GivenBack(_, _) => b'R',
+        Part::LoopExit(_, true) => b'L',
+        Part::LoopExit(_, false) => b'l',
+        Part::Returning(_, _) => b'R',
     }
 }
 

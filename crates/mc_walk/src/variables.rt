@@ -5,7 +5,7 @@ ghost use Rattle.mc_types.specs.Scopes.{declare, inside, visible};
 ghost use Rattle.mc_types.specs.Tables.{type_in};
 ghost use Rattle.mc_walk.specs.Parting.{as_head, behind_heads, outside};
 
-use mc_lex::Text;
+use mc_text::Text;
 use mc_types::{Named, type_in};
 use std::alloc::{AllocError, Global};
 use std::marker::Model;

@@ -5,8 +5,8 @@ use crate::variables::Variables;
 use mc_ast::{
     Base, Condition, Declarator, ForHead, ForStart, Function, Parameter, Parameters, Statement,
 };
-use mc_lex::Text;
 use mc_stack::Stack;
+use mc_text::Text;
 use mc_types::{NameTables, Named};
 use std::alloc::{AllocError, Global};
 
@@ -102,7 +102,8 @@ impl<'a> Walk<'a> {
 
     /// A block is next.
     fn enter_block(&mut self, several: &'a [Statement], in_loop: bool) -> Result<(), AllocError>
-        ensures pending { OnOk result ((t : Tables) → rest t self.new ≡ statements_visits t in_loop (inside self.old.scope) (stmts_of (map statement_of several.now)) ++ pending t self.old.scope self.old.tasks) }
+        ensures pending { OnOk result ((t : Tables)
+            → rest t self.new ≡ statements_visits t in_loop (inside self.old.scope) (stmts_of (map statement_of several.now)) ++ pending t self.old.scope self.old.tasks) }
         ensures steps { OnOk result (tasks_steps self.new.tasks < statements_steps (stmts_of (map statement_of several.now)) + 2 + tasks_steps self.old.tasks) }
     {
         let marks = self.scope.marks();
@@ -114,7 +115,8 @@ impl<'a> Walk<'a> {
 
     /// What a `for` begins with is next.
     fn enter_start(&mut self, start: &'a ForStart) -> Result<(), AllocError>
-        ensures pending { OnOk result ((t : Tables) → rest t self.new ≡ start_visits t self.old.scope (start_of start.now) ++ pending t (behind_start t self.old.scope (start_of start.now)) self.old.tasks) }
+        ensures pending { OnOk result ((t : Tables)
+            → rest t self.new ≡ start_visits t self.old.scope (start_of start.now) ++ pending t (behind_start t self.old.scope (start_of start.now)) self.old.tasks) }
         ensures steps { OnOk result (tasks_steps self.new.tasks < start_steps (start_of start.now) + tasks_steps self.old.tasks) }
     {
         match start {
@@ -243,15 +245,15 @@ impl<'a> Walk<'a> {
                 Ok(())
             }
             Statement::Break(place) => {
-                self.give(Part::LeftLoop(*place, in_loop))?;
+                self.give(Part::LoopExit(*place, in_loop))?;
                 Ok(())
             }
             Statement::Continue(place) => {
-                self.give(Part::LeftLoop(*place, in_loop))?;
+                self.give(Part::LoopExit(*place, in_loop))?;
                 Ok(())
             }
             Statement::Return(place, value) => {
-                self.give(Part::GivenBack(*place, value))?;
+                self.give(Part::Returning(*place, value))?;
                 Ok(())
             }
         }
@@ -259,7 +261,8 @@ impl<'a> Walk<'a> {
 
     /// Several statements are next.
     fn enter_several(&mut self, several: &'a [Statement], in_loop: bool) -> Result<(), AllocError>
-        ensures pending { OnOk result ((t : Tables) → rest t self.new ≡ statements_visits t in_loop self.old.scope (stmts_of (map statement_of several.now)) ++ pending t (behind_all t self.old.scope (stmts_of (map statement_of several.now))) self.old.tasks) }
+        ensures pending { OnOk result ((t : Tables)
+            → rest t self.new ≡ statements_visits t in_loop self.old.scope (stmts_of (map statement_of several.now)) ++ pending t (behind_all t self.old.scope (stmts_of (map statement_of several.now))) self.old.tasks) }
         ensures steps { OnOk result (tasks_steps self.new.tasks < statements_steps (stmts_of (map statement_of several.now)) + tasks_steps self.old.tasks) }
     {
         if let [first, rest @ ..] = several {
@@ -313,7 +316,8 @@ impl<'a> Walk<'a> {
 
     /// The next part, where the walk then stands, or none at the end. Behind a want of memory nothing is known of the walk.
     pub fn next(&mut self, tables: &NameTables) -> Result<Option<Part<'a>>, AllocError>
-        ensures { IfOk result (λ found. MatchOption found ((rest (tables_held tables.now) self.old ≡ []) × (rest (tables_held tables.now) self.new ≡ [])) (λ part. rest (tables_held tables.now) self.old ≡ visit self.new.scope (part_of part) ∷ rest (tables_held tables.now) self.new)) }
+        ensures { IfOk result (λ found. MatchOption found ((rest (tables_held tables.now) self.old ≡ [])
+            × (rest (tables_held tables.now) self.new ≡ [])) (λ part. rest (tables_held tables.now) self.old ≡ visit self.new.scope (part_of part) ∷ rest (tables_held tables.now) self.new)) }
     {
         while let Some(task) = self.tasks.pop() {
             if let Some(part) = self.perform(tables, task)? {

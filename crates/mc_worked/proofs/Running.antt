@@ -4,7 +4,7 @@ use Rattle.std.specs.Prelude.{is_some, if◌then◌else◌}
 use Rattle.std.specs.FinMap as map
 use Rattle.std.specs.FinMap.{gets}
 use Rattle.std.proofs.lemmas.Bool.Decides.{nat_tests}
-use Rattle.mc_base.specs.declared.plain.Place.{Place}
+use Rattle.mc_text.specs.declared.place.Place.{Place}
 use Rattle.mc_base.specs.declared.plain.FaultKind.TheVariants.{Freed, Uninit, BadFree}
 use Rattle.mc_heap.specs.Access.{block_field, field_at, fresh_block, with_field}
 use Rattle.mc_heap.specs.Choices.{Choice}

@@ -7,7 +7,11 @@ use Rattle.mc_ast.specs.declared.trees.Argument.TheVariants as Argument
 use Rattle.mc_ast.specs.declared.trees.Base.{Base}
 use Rattle.mc_ast.specs.declared.trees.Comparison.TheVariants as Comparison
 use Rattle.mc_ast.specs.declared.trees.Returned.TheVariants as Returned
-use Rattle.mc_ast.specs.Trees.{Left, Expr, null, value, minus, parens, times, plus, less, plain, compare, both, CallTree, expression, result_of, assign, add, subtract, increment, decrement, increment_first, decrement_first, call, performs, Stmt, block, simple, free, assert, assume_shape, assert_shape, assert_empty, if_only, while_loop, for_loop, break_loop, continue_loop, returns, no_more, then, listed, FunctionTree, function, UnitTree}
+use Rattle.mc_ast.specs.Trees.{Left, Expr, null, value, minus, parens, times, plus, difference, plain, compare}
+use Rattle.mc_ast.specs.Trees.{both, CallTree, expression, result_of, assign, add, subtract, increment, decrement}
+use Rattle.mc_ast.specs.Trees.{increment_first, decrement_first, call, performs, Stmt, block, simple, free, assert}
+use Rattle.mc_ast.specs.Trees.{assume_shape, assert_shape, assert_empty, if_only, while_loop, for_loop, break_loop}
+use Rattle.mc_ast.specs.Trees.{continue_loop, returns, no_more, then, listed, FunctionTree, function, UnitTree}
 use Rattle.mc_meaning.specs.Steps.{Step, start, program_of}
 use Rattle.mc_meaning.specs.Examples.{at, name, variable, x_word, p_word, int_is, main_of, var, behind, num, allocates, node_is, unit_of}
 
@@ -127,7 +131,7 @@ forgetting =
 abbrev pub deep : FunctionTree
 deep =
     record {
-      fixed = None;
+      static_place = None;
       returned = Returned.Value (Base.Int (at 100)) None;
       name = name 100 (codes "g");
       parameters = listed (record { base = Base.Int (at 101); declarator = record { pointer = None; name = name 102 x_word } } ∷ []);
@@ -147,7 +151,7 @@ deep =
 abbrev pub perhaps : FunctionTree
 perhaps =
     record {
-      fixed = None;
+      static_place = None;
       returned = Returned.Value (Base.Int (at 120)) None;
       name = name 120 (codes "h");
       parameters = listed (record { base = Base.Int (at 121); declarator = record { pointer = None; name = name 122 x_word } } ∷ []);

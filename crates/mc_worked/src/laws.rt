@@ -5,7 +5,9 @@ ghost use Rattle.mc_base.specs.declared.plain.FaultKind.TheVariants.{Null, Freed
 ghost use Rattle.mc_heap.specs.Choices.{malloc as choose_malloc, shape as choose_shape};
 ghost use Rattle.mc_defs.specs.Examples.{second_cell};
 ghost use Rattle.mc_meaning.specs.Examples.{at, Comes};
-ghost use Rattle.mc_worked.specs.Programs.{keeping, reading_undefined, storing_at_null, reading_freed, freeing_twice, freeing_null, counting, wrapping, computing, empty_at_first, not_empty, empty_again, forgetting, going_on};
+ghost use Rattle.mc_worked.specs.Programs.{keeping, reading_undefined, storing_at_null, reading_freed};
+ghost use Rattle.mc_worked.specs.Programs.{freeing_twice, freeing_null, counting, wrapping, computing};
+ghost use Rattle.mc_worked.specs.Programs.{empty_at_first, not_empty, empty_again, forgetting, going_on};
 ghost use Rattle.mc_worked.specs.Orders.{linking, result_in_field, storing_undefined, storing_behind, adding_undefined, assuming_undefined, asserting_undefined};
 ghost use Rattle.mc_worked.specs.Programs.{deeply_returning, missing_result, ComesWithDeep, assuming_list, asserting_no_list, ComesWithLists};
 

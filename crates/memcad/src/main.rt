@@ -2,7 +2,7 @@
 #![tactic(auto)]
 
 use mc_app::{Status, memcad};
-use mc_base::{HostFiles, HostSink};
+use mc_outside::{HostFiles, HostSink};
 use std::process::ExitCode;
 use std::{env, io};
 

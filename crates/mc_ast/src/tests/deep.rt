@@ -14,7 +14,7 @@ fn deeper_expression(alloc: Global, form: u32, part: Expression) -> Result<Expre
         0 => Ok(Expression::Minus(HERE, part)),
         1 => Ok(Expression::Parens(HERE, part)),
         2 => Ok(Expression::Plus(part, leaf)),
-        3 => Ok(Expression::Less(leaf, part)),
+        3 => Ok(Expression::Difference(leaf, part)),
         _ => Ok(Expression::Times(part, leaf)),
     }
 }

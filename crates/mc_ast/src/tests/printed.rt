@@ -2,9 +2,8 @@
 use super::{HERE, token};
 use crate::{
     Base, Declarator, Function, Item, Parameter, Parameters, Returned, Unit, name_at, print_unit,
-    printed_words_are_read,
 };
-use mc_lex::TokenKind;
+use mc_text::TokenKind;
 use std::alloc::{AllocError, Global};
 use std::test::Fail;
 
@@ -24,7 +23,7 @@ fn parameters(alloc: Global) -> Result<Vec<Parameter>, AllocError> {
 fn prototype(alloc: Global) -> Result<Item, AllocError> {
     let parameters = Parameters::Listed(parameters(alloc)?);
     Ok(Item::Function(Function {
-        fixed: None,
+        static_place: None,
         returned: Returned::Void(HERE),
         name: name_at(alloc, &token(alloc, b"g", TokenKind::Name)?)?,
         parameters,
@@ -34,7 +33,6 @@ fn prototype(alloc: Global) -> Result<Item, AllocError> {
 
 #[test]
 fn program(rt: HostRuntime) -> Result<(), Fail> {
-    printed_words_are_read();
     let mut items = Vec::new(rt.alloc());
     items.push(prototype(rt.alloc())?)?;
     let text = print_unit(rt.alloc(), &Unit { items })?;

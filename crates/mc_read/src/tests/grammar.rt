@@ -2,9 +2,9 @@
 ghost use Rattle.std.specs.Prelude.{◌<◌, length};
 
 use super::tables;
-use mc_base::Place;
 use mc_lex::lex;
 use mc_parse::{ParseFault, parse};
+use mc_text::Place;
 use std::alloc::{AllocError, Global};
 use std::test::Fail;
 

@@ -1,5 +1,5 @@
 use Rattle.mc_ast.specs.Views.{unit_of}
-use Rattle.mc_base.specs.Outside.{Told}
+use Rattle.mc_outside.specs.Outside.{WhereTold}
 use Rattle.mc_app.specs.Programs.{IsProgramHere}
 use Rattle.mc_app.proofs.Whys.{at_err, at_ok, why_of_unit, stay_unit}
 use Rattle.mc_app.proofs.work.answer.Goals as goal
@@ -16,7 +16,7 @@ returns-in_ok-answer-in-Ok-clause-why g c =
     let d = c.args.command.definitions.now in
     let t = c.args.command.document.now in
     let answer = c.in_ok-answer-in-Ok.answer in
-    let read : Told (old p) (λ text. IsProgramHere text unit) = λ text h. at_ok c.in_ok-fault.field-0 c.in-Ok.typed _ _ c.in-Ok.is (c.in_ok-fault.ensures.told text h) in
+    let read : WhereTold (old p) (λ text. IsProgramHere text unit) = λ text h. at_ok c.in_ok-fault.field-0 c.in-Ok.typed _ _ c.in-Ok.is (c.in_ok-fault.ensures.told text h) in
     why_of_unit c.texts_are_read_once.ensures old p d t unit answer read (stay_unit old new d t unit answer c.program.ensures.same c.in_ok-answer-in-Ok.ensures.why)
 
 pub returns-in_ok-answer-in-Ok-clause-safe : goal.returns-in_ok-answer-in-Ok-clause-safe

@@ -1,5 +1,5 @@
 use Rattle.std.proofs.Common.{◌<◌, arith}
-use Rattle.mc_lex.specs.Numbers.{max_number}
+use Rattle.mc_text.specs.Numbers.{max_number}
 use Rattle.mc_ast.proofs.class.number_class.Goals as goal
 
 pub returns-in-Some : goal.returns-in-Some

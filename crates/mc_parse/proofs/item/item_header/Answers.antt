@@ -7,4 +7,4 @@ pub returns-in-Closed : goal.returns-in-Closed
 returns-in-Closed c = λ aliases known. then_gives _ (rw c.in-Closed.is at (c.in_ok-reader.ensures aliases known))
 
 pub returns-in-Stuck : goal.returns-in-Stuck
-returns-in-Stuck c = λ aliases known. then_stuck (CompletesFunction aliases (FunctionReader.Header c.args.fixed c.args.reader)) _ {token = c.args.token.now} (rw c.in-Stuck.is at (c.in_ok-reader.ensures aliases known))
+returns-in-Stuck c = λ aliases known. then_stuck (CompletesFunction aliases (FunctionReader.Header c.args.static_place c.args.reader)) _ {token = c.args.token.now} (rw c.in-Stuck.is at (c.in_ok-reader.ensures aliases known))

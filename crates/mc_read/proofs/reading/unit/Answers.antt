@@ -1,6 +1,6 @@
 use Rattle.std.proofs.Common.{ℕ, List, sym, subst}
 use Rattle.std.specs.Prelude.{Ok}
-use Rattle.mc_lex.specs.declared.token.Token.{Token}
+use Rattle.mc_text.specs.declared.token.Token.{Token}
 use Rattle.mc_lex.specs.Readings.{Lexes}
 use Rattle.mc_read.specs.declared.cause.ReadFault.{ReadFault}
 use Rattle.mc_read.specs.Refusals.{IsFault}

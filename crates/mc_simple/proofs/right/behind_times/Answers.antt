@@ -1,7 +1,7 @@
 use Rattle.std.proofs.Common.{codes, subst, refl}
 use Rattle.mc_ast.specs.Names.{IsMark}
-use Rattle.mc_lex.specs.declared.token.Token.{Token}
-use Rattle.mc_lex.specs.declared.token.TokenKind.TheVariants as TokenKind
+use Rattle.mc_text.specs.declared.token.Token.{Token}
+use Rattle.mc_text.specs.declared.token.TokenKind.TheVariants as TokenKind
 use Rattle.mc_expression.specs.Expressions.{CompletesExpression, StepsExpression}
 use Rattle.mc_simple.proofs.Rights.{times_same, times_not_found, times_not_stuck}
 use Rattle.mc_simple.proofs.right.behind_times.Goals as goal

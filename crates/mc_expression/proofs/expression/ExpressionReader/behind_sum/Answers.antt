@@ -8,7 +8,7 @@ use Rattle.mc_expression.specs.declared.expression.Pending.{Pending}
 use Rattle.mc_expression.specs.declared.expression.Group.{Group}
 use Rattle.mc_expression.specs.Expressions.{AtSum, AtOperand, expression_marks}
 use Rattle.mc_expression.proofs.Classes.{plus_is, minus_is, after_is}
-use Rattle.mc_expression.proofs.Expressions.{plus_takes, less_takes, end_finds, end_stuck}
+use Rattle.mc_expression.proofs.Expressions.{plus_takes, difference_takes, end_finds, end_stuck}
 use Rattle.mc_expression.proofs.expression.ExpressionReader.behind_sum.Goals as goal
 
 pub returns-in-Plus : goal.returns-in-Plus
@@ -20,8 +20,8 @@ returns-in-Plus c =
 pub returns-in-Minus : goal.returns-in-Minus
 returns-in-Minus c =
     let P : Class → Type 0 = λ k. IsClass c.args.token.now k in
-    let Q : Pending → Type 0 = λ p. Takes expression_marks (AtSum c.args.self.now.groups (expression_of c.args.sum)) (AtOperand c.args.self.now.groups (record { sum = Some (Summed.Less c.args.sum); factor = p.factor; minuses = p.minuses })) c.args.token.now in
-    subst Q (sym c.requires.idle) (less_takes c.args.self.now.groups c.args.sum c.args.token.now (subst P c.in-Minus.is c.requires.class))
+    let Q : Pending → Type 0 = λ p. Takes expression_marks (AtSum c.args.self.now.groups (expression_of c.args.sum)) (AtOperand c.args.self.now.groups (record { sum = Some (Summed.Difference c.args.sum); factor = p.factor; minuses = p.minuses })) c.args.token.now in
+    subst Q (sym c.requires.idle) (difference_takes c.args.self.now.groups c.args.sum c.args.token.now (subst P c.in-Minus.is c.requires.class))
 
 pub returns-then-is_empty : goal.returns-then-is_empty
 returns-then-is_empty c =

@@ -1,0 +1,13 @@
+use Rattle.std.proofs.Common.{length, take, ◌-◌, ◌≤◌}
+use Rattle.std.specs.Io.KnownBytes.{Appends}
+use Rattle.mc_outside.proofs.streams.write_whole.Given as goal
+
+-- the writer took the front of the bytes
+abbrev pub invariant-loop-written : goal.invariant-loop-written
+invariant-loop-written g l = record {
+  bound : l.written ≤ length l.bytes;
+  added : Appends (g.W.Write.contents l.fn.to) (g.W.Write.contents l.to) (take l.written l.bytes);
+}
+
+abbrev pub decreases-loop-written : goal.decreases-loop-written
+decreases-loop-written g l = length l.bytes - l.written
