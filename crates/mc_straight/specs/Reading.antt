@@ -53,6 +53,7 @@ same_kind Int Ptr = false
 same_kind Ptr Int = false
 same_kind Ptr Ptr = true
 
+-- the kind of the variable with this number
 abbrev pub kind_of : List VarInfo → ℕ → Kind
 kind_of vars n = option_map_or (λ v. v.kind) (slice_get vars n) Int
 

@@ -69,6 +69,7 @@ is_known t (Base.Struct p name) star = is_none star || is_some (struct_number t.
 is_known t (Base.Alias name) None = is_some (alias_in t.aliases name.text)
 is_known t (Base.Alias name) (Some star) = is_some (alias_in t.aliases name.text) && not (is_undefined (meaning_of t (Base.Alias name)))
 
+-- what a base names is known: a tag behind a `*`, a typedef
 abbrev pub base_faults : Tables → Base → Option Place → List Fault
 base_faults t (Base.Int p) star = []
 base_faults t (Base.Struct p name) star = unless (is_known t (Base.Struct p name) star) Unknown name.place
@@ -82,6 +83,7 @@ type_faults t base star place = base_faults t base star ++ unless (is_declarable
 abbrev pub declarator_place : Declarator → Place
 declarator_place d = unwrap_or d.pointer d.name.place
 
+-- a declarator's base is known, and its type is one that variables have
 abbrev pub declarator_faults : Tables → Base → Declarator → List Fault
 declarator_faults t base d = type_faults t base d.pointer (declarator_place d)
 
@@ -103,13 +105,15 @@ field_faults t type [] = []
 field_faults t type (field ∷ fields) =
     unless (is_some (field_in t type field.text)) Unknown field.place ++ field_faults t (unwrap_or (field_in t type field.text) Anything) fields
 
--- the type of a variable, and of a variable or a field behind it
+-- the type of a variable
 abbrev pub variable_type : List Variable → Name → VariableType
 variable_type vs name = unwrap_or (type_in vs name.text) Anything
 
+-- the type of a variable, or of the field behind it
 abbrev pub left_type : Tables → List Variable → Left → VariableType
 left_type t vs l = behind_fields t (variable_type vs l.name) l.fields
 
+-- a variable is visible, and each field behind it is one of its struct
 abbrev pub left_faults : Tables → List Variable → Left → List Fault
 left_faults t vs l = variable_faults vs l.name ++ field_faults t (variable_type vs l.name) l.fields
 
@@ -137,13 +141,15 @@ value_type t vs (times a b) = Typed Int
 value_type t vs (plus a b) = Typed Int
 value_type t vs (difference a b) = Typed Int
 
--- the expression is an `int`; is a pointer; fits where the type is wanted
+-- the expression is an `int`
 abbrev pub no_int : Tables → List Variable → Expr → List Fault
 no_int t vs e = unless (is_int (value_type t vs e)) Mismatch (first_place e)
 
+-- the expression is a pointer
 abbrev pub no_pointer : Tables → List Variable → Expr → List Fault
 no_pointer t vs e = unless (is_pointer (value_type t vs e)) Mismatch (first_place e)
 
+-- the expression fits where the type is wanted
 abbrev pub no_fit : Tables → List Variable → VariableType → Expr → List Fault
 no_fit t vs wanted e = unless (fits wanted (value_type t vs e)) Mismatch (first_place e)
 
@@ -169,6 +175,7 @@ comparison_faults t vs AtMost a b = no_int t vs a ++ no_int t vs b
 comparison_faults t vs Above a b = no_int t vs a ++ no_int t vs b
 comparison_faults t vs AtLeast a b = no_int t vs a ++ no_int t vs b
 
+-- the faults of a condition
 abbrev pub condition_faults : Tables → List Variable → Cond → List Fault
 condition_faults t vs (plain e) = expression_faults t vs e
 condition_faults t vs (compare c a b) = expression_faults t vs a ++ expression_faults t vs b ++ comparison_faults t vs c a b
@@ -190,6 +197,7 @@ callee_faults t vs c None = unless false Unknown c.function.place
 callee_faults t vs c (Some f) =
     unless (length c.arguments == length (listed_parameters f.parameters)) Arity c.function.place ++ argument_faults t vs (listed_parameters f.parameters) c.arguments
 
+-- the faults of a call: of its name and number of arguments, then of its arguments
 abbrev pub call_faults : Tables → List Variable → CallTree → List Fault
 call_faults t vs c = callee_faults t vs c (called_function t c.function.text) ++ flat_map (expression_faults t vs) c.arguments
 
@@ -205,11 +213,13 @@ pointed_meaning Int = BaseType.Typed Int
 pointed_meaning (Pointer s) = BaseType.Struct s
 pointed_meaning Anything = BaseType.Typed Anything
 
+-- what `sizeof` takes the size of
 abbrev pub size_meaning : Tables → List Variable → Size → BaseType
 size_meaning t vs (Size.OfType p base) = meaning_of t base
 size_meaning t vs (Size.OfParens p name) = pointed_meaning (variable_type vs name)
 size_meaning t vs (Size.OfValue p name) = pointed_meaning (variable_type vs name)
 
+-- the place of the token `sizeof`
 abbrev pub size_place : Size → Place
 size_place (Size.OfType p base) = p
 size_place (Size.OfParens p name) = p
@@ -219,6 +229,7 @@ size_place (Size.OfValue p name) = p
 abbrev pub pointed_faults : List Variable → Name → List Fault
 pointed_faults vs name = variable_faults vs name ++ unless (is_pointer (Typed (variable_type vs name))) Mismatch name.place
 
+-- what `sizeof` names is known
 abbrev pub size_faults : Tables → List Variable → Size → List Fault
 size_faults t vs (Size.OfType p base) = base_faults t base (Some p)
 size_faults t vs (Size.OfParens p name) = pointed_faults vs name
@@ -243,6 +254,7 @@ right_faults t vs wanted (allocation m) =
 abbrev pub changed_faults : Tables → List Variable → Left → List Fault
 changed_faults t vs l = left_faults t vs l ++ unless (is_int (Typed (left_type t vs l))) Mismatch l.name.place
 
+-- the faults of a simple statement
 abbrev pub simple_faults : Tables → List Variable → SimpleTree → List Fault
 simple_faults t vs (assign l r) = left_faults t vs l ++ right_faults t vs (left_type t vs l) r
 simple_faults t vs (add l e) = changed_faults t vs l ++ expression_faults t vs e ++ no_int t vs e
@@ -265,10 +277,12 @@ item_faults t base s item =
     ++ unless (is_none (type_in s.own item.declarator.name.text)) Twice item.declarator.name.place
     ++ value_faults t (visible (declare s (variable_of t base item.declarator))) (variable_of t base item.declarator).type item.value
 
+-- the faults of declarators, each of which sees those before it
 abbrev pub items_faults : Tables → Base → Scope → List InitialTree → List Fault
 items_faults t base s [] = []
 items_faults t base s (item ∷ items) = item_faults t base s item ++ items_faults t base (declare s (variable_of t base item.declarator)) items
 
+-- the faults of a declaration
 abbrev pub declaration_faults : Tables → Scope → DeclarationTree → List Fault
 declaration_faults t s d = items_faults t d.base s d.items
 
@@ -279,6 +293,7 @@ pub record Context : Type 0 where
   pub result : Option VariableType
   pub in_loop : Bool
 
+-- the same within a loop
 abbrev pub looping : Context → Context
 looping c = record { tables = c.tables; result = c.result; in_loop = true }
 
@@ -296,20 +311,23 @@ shape_argument_faults vs (Argument.Null p) = []
 shape_argument_faults vs (Argument.Number n p) = []
 shape_argument_faults vs (Argument.Negative n p) = []
 
--- what a `for` begins with; its condition and its last part
+-- the faults of what a `for` begins with
 abbrev pub start_faults : Tables → Scope → Start → List Fault
 start_faults t s nothing = []
 start_faults t s (declares d) = declaration_faults t (inside s) d
 start_faults t s (performs x) = simple_faults t (visible s) x
 
+-- the faults of the condition of a `for`, which may be missing
 abbrev pub maybe_condition_faults : Tables → List Variable → Option Cond → List Fault
 maybe_condition_faults t vs None = []
 maybe_condition_faults t vs (Some c) = condition_faults t vs c
 
+-- the faults of the last part of a `for`, which may be missing
 abbrev pub maybe_simple_faults : Tables → List Variable → Option SimpleTree → List Fault
 maybe_simple_faults t vs None = []
 maybe_simple_faults t vs (Some x) = simple_faults t vs x
 
+-- the faults of the head of a `for`
 abbrev pub head_faults : Tables → Scope → Head → List Fault
 head_faults t s h =
     start_faults t s h.start
@@ -355,23 +373,26 @@ struct_faults t s =
 abbrev pub alias_faults : Tables → Base → Declarator → List Fault
 alias_faults t base d = base_faults t base d.pointer ++ unless (is_none d.pointer || is_declarable (meaning_of t base) d.pointer) Mismatch (declarator_place d)
 
--- what a typedef of a new struct means: that struct
+-- what a typedef names: a base, or the struct that it defines
 abbrev pub aliased_base : AliasedTree → Base
 aliased_base (of_base base) = base
 aliased_base (of_struct s) = Base.Struct s.place s.name
 
+-- the faults of the struct that a typedef defines
 abbrev pub aliased_faults : Tables → AliasedTree → List Fault
 aliased_faults t (of_base base) = []
 aliased_faults t (of_struct s) = struct_faults t s
 
+-- the faults of a typedef
 abbrev pub typedef_faults : Tables → TypedefTree → List Fault
 typedef_faults t d = aliased_faults t d.aliased ++ flat_map (alias_faults t (aliased_base d.aliased)) d.declarators
 
+-- a function's result type is known, and is one that variables have, else the fault is at the function's name
 abbrev pub returned_faults : Tables → FunctionTree → Returned → List Fault
 returned_faults t f (Returned.Void p) = []
 returned_faults t f (Returned.Value base star) = type_faults t base star f.name.place
 
--- the parameters are in the block of the body
+-- the faults of a body, in whose block the parameters are
 abbrev pub body_faults : Tables → FunctionTree → Option BodyTree → List Fault
 body_faults t f None = []
 body_faults t f (Some body) =
@@ -380,6 +401,7 @@ body_faults t f (Some body) =
     (record { heads = []; own = reverse (parameters_of t f); outer = [] })
     (stmts_of body.statements)
 
+-- the faults of a function: of its result, its parameters, its body
 abbrev pub function_faults : Tables → FunctionTree → List Fault
 function_faults t f =
     returned_faults t f f.returned
@@ -387,6 +409,7 @@ function_faults t f =
     ++ repeated [] (map (λ p. p.declarator.name) (listed_parameters f.parameters))
     ++ body_faults t f f.body
 
+-- the faults of an item
 abbrev pub item_tree_faults : Tables → ItemTree → List Fault
 item_tree_faults t (structure s) = struct_faults t s
 item_tree_faults t (typedef d) = typedef_faults t d
@@ -397,6 +420,7 @@ item_tree_faults t (function f) = function_faults t f
 abbrev pub is_other : Tables → FunctionTree → FunctionTree → Bool
 is_other t f g = is_same f.name.text g.name.text && not (is_defined f && is_defined g) && not (same_type t f g)
 
+-- each function has the type that earlier prototypes of its name have
 abbrev pub prototype_faults : Tables → List FunctionTree → List FunctionTree → List Fault
 prototype_faults t before [] = []
 prototype_faults t before (f ∷ fs) = unless (not (list_any (is_other t f) before)) Mismatch f.name.place ++ prototype_faults t (f ∷ before) fs

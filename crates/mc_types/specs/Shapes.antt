@@ -35,10 +35,11 @@ pub record ShapeUse : Type 0 where
   pub start : Given
   pub arguments : List Given
 
--- a variable, and an argument
+-- what a variable gives
 abbrev pub variable_given : List Variable → Name → Given
 variable_given vs name = record { type = Typed (variable_type vs name); place = name.place }
 
+-- what an argument of a shape command gives
 abbrev pub argument_given : List Variable → Argument → Given
 argument_given vs (Argument.Name name) = variable_given vs name
 argument_given vs (Argument.Null p) = record { type = Null; place = p }
@@ -73,23 +74,28 @@ abbrev mutual
   statements_uses t s no_more = []
   statements_uses t s (then a rest) = statement_uses t s a ++ statements_uses t (behind t s a) rest
 
+-- the shape commands of a function's body
 abbrev pub body_uses : Tables → FunctionTree → Option BodyTree → List ShapeUse
 body_uses t f None = []
 body_uses t f (Some body) = statements_uses t (record { heads = []; own = reverse (parameters_of t f); outer = [] }) (stmts_of body.statements)
 
+-- the shape commands of an item
 abbrev pub item_uses : Tables → ItemTree → List ShapeUse
 item_uses t (structure s) = []
 item_uses t (typedef d) = []
 item_uses t (function f) = body_uses t f f.body
 
+-- the shape commands of a program, in the order of its text
 abbrev pub unit_uses : UnitTree → List ShapeUse
 unit_uses unit = flat_map (item_uses (tables_of unit)) unit
 
 -- ---- what does not fit
+-- a value of this type is one of this kind
 abbrev pub kind_fits : Kind → ValueType → Bool
 kind_fits Kind.Int value = is_int value
 kind_fits Kind.Ptr value = is_pointer value
 
+-- each argument is of the kind of its parameter, else the fault is at the argument
 abbrev pub given_faults : List Kind → List Given → List Fault
 given_faults [] given = []
 given_faults (kind ∷ kinds) [] = []
@@ -103,15 +109,18 @@ predicate_faults command (Some def) =
     ++ unless (is_pointer command.start.type) Mismatch command.start.place
     ++ given_faults def.params command.arguments
 
+-- the faults of a shape command with these definitions
 abbrev pub use_faults : List Def → ShapeUse → List Fault
 use_faults defs command = predicate_faults command (find (λ def. is_same def.name command.predicate.text) defs)
 
+-- the faults of a program's shape commands with these definitions
 abbrev pub bind_faults : UnitTree → List Def → List Fault
 bind_faults unit defs = flat_map (use_faults defs) (unit_uses unit)
 
--- every shape command fits the definitions; else the first fault is told
+-- every shape command fits the definitions
 abbrev pub IsBound : UnitTree → List Def → Type 0
 IsBound unit defs = bind_faults unit defs ≡ []
 
+-- the first of them
 abbrev pub IsFirstBindFault : UnitTree → List Def → Fault → Type 0
 IsFirstBindFault unit defs fault = told_of None (bind_faults unit defs) ≡ Some fault

@@ -47,11 +47,13 @@ abbrev pub aliased_structs : AliasedTree → List StructTree
 aliased_structs (of_base base) = []
 aliased_structs (of_struct s) = s ∷ []
 
+-- the structs that an item defines
 abbrev pub item_structs : ItemTree → List StructTree
 item_structs (structure s) = s ∷ []
 item_structs (typedef t) = aliased_structs t.aliased
 item_structs (function f) = []
 
+-- the structs of a program, in the order of its text
 abbrev pub unit_structs : UnitTree → List StructTree
 unit_structs unit = flat_map item_structs unit
 
@@ -108,6 +110,7 @@ aliases_behind structs aliases (typedef t) =
     aliases ++ map (λ d. record { name = d.name.text; meaning = alias_meaning (aliased_meaning structs aliases t.aliased) d.pointer }) t.declarators
 aliases_behind structs aliases (function f) = aliases
 
+-- the typedefs of a program, those before it first
 abbrev pub aliases_of : List StructTree → List Alias → UnitTree → List Alias
 aliases_of structs aliases [] = aliases
 aliases_of structs aliases (item ∷ items) = aliases_of structs (aliases_behind structs aliases item) items
@@ -120,15 +123,18 @@ item_functions (typedef t) = []
 item_functions (function f) = f ∷ []
 
 -- ---- the tables of a program
+-- what the names of a program mean: its structs, its typedefs, its functions and prototypes
 pub record Tables : Type 0 where
   pub structs : List StructTree
   pub aliases : List Alias
   pub functions : List FunctionTree
 
+-- the tables of a program
 abbrev pub tables_of : UnitTree → Tables
 tables_of unit =
     record { structs = unit_structs unit; aliases = aliases_of (unit_structs unit) [] unit; functions = flat_map item_functions unit }
 
+-- what a base means in a program
 abbrev pub meaning_of : Tables → Base → BaseType
 meaning_of t base = base_meaning t.structs t.aliases base
 
@@ -136,10 +142,11 @@ meaning_of t base = base_meaning t.structs t.aliases base
 abbrev pub variable_of : Tables → Base → Declarator → Variable
 variable_of t base d = record { name = d.name.text; place = d.name.place; type = declared_type (meaning_of t base) d.pointer }
 
--- the fields of a struct
+-- the variables that a field declares
 abbrev pub variables_of : Tables → FieldTree → List Variable
 variables_of t field = map (variable_of t field.base) field.declarators
 
+-- the fields of a struct, in the order of the text
 abbrev pub fields_of : Tables → StructTree → List Variable
 fields_of t s = flat_map (variables_of t) s.fields
 
@@ -149,6 +156,7 @@ listed_parameters unnamed = []
 listed_parameters (void p) = []
 listed_parameters (listed ps) = ps
 
+-- the variables that are the parameters of a function
 abbrev pub parameters_of : Tables → FunctionTree → List Variable
 parameters_of t f = map (λ p. variable_of t p.base p.declarator) (listed_parameters f.parameters)
 
@@ -178,6 +186,7 @@ abbrev pub called_function : Tables → List ℕ → Option FunctionTree
 called_function t name = find (λ f. is_defined f && is_same f.name.text name) t.functions
 
 -- ---- what is left of types when a program runs
+-- the kind of the values of a type
 abbrev pub kind_of : VariableType → Kind
 kind_of Int = Kind.Int
 kind_of (Pointer s) = Kind.Ptr
