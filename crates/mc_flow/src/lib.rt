@@ -11,6 +11,3 @@ pub use graph::{Flow, Point};
 pub use instr::{Instr, Operand};
 pub use mc_defs::{Defs, FieldInfo, StructInfo, Structs};
 pub use validity::valid;
-
-#[cfg(test)]
-mod tests;

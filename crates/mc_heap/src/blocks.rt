@@ -191,12 +191,4 @@ mod tests {
         assert_eq!(rt; heap.len(), 0);
         Ok(())
     }
-
-    #[test]
-    fn laws_are_called() {
-        crate::parts_regroup();
-        crate::heaps_change_one_address();
-        crate::changes_are_local();
-        crate::two_blocks_are_parts();
-    }
 }

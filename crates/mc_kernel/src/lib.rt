@@ -16,8 +16,6 @@ mod laws;
 mod proof;
 mod rules;
 mod straight;
-#[cfg(test)]
-mod tests;
 mod wrong_jumps;
 
 pub use branch::Branch;

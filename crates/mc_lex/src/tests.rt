@@ -2,7 +2,7 @@
 ghost use Rattle.std.specs.Prelude.{◌<◌, length};
 
 use crate::{LexFault, lex, readings_are_unique};
-use mc_text::{Place, Token, TokenKind, number_value};
+use mc_text::{Place, Token, TokenKind};
 use std::alloc::{AllocError, Global};
 use std::test::Fail;
 
@@ -189,31 +189,4 @@ fn texts(rt: HostRuntime) -> Result<(), Fail> {
         assert!(rt; found.as_str() == *want, "{text:?}: {found}");
     }
     Ok(())
-}
-
-#[test]
-fn a_mebibyte(rt: HostRuntime) -> Result<(), Fail> {
-    let mut text = Vec::new(rt.alloc());
-    for _ in 0..131072 {
-        text.extend_from_slice(b"x+=12;\n ")?;
-    }
-    assert_eq!(rt; text.len(), 1048576);
-    let tokens = lex(rt.alloc(), text.as_slice())?;
-    assert_eq!(rt; tokens.len(), 4 * 131072 + 1);
-    let end = &tokens[tokens.len() - 1];
-    assert_eq!(rt;
-        end.place,
-        Place {
-            line: 131073,
-            column: 2
-        }
-    );
-    Ok(())
-}
-
-#[test]
-fn numbers(rt: HostRuntime) {
-    assert_eq!(rt; number_value(b"0x1F"), Some(31));
-    assert_eq!(rt; number_value(b"2147483647"), Some(2147483647));
-    assert_eq!(rt; number_value(b"2147483648"), None);
 }

@@ -12,8 +12,6 @@ mod rule;
 mod state;
 mod straight_line;
 mod terms;
-#[cfg(test)]
-mod tests;
 
 pub use covers::{
     bodies_are_edges, body_premises, covers_are_sound, example_covers, example_segment_covers,

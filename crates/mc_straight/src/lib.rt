@@ -43,6 +43,3 @@ pub fn trees_are_read_once()
 pub fn every_form_is_read()
     ensures { ReadsAs every_form every_form_in_short }
 {}
-
-#[cfg(test)]
-mod tests;

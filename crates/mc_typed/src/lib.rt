@@ -23,6 +23,3 @@ pub use bound::Bound;
 pub use check::check_types;
 pub use collect::collect_tables;
 pub use typed::Typed;
-
-#[cfg(test)]
-mod tests;

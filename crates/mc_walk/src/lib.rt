@@ -10,6 +10,3 @@ mod walking;
 pub use laws::{visits_give_calls, visits_give_faults, visits_give_uses};
 pub use parts::Part;
 pub use walking::Walk;
-
-#[cfg(test)]
-mod tests;
