@@ -53,7 +53,7 @@ pub fn memcad<F: Files, K: Sink>(
 ) -> Status
     // Where the answer is that all is well, no run of the program has a fault.
     ensures safe { result ≡ Status.Good → (p d c : List ℕ) → Asks (map string_bytes words.now) p d c → WhereTold (F.holds files.old p) IsSafe }
-    // Each answer has its cause and prints its text. A call without an answer has lacked memory, or the device failed.
+    // Each answer has its cause and prints its text. A call without an answer ran out of memory, or the device failed.
     ensures why { EndsWith (F.holds files.old) (map string_bytes words.now) (K.written out.old) (K.written out.new) result }
     ensures device { result ≡ Status.Device → Rose (F.faults files.old) (F.faults files.new) ⊎ Rose (K.faults out.old) (K.faults out.new) }
     ensures only_device { (F.faults files.old < F.faults files.new) ⊎ (K.faults out.old < K.faults out.new) → result ≡ Status.Device }

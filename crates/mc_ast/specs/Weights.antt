@@ -1,4 +1,4 @@
--- How much of a tree that is let go of is left: what falls with each step.
+-- How much of a tree that is dropped is left: what falls with each step.
 use Rattle.std.specs.Prelude.{ℕ, ◌+◌, Option, Some, None, box_value}
 use Rattle.mc_ast.specs.declared.trees.Expression.{Expression, Number, Null, Input, Value, Minus', Parens', Times', Plus', Difference'}
 use Rattle.mc_ast.specs.declared.trees.Condition.{Condition, Plain, Compare, Not', Parens' as Enclosed', Both', Either'}

@@ -269,7 +269,7 @@ impl Statement {
     ghost use Rattle.mc_ast.specs.Weights.{whole_inside, whole_statement, lone_inside, lone_statement};
     ghost use Rattle.std.specs.Prelude.{◌≡◌};
 
-    // The statements in it; all else is let go of.
+    // The statements in it; all else is dropped.
     fn inside(self) -> Inside
         ensures whole { whole_inside result ≡ whole_statement self }
         ensures lone { lone_inside result ≡ lone_statement self }

@@ -64,7 +64,7 @@ impl<T> Items<T> {
 }
 
 impl<T: Drop> Items<T> {
-    /// Puts an item in place of one. Past the end it is let go.
+    /// Puts an item in place of one. Past the end it is dropped.
     pub fn set(&mut self, place: usize, item: T)
         ensures { self.new ≡ slice_set self.old place item }
     {

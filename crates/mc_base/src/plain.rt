@@ -1,7 +1,7 @@
 // Kinds, faults, atoms and variables.
 use crate::{Items, NodeId};
 
-/// The one error of calls that fail only for want of memory.
+/// The one error of calls that fail only where memory runs out.
 pub type NoMemory = std::alloc::AllocError;
 
 /// The kind of a value. `Int` goes from -2147483648 to 2147483647, and `Ptr` from 0 to 2^62 - 1.

@@ -73,7 +73,7 @@ DataReadsAs d (Err faults.NoMemory) = ⊥
 abbrev pub IsJson : List ℕ → Data → Type 0
 IsJson bytes d = IsUtf8 bytes × (read bytes ≡ Some d)
 
--- the line of bytes, or why they are none; want of memory is free
+-- the line of bytes, or why they are none; out of memory is free
 abbrev pub ReadsAs : List ℕ → Result Line LineFault → Type 0
 ReadsAs bytes (Ok line) = (d : Data) × IsJson bytes d × DataReadsAs d (Ok line)
 ReadsAs bytes (Err faults.Form) = (d : Data) × IsJson bytes d × DataReadsAs d (Err faults.Form)

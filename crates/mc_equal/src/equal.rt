@@ -13,7 +13,7 @@ use crate::rename::{entries_to, gaps_to};
 use std::alloc::{AllocError, Global};
 use std::marker::Model;
 
-/// The one error of calls that fail only for want of memory.
+/// The one error of calls that fail only where memory runs out.
 pub type NoMemory = AllocError;
 
 /// Equalities `a = b + c` and disequalities `a != b + c` over numbers of nodes.
@@ -94,7 +94,7 @@ impl Equal {
     }
 
     /// Keeps what follows without the node. Without memory nothing changes. A disequality whose offset would pass 2^100
-    /// counts as want of memory, here and in `rename`.
+    /// counts as out of memory, here and in `rename`.
     pub fn forget(&mut self, node: u64) -> Result<(), NoMemory>
         ensures exactly { OnOk result (KnowsExactly (Without self.old node) self.new) }
         ensures err { OnErr result (self.new ≡ self.old) }

@@ -101,7 +101,7 @@ fn moved_to(gap: &Gap, join: &Join) -> Gap
     }
 }
 
-/// Adds a gap. An offset past 2^100 counts as want of memory.
+/// Adds a gap. An offset past 2^100 counts as out of memory.
 pub fn push_gap(gaps: &mut Vec<Gap>, gap: &Gap) -> Result<(), AllocError>
     ensures { IfOk result (λ _. (gaps.new.items ≡ gaps.old.items ++ gap.now ∷ []) × IsTame gap.now.offset) }
 {

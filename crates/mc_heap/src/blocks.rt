@@ -8,7 +8,7 @@ use std::alloc::Global;
 use std::collections::BTreeMap;
 use std::marker::Model;
 
-/// The one error of calls that fail only for want of memory.
+/// The one error of calls that fail only where memory runs out.
 pub type NoMemory = std::alloc::AllocError;
 
 /// What a field holds.

@@ -5,7 +5,7 @@ ghost use Rattle.mc_outside.specs.Outside.{HasCause, Stays, OthersStay, SizeIs, 
 
 use std::alloc::{AllocError, AllocFailed};
 
-/// Why a call on files or on a sink failed: the device, or want of memory.
+/// Why a call on files or on a sink failed: the device, or out of memory.
 #[derive(Clone, Copy, Debug, PartialEq, Eq)]
 pub enum FileFault {
     Failed,

@@ -13,7 +13,7 @@ use Rattle.mc_read.specs.declared.cause.Refusal.{Refusal}
 use Rattle.mc_read.specs.declared.cause.ReadFault.{ReadFault}
 use Rattle.mc_read.specs.declared.cause.ReadFault.TheVariants.{Refused, NoMemory}
 
--- what a fault of bytes is told as; want of memory is none
+-- what a fault of bytes is told as; out of memory is none
 abbrev pub lexical_refusal : LexFault → Option Refusal
 lexical_refusal (Lexical.BadByte place) = Some (record { cause = BadByte; place = place })
 lexical_refusal (Lexical.OpenComment place) = Some (record { cause = OpenComment; place = place })
@@ -39,7 +39,7 @@ typing_cause Typing.Arity = Arity
 abbrev pub typing_refusal : Fault → Refusal
 typing_refusal fault = record { cause = typing_cause fault.name; place = fault.place }
 
--- a refusal, or want of memory
+-- a refusal, or out of memory
 abbrev pub fault_of : Option Refusal → ReadFault
 fault_of (Some refusal) = Refused refusal
 fault_of None = NoMemory

@@ -314,7 +314,7 @@ impl<'a> Walk<'a> {
         }
     }
 
-    /// The next part, where the walk then stands, or none at the end. Behind a want of memory nothing is known of the walk.
+    /// The next part, where the walk then stands, or none at the end. After that fails for memory, nothing is known of the walk.
     pub fn next(&mut self, tables: &NameTables) -> Result<Option<Part<'a>>, AllocError>
         ensures { IfOk result (λ found. MatchOption found ((rest (tables_held tables.now) self.old ≡ [])
             × (rest (tables_held tables.now) self.new ≡ [])) (λ part. rest (tables_held tables.now) self.old ≡ visit self.new.scope (part_of part) ∷ rest (tables_held tables.now) self.new)) }

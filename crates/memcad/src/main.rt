@@ -15,7 +15,7 @@ fn words(rt: &HostRuntime) -> io::Result<Vec<String>> {
     Ok(words)
 }
 
-// The status where there are no words: want of memory, or 9 where the system does not hand them over.
+// The status where there are no words: out of memory, or 9 where the system does not hand them over.
 fn without_words(error: &io::Error) -> u8 {
     match error.kind() {
         io::ErrorKind::OutOfMemory => Status::Memory.code(),

@@ -1,4 +1,4 @@
-// Trees as deep as these would not be let go of by a recursion on a small stack.
+// Trees as deep as these would not be dropped by a recursion on a small stack.
 use super::HERE;
 use crate::{Condition, Expression, Statement};
 use std::alloc::{AllocError, Global};
