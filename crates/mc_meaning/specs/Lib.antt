@@ -1,5 +1,6 @@
 pub mod Configs
-pub mod Values
+pub mod Examples
+pub mod Laws
 pub mod Moves
 pub mod Steps
-pub mod Examples
+pub mod Values

@@ -4,12 +4,19 @@ ghost use Rattle.mc_base.specs.declared.plain.FaultKind.TheVariants.{Null, Unini
 ghost use Rattle.mc_heap.specs.Choices.{Choice, input as choose_input, malloc as choose_malloc};
 ghost use Rattle.mc_meaning.specs.Examples.{at, Comes, assigning, undefined_value, choosing, stopping_early, assuming, whiling, doing, turning, calling, reading_first};
 ghost use Rattle.mc_meaning.specs.Configs.{Config, Program, Result};
+ghost use Rattle.mc_meaning.specs.Laws.{ArrivalsAreDetermined, ValuesAreDetermined};
 ghost use Rattle.mc_meaning.specs.Steps.{Step};
 ghost use Rattle.std.specs.Prelude.{◌≡◌, List, [], ◌∷◌, pos};
 
 /// The choices of a run determine each of its steps.
 pub fn steps_are_determined()
     ensures { (program : Program) (config : Config) (choices : List Choice) (one other : Result) → Step program config choices one → Step program config choices other → one ≡ other }
+{}
+
+/// The choices determine what an expression comes to, and the tasks at which the next step is are determined too.
+pub fn values_are_determined()
+    ensures values { ValuesAreDetermined }
+    ensures arrivals { ArrivalsAreDetermined }
 {}
 
 /// What small programs come to: declarators and assignments; an undefined value; both sides of a condition with an input;

@@ -3,4 +3,4 @@
 
 mod laws;
 
-pub use laws::{small_programs_run, steps_are_determined};
+pub use laws::{small_programs_run, steps_are_determined, values_are_determined};

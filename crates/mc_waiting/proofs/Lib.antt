@@ -1,0 +1,10 @@
+pub mod Arriving
+pub mod Deciding
+pub mod Faultless
+pub mod Fine
+pub mod Flows
+pub mod Keeping
+pub mod Machines
+pub mod Programs
+pub mod Standing
+pub mod Values

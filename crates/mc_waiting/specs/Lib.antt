@@ -1,0 +1,5 @@
+pub mod Flows
+pub mod Laws
+pub mod Requests
+pub mod Runs
+pub mod Trees
