@@ -77,7 +77,7 @@ may p s ne = record { plain = refl; open_still = refl; before_cut = inl (no_cut 
 
 -- where no variable is known, a branch jumps to the head
 jumps : (s : State) → s.env ≡ None ∷ None ∷ [] → (IsFalse s → ⊥) → JumpsTo setting 0 (null ∷ []) [] (gone 1 s) []
-jumps s unknown_vars consistent = record {
+jumps s unknown_vars sound = record {
   may = record { plain = refl; at_cut = contains_here (ex.at 1) []; has_moved = refl };
   consistent = sound;
   head = head;

@@ -257,7 +257,7 @@ module _ (sound : IsFalse ex.one_cell → ⊥) where
       })
 
 pub empty : (IsFalse ex.no_cell → ⊥) → IsStep ex.flow (ex.at 16) ex.no_cell (moved_to (ex.at 17) ex.no_cell ∷ [])
-empty consistent = S18 (record { q = ex.at 17; at = refl; consistent = sound; whole = refl; none = refl; gives = refl })
+empty sound = S18 (record { q = ex.at 17; at = refl; consistent = sound; whole = refl; none = refl; gives = refl })
 
 -- ---- the side branch
 pub joins_none : (whole part : Option Block) → part ≡ None → Joins whole part whole

@@ -80,7 +80,7 @@ both_equal s n a b sound left right = elim left [
 
 -- two blocks of a struct at a node have the same fields
 pub one_block : BlocksAtOneNode → (s : State) (n : NodeId) (shape : StructId) (x y : HasBlock s n shape) → (IsFalse s → ⊥) → x.fields ≡ y.fields
-one_block law s n shape x y consistent = at (x.id.0 == y.id.0) refl
+one_block law s n shape x y sound = at (x.id.0 == y.id.0) refl
   where
     at : (same : Bool) → (x.id.0 == y.id.0) ≡ same → x.fields ≡ y.fields
     at true e =

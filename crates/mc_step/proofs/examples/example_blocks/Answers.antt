@@ -3,7 +3,7 @@ use Rattle.mc_step.proofs.examples.example_blocks.Goals as goal
 
 pub returns : goal.returns
 returns c =
-    let consistent = proof.one_cell_sound c.derived_is_true.ensures.not_false in
+    let sound = proof.one_cell_sound c.derived_is_true.ensures.not_false in
     record {
       load = proof.load sound;
       store = proof.store sound;

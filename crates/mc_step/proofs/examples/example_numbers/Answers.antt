@@ -4,7 +4,7 @@ use Rattle.mc_step.proofs.examples.example_numbers.Goals as goal
 pub returns : goal.returns
 returns c =
     let law = c.derived_is_true.ensures.derived in
-    let consistent = proof.one_cell_sound c.derived_is_true.ensures.not_false in
+    let sound = proof.one_cell_sound c.derived_is_true.ensures.not_false in
     record {
       skip = proof.skip sound;
       copy = proof.copy sound;
