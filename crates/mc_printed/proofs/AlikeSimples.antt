@@ -83,7 +83,7 @@ simple_again (assigned left is right) r =
 simple_again (adding left is right) r =
     and_close (left_again left r) λ y b mid d s q e. and_then (sum_again right q) λ z left d' q' f. again (adding d (mark_again s is) d') q' (ap_two add e f)
 simple_again (subtracting left is right) r =
-    and_close (left_again left r) λ y b mid d s q e. and_then (sum_again right q) λ z left d' q' f. again (subtracting d (mark_again s is) d') q' (ap_two difference e f)
+    and_close (left_again left r) λ y b mid d s q e. and_then (sum_again right q) λ z left d' q' f. again (subtracting d (mark_again s is) d') q' (ap_two subtract e f)
 simple_again (incremented left is) r = and_close (left_again left r) λ y b left d s q e. again (incremented d (mark_again s is)) q (ap increment e)
 simple_again (decremented left is) r = and_close (left_again left r) λ y b left d s q e. again (decremented d (mark_again s is)) q (ap decrement e)
 simple_again (incremented_first is left) (alike s r) = and_then (left_again left r) λ y left d q e. again (incremented_first (mark_again s is) d) q (ap (increment_first nowhere) e)
