@@ -5,7 +5,7 @@ use Rattle.mc_text.specs.declared.place.Place.{Place}
 use Rattle.mc_base.specs.Kinds.{InKind}
 use Rattle.mc_base.specs.Runs.{last, fault}
 use Rattle.mc_heap.specs.Choices.{Choice, input as choose_input, malloc as choose_malloc, shape as choose_shape}
-use Rattle.mc_ast.specs.Trees.{Expr, number, null, input, value, minus, parens, times, plus, less}
+use Rattle.mc_ast.specs.Trees.{Expr, number, null, input, value, minus, parens, times, plus, difference}
 use Rattle.mc_meaning.specs.Configs.{Result}
 use Rattle.mc_meaning.specs.Laws.{ValuesAreDetermined}
 use Rattle.mc_meaning.specs.Values.{Here, Evaluated, fault_of, value_of, IsInput, right_operand, AfterLeft, Evaluates}
@@ -58,7 +58,7 @@ value_or h (minus p e) choices k = value_or h e choices (λ o. k (elim o [ inl o
 value_or h (parens p e) choices k = value_or h e choices k
 value_or h (times a b) choices k = operated_or h _ a b choices (value_or h a choices) (λ rest. value_or h b rest) k
 value_or h (plus a b) choices k = operated_or h _ a b choices (value_or h a choices) (λ rest. value_or h b rest) k
-value_or h (less a b) choices k = operated_or h _ a b choices (value_or h a choices) (λ rest. value_or h b rest) k
+value_or h (difference a b) choices k = operated_or h _ a b choices (value_or h a choices) (λ rest. value_or h b rest) k
 
 -- all arguments, or an input that is waited for
 abbrev pub ArgumentsOr : Here → List Expr → List Choice → Type 0
@@ -126,7 +126,7 @@ module _ (same : ValuesAreDetermined) where
   value_alone h (parens p e) choices left one w is asks = value_alone h e choices left one w is asks
   value_alone h (times a b) choices left one w is asks = not_both h _ a b choices left one (λ x i. value_alone h a choices left x w i) (λ rest x i. value_alone h b rest left x w i) is asks
   value_alone h (plus a b) choices left one w is asks = not_both h _ a b choices left one (λ x i. value_alone h a choices left x w i) (λ rest x i. value_alone h b rest left x w i) is asks
-  value_alone h (less a b) choices left one w is asks = not_both h _ a b choices left one (λ x i. value_alone h a choices left x w i) (λ rest x i. value_alone h b rest left x w i) is asks
+  value_alone h (difference a b) choices left one w is asks = not_both h _ a b choices left one (λ x i. value_alone h a choices left x w i) (λ rest x i. value_alone h b rest left x w i) is asks
 
   pub arguments_alone : (h : Here) (es : List Expr) (choices left : List Choice) (all : Arguments) → IsUnanswered an_input left → EvaluateAll h es choices all → ArgumentsAsk h es choices left → ⊥
   arguments_alone h [] choices left all w is asks = asks

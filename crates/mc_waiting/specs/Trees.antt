@@ -6,7 +6,7 @@ use Rattle.mc_heap.specs.Heap.{Heap}
 use Rattle.mc_defs.specs.declared.rules.Def.{Def}
 use Rattle.mc_flow.specs.Values.{all_there}
 use Rattle.mc_ast.specs.declared.trees.Base.{Base}
-use Rattle.mc_ast.specs.Trees.{Expr, number, null, input, value, minus, parens, times, plus, less, Cond, plain}
+use Rattle.mc_ast.specs.Trees.{Expr, number, null, input, value, minus, parens, times, plus, difference, Cond, plain}
 use Rattle.mc_ast.specs.Trees.{compare, negation, enclosed, both, either, Right, expression, result_of, allocation}
 use Rattle.mc_ast.specs.Trees.{InitialTree, SimpleTree, assign, add, subtract, increment, decrement}
 use Rattle.mc_ast.specs.Trees.{increment_first, decrement_first, call, Stmt, declaration, block, empty, simple}
@@ -35,7 +35,7 @@ ValueAsks h (minus p e) choices left = ValueAsks h e choices left
 ValueAsks h (parens p e) choices left = ValueAsks h e choices left
 ValueAsks h (times a b) choices left = ValueAsks h a choices left ⊎ AsksBehind h a choices (λ rest. ValueAsks h b rest left)
 ValueAsks h (plus a b) choices left = ValueAsks h a choices left ⊎ AsksBehind h a choices (λ rest. ValueAsks h b rest left)
-ValueAsks h (less a b) choices left = ValueAsks h a choices left ⊎ AsksBehind h a choices (λ rest. ValueAsks h b rest left)
+ValueAsks h (difference a b) choices left = ValueAsks h a choices left ⊎ AsksBehind h a choices (λ rest. ValueAsks h b rest left)
 
 -- the same for arguments one after the other
 abbrev pub ArgumentsAsk : Here → List Expr → List Choice → List Choice → Type 0

@@ -82,8 +82,8 @@ abbrev pub wrapping : List Stmt
 wrapping =
     int_is 1 x_word (Some (expression (num 2 2147483647)))
     ∷ simple (assign (variable 3 x_word) (expression (plus (var 4 x_word) (num 5 1))))
-    ∷ is_equal 6 (var 7 x_word) (less (minus (at 8) (num 9 2147483647)) (num 10 1))
-    ∷ simple (assign (variable 11 x_word) (expression (less (var 12 x_word) (num 13 1))))
+    ∷ is_equal 6 (var 7 x_word) (difference (minus (at 8) (num 9 2147483647)) (num 10 1))
+    ∷ simple (assign (variable 11 x_word) (expression (difference (var 12 x_word) (num 13 1))))
     ∷ is_equal 14 (var 15 x_word) (num 16 2147483647)
     ∷ []
 

@@ -99,7 +99,7 @@ abbrev pub minus_function : FunctionTree
 minus_function =
     function_of an_int 5 (codes "minus") (listed (parameter 11 15 a_word ∷ parameter 18 22 b_word ∷ []))
     25
-    (returns (at 27) (Some (expression (less (var 34 a_word) (var 38 b_word))))
+    (returns (at 27) (Some (expression (difference (var 34 a_word) (var 38 b_word))))
     ∷ [])
 
 -- `int minus(int a, int b) { return a - b; }
