@@ -1,3 +1,7 @@
 pub mod LineFirst
-pub mod Lengths
+pub mod Arrays
+pub mod Faults
+pub mod PartForms
+pub mod Forms
+pub mod Flat
 pub mod Once

@@ -1,130 +1,88 @@
 // What a line of a document says.
-ghost use Rattle.std.specs.Prelude.{◌≡◌, ◌↔◌, IfErr, IsTrue, MatchOption};
-ghost use Rattle.serde_json.specs.View.{view, items_view};
-ghost use Rattle.serde_json.specs.Data.{array, item, no_items, string};
-ghost use Rattle.mc_state.specs.declared.line.Form.{Form};
-ghost use Rattle.mc_state.specs.declared.straight_line.StraightLine.{StraightLine as Line};
-ghost use Rattle.mc_cert.specs.Document.{DataReadsAs, IsWholeNumber, ReadsAs, SpellsNone, data_of, form_name};
+use mc_base::{Args, EdgeId, Items, Kind, NodeId, PointId, PredId};
+use mc_state::{Form, JoinStep, RawState, Version};
 
-use mc_state::{Form, StraightLine, Version};
-use serde_json::Value;
-use std::alloc::{AllocError, Global};
-use thiserror::Error;
-
-/// Why bytes are no line.
-#[derive(Clone, Copy, Debug, PartialEq, Eq, Error)]
-pub enum LineFault {
-    /// They are no JSON value.
-    #[error("no JSON")]
-    NotJson,
-    /// They are a JSON value of another form.
-    #[error("no line of a document")]
-    Form,
-    /// They are a header of a version that is not read.
-    #[error("another version")]
-    Version,
-    #[error("out of memory")]
-    NoMemory,
-}
-
-fn is_text(value: &Value, text: &str) -> bool
-    ensures { IsTrue result ↔ (view value.now ≡ string text.now) }
-{
-    value.as_str() == Some(text)
-}
-
-fn is_whole(value: &Value) -> bool
-    ensures { IsTrue result ↔ IsWholeNumber (view value.now) }
-{
-    value.is_u64() || value.is_i64()
-}
-
-// The line of a name alone.
-fn named(name: &str) -> Option<StraightLine>
-    ensures { MatchOption result ((line : StraightLine) → array (item (string name.now) no_items) ≡ data_of line → ⊥) (λ line. array (item (string name.now) no_items) ≡ data_of line) }
-{
-    match name {
-        "S1" => Some(StraightLine::S1),
-        "S2" => Some(StraightLine::S2),
-        "S3" => Some(StraightLine::S3),
-        "S8" => Some(StraightLine::S8),
-        "S9" => Some(StraightLine::S9),
-        "S10" => Some(StraightLine::S10),
-        "S11" => Some(StraightLine::S11),
-        "S12" => Some(StraightLine::S12),
-        "S13" => Some(StraightLine::S13),
-        "S17" => Some(StraightLine::S17),
-        "L12" => Some(StraightLine::L12),
-        "end" => Some(StraightLine::End),
-        _ => None,
-    }
-}
-
-fn form_of(value: &Value) -> Option<Form>
-    ensures { MatchOption result ((form : Form) → view value.now ≡ string (form_name form) → ⊥) (λ form. view value.now ≡ string (form_name form)) }
-{
-    if is_text(value, "certificate") {
-        Some(Form::Certificate)
-    } else if is_text(value, "chain") {
-        Some(Form::Chain)
-    } else {
-        None
-    }
-}
-
-// The line of one entry.
-fn alone(entry: &Value) -> Result<StraightLine, LineFault>
-    ensures { DataReadsAs (array (item (view entry.now) no_items)) result }
-{
-    match entry.as_str() {
-        None => Err(LineFault::Form),
-        Some(name) => named(name).ok_or(LineFault::Form),
-    }
-}
-
-// The line of three entries.
-fn header(name: &Value, version: &Value, form: &Value) -> Result<StraightLine, LineFault>
-    ensures { DataReadsAs (array (item (view name.now) (item (view version.now) (item (view form.now) no_items)))) result }
-{
-    if !is_text(name, "memcad") {
-        return Err(LineFault::Form);
-    }
-    let Some(form) = form_of(form) else {
-        return Err(LineFault::Form);
-    };
-    if version.as_u64() == Some(1) {
-        Ok(StraightLine::Header(Version::One, form))
-    } else if is_whole(version) {
-        Err(LineFault::Version)
-    } else {
-        Err(LineFault::Form)
-    }
-}
-
-fn line_in(entries: &[Value]) -> Result<StraightLine, LineFault>
-    ensures { DataReadsAs (array (items_view entries.now)) result }
-{
-    if entries.len() == 1 {
-        alone(&entries[0])
-    } else if entries.len() == 3 {
-        header(&entries[0], &entries[1], &entries[2])
-    } else {
-        Err(LineFault::Form)
-    }
-}
-
-/// The line that bytes spell, or why they are none.
-pub fn line_of(alloc: Global, bytes: &[u8]) -> Result<StraightLine, LineFault>
-    ensures reads { ReadsAs bytes.now result }
-    ensures none { IfErr result (SpellsNone bytes.now) }
-{
-    match Value::from_slice(alloc, bytes) {
-        Err(e) => Err(if e.is_memory() {
-            LineFault::NoMemory
-        } else {
-            LineFault::NotJson
-        }),
-        Ok(Value::Array(entries)) => line_in(entries.as_slice()),
-        Ok(_) => Err(LineFault::Form),
-    }
+/// A line of a document. The entries of a form are those of its array behind the name.
+#[derive(Drop)]
+pub enum Line {
+    Header(Version, Form),
+    /// A point at which passes and certificates cut runs.
+    Cut(PointId),
+    /// A state of a cut.
+    Head(PointId, RawState),
+    /// A pass of a chain begins.
+    Pass,
+    End,
+    /// Skip.
+    S1,
+    /// Copy.
+    S2,
+    /// Undef.
+    S3,
+    /// Input.
+    S4,
+    /// Add.
+    S5,
+    /// Sub.
+    S6,
+    /// Mul.
+    S7,
+    /// Load.
+    S8,
+    /// Store.
+    S9,
+    /// Malloc.
+    S10,
+    /// Free of null.
+    S11,
+    /// Free of a block.
+    S12,
+    /// A test for equality.
+    S13,
+    /// A test for order.
+    S14,
+    /// An assumed shape.
+    S15,
+    /// An asserted shape.
+    S16,
+    /// End.
+    S17,
+    /// An empty heap that is asserted.
+    S18,
+    /// Unfolds an Ind.
+    L1(EdgeId),
+    /// Unfolds a Seg.
+    L2(EdgeId),
+    /// Folds a rule's block and calls into an Ind: the predicate, the rule, the nodes of its names, its block and its calls.
+    L3(PredId, u64, Items<NodeId>, Option<EdgeId>, Items<EdgeId>),
+    /// Folds a rule's block and calls without one into a Seg to that call, whose number comes last.
+    L4(PredId, u64, Items<NodeId>, EdgeId, Items<EdgeId>, u64),
+    /// Folds a Seg and an Ind at its end.
+    L5(EdgeId, EdgeId),
+    /// Folds a Seg and another at its end.
+    L6(EdgeId, EdgeId),
+    /// Makes a Seg from a node to an equal one.
+    L7(PredId, NodeId, Args<NodeId>, NodeId, Args<NodeId>),
+    /// Names a node and a number more.
+    L8(NodeId, i64, Kind),
+    /// Puts a node in place of an equal one.
+    L9(NodeId, NodeId),
+    /// Drops an edge.
+    L10(EdgeId),
+    /// Forgets a node.
+    L11(NodeId),
+    /// The state is false.
+    L12,
+    /// Jumps to a state of the cut, with an image for each of its nodes and an edge for each of its edges.
+    L13(u64, Items<NodeId>, Items<EdgeId>),
+    /// The goal of a side branch is met by an Ind.
+    L14(EdgeId),
+    /// Unfolds an edge backward, from its last block.
+    L15(EdgeId),
+    /// The instruction is stuck.
+    C1,
+    /// A new state of the cut, with a try to join it with each of the others.
+    C2(Items<Items<JoinStep>>),
+    /// A join with a state of the cut.
+    C3(u64, Items<JoinStep>),
 }

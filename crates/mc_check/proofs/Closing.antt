@@ -8,17 +8,16 @@ use Rattle.mc_state.specs.declared.straight_line.StraightLine.TheVariants.{Heade
 use Rattle.mc_state.specs.declared.line.Version.TheVariants.{One}
 use Rattle.mc_state.specs.declared.line.Form.TheVariants.{Certificate}
 use Rattle.mc_cert.specs.Lines.{lines_of}
-use Rattle.mc_cert.specs.Document.{Spells}
 use Rattle.mc_kernel.specs.declared.branch.Branch.{Branch}
 use Rattle.mc_kernel.specs.declared.proof.Complete.{Complete}
 use Rattle.mc_kernel.specs.Rules.{Instance, Proves, IsCertificate, entry}
 use Rattle.mc_kernel.specs.Applied.{Opened, opened, Advances, Applies, IsReady, IsRefused, IsComplete}
-use Rattle.mc_check.specs.Document.{SpellAll, IsValidDocument}
+use Rattle.mc_check.specs.Document.{SpellAll, SpellsStraight, IsValidDocument}
 use Rattle.mc_check.specs.Judged.{ClosesOpen, ClosesIf, Closes, IsTaken, IsNotTaken}
 
 -- bytes spell one line at most, and a line gives a branch one list of successors at most
 abbrev pub SpelledOnce : Type 0
-SpelledOnce = (bytes : List ℕ) (x y : Line) → Spells bytes x → Spells bytes y → x ≡ y
+SpelledOnce = (bytes : List ℕ) (x y : Line) → SpellsStraight bytes x → SpellsStraight bytes y → x ≡ y
 
 abbrev pub Determined : Type 0
 Determined = (flow : Flow) (line : Line) (b : Branch) (n m : List Branch) → Instance flow line b n → Instance flow line b m → n ≡ m
@@ -45,7 +44,7 @@ spelled_none : (texts : List (List ℕ)) → texts ≡ [] → SpellAll texts []
 spelled_none [] e = tt
 spelled_none (t ∷ ts) e = cc
 
-step_on : (line : Line) (bytes : List ℕ) (texts : List (List ℕ)) (old new : Opened) (bs : List Branch) → bs ≡ old.branches → Spells bytes line → IsReady old → Advances line old bs new → Closes new texts → ClosesOpen old (bytes ∷ texts)
+step_on : (line : Line) (bytes : List ℕ) (texts : List (List ℕ)) (old new : Opened) (bs : List Branch) → bs ≡ old.branches → SpellsStraight bytes line → IsReady old → Advances line old bs new → Closes new texts → ClosesOpen old (bytes ∷ texts)
 step_on line bytes texts old new [] e s ready a c =
     let ended : ClosesIf true (record old { ended = true }) texts = subst (λ p. Closes p texts) a.1 c in
     record {
@@ -70,7 +69,7 @@ no_texts [] lines e h = refl
 no_texts (t ∷ ts) [] e h = absurd h
 no_texts (t ∷ ts) (l ∷ ls) e h = cc
 
-step_back : SpelledOnce → Determined → (line : Line) (bytes : List ℕ) (texts : List (List ℕ)) (old new : Opened) (bs : List Branch) (lines : List Line) → bs ≡ old.branches → Spells bytes line → IsReady old → Advances line old bs new
+step_back : SpelledOnce → Determined → (line : Line) (bytes : List ℕ) (texts : List (List ℕ)) (old new : Opened) (bs : List Branch) (lines : List Line) → bs ≡ old.branches → SpellsStraight bytes line → IsReady old → Advances line old bs new
     → SpellAll (bytes ∷ texts) lines → Proves old.flow lines bs → Closes new texts
 step_back once one line bytes texts old new bs [] e s ready a spelled p = absurd spelled
 step_back once one line bytes texts old new [] (k ∷ lines) e s ready a spelled p =
@@ -134,22 +133,22 @@ finished p b (Err q) e ok err = subst (λ x. IsTrue x ↔ Closes p []) (sym e) (
 
 -- ---- the header
 
-open_header : (flow : Flow) (bytes : List ℕ) (texts : List (List ℕ)) → Spells bytes (Header One Certificate) → ClosesOpen (opened flow Certificate) texts → (lines : List Line) × SpellAll (bytes ∷ texts) lines × IsCertificate flow lines
+open_header : (flow : Flow) (bytes : List ℕ) (texts : List (List ℕ)) → SpellsStraight bytes (Header One Certificate) → ClosesOpen (opened flow Certificate) texts → (lines : List Line) × SpellAll (bytes ∷ texts) lines × IsCertificate flow lines
 open_header flow bytes texts s c = (Header One Certificate ∷ c.lines, (s, c.spelled), (refl, c.uncut, c.proves))
 
-certified_by : (flow : Flow) (bytes : List ℕ) (texts : List (List ℕ)) (lines : List Line) → SpellAll (bytes ∷ texts) lines → IsCertificate flow lines → Spells bytes (Header One Certificate) × ClosesOpen (opened flow Certificate) texts
+certified_by : (flow : Flow) (bytes : List ℕ) (texts : List (List ℕ)) (lines : List Line) → SpellAll (bytes ∷ texts) lines → IsCertificate flow lines → SpellsStraight bytes (Header One Certificate) × ClosesOpen (opened flow Certificate) texts
 certified_by flow bytes texts [] s c = absurd c
 certified_by flow bytes texts (line ∷ lines) s c =
-    (subst (λ l. Spells bytes l) c.0 s.0, record { form = refl; uncut = c.1; lines = lines; spelled = s.1; proves = c.2 })
+    (subst (λ l. SpellsStraight bytes l) c.0 s.0, record { form = refl; uncut = c.1; lines = lines; spelled = s.1; proves = c.2 })
 
 -- behind a certificate's header the rest closes the branch of the entry exactly where the whole is valid
-pub with_header : (flow : Flow) (bytes : List ℕ) (texts : List (List ℕ)) (text : List ℕ) → lines_of text ≡ bytes ∷ texts → Spells bytes (Header One Certificate) → Closes (opened flow Certificate) texts ↔ IsValidDocument flow text
+pub with_header : (flow : Flow) (bytes : List ℕ) (texts : List (List ℕ)) (text : List ℕ) → lines_of text ≡ bytes ∷ texts → SpellsStraight bytes (Header One Certificate) → Closes (opened flow Certificate) texts ↔ IsValidDocument flow text
 with_header flow bytes texts text e s = (
   λ c. let all = open_header flow bytes texts s c in (all.0, subst (λ ts. SpellAll ts all.0) (sym e) all.1, all.2),
   λ v. (certified_by flow bytes texts v.0 (subst (λ ts. SpellAll ts v.0) e v.1) v.2).1,
 )
 
-pub without_header : (flow : Flow) (bytes : List ℕ) (texts : List (List ℕ)) (text : List ℕ) → lines_of text ≡ bytes ∷ texts → (Spells bytes (Header One Certificate) → ⊥) → IsValidDocument flow text → ⊥
+pub without_header : (flow : Flow) (bytes : List ℕ) (texts : List (List ℕ)) (text : List ℕ) → lines_of text ≡ bytes ∷ texts → (SpellsStraight bytes (Header One Certificate) → ⊥) → IsValidDocument flow text → ⊥
 without_header flow bytes texts text e s v = s (certified_by flow bytes texts v.0 (subst (λ ts. SpellAll ts v.0) e v.1) v.2).0
 
 pub without_lines : (flow : Flow) (text : List ℕ) → lines_of text ≡ [] → IsValidDocument flow text → ⊥

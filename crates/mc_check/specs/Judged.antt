@@ -2,18 +2,17 @@
 use Rattle.std.specs.Prelude.{◌≡◌, ℕ, List, [], ◌∷◌, Bool, true, false}
 use Rattle.mc_state.specs.declared.straight_line.StraightLine.{StraightLine as Line}
 use Rattle.mc_state.specs.declared.line.Form.TheVariants.{Certificate}
-use Rattle.mc_cert.specs.Document.{Spells}
 use Rattle.mc_kernel.specs.Rules.{Proves}
 use Rattle.mc_kernel.specs.Applied.{Opened, Applies, IsRefused}
-use Rattle.mc_check.specs.Document.{SpellAll}
+use Rattle.mc_check.specs.Document.{SpellAll, SpellsStraight}
 
 -- the bytes spell a line that can be applied, and this comes of it
 abbrev pub IsTaken : List ℕ → Opened → Opened → Type 0
-IsTaken bytes old new = (line : Line) × Spells bytes line × Applies line old new
+IsTaken bytes old new = (line : Line) × SpellsStraight bytes line × Applies line old new
 
 -- the bytes spell no line that can be applied
 abbrev pub IsNotTaken : List ℕ → Opened → Type 0
-IsNotTaken bytes old = (line : Line) → Spells bytes line → IsRefused line old
+IsNotTaken bytes old = (line : Line) → SpellsStraight bytes line → IsRefused line old
 
 -- the texts spell lines that close the open branches of a certificate that goes on
 pub record ClosesOpen (p : Opened) (texts : List (List ℕ)) : Type 0 where
