@@ -1,2 +1,16 @@
 pub mod True
 pub mod FourNodes
+pub mod Changing
+pub mod Clean
+pub mod Stepping
+pub mod Placing
+pub mod Finding
+pub mod Looping
+pub mod Starting
+pub mod Soundness
+pub mod Completeness
+pub mod Deciding
+pub mod Removing
+pub mod Asking
+pub mod Growing
+pub mod Inserting

@@ -3,3 +3,9 @@ pub mod Derived
 pub mod Examples
 pub mod Laws
 pub mod Pure
+pub mod Normal
+pub mod Rows
+pub mod Steps
+pub mod Nodes
+pub mod Known
+pub mod Firsts

@@ -9,6 +9,19 @@ ghost use Rattle.mc_pure.specs.Derived.{Follows, IsFalse};
 ghost use Rattle.mc_pure.specs.Laws.{IsTrue, DerivedIsTrue, TrueIsNotFalse, FollowsFromMore, FalseFromMore, BlocksAtOneNode, BlockAtNull, EmptyRange};
 ghost use Rattle.mc_pure.specs.Examples.{node, known, values, at_one, at_null, between};
 
+mod ask;
+mod close;
+mod known;
+mod nodes;
+mod rows;
+mod steps;
+#[cfg(test)]
+mod tests;
+mod whole;
+
+pub use ask::Term;
+pub use whole::Pure;
+
 /// What is derived is true where what is known is, and then nothing false follows.
 pub fn derived_is_true()
     ensures derived { DerivedIsTrue }

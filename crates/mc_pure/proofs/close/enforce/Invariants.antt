@@ -1,0 +1,9 @@
+use Rattle.mc_pure.specs.Known.{pure_of}
+use Rattle.mc_pure.specs.Rows.{IsSound, Keeps, weight}
+use Rattle.mc_pure.proofs.close.enforce.Given as goal
+
+abbrev pub invariant-loop : goal.invariant-loop
+invariant-loop l = record { sound : IsSound (pure_of l.known) l.rows; keeps : Keeps (pure_of l.known) l.initial.rows l.rows }
+
+abbrev pub decreases-loop : goal.decreases-loop
+decreases-loop l = weight l.rows

@@ -1,0 +1,376 @@
+// Closing: rows that say all that follows from what is known.
+ghost use Rattle.std.specs.Prelude.{◌≡◌, ℤ, ℕ, ◌<◌, MatchOption, IfOk, length, true, false, Some, slice_get, pos};
+ghost use Rattle.mc_base.specs.declared.plain.Atom.TheVariants.{Eq, Ne, In};
+ghost use Rattle.mc_pure.specs.Pure.{IsNode, Base, address_atom, low_of, high_of};
+ghost use Rattle.mc_pure.specs.Derived.{Follows, IsFalse};
+ghost use Rattle.mc_pure.specs.Rows.{row_at, lone_row, IsSmall, IsShort, IsSound, Settled, Stepped, Keeps};
+ghost use Rattle.mc_pure.specs.Nodes.{RiseFrom};
+ghost use Rattle.mc_pure.specs.Steps.{IsTame, IsStable, HasTies, HasKinds, Enforced, Ties, Addresses, Written, Starts, StartBelow, start_rows, kind_row};
+ghost use Rattle.mc_pure.specs.Known.{IsFit, IsClosed, SettledBut, TiesBut, pure_of};
+
+use crate::known::Known;
+use crate::rows::{Outcome, Row, Span};
+use crate::steps::{Split, act, cut, link, split_of};
+use mc_base::{Atom, Kind, NoMemory, NodeId};
+use std::alloc::Global;
+
+const NULL: NodeId = NodeId(0);
+
+/// A node in a class of its own.
+pub fn alone(node: NodeId, span: &Span) -> Row
+    ensures { result ≡ lone_row node span.now.lo span.now.hi }
+{
+    Row {
+        node,
+        rep: node,
+        off: 0,
+        lo: span.lo,
+        hi: span.hi,
+    }
+}
+
+/// The row of a node, where it is there.
+pub fn find(known: &Known, rows: &[Row], node: NodeId) -> Option<Row>
+    requires sound { IsSound (pure_of known.now) rows.now }
+    ensures none { MatchOption result (IsNode known.now.nodes node → ⊥) (λ r. IsNode known.now.nodes node) }
+    ensures row { MatchOption result (IsNode known.now.nodes node → ⊥) (λ r. (r ≡ row_at rows.now node) × IsTame r) }
+{
+    match known.nodes.place(node) {
+        Some(place) => Some(rows[place]),
+        None => None,
+    }
+}
+
+/// The row of a node that is there.
+pub fn row_of(known: &Known, rows: &[Row], node: NodeId) -> Row
+    requires sound { IsSound (pure_of known.now) rows.now }
+    requires there { IsNode known.now.nodes node }
+    ensures is { result ≡ row_at rows.now node }
+    ensures tame { IsTame result }
+{
+    match known.nodes.place(node) {
+        Some(place) => rows[place],
+        None => alone(node, &Span { lo: 0, hi: 0 }),
+    }
+}
+
+/// Meets a node's range with one that follows.
+pub fn restrict(known: &Known, rows: &mut [Row], node: NodeId, span: &Span) -> Outcome
+    requires sound { IsSound (pure_of known.now) rows.old }
+    requires derived { Follows (pure_of known.now) (In node span.now.lo span.now.hi) }
+    requires there { IsNode known.now.nodes node }
+    requires lo { IsSmall span.now.lo }
+    requires hi { IsSmall span.now.hi }
+    ensures { Stepped (pure_of known.now) rows.old rows.new (Settled (pure_of known.now) rows.old (In node span.now.lo span.now.hi)) result }
+{
+    let row = row_of(known, rows, node);
+    let step = cut(&row, span);
+    act(rows, &step)
+}
+
+/// Makes two nodes one class, at an offset that follows.
+pub fn equate(known: &Known, rows: &mut [Row], a: NodeId, b: NodeId, c: i128) -> Outcome
+    requires sound { IsSound (pure_of known.now) rows.old }
+    requires derived { Follows (pure_of known.now) (Eq a b c) }
+    requires left { IsNode known.now.nodes a }
+    requires right { IsNode known.now.nodes b }
+    requires short { IsShort c }
+    ensures { Stepped (pure_of known.now) rows.old rows.new (Settled (pure_of known.now) rows.old (Eq a b c)) result }
+{
+    let left = row_of(known, rows, a);
+    let right = row_of(known, rows, b);
+    let step = link(&left, &right, c);
+    act(rows, &step)
+}
+
+/// Narrows where a disequality that follows asks for it.
+pub fn part(known: &Known, rows: &mut [Row], a: NodeId, b: NodeId, c: i128) -> Outcome
+    requires sound { IsSound (pure_of known.now) rows.old }
+    requires derived { Follows (pure_of known.now) (Ne a b c) }
+    requires left { IsNode known.now.nodes a }
+    requires right { IsNode known.now.nodes b }
+    requires short { IsShort c }
+    ensures { Stepped (pure_of known.now) rows.old rows.new (Settled (pure_of known.now) rows.old (Ne a b c)) result }
+{
+    let left = row_of(known, rows, a);
+    let right = row_of(known, rows, b);
+    match split_of(&left, &right, c) {
+        Split::Nothing => Outcome::Same,
+        Split::Clash => Outcome::False,
+        Split::Left(span) => restrict(known, rows, a, &span),
+        Split::Right(span) => restrict(known, rows, b, &span),
+    }
+}
+
+/// A range of two numbers.
+pub fn span_from(lo: i64, hi: i64) -> Span
+    ensures lo { result.lo ≡ lo }
+    ensures hi { result.hi ≡ hi }
+    ensures small { IsSmall result.lo × IsSmall result.hi }
+{
+    Span {
+        lo: i128::from(lo),
+        hi: i128::from(hi),
+    }
+}
+
+/// An offset.
+pub fn wide(c: i64) -> i128
+    ensures is { result ≡ c }
+    ensures short { IsShort result }
+{
+    i128::from(c)
+}
+
+/// Does what one atom asks.
+pub fn apply(known: &Known, rows: &mut [Row], atom: &Atom) -> Outcome
+    requires sound { IsSound (pure_of known.now) rows.old }
+    requires base { Base (pure_of known.now) atom.now }
+    ensures { Stepped (pure_of known.now) rows.old rows.new (Settled (pure_of known.now) rows.old atom.now) result }
+{
+    match atom {
+        Atom::Eq(a, b, c) => {
+            let offset = wide(*c);
+            equate(known, rows, *a, *b, offset)
+        }
+        Atom::Ne(a, b, c) => {
+            let offset = wide(*c);
+            part(known, rows, *a, *b, offset)
+        }
+        Atom::In(a, lo, hi) => {
+            let span = span_from(*lo, *hi);
+            restrict(known, rows, *a, &span)
+        }
+    }
+}
+
+/// Does what one atom asks until it asks nothing more. False: what is known can't be true.
+pub fn enforce(known: &Known, rows: &mut [Row], atom: &Atom) -> bool
+    requires sound { IsSound (pure_of known.now) rows.old }
+    requires base { Base (pure_of known.now) atom.now }
+    ensures yes { result ≡ true → Enforced (pure_of known.now) rows.old rows.new (Settled (pure_of known.now) rows.new atom.now) }
+    ensures no { result ≡ false → IsFalse (pure_of known.now) }
+{
+    loop {
+        match apply(known, rows, atom) {
+            Outcome::Same => return true,
+            Outcome::Changed => {}
+            Outcome::False => return false,
+        }
+    }
+}
+
+/// Does what each written atom asks.
+fn enforce_written(known: &Known, rows: &mut [Row]) -> bool
+    requires sound { IsSound (pure_of known.now) rows.old }
+    ensures yes { result ≡ true → Enforced (pure_of known.now) rows.old rows.new (Ties (pure_of known.now) rows.new) }
+    ensures no { result ≡ false → IsFalse (pure_of known.now) }
+{
+    for atom in known.written.as_slice() {
+        if !enforce(known, rows, atom) {
+            return false;
+        }
+    }
+    true
+}
+
+/// That a block starts at the node.
+pub fn address(node: NodeId) -> Atom
+    ensures { result ≡ address_atom node }
+{
+    Atom::In(node, 1, 4_611_686_018_427_387_903)
+}
+
+/// Makes the nodes at which blocks start addresses.
+fn enforce_starts(known: &Known, rows: &mut [Row]) -> bool
+    requires sound { IsSound (pure_of known.now) rows.old }
+    ensures yes { result ≡ true → Enforced (pure_of known.now) rows.old rows.new (Addresses (pure_of known.now) rows.new) }
+    ensures no { result ≡ false → IsFalse (pure_of known.now) }
+{
+    for start in known.starts.as_slice() {
+        let atom = address(*start);
+        if !enforce(known, rows, &atom) {
+            return false;
+        }
+    }
+    true
+}
+
+/// Does what one atom asks where ranges and equalities ask nothing.
+fn recheck(known: &Known, rows: &mut [Row], atom: &Atom) -> Outcome
+    requires sound { IsSound (pure_of known.now) rows.old }
+    requires ties { HasTies (pure_of known.now) rows.old }
+    requires base { Base (pure_of known.now) atom.now }
+    ensures { Stepped (pure_of known.now) rows.old rows.new (Settled (pure_of known.now) rows.old atom.now) result }
+{
+    match atom {
+        Atom::Ne(_, _, _) => apply(known, rows, atom),
+        Atom::Eq(_, _, _) => Outcome::Same,
+        Atom::In(_, _, _) => Outcome::Same,
+    }
+}
+
+/// Does what the written disequalities ask, up to the first that changes something.
+fn recheck_written(known: &Known, rows: &mut [Row]) -> Outcome
+    requires sound { IsSound (pure_of known.now) rows.old }
+    requires ties { HasTies (pure_of known.now) rows.old }
+    ensures { Stepped (pure_of known.now) rows.old rows.new (Written (pure_of known.now) rows.old) result }
+{
+    for atom in known.written.as_slice() {
+        match recheck(known, rows, atom) {
+            Outcome::Same => {}
+            Outcome::Changed => return Outcome::Changed,
+            Outcome::False => return Outcome::False,
+        }
+    }
+    Outcome::Same
+}
+
+/// Does what a block's start asks beside those before it.
+fn recheck_start(known: &Known, rows: &mut [Row], i: usize) -> Outcome
+    requires sound { IsSound (pure_of known.now) rows.old }
+    requires inside { i < length known.now.starts.items }
+    ensures { Stepped (pure_of known.now) rows.old rows.new (StartBelow (pure_of known.now) rows.old i i) result }
+{
+    let starts = known.starts.as_slice();
+    for j in 0..i {
+        match part(known, rows, starts[i], starts[j], 0) {
+            Outcome::Same => {}
+            Outcome::Changed => return Outcome::Changed,
+            Outcome::False => return Outcome::False,
+        }
+    }
+    Outcome::Same
+}
+
+/// Does what the starts of blocks ask, up to the first that changes something.
+fn recheck_starts(known: &Known, rows: &mut [Row]) -> Outcome
+    requires sound { IsSound (pure_of known.now) rows.old }
+    ensures { Stepped (pure_of known.now) rows.old rows.new (Starts (pure_of known.now) rows.old) result }
+{
+    for i in 0..known.starts.len() {
+        match recheck_start(known, rows, i) {
+            Outcome::Same => {}
+            Outcome::Changed => return Outcome::Changed,
+            Outcome::False => return Outcome::False,
+        }
+    }
+    Outcome::Same
+}
+
+/// Does what disequalities ask until they ask nothing more. False: what is known can't be true.
+pub fn settle(known: &Known, rows: &mut [Row]) -> bool
+    requires sound { IsSound (pure_of known.now) rows.old }
+    requires ties { HasTies (pure_of known.now) rows.old }
+    ensures yes { result ≡ true → (IsSound (pure_of known.now) rows.new × IsStable (pure_of known.now) rows.new) }
+    ensures no { result ≡ false → IsFalse (pure_of known.now) }
+{
+    loop {
+        match recheck_written(known, rows) {
+            Outcome::Changed => continue,
+            Outcome::False => return false,
+            Outcome::Same => match recheck_starts(known, rows) {
+                Outcome::Changed => continue,
+                Outcome::False => return false,
+                Outcome::Same => return true,
+            },
+        }
+    }
+}
+
+/// The range of a kind.
+pub fn kind_span(kind: Kind) -> Span
+    ensures lo { result.lo ≡ low_of kind }
+    ensures hi { result.hi ≡ high_of kind }
+{
+    match kind {
+        Kind::Int => Span {
+            lo: -2_147_483_648,
+            hi: 2_147_483_647,
+        },
+        Kind::Ptr => Span {
+            lo: 0,
+            hi: 4_611_686_018_427_387_903,
+        },
+    }
+}
+
+/// The row of a node of which its kind alone is known.
+pub fn start_row(node: NodeId, kind: Kind) -> Row
+    ensures { result ≡ kind_row (node, kind) }
+{
+    alone(node, &kind_span(kind))
+}
+
+/// Each node alone, in its kind's range.
+pub fn start(alloc: Global, known: &Known) -> Result<Vec<Row>, NoMemory>
+    ensures rows { IfOk result (λ rows. rows.items ≡ start_rows known.now.nodes) }
+    ensures rise { RiseFrom 1 known.now.nodes }
+{
+    let kinds = known.nodes.kinds();
+    let mut rows = Vec::with_capacity(alloc, known.nodes.all().len())?;
+    rows.push(alone(NULL, &Span { lo: 0, hi: 0 }))?;
+    for (node, kind) in kinds {
+        rows.push(start_row(*node, *kind))?;
+    }
+    Ok(rows)
+}
+
+/// Does what everything known asks. Whether it can't be true.
+pub fn finish(known: &Known, rows: &mut [Row]) -> bool
+    requires sound { IsSound (pure_of known.now) rows.old }
+    requires kinds { HasKinds (pure_of known.now) rows.old }
+    ensures { IsClosed (pure_of known.now) rows.new result }
+{
+    if !enforce_written(known, rows) {
+        return true;
+    }
+    if !enforce_starts(known, rows) {
+        return true;
+    }
+    !settle(known, rows)
+}
+
+/// Does what one atom more asks, where what else is known is settled. Whether what is known can't be true.
+pub fn include(known: &Known, rows: &mut [Row], atom: &Atom) -> bool
+    requires sound { IsSound (pure_of known.now) rows.old }
+    requires base { Base (pure_of known.now) atom.now }
+    requires rest { SettledBut (pure_of known.now) rows.old atom.now }
+    ensures { IsClosed (pure_of known.now) rows.new result }
+{
+    match apply(known, rows, atom) {
+        Outcome::Same => false,
+        Outcome::False => true,
+        Outcome::Changed => include_tie(known, rows, atom),
+    }
+}
+
+/// The same once a step was done.
+pub fn include_tie(known: &Known, rows: &mut [Row], atom: &Atom) -> bool
+    requires sound { IsSound (pure_of known.now) rows.old }
+    requires base { Base (pure_of known.now) atom.now }
+    requires rest { TiesBut (pure_of known.now) rows.old atom.now }
+    ensures { IsClosed (pure_of known.now) rows.new result }
+{
+    if !enforce(known, rows, atom) {
+        return true;
+    }
+    !settle(known, rows)
+}
+
+/// What was derived: the rows, and whether what is known can't be true.
+#[derive(Drop)]
+pub struct Closed {
+    pub rows: Vec<Row>,
+    pub wrong: bool,
+}
+
+/// Derives all from the beginning.
+pub fn close(alloc: Global, known: &Known) -> Result<Closed, NoMemory>
+    requires { IsFit (pure_of known.now) }
+    ensures { IfOk result (λ closed. IsClosed (pure_of known.now) closed.rows.items closed.wrong) }
+{
+    let mut rows = start(alloc, known)?;
+    let wrong = finish(known, rows.as_mut_slice());
+    Ok(Closed { rows, wrong })
+}
