@@ -12,14 +12,14 @@ use Rattle.mc_read.specs.declared.cause.ReadFault.{ReadFault}
 use Rattle.mc_read.specs.declared.cause.ReadFault.TheVariants.{Refused, NoMemory}
 use Rattle.mc_read.specs.Programs.{IsReadAs}
 use Rattle.mc_read.specs.Refusals.{IsFault, IsRefused}
-use Rattle.mc_app.specs.Programs.{IsProgramHere, Reads, IsCertified}
+use Rattle.mc_app.specs.Programs.{IsProgramHere, IsProgramWith, IsCertified}
 use Rattle.mc_app.specs.Answers.{Holds, IsWhy, IsWhyPlain, IsWhyUnit}
 
 -- a text is one program at most
 abbrev pub ReadOnce : Type 0
 ReadOnce = (text : List ℕ) (one other : UnitTree) → IsReadAs text one → IsReadAs text other → one ≡ other
 
-not_certified : ReadOnce → (text document : List ℕ) (unit : UnitTree) → IsProgramHere text unit → (IsCertified document unit → ⊥) → Reads (IsCertified document) text → ⊥
+not_certified : ReadOnce → (text document : List ℕ) (unit : UnitTree) → IsProgramHere text unit → (IsCertified document unit → ⊥) → IsProgramWith (IsCertified document) text → ⊥
 not_certified once text document unit here none reads =
     none (subst (λ (u : UnitTree). IsCertified document u) (once text reads.0 unit reads.1.1.read here.1.read) reads.2)
 

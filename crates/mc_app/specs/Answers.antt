@@ -2,7 +2,7 @@
 use Rattle.std.specs.Prelude.{◌≡◌, ◌++◌, ◌⊎◌, ℕ, List, [], ◌∷◌, Option, Some, Ok, codes, take}
 use Rattle.mc_ast.specs.Trees.{UnitTree}
 use Rattle.mc_outside.specs.Outside.{WhereTold, AddsIfTold}
-use Rattle.mc_app.specs.Programs.{Reads, IsProgram, IsUnread, HasMisfit, IsShort, IsNotShort, IsCertified, HasNoDefinitions}
+use Rattle.mc_app.specs.Programs.{IsProgramWith, IsProgram, IsUnread, HasMisfit, IsStraightUnit, IsNotStraight, IsCertified, HasNoDefinitions}
 use Rattle.mc_app.specs.Printing.{text_of}
 use Rattle.mc_app.specs.declared.answer.Answer.{Answer}
 use Rattle.mc_app.specs.declared.answer.Answer.TheVariants.{Good, Words, Program, Definitions, Document}
@@ -32,9 +32,9 @@ IsWhyPlain holds c unit Words = ⊥
 IsWhyPlain holds c unit Definitions = ⊥
 IsWhyPlain holds c unit (Program (Unread cause)) = ⊥
 IsWhyPlain holds c unit (Program (Misfit refusal)) = HasMisfit refusal unit
-IsWhyPlain holds c unit (Program NotYet) = IsNotShort unit
-IsWhyPlain holds c unit Document = IsShort unit × WhereTold (holds c) (λ document. IsCertified document unit → ⊥)
-IsWhyPlain holds c unit Good = IsShort unit × WhereTold (holds c) (λ document. IsCertified document unit)
+IsWhyPlain holds c unit (Program NotYet) = IsNotStraight unit
+IsWhyPlain holds c unit Document = IsStraightUnit unit × WhereTold (holds c) (λ document. IsCertified document unit → ⊥)
+IsWhyPlain holds c unit Good = IsStraightUnit unit × WhereTold (holds c) (λ document. IsCertified document unit)
 
 -- the same, where the definitions are read first
 abbrev pub IsWhyUnit : Holds → List ℕ → List ℕ → UnitTree → Answer → Type 0
@@ -46,11 +46,11 @@ abbrev pub IsWhy : Holds → List ℕ → List ℕ → List ℕ → Answer → T
 IsWhy holds p d c Words = ⊥
 IsWhy holds p d c (Program (Unread cause)) = WhereTold (holds p) (λ text. IsUnread text cause)
 IsWhy holds p d c Definitions = WhereTold (holds p) IsProgram × WhereTold (holds d) (λ text. HasNoDefinitions text → ⊥)
-IsWhy holds p d c (Program (Misfit refusal)) = WhereTold (holds d) HasNoDefinitions × WhereTold (holds p) (Reads (HasMisfit refusal))
-IsWhy holds p d c (Program NotYet) = WhereTold (holds d) HasNoDefinitions × WhereTold (holds p) (Reads IsNotShort)
-IsWhy holds p d c Document = WhereTold (holds d) HasNoDefinitions × WhereTold (holds p) (Reads IsShort)
-    × WhereTold (holds p) (λ text. WhereTold (holds c) (λ document. Reads (IsCertified document) text → ⊥))
-IsWhy holds p d c Good = WhereTold (holds d) HasNoDefinitions × WhereTold (holds p) (Reads IsShort) × WhereTold (holds p) (λ text. WhereTold (holds c) (λ document. Reads (IsCertified document) text))
+IsWhy holds p d c (Program (Misfit refusal)) = WhereTold (holds d) HasNoDefinitions × WhereTold (holds p) (IsProgramWith (HasMisfit refusal))
+IsWhy holds p d c (Program NotYet) = WhereTold (holds d) HasNoDefinitions × WhereTold (holds p) (IsProgramWith IsNotStraight)
+IsWhy holds p d c Document = WhereTold (holds d) HasNoDefinitions × WhereTold (holds p) (IsProgramWith IsStraightUnit)
+    × WhereTold (holds p) (λ text. WhereTold (holds c) (λ document. IsProgramWith (IsCertified document) text → ⊥))
+IsWhy holds p d c Good = WhereTold (holds d) HasNoDefinitions × WhereTold (holds p) (IsProgramWith IsStraightUnit) × WhereTold (holds p) (λ text. WhereTold (holds c) (λ document. IsProgramWith (IsCertified document) text))
 
 -- why this is answered for these words
 abbrev pub IsWhyWords : Holds → List (List ℕ) → Answer → Type 0

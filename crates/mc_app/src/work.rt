@@ -9,7 +9,7 @@ ghost use Rattle.mc_straight.specs.Text.{is_blank};
 ghost use Rattle.mc_straight.specs.Typing.{IsTyped};
 ghost use Rattle.mc_straight.specs.Lowering.{flow_of};
 ghost use Rattle.mc_types.specs.Shapes.{IsBound};
-ghost use Rattle.mc_app.specs.Programs.{HasNoDefinitions, IsProgramHere, IsSafe, IsSafeUnit, IsSound, IsUnread};
+ghost use Rattle.mc_app.specs.Programs.{HasNoDefinitions, IsProgramHere, IsSafe, IsSafeUnit, IsWellFormed, IsUnread};
 ghost use Rattle.mc_app.specs.Answers.{IsWhy, IsWhyPlain, IsWhyUnit};
 
 use crate::contents::{text, whole};
@@ -29,10 +29,10 @@ use std::alloc::{AllocError, Global};
 const PROGRAM_BYTES: u64 = 1_048_576;
 
 // The program of a text, or why there is none.
-fn typed(alloc: Global, bytes: &[u8]) -> Result<Result<Typed, NoProgram>, AllocError>
+fn read_program(alloc: Global, bytes: &[u8]) -> Result<Result<Typed, NoProgram>, AllocError>
     requires { length bytes.now ≤ 2 ^ 20 }
     ensures read { IfOk result (λ r. MatchResult r (λ t. IsProgramHere bytes.now (unit_of t.unit)) (IsUnread bytes.now)) }
-    ensures sound { IfOk result (λ r. IfOk r (λ t. IsSound (unit_of t.unit))) }
+    ensures well_formed { IfOk result (λ r. IfOk r (λ t. IsWellFormed (unit_of t.unit))) }
 {
     programs_have_distinct_places();
     match mc_read::read(alloc, bytes, b"main") {
@@ -42,20 +42,20 @@ fn typed(alloc: Global, bytes: &[u8]) -> Result<Result<Typed, NoProgram>, AllocE
     }
 }
 
-fn program<F: Files>(
+fn program_in<F: Files>(
     alloc: Global,
     files: &mut F,
     name: &str,
 ) -> Result<Result<Typed, NoProgram>, FileFault>
     ensures told { WhereTold (F.holds files.old name.now) (λ text. IfOk result (λ r. MatchResult r (λ t. IsProgramHere text (unit_of t.unit)) (IsUnread text))) }
-    ensures sound { IfOk result (λ r. IfOk r (λ t. IsSound (unit_of t.unit))) }
+    ensures well_formed { IfOk result (λ r. IfOk r (λ t. IsWellFormed (unit_of t.unit))) }
     ensures same { Stays (F.holds files.old) (F.holds files.new) }
     ensures cause { HasCause (F.faults files.old) (F.faults files.new) result }
 {
     match text(alloc, files, name, PROGRAM_BYTES)? {
         None => Ok(Err(NoProgram::TooBig)),
         Some(bytes) => {
-            let read = typed(alloc, &bytes)?;
+            let read = read_program(alloc, &bytes)?;
             Ok(read)
         }
     }
@@ -79,7 +79,7 @@ fn has_no_definitions<F: Files>(alloc: Global, files: &mut F, name: &str) -> Res
 }
 
 // Whether a document is valid for the flow graph of a straight program without definitions, which is safe then.
-fn certifies(alloc: Global, short: &Program, document: &[u8]) -> Result<bool, AllocError>
+fn is_certificate(alloc: Global, short: &Program, document: &[u8]) -> Result<bool, AllocError>
     requires { IsTyped short.now }
     ensures valid { IfOk result (λ b. IsTrue b ↔ IsValidDocument (flow_of short.now) document.now) }
     ensures safe { IfOk result (λ b. IsTrue b → IsSafeFlow (flow_of short.now) []) }
@@ -90,7 +90,7 @@ fn certifies(alloc: Global, short: &Program, document: &[u8]) -> Result<bool, Al
     Ok(yes)
 }
 
-fn is_valid<F: Files>(
+fn is_certificate_in<F: Files>(
     alloc: Global,
     files: &mut F,
     name: &str,
@@ -103,18 +103,18 @@ fn is_valid<F: Files>(
     ensures cause { HasCause (F.faults files.old) (F.faults files.new) result }
 {
     let document = whole(alloc, files, name)?;
-    let yes = certifies(alloc, short, &document)?;
+    let yes = is_certificate(alloc, short, &document)?;
     Ok(yes)
 }
 
 // Checks a certificate of a program whose shape commands fit.
-fn certified<F: Files>(
+fn check_bound<F: Files>(
     alloc: Global,
     files: &mut F,
     document: &str,
     unit: &Unit,
 ) -> Result<Answer, FileFault>
-    requires sound { IsSound (unit_of unit.now) }
+    requires well_formed { IsWellFormed (unit_of unit.now) }
     requires bound { IsBound (unit_of unit.now) [] }
     ensures why { IfOk result (λ a. IsWhyPlain (F.holds files.old) document.now (unit_of unit.now) a) }
     ensures safe { IfOk result (λ a. a ≡ Answer.Good → IsSafeUnit (unit_of unit.now)) }
@@ -126,7 +126,7 @@ fn certified<F: Files>(
     let Some(short) = straight(alloc, unit)? else {
         return Ok(Answer::Program(ProgramFault::NotYet));
     };
-    if is_valid(alloc, files, document, &short)? {
+    if is_certificate_in(alloc, files, document, &short)? {
         Ok(Answer::Good)
     } else {
         Ok(Answer::Document)
@@ -134,13 +134,13 @@ fn certified<F: Files>(
 }
 
 // Checks a certificate of a program without definitions.
-fn fitted<F: Files>(
+fn check_without_definitions<F: Files>(
     alloc: Global,
     files: &mut F,
     document: &str,
     typed: Typed,
 ) -> Result<Answer, FileFault>
-    requires { IsSound (unit_of typed.unit) }
+    requires { IsWellFormed (unit_of typed.unit) }
     ensures why { IfOk result (λ a. IsWhyPlain (F.holds files.old) document.now (unit_of typed.unit) a) }
     ensures safe { IfOk result (λ a. a ≡ Answer.Good → IsSafeUnit (unit_of typed.unit)) }
     ensures same { Stays (F.holds files.old) (F.holds files.new) }
@@ -148,7 +148,7 @@ fn fitted<F: Files>(
 {
     match bind(alloc, typed, Defs::new(alloc)) {
         Ok(bound) => {
-            let answer = certified(alloc, files, document, bound.typed().unit())?;
+            let answer = check_bound(alloc, files, document, bound.typed().unit())?;
             Ok(answer)
         }
         Err(TypeFault::Refused(fault)) => {
@@ -160,14 +160,14 @@ fn fitted<F: Files>(
 }
 
 // Checks a certificate of a program.
-fn judged<F: Files>(
+fn check_program<F: Files>(
     alloc: Global,
     files: &mut F,
     definitions: &str,
     document: &str,
     typed: Typed,
 ) -> Result<Answer, FileFault>
-    requires { IsSound (unit_of typed.unit) }
+    requires { IsWellFormed (unit_of typed.unit) }
     ensures why { IfOk result (λ a. IsWhyUnit (F.holds files.old) definitions.now document.now (unit_of typed.unit) a) }
     ensures safe { IfOk result (λ a. a ≡ Answer.Good → IsSafeUnit (unit_of typed.unit)) }
     ensures same { Stays (F.holds files.old) (F.holds files.new) }
@@ -176,7 +176,7 @@ fn judged<F: Files>(
     if !has_no_definitions(alloc, files, definitions)? {
         return Ok(Answer::Definitions);
     }
-    let answer = fitted(alloc, files, document, typed)?;
+    let answer = check_without_definitions(alloc, files, document, typed)?;
     Ok(answer)
 }
 
@@ -192,10 +192,10 @@ pub fn answer<F: Files>(
     ensures cause { HasCause (F.faults files.old) (F.faults files.new) result }
 {
     texts_are_read_once();
-    match program(alloc, files, command.program)? {
+    match program_in(alloc, files, command.program)? {
         Err(fault) => Ok(Answer::Program(ProgramFault::Unread(fault))),
         Ok(typed) => {
-            let answer = judged(alloc, files, command.definitions, command.document, typed)?;
+            let answer = check_program(alloc, files, command.definitions, command.document, typed)?;
             Ok(answer)
         }
     }

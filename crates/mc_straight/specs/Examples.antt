@@ -1,4 +1,4 @@
--- A straight program, and what it is in short.
+-- A straight program, and its straight form.
 use Rattle.std.specs.Prelude.{ℕ, ◌+◌, List, [], ◌∷◌, pos, Some, None, codes}
 use Rattle.mc_base.specs.declared.plain.Kind.TheVariants.{Int, Ptr}
 use Rattle.mc_text.specs.declared.place.Place.{Place}

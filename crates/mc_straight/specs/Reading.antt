@@ -224,7 +224,7 @@ read_other s vars (if_only p c a) = read_if vars p c a
 read_other s vars (returns p right) = if is_zero right then Some (ReturnZero p) else None
 read_other s vars _ = None
 
--- a statement in short, and the variables behind it
+-- the straight form of a statement, and the variables behind it
 abbrev pub read_statement : Option StructInfo → List VarInfo → Statement → Option (Stmt × List VarInfo)
 read_statement s vars (declaration d) = read_declaration s vars d
 read_statement s vars a = option_map (λ x. (x, vars)) (read_other s vars a)

@@ -1,4 +1,4 @@
--- What a straight tree and its program in short have in common.
+-- What a straight tree and its straight form have in common.
 use Rattle.std.specs.Prelude.{◌≡◌, ◌↔◌, ℕ, List, [], Some, codes}
 use Rattle.mc_base.specs.Runs.{Final, Reaches}
 use Rattle.mc_heap.specs.Choices.{Choice}
@@ -17,7 +17,7 @@ use Rattle.mc_straight.specs.Straight.{IsStraight}
 abbrev pub IsEntry : UnitTree → FunctionTree → Type 0
 IsEntry unit f = called_function (tables_of unit) (codes "main") ≡ Some f
 
--- the program is well typed, its declarators stand at different places, and it is straight, and this in short
+-- the program is well typed, its declarators stand at different places, and it is straight, and this is its straight form
 pub record ReadsAs (unit : UnitTree) (p : Program) : Type 0 where
   pub typed : IsWellTyped unit (codes "main")
   pub places : HasDistinctPlaces unit
@@ -27,14 +27,14 @@ pub record ReadsAs (unit : UnitTree) (p : Program) : Type 0 where
 abbrev pub TreeComesTo : UnitTree → FunctionTree → List Choice → Final → Type 0
 TreeComesTo unit f choices final = (n : ℕ) × Reaches (tree.Step (tree.program_of unit [])) n (tree.start (tree.program_of unit []) f) choices final
 
--- the same in short, and for the flow graph without definitions
+-- the same for the straight form, and for the flow graph without definitions
 abbrev pub ShortComesTo : Program → List Choice → Final → Type 0
 ShortComesTo p choices final = (n : ℕ) × Reaches (short.Step p) n (short.start p) choices final
 
 abbrev pub FlowComesTo : Flow → List Choice → Final → Type 0
 FlowComesTo f choices final = (n : ℕ) × Reaches (flow.Step f []) n (flow.start f) choices final
 
--- with the same choices the tree comes to an end or to a fault exactly where its program in short comes to the same one, and where the flow graph does
+-- with the same choices the tree comes to an end or to a fault exactly where its straight form comes to the same one, and where the flow graph does
 pub record TreeRunsAlike (unit : UnitTree) (f : FunctionTree) (p : Program) (graph : Flow) : Type 0 where
   pub short : (choices : List Choice) (final : Final) → TreeComesTo unit f choices final ↔ ShortComesTo p choices final
   pub flow : (choices : List Choice) (final : Final) → TreeComesTo unit f choices final ↔ FlowComesTo graph choices final

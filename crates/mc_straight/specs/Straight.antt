@@ -1,4 +1,4 @@
--- Which programs are straight, and what they are in short.
+-- Which programs are straight, and their straight forms.
 use Rattle.std.specs.Prelude.{◌≡◌, ℕ, List, [], ◌∷◌, ◌++◌, pos, Option, Some, None, codes, length, position, slice_get}
 use Rattle.std.specs.Option.{option_map}
 use Rattle.mc_base.specs.declared.ids.VarId.{VarId}
@@ -78,7 +78,7 @@ pub data IsFreed (vars : List VarInfo) : Expr → Operand → Type 0 where
   nothing : {p : Place} → IsFreed vars (null p) (Const (pos 0))
 
 -- ---- statements
--- a statement, in short, where these variables are declared before it and those behind it
+-- the straight form of a statement, where these variables are declared before it and those behind it
 pub data IsStatement (s : Option StructInfo) (vars : List VarInfo) : Statement → Stmt → List VarInfo → Type 0 where
   -- `struct S *x;`
   declares : {base : Base} {star : Option Place} {x : Name} → IsType s Ptr base star
@@ -135,7 +135,7 @@ main_of p q r statements =
       body = Some (record { place = r; statements = statements });
     })
 
--- the program is straight, and is this in short: a struct or none, and `main`
+-- the program is straight, and this is its straight form: a struct or none, and `main`
 pub data IsStraight : UnitTree → Program → Type 0 where
   without_struct : {p q r : Place} {statements : List Statement} {body : List Stmt} {vars : List VarInfo} → AreStatements None [] statements body vars
       → IsStraight (main_of p q r statements ∷ []) (record { structure = None; vars = vars; body = body })

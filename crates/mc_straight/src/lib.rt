@@ -28,7 +28,7 @@ pub fn runs_match()
     ensures { (p : Tree) → IsTyped p → RunsMatch p (flow_of p) }
 {}
 
-/// A program that is read as a straight one is well typed in short, and runs as it does in short and as its flow graph does.
+/// A program that is read as a straight one is well typed in its straight form, and runs as that does and as its flow graph does.
 pub fn trees_run_alike()
     ensures typed { (unit : UnitTree) (p : Tree) → ReadsAs unit p → IsTyped p }
     ensures runs { (unit : UnitTree) (entry : FunctionTree) (p : Tree) → ReadsAs unit p → IsEntry unit entry → TreeRunsAlike unit entry p (flow_of p) }
@@ -39,7 +39,7 @@ pub fn trees_are_read_once()
     ensures { (unit : UnitTree) (p q : Tree) → IsStraight unit p → IsStraight unit q → p ≡ q }
 {}
 
-/// A program with every form of statement, and what it is in short.
+/// A program with every form of statement, and its straight form.
 pub fn every_form_is_read()
     ensures { ReadsAs every_form every_form_in_short }
 {}

@@ -210,7 +210,7 @@ fn read(alloc: Global, items: &[Item]) -> Result<Option<Program>, AllocError>
     }
 }
 
-/// The program in short, where it is straight.
+/// The straight form of a program, where it has one.
 pub fn straight(alloc: Global, unit: &Unit) -> Result<Option<Program>, AllocError>
     ensures { IfOk result (λ o. MatchOption o ((p : Tree) → IsStraight (unit_of unit.now) p → ⊥) (λ p. IsStraight (unit_of unit.now) p)) }
 {

@@ -338,7 +338,7 @@ fn other(structure: &Option<StructInfo>, vars: &[VarInfo], tree: &Statement) -> 
     }
 }
 
-/// A statement in short. Where none is read the variables may have changed.
+/// The straight form of a statement. Where none is read the variables may have changed.
 pub fn statement(
     alloc: Global,
     structure: &Option<StructInfo>,

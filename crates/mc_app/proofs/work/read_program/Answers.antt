@@ -1,10 +1,10 @@
 use Rattle.mc_ast.specs.Views.{unit_of}
 use Rattle.mc_app.proofs.Whys.{refused_of}
 use Rattle.mc_app.specs.Programs.{entry}
-use Rattle.mc_app.proofs.work.typed.Goals as goal
+use Rattle.mc_app.proofs.work.read_program.Goals as goal
 
-pub returns-in-Ok-clause-sound : goal.returns-in-Ok-clause-sound
-returns-in-Ok-clause-sound c =
+pub returns-in-Ok-clause-well_formed : goal.returns-in-Ok-clause-well_formed
+returns-in-Ok-clause-well_formed c =
     let program = c.in-Ok.ensures.read in
     (program.typed, c.programs_have_distinct_places.ensures c.args.bytes.now (unit_of c.in-Ok.typed.unit) program.read)
 

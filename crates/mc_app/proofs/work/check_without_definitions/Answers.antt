@@ -3,7 +3,7 @@ use Rattle.mc_ast.specs.declared.trees.Unit.{Unit as Tree}
 use Rattle.mc_ast.specs.Views.{unit_of}
 use Rattle.mc_typed.specs.declared.typed.Typed.{Typed}
 use Rattle.mc_app.specs.Answers.{IsWhyPlain}
-use Rattle.mc_app.proofs.work.fitted.Goals as goal
+use Rattle.mc_app.proofs.work.check_without_definitions.Goals as goal
 
 pub returns-in_ok-answer-in-Ok-clause-why : goal.returns-in_ok-answer-in-Ok-clause-why
 returns-in_ok-answer-in-Ok-clause-why g c =

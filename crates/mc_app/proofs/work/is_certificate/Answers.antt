@@ -3,7 +3,7 @@ use Rattle.mc_flow.specs.declared.graph.Flow.{Flow}
 use Rattle.mc_flow.specs.Valid.{IsValid}
 use Rattle.mc_check.specs.Document.{IsValidDocument}
 use Rattle.mc_straight.specs.Lowering.{flow_of}
-use Rattle.mc_app.proofs.work.certifies.Goals as goal
+use Rattle.mc_app.proofs.work.is_certificate.Goals as goal
 
 pub check-requires : goal.check-requires
 check-requires c = subst (IsValid c.in_ok-flow.flow) (sym c.new.ensures) (c.in_ok-flow.ensures.valid c.requires)

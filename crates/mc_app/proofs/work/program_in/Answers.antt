@@ -3,7 +3,7 @@ use Rattle.std.specs.Prelude.{MatchResult}
 use Rattle.mc_ast.specs.Views.{unit_of}
 use Rattle.mc_app.specs.Programs.{IsProgramHere, IsUnread}
 use Rattle.mc_app.proofs.Whys.{at_some}
-use Rattle.mc_app.proofs.work.program.Goals as goal
+use Rattle.mc_app.proofs.work.program_in.Goals as goal
 
 pub returns-in_ok-read-in-Some-clause-told : goal.returns-in_ok-read-in-Some-clause-told
 returns-in_ok-read-in-Some-clause-told g c = λ bytes h.
