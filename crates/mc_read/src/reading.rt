@@ -10,6 +10,7 @@ use crate::{ReadFault, Refusal};
 use mc_ast::Unit;
 use mc_lex::MAX_BYTES;
 use mc_numbers::numbers_are_small;
+use mc_places::{ascending_places_differ, declared_places_ascend};
 use mc_text::Token;
 use mc_typed::{Typed, check_types};
 use mc_types::TypeFault;
@@ -46,6 +47,8 @@ pub fn read(alloc: Global, text: &[u8], entry: &[u8]) -> Result<Typed, ReadFault
     ensures entry { IfOk result (λ typed. typed.entry ≡ entry.now) }
 {
     numbers_are_small();
+    declared_places_ascend();
+    ascending_places_differ();
     let unit = unit(alloc, text)?;
     match check_types(alloc, unit, entry) {
         Ok(typed) => Ok(typed),

@@ -5,6 +5,7 @@ pub mod Members
 pub mod Graphs
 pub mod Recursions
 pub mod Orders
+pub mod Ranking
 pub mod Walks
 pub mod Commands
 pub mod Faults

@@ -4,3 +4,4 @@ pub mod Graphs
 pub mod Told
 pub mod Bounds
 pub mod Programs
+pub mod Ranks

@@ -8,6 +8,7 @@ ghost use Rattle.mc_types.specs.Held.{tables_held};
 ghost use Rattle.mc_types.specs.Tables.{tables_of};
 ghost use Rattle.mc_types.specs.Typing.{is_entry};
 ghost use Rattle.mc_numbers.specs.Numbers.{HasSmallNumbers};
+ghost use Rattle.mc_places.specs.Places.{AreDistinct, declared_places};
 ghost use Rattle.mc_typed.specs.Told.{IsAnswer, IsToldOfRules};
 ghost use Rattle.mc_typed.specs.Programs.{Holds, IsRefusal};
 
@@ -90,7 +91,8 @@ pub fn first_fault(alloc: Global, unit: &Unit, entry: &[u8]) -> Result<Option<Fa
 
 /// The typed program with its structs, or its first fault.
 pub fn check_types(alloc: Global, unit: Unit, entry: &[u8]) -> Result<Typed, TypeFault>
-    requires { HasSmallNumbers (unit_of unit) }
+    requires small { HasSmallNumbers (unit_of unit) }
+    requires places { AreDistinct (declared_places (unit_of unit)) }
     ensures { MatchResult result (λ typed. Holds typed unit entry.now) (λ fault. IsRefusal (unit_of unit) entry.now fault) }
 {
     if let Some(fault) = first_fault(alloc, &unit, entry)? {

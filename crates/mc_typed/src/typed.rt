@@ -3,13 +3,15 @@ ghost use Rattle.mc_ast.specs.Views.{unit_of};
 ghost use Rattle.mc_types.specs.Tables.{struct_infos};
 ghost use Rattle.mc_types.specs.Typing.{IsWellTyped};
 ghost use Rattle.mc_numbers.specs.Numbers.{HasSmallNumbers};
+ghost use Rattle.mc_places.specs.Places.{AreDistinct, declared_places};
 ghost use Rattle.std.specs.Prelude.{◌≡◌};
 
 use mc_ast::Unit;
 use mc_defs::Structs;
 use mc_text::Text;
 
-/// A program that is well typed for its entry and has small numbers, with its structs.
+/// A program that is well typed for its entry, has small numbers, and declares its variables at different places, with its
+/// structs.
 #[derive(Drop)]
 pub struct Typed {
     unit: Unit,
@@ -17,6 +19,7 @@ pub struct Typed {
     structs: Structs,
     pub ghost well_typed: { IsWellTyped (unit_of unit) entry },
     pub ghost small: { HasSmallNumbers (unit_of unit) },
+    pub ghost places: { AreDistinct (declared_places (unit_of unit)) },
     pub ghost infos: { structs.list ≡ struct_infos (unit_of unit) },
 }
 
@@ -25,6 +28,7 @@ impl Typed {
     pub fn of(unit: Unit, entry: Text, structs: Structs) -> Typed
         requires well_typed { IsWellTyped (unit_of unit) entry }
         requires small { HasSmallNumbers (unit_of unit) }
+        requires places { AreDistinct (declared_places (unit_of unit)) }
         requires infos { structs.list ≡ struct_infos (unit_of unit) }
         ensures unit { result.unit ≡ unit }
         ensures entry { result.entry ≡ entry }

@@ -1,8 +1,6 @@
 -- The next step is always reached: what is done before it comes to an end.
-use Rattle.std.proofs.Common.{◌≡◌, ◌+◌, ◌<◌, ◌≤◌, ℕ, ℤ, zero, suc, List, [], ◌∷◌, Option, Some, None, refl, sym, ap, ◌∙◌, subst, arith}
-use Rattle.mc_ast.specs.declared.trees.Base.{Base}
-use Rattle.mc_ast.specs.Trees.{Cond, plain, compare, negation, enclosed, both, either, InitialTree, Start, nothing, declares, performs, Head, Stmt, declaration, block, empty, simple, free, assert, assume, assume_shape, assert_shape, assert_empty, if_only, if_else, while_loop, do_loop, for_loop, break_loop, continue_loop, returns, Stmts, no_more, then}
-use Rattle.mc_text.specs.declared.place.Place.{Place}
+use Rattle.std.proofs.Common.{◌≡◌, ◌+◌, ◌<◌, ◌≤◌, ℕ, ℤ, suc, List, [], ◌∷◌, Option, Some, None, arith}
+use Rattle.mc_ast.specs.Trees.{Cond, plain, compare, negation, enclosed, both, either, InitialTree, Start, nothing, declares, performs, Stmt, declaration, block, empty, simple, free, assert, assume, assume_shape, assert_shape, assert_empty, if_only, if_else, while_loop, do_loop, for_loop, break_loop, continue_loop, returns, Stmts, no_more, then}
 use Rattle.mc_types.specs.Scopes.{Scope, visible, inside, behind, behind_start}
 use Rattle.mc_types.specs.Tables.{Tables, Variable}
 use Rattle.mc_meaning.specs.Configs.{Values, without, Target, nowhere, stored, returned, perform, declare_all, finish_turn, again, test, always, end_block, end_loop, end_turn, end_call, take_result, Task, Tasks, done, task, Branch}

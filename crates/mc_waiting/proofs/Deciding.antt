@@ -1,14 +1,8 @@
 -- What is not decided is taken as decided where only absurdity is to follow.
-use Rattle.std.proofs.Common.{◌≡◌, ◌⊎◌, zero, suc, List, [], ◌∷◌, None, refl, inl, inr}
-use Rattle.mc_base.specs.declared.plain.Kind.TheVariants.{Int}
-use Rattle.mc_base.specs.Kinds.{InKind}
-use Rattle.mc_base.specs.Runs.{Outcome, next, last, Final, ended, stopped, fault}
-use Rattle.mc_heap.specs.Adding.{AreFree, part_of}
-use Rattle.mc_heap.specs.Choices.{Choice, input, malloc, shape}
-use Rattle.mc_heap.specs.Heap.{Heap, IsAddress, region_of}
-use Rattle.mc_defs.specs.declared.rules.Def.{Def}
-use Rattle.mc_defs.specs.Meaning.{Sat}
-use Rattle.mc_waiting.specs.Requests.{Request, IsAllowed, IsUnanswered, Waits}
+use Rattle.std.proofs.Common.{◌⊎◌, List, inl, inr}
+use Rattle.mc_base.specs.Runs.{Outcome, next, last, ended, stopped, fault}
+use Rattle.mc_heap.specs.Choices.{Choice}
+use Rattle.mc_waiting.specs.Requests.{Request, Waits}
 use Rattle.mc_waiting.specs.Runs.{Machine, MakesStep, HasEnded}
 
 pub either_way : (P : Type 0) → (P ⊎ (¬ P) → ⊥) → ⊥

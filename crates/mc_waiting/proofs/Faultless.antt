@@ -1,5 +1,5 @@
 -- What is known of statements without faults: each function that is called is there.
-use Rattle.std.proofs.Common.{◌≡◌, ◌++◌, List, [], ◌∷◌, Option, Some, None, Bool, true, false, cond, ℕ, refl, sym, ap, ◌∙◌, subst}
+use Rattle.std.proofs.Common.{◌≡◌, ◌++◌, List, [], ◌∷◌, Option, Some, None, Bool, true, false, cond, ℕ, refl, subst}
 use Rattle.std.specs.Prelude.{find, flat_map, is_none, map}
 use Rattle.mc_text.specs.declared.place.Place.{Place}
 use Rattle.mc_ast.specs.declared.trees.Base.{Base}
@@ -8,7 +8,7 @@ use Rattle.mc_types.specs.declared.faults.Fault.{Fault}
 use Rattle.mc_types.specs.declared.faults.FaultName.{FaultName}
 use Rattle.mc_types.specs.declared.faults.FaultName.TheVariants.{Twice}
 use Rattle.mc_types.specs.declared.types.VariableType.{VariableType}
-use Rattle.mc_types.specs.Faults.{unless, call_faults, callee_faults, right_faults, simple_faults, value_faults, item_faults, items_faults, declarator_faults, repeated, returned_faults, return_faults, left_faults, left_type, item_tree_faults, body_faults, function_faults}
+use Rattle.mc_types.specs.Faults.{unless, call_faults, callee_faults, right_faults, simple_faults, value_faults, item_faults, items_faults, declarator_faults, repeated, returned_faults, return_faults, left_faults, left_type, item_tree_faults, body_faults}
 use Rattle.mc_types.specs.Scopes.{Scope, visible, declare}
 use Rattle.mc_types.specs.Tables.{Tables, Variable, type_in, variable_of, listed_parameters, called_function, item_functions}
 

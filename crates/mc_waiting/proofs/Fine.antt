@@ -1,6 +1,5 @@
 -- What is known of the tasks of a well typed program: what is left to do has no faults, and loops are around what leaves them.
-use Rattle.std.proofs.Common.{◌≡◌, List, [], ◌∷◌, Option, Some, None, Bool, true, false, refl}
-use Rattle.mc_ast.specs.declared.trees.Base.{Base}
+use Rattle.std.proofs.Common.{◌≡◌, List, [], Option, Some, Bool, true, false, refl}
 use Rattle.mc_ast.specs.Trees.{Stmt, declaration, block, empty, simple, free, assert, assume, assume_shape, assert_shape, assert_empty, if_only, if_else, while_loop, do_loop, for_loop, break_loop, continue_loop, returns, Stmts, no_more, then}
 use Rattle.mc_types.specs.declared.types.VariableType.{VariableType}
 use Rattle.mc_types.specs.Faults.{Context, items_faults, simple_faults, statement_faults, statements_faults}

@@ -1,5 +1,5 @@
 -- A point of a valid flow graph makes a step, is its end, or waits for a choice.
-use Rattle.std.proofs.Common.{◌≡◌, ◌<◌, ◌⊎◌, ℕ, zero, suc, ℤ, pos, List, [], ◌∷◌, Option, Some, None, Bool, true, false, refl, sym, ap, ◌∙◌, subst, inl, inr, length, arith}
+use Rattle.std.proofs.Common.{◌≡◌, ◌<◌, ℕ, zero, suc, ℤ, List, [], ◌∷◌, Option, Some, None, Bool, true, false, refl, sym, ◌∙◌, subst, inl, inr, length, arith}
 use Rattle.std.specs.Prelude.{All, slice_get, if◌then◌else◌, ◌==◌, int_le}
 use Rattle.std.specs.Ordering.{int_eq}
 use Rattle.std.proofs.lemmas.Option.{slice_get_cases}
@@ -19,13 +19,13 @@ use Rattle.mc_heap.specs.Choices.{Choice, input, malloc, shape}
 use Rattle.mc_heap.specs.Heap.{Block, Heap, IsAddress, region_of}
 use Rattle.mc_defs.specs.declared.rules.Def.{Def}
 use Rattle.mc_defs.specs.declared.shapes.Structs.{Structs}
-use Rattle.mc_defs.specs.Meaning.{Sat, HoldsSomewhere}
+use Rattle.mc_defs.specs.Meaning.{Sat}
 use Rattle.mc_flow.specs.declared.graph.Flow.{Flow}
 use Rattle.mc_flow.specs.declared.graph.Point.{Point}
 use Rattle.mc_flow.specs.declared.instr.Instr.{Instr}
 use Rattle.mc_flow.specs.declared.instr.Instr.TheVariants.{Skip, Copy, Undef, Input, Add, Sub, Mul, Load, Store, Malloc, Free, TestEq, TestLe, AssumeShape, AssertShape, AssertEmpty, End, Fail}
-use Rattle.mc_flow.specs.Steps.{Config, Result, at_point, set_to, with_heap, start, copied, computed, found, loaded, written, put, stored, freed_at, freed, tested, Takes, Allocates, AddsShape, Assumes, Demands, Asserts, StepOf, StepAt, Step}
-use Rattle.mc_flow.specs.Valid.{GoesOn, IsValid, targets}
+use Rattle.mc_flow.specs.Steps.{Config, Result, at_point, start, copied, computed, found, loaded, written, put, stored, freed_at, freed, tested, Takes, Allocates, AddsShape, Assumes, Demands, Asserts, StepOf, StepAt, Step}
+use Rattle.mc_flow.specs.Valid.{IsValid, targets}
 use Rattle.mc_flow.specs.Values.{address, value_in, value_of, values_of}
 use Rattle.mc_waiting.specs.Flows.{InstructionAsks, PointAsks, Asks}
 use Rattle.mc_waiting.specs.Runs.{Leads, HasEnded, MakesStep, IsOneOf}

@@ -1,18 +1,16 @@
 -- What is known of the tasks of a well typed program stays so.
-use Rattle.std.proofs.Common.{◌≡◌, ◌++◌, ◌⊎◌, ◌<◌, ◌≤◌, ℕ, zero, suc, ℤ, pos, List, [], ◌∷◌, Option, Some, None, Bool, true, false, refl, sym, ap, ◌∙◌, subst, inl, inr, arith}
+use Rattle.std.proofs.Common.{◌≡◌, ◌++◌, zero, suc, ℤ, pos, List, [], ◌∷◌, Option, Some, None, Bool, true, false, refl, sym, subst, inl, inr}
 use Rattle.std.specs.Prelude.{reverse}
 use Rattle.std.specs.Option.{option_map_or}
 use Rattle.mc_base.specs.declared.plain.FaultKind.{FaultKind}
 use Rattle.mc_text.specs.declared.place.Place.{Place}
-use Rattle.mc_base.specs.Runs.{Outcome, next, last}
+use Rattle.mc_base.specs.Runs.{next, last}
 use Rattle.mc_heap.specs.Adding.{with_blocks}
 use Rattle.mc_heap.specs.Choices.{Choice, input as choose_input, malloc as choose_malloc, shape as choose_shape}
 use Rattle.mc_heap.specs.Heap.{Heap}
 use Rattle.mc_defs.specs.declared.rules.Def.{Def}
 use Rattle.mc_flow.specs.Values.{all_there}
-use Rattle.mc_ast.specs.declared.trees.Base.{Base}
 use Rattle.mc_ast.specs.declared.trees.Comparison.{Comparison}
-use Rattle.mc_ast.specs.declared.trees.Comparison.TheVariants as Comparison
 use Rattle.mc_ast.specs.declared.trees.Malloc.{Malloc}
 use Rattle.mc_ast.specs.declared.trees.Name.{Name}
 use Rattle.mc_ast.specs.Trees.{Left, Expr, Cond, plain, compare, negation, enclosed, both, either, CallTree, Right, expression, result_of, allocation, InitialTree, SimpleTree, assign, add, subtract, increment, decrement, increment_first, decrement_first, call, Start, nothing, declares, performs, Head, Stmt, declaration, block, empty, simple, free, assert, assume, assume_shape, assert_shape, assert_empty, if_only, if_else, while_loop, do_loop, for_loop, break_loop, continue_loop, returns, stmts_of, BodyTree, FunctionTree}
@@ -23,7 +21,7 @@ use Rattle.mc_types.specs.Scopes.{Scope, visible, declare, inside, behind, behin
 use Rattle.mc_types.specs.Tables.{Tables, Variable, variable_of, called_function, parameters_of, returned_type}
 use Rattle.mc_meaning.specs.Configs.{Program, Values, without, Target, nowhere, stored, returned, perform, declare_all, finish_turn, again, test, always, end_block, end_loop, end_turn, end_call, take_result, Tasks, done, task, Branch, go_on, fails, stops, Config, Result}
 use Rattle.mc_meaning.specs.Moves.{in_a_row, block_variables, started, finished, for_turn, tested, behind_loop, at_turn, given, entered, at_condition, taken_apart, declared_all, moved, Arrives, here, there}
-use Rattle.mc_meaning.specs.Steps.{where_is, after, AfterValue, WithValue, returning, returned_value, gone_back, Allocates, Arguments, no_arguments, arguments, body_of, begun, AfterArguments, Passes, Assigns, Performs, Declares, DeclaresFirst, AddsShape, Assumes, Demands, Asserts, Returns, taken, led, decided, compares, compared, Tests, Executes, Does, Step, simple_place}
+use Rattle.mc_meaning.specs.Steps.{where_is, after, AfterValue, WithValue, returning, returned_value, Allocates, Arguments, no_arguments, arguments, body_of, begun, AfterArguments, Passes, Assigns, Performs, Declares, AddsShape, Assumes, Demands, Asserts, Returns, taken, led, decided, compares, compared, Tests, Executes, Does, Step, simple_place}
 use Rattle.mc_meaning.specs.Values.{Here, Evaluated, fault_of, value_of, Changed, fault_in, changed, set_variable}
 use Rattle.mc_waiting.proofs.Faultless.{none_left, none_right, AreFaultless}
 use Rattle.mc_waiting.proofs.Fine.{HasLoop, AreAround, in_context, Fine, FineBranch, block_around, fine_row}

@@ -1,26 +1,25 @@
 -- Runs of well typed programs never stop for want of a definition.
-use Rattle.std.proofs.Common.{◌≡◌, ◌++◌, ◌+◌, ◌<◌, ◌≤◌, ℕ, zero, suc, List, [], ◌∷◌, Option, Some, None, false, refl, sym, ap, ◌∙◌, subst, inl, inr, arith}
-use Rattle.std.specs.Prelude.{find, flat_map, reverse}
+use Rattle.std.proofs.Common.{◌≡◌, ◌<◌, ℕ, zero, suc, List, [], Option, Some, None, refl, subst, inl, inr, arith}
+use Rattle.std.specs.Prelude.{flat_map}
 use Rattle.mc_base.specs.Runs.{next, last, ended}
 use Rattle.mc_heap.specs.Choices.{Choice}
 use Rattle.mc_defs.specs.declared.rules.Def.{Def}
-use Rattle.mc_ast.specs.Names.{is_same}
 use Rattle.mc_ast.specs.Trees.{FunctionTree, UnitTree}
-use Rattle.mc_types.specs.Faults.{body_faults, plain_faults, table_faults, item_tree_faults}
+use Rattle.mc_types.specs.Faults.{plain_faults, table_faults}
 use Rattle.mc_types.specs.Tables.{Tables, called_function, item_functions, tables_of}
 use Rattle.mc_types.specs.Typing.{IsWellTyped}
-use Rattle.mc_meaning.specs.Configs.{Program, Values, no_values, Tasks, done, Config, Result}
+use Rattle.mc_meaning.specs.Configs.{Program, Values, Tasks, done, Config, Result}
 use Rattle.mc_meaning.specs.Laws.{ArrivalsAreDetermined, ValuesAreDetermined}
 use Rattle.mc_meaning.specs.Moves.{moved, Arrives, here, there}
-use Rattle.mc_meaning.specs.Steps.{Does, Step, program_of, start}
-use Rattle.mc_waiting.specs.Requests.{Request, IsUnanswered, Waits}
+use Rattle.mc_meaning.specs.Steps.{Step, program_of, start}
+use Rattle.mc_waiting.specs.Requests.{Waits}
 use Rattle.mc_waiting.specs.Runs.{Leads, HasEnded, MakesStep, IsOneOf}
 use Rattle.mc_waiting.specs.Trees.{TaskAsks, Asks}
 use Rattle.mc_waiting.proofs.Arriving.{tasks_weight, IsLess, less}
 use Rattle.mc_waiting.proofs.Deciding.{StepsOr, none_of_three}
-use Rattle.mc_waiting.proofs.Faultless.{none_left, none_right, AreFaultless, items_all, found_one}
+use Rattle.mc_waiting.proofs.Faultless.{none_right, AreFaultless, items_all, found_one}
 use Rattle.mc_waiting.proofs.Fine.{Fine}
-use Rattle.mc_waiting.proofs.Keeping.{FineThere, FineResult, fine_moved, fine_step, fine_body}
+use Rattle.mc_waiting.proofs.Keeping.{FineThere, fine_moved, fine_step, fine_body}
 use Rattle.mc_waiting.proofs.Standing.{does_or, does_alone}
 
 -- ---- the next step is reached

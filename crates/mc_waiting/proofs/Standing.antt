@@ -1,34 +1,32 @@
 -- Where the next step is, it is made, or waits for a choice; never both.
-use Rattle.std.proofs.Common.{◌≡◌, ◌⊎◌, ℕ, zero, suc, ℤ, pos, List, [], ◌∷◌, Option, Some, None, Bool, true, false, refl, sym, ap, ◌∙◌, subst, inl, inr}
+use Rattle.std.proofs.Common.{◌≡◌, zero, suc, ℤ, pos, List, [], ◌∷◌, Option, Some, None, Bool, true, false, refl, sym, ◌∙◌, subst, inl, inr}
 use Rattle.std.specs.Prelude.{map}
 use Rattle.mc_base.specs.declared.plain.FaultKind.{FaultKind}
 use Rattle.mc_text.specs.declared.place.Place.{Place}
-use Rattle.mc_base.specs.Runs.{next, last, ended}
 use Rattle.mc_heap.specs.Adding.{AreFree, part_of}
 use Rattle.mc_heap.specs.Choices.{Choice, input as choose_input, malloc as choose_malloc, shape as choose_shape}
 use Rattle.mc_heap.specs.Heap.{Heap, IsAddress, region_of}
-use Rattle.mc_heap.specs.Parts.{IsEmpty}
 use Rattle.mc_defs.specs.declared.rules.Def.{Def}
-use Rattle.mc_defs.specs.Meaning.{Sat, HoldsSomewhere}
+use Rattle.mc_defs.specs.Meaning.{Sat}
 use Rattle.mc_flow.specs.Values.{all_there}
 use Rattle.mc_ast.specs.declared.trees.Malloc.{Malloc}
 use Rattle.mc_ast.specs.declared.trees.Name.{Name}
-use Rattle.mc_ast.specs.Trees.{Left, Expr, Cond, plain, compare, negation, enclosed, both, either, CallTree, Right, expression, result_of, allocation, InitialTree, SimpleTree, assign, add, subtract, increment, decrement, increment_first, decrement_first, call, Stmt, declaration, block, empty, simple, free, assert, assume, assume_shape, assert_shape, assert_empty, if_only, if_else, while_loop, do_loop, for_loop, break_loop, continue_loop, returns, FunctionTree}
+use Rattle.mc_ast.specs.Trees.{Left, Expr, Cond, plain, compare, negation, enclosed, both, either, CallTree, Right, expression, result_of, allocation, SimpleTree, assign, add, subtract, increment, decrement, increment_first, decrement_first, call, Stmt, declaration, block, empty, simple, free, assert, assume, assume_shape, assert_shape, assert_empty, if_only, if_else, while_loop, do_loop, for_loop, break_loop, continue_loop, returns, FunctionTree}
 use Rattle.mc_types.specs.declared.faults.FaultName.TheVariants.{Mismatch}
 use Rattle.mc_types.specs.Faults.{unless}
 use Rattle.mc_types.specs.Scopes.{Scope, visible, declare}
 use Rattle.mc_types.specs.Tables.{Tables, Variable, variable_of, called_function}
 use Rattle.mc_meaning.specs.Configs.{Program, Values, Target, perform, declare_all, finish_turn, again, test, always, end_block, end_loop, end_turn, end_call, take_result, Tasks, done, task, Branch, Result}
 use Rattle.mc_meaning.specs.Laws.{ValuesAreDetermined}
-use Rattle.mc_meaning.specs.Moves.{behind_loop, at_turn, moved}
+use Rattle.mc_meaning.specs.Moves.{moved}
 use Rattle.mc_meaning.specs.Steps.{where_is, WithValue, Allocates, Arguments, no_arguments, arguments, AfterArguments, Passes, Assigns, Performs, Declares, AddsShape, Assumes, Demands, Asserts, Returns, Tests, Executes, Does, argument_value, predicate_of, simple_place}
-use Rattle.mc_meaning.specs.Values.{Here, Evaluates}
-use Rattle.mc_waiting.specs.Requests.{Request, an_input, an_address, a_shape, IsAllowed, IsUnanswered, Waits}
-use Rattle.mc_waiting.specs.Trees.{AsksBehind, ValueAsks, ArgumentsAsk, RightAsks, MaybeRightAsks, SimpleAsks, StatementAsks, ConditionAsks, TaskAsks}
+use Rattle.mc_meaning.specs.Values.{Here}
+use Rattle.mc_waiting.specs.Requests.{Request, an_input, an_address, a_shape, IsUnanswered}
+use Rattle.mc_waiting.specs.Trees.{ValueAsks, ArgumentsAsk, RightAsks, MaybeRightAsks, SimpleAsks, StatementAsks, ConditionAsks, TaskAsks}
 use Rattle.mc_waiting.proofs.Deciding.{either_way, StepsOr}
 use Rattle.mc_waiting.proofs.Faultless.{IsCalled, RightIsCalled, MaybeIsCalled, SimpleIsCalled, simple_is, item_is, return_is}
-use Rattle.mc_waiting.proofs.Fine.{leaves_loop, leaves_turn, in_context, AreAround, HasLoop, HasTurn, Fine}
-use Rattle.mc_waiting.proofs.Values.{ValueOr, value_or, arguments_or, with_value_or, value_alone, arguments_alone, with_value_alone, with_value_behind}
+use Rattle.mc_waiting.proofs.Fine.{leaves_loop, leaves_turn, AreAround, HasLoop, HasTurn, Fine}
+use Rattle.mc_waiting.proofs.Values.{arguments_or, with_value_or, arguments_alone, with_value_alone, with_value_behind}
 
 -- ---- one of the two
 module _ (Asks : Request → List Choice → Type 0) where

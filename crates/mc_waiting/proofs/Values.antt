@@ -1,5 +1,5 @@
 -- An expression has a value or waits for an input, and so do arguments one after the other.
-use Rattle.std.proofs.Common.{◌≡◌, ◌⊎◌, zero, suc, ℤ, pos, ◌+ℤ◌, ◌-ℤ◌, ◌*ℤ◌, List, [], ◌∷◌, Option, Some, None, refl, sym, ap, ◌∙◌, subst, inl, inr}
+use Rattle.std.proofs.Common.{◌≡◌, ◌⊎◌, ℤ, List, [], ◌∷◌, Option, Some, refl, subst, inl, inr}
 use Rattle.mc_base.specs.declared.plain.Kind.TheVariants.{Int as int_kind}
 use Rattle.mc_text.specs.declared.place.Place.{Place}
 use Rattle.mc_base.specs.Kinds.{InKind}
@@ -9,8 +9,8 @@ use Rattle.mc_ast.specs.Trees.{Expr, number, null, input, value, minus, parens, 
 use Rattle.mc_meaning.specs.Configs.{Result}
 use Rattle.mc_meaning.specs.Laws.{ValuesAreDetermined}
 use Rattle.mc_meaning.specs.Values.{Here, Evaluated, fault_of, value_of, IsInput, right_operand, AfterLeft, Evaluates}
-use Rattle.mc_meaning.specs.Steps.{put_before, AfterValue, WithValue, Arguments, no_arguments, arguments, AfterFirst, EvaluateAll}
-use Rattle.mc_waiting.specs.Requests.{Request, an_input, IsUnanswered, Waits}
+use Rattle.mc_meaning.specs.Steps.{put_before, AfterValue, WithValue, Arguments, no_arguments, AfterFirst, EvaluateAll}
+use Rattle.mc_waiting.specs.Requests.{Request, an_input, IsUnanswered}
 use Rattle.mc_waiting.specs.Trees.{AsksBehind, ValueAsks, ArgumentsAsk}
 use Rattle.mc_waiting.proofs.Deciding.{either_way, StepsOr}
 

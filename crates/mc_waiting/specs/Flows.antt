@@ -14,7 +14,8 @@ use Rattle.mc_waiting.specs.Requests.{Request, an_input, an_address, a_shape}
 abbrev pub InstructionAsks : List Def → Instr → Config → Request → Type 0
 InstructionAsks defs (Input x q) c request = request ≡ an_input
 InstructionAsks defs (Malloc x s q) c request = request ≡ an_address c.heap
-InstructionAsks defs (AssumeShape pred x os q) c request = (args : List ℤ) × (values_of c.vars os ≡ Some args) × (request ≡ a_shape defs pred args c.heap)
+InstructionAsks defs (AssumeShape pred x os q) c request =
+    (args : List ℤ) × (values_of c.vars os ≡ Some args) × (request ≡ a_shape defs pred args c.heap)
 InstructionAsks defs (Skip q) c request = ⊥
 InstructionAsks defs (Copy x o q) c request = ⊥
 InstructionAsks defs (Undef xs q) c request = ⊥

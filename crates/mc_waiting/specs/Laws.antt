@@ -13,7 +13,7 @@ use Rattle.mc_meaning.specs.Configs.{Config, Program}
 use Rattle.mc_meaning.specs.Steps.{Step, program_of, start}
 use Rattle.mc_waiting.specs.Flows as flows
 use Rattle.mc_waiting.specs.Requests.{Waits}
-use Rattle.mc_waiting.specs.Runs.{Machine, HasEnded, MakesStep, Leads, ComesTo, IsDetermined, IsOneOf}
+use Rattle.mc_waiting.specs.Runs.{Machine, HasEnded, MakesStep, Leads, ComesTo, IsOneOf}
 use Rattle.mc_waiting.specs.Trees.{Asks}
 
 -- ---- no run stops for want of a definition
@@ -23,7 +23,10 @@ StepsEndsOrWaits p c left = IsOneOf (MakesStep (Step p) c left) (HasEnded (Step 
 
 abbrev pub FlowStepsEndsOrWaits : Flow → List Def → graph.Config → List Choice → Type 0
 FlowStepsEndsOrWaits flow defs c left =
-    IsOneOf (MakesStep (graph.Step flow defs) c left) (HasEnded (graph.Step flow defs) c left) (Waits (flows.Asks flow defs c left))
+    IsOneOf
+    (MakesStep (graph.Step flow defs) c left)
+    (HasEnded (graph.Step flow defs) c left)
+    (Waits (flows.Asks flow defs c left))
 
 -- so it is wherever the run of a well typed program, or of a valid flow graph, has come to
 abbrev pub ProgramsStepEndOrWait : Type 0
@@ -43,7 +46,8 @@ FlowsStepEndOrWait =
 -- a run comes to one end at most, in one number of steps
 abbrev pub ComesToOneEnd : {C K : Type 0} → Machine C K → Type 0
 ComesToOneEnd {C} {K} Steps =
-    (n m : ℕ) (c : C) (choices : List K) (f g : Final) → ComesTo Steps n c choices f → ComesTo Steps m c choices g → (n ≡ m) × (f ≡ g)
+    (n m : ℕ) (c : C) (choices : List K) (f g : Final)
+    → ComesTo Steps n c choices f → ComesTo Steps m c choices g → (n ≡ m) × (f ≡ g)
 
 -- what it comes to in so many steps it reaches within one more, and what it reaches it comes to
 abbrev pub ReachesItsEnd : {C K : Type 0} → Machine C K → Type 0

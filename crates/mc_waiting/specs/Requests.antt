@@ -1,5 +1,5 @@
 -- What a step asks for, and the choices that answer it.
-use Rattle.std.specs.Prelude.{◌≡◌, ℕ, zero, suc, ℤ, None, List, [], ◌∷◌}
+use Rattle.std.specs.Prelude.{◌≡◌, zero, suc, ℤ, None, List, [], ◌∷◌}
 use Rattle.mc_base.specs.declared.ids.PredId.{PredId}
 use Rattle.mc_base.specs.declared.plain.Kind.TheVariants.{Int}
 use Rattle.mc_base.specs.Kinds.{InKind}
@@ -9,13 +9,15 @@ use Rattle.mc_heap.specs.Heap.{Heap, IsAddress, region_of}
 use Rattle.mc_defs.specs.declared.rules.Def.{Def}
 use Rattle.mc_defs.specs.Meaning.{Sat}
 
--- an input; an answer of `malloc` in a heap; a value and blocks, of which a predicate holds with these arguments, for a heap
+-- an input; an answer of `malloc` in a heap; a value with blocks, of which a predicate holds with these arguments, for a
+-- heap
 pub data Request : Type 0 where
   an_input : Request
   an_address : Heap → Request
   a_shape : List Def → PredId → List ℤ → Heap → Request
 
--- the choice answers the request: any `int`; null, or an address that is not allocated; a value with blocks at free addresses
+-- the choice answers the request: any `int`; null, or an address that is not allocated; a value with blocks at free
+-- addresses
 abbrev pub IsAllowed : Request → Choice → Type 0
 IsAllowed an_input (input v) = InKind Int v
 IsAllowed an_input (malloc n) = ⊥
@@ -26,7 +28,8 @@ IsAllowed (an_address heap) (malloc (suc n)) = IsAddress (suc n) × (region_of h
 IsAllowed (an_address heap) (shape v blocks) = ⊥
 IsAllowed (a_shape defs predicate args heap) (input v) = ⊥
 IsAllowed (a_shape defs predicate args heap) (malloc n) = ⊥
-IsAllowed (a_shape defs predicate args heap) (shape v blocks) = AreFree heap blocks × Sat defs predicate v args (part_of blocks)
+IsAllowed (a_shape defs predicate args heap) (shape v blocks) =
+    AreFree heap blocks × Sat defs predicate v args (part_of blocks)
 
 -- a choice is missing, or the next one is not allowed
 abbrev pub IsUnanswered : Request → List Choice → Type 0

@@ -1,14 +1,13 @@
 -- What the steps of a program ask for.
 use Rattle.std.specs.Prelude.{◌≡◌, ◌⊎◌, ℤ, List, [], ◌∷◌, Option, Some, None, map}
-use Rattle.mc_text.specs.declared.place.Place.{Place}
 use Rattle.mc_heap.specs.Choices.{Choice}
 use Rattle.mc_heap.specs.Heap.{Heap}
 use Rattle.mc_defs.specs.declared.rules.Def.{Def}
 use Rattle.mc_flow.specs.Values.{all_there}
 use Rattle.mc_ast.specs.declared.trees.Base.{Base}
-use Rattle.mc_ast.specs.Trees.{Expr, number, null, input, value, minus, parens, times, plus, difference, Cond, plain}
-use Rattle.mc_ast.specs.Trees.{compare, negation, enclosed, both, either, Right, expression, result_of, allocation}
-use Rattle.mc_ast.specs.Trees.{InitialTree, SimpleTree, assign, add, subtract, increment, decrement}
+use Rattle.mc_ast.specs.Trees.{Expr, number, null, input, value, minus, parens, times, plus, difference, Cond}
+use Rattle.mc_ast.specs.Trees.{plain, compare, negation, enclosed, both, either, Right, expression, result_of}
+use Rattle.mc_ast.specs.Trees.{allocation, InitialTree, SimpleTree, assign, add, subtract, increment, decrement}
 use Rattle.mc_ast.specs.Trees.{increment_first, decrement_first, call, Stmt, declaration, block, empty, simple}
 use Rattle.mc_ast.specs.Trees.{free, assert, assume, assume_shape, assert_shape, assert_empty, if_only, if_else}
 use Rattle.mc_ast.specs.Trees.{while_loop, do_loop, for_loop, break_loop, continue_loop, returns}
@@ -23,7 +22,8 @@ use Rattle.mc_waiting.specs.Requests.{Request, an_input, an_address, a_shape}
 -- ---- expressions
 -- the expression has a value, and then this asks with the choices that are left
 abbrev pub AsksBehind : Here → Expr → List Choice → (List Choice → Type 0) → Type 0
-AsksBehind h e choices Asks = (v : Option ℤ) × (rest : List Choice) × Evaluates h e choices (value_of v rest) × Asks rest
+AsksBehind h e choices Asks =
+    (v : Option ℤ) × (rest : List Choice) × Evaluates h e choices (value_of v rest) × Asks rest
 
 -- the expression comes to an `input()` when these choices are left
 abbrev pub ValueAsks : Here → Expr → List Choice → List Choice → Type 0
@@ -33,14 +33,18 @@ ValueAsks h (input p) choices left = left ≡ choices
 ValueAsks h (value l) choices left = ⊥
 ValueAsks h (minus p e) choices left = ValueAsks h e choices left
 ValueAsks h (parens p e) choices left = ValueAsks h e choices left
-ValueAsks h (times a b) choices left = ValueAsks h a choices left ⊎ AsksBehind h a choices (λ rest. ValueAsks h b rest left)
-ValueAsks h (plus a b) choices left = ValueAsks h a choices left ⊎ AsksBehind h a choices (λ rest. ValueAsks h b rest left)
-ValueAsks h (difference a b) choices left = ValueAsks h a choices left ⊎ AsksBehind h a choices (λ rest. ValueAsks h b rest left)
+ValueAsks h (times a b) choices left =
+    ValueAsks h a choices left ⊎ AsksBehind h a choices (λ rest. ValueAsks h b rest left)
+ValueAsks h (plus a b) choices left =
+    ValueAsks h a choices left ⊎ AsksBehind h a choices (λ rest. ValueAsks h b rest left)
+ValueAsks h (difference a b) choices left =
+    ValueAsks h a choices left ⊎ AsksBehind h a choices (λ rest. ValueAsks h b rest left)
 
 -- the same for arguments one after the other
 abbrev pub ArgumentsAsk : Here → List Expr → List Choice → List Choice → Type 0
 ArgumentsAsk h [] choices left = ⊥
-ArgumentsAsk h (e ∷ es) choices left = ValueAsks h e choices left ⊎ AsksBehind h e choices (λ rest. ArgumentsAsk h es rest left)
+ArgumentsAsk h (e ∷ es) choices left =
+    ValueAsks h e choices left ⊎ AsksBehind h e choices (λ rest. ArgumentsAsk h es rest left)
 
 -- ---- statements
 abbrev pub RightAsks : Here → Right → List Choice → Request → List Choice → Type 0
@@ -67,7 +71,8 @@ abbrev pub StatementAsks : List Def → Here → Stmt → List Choice → Reques
 StatementAsks defs h (simple x) choices request left = SimpleAsks h x choices request left
 StatementAsks defs h (free p e) choices request left = (request ≡ an_input) × ValueAsks h e choices left
 StatementAsks defs h (assume_shape p predicate x args) choices request left =
-    (vs : List ℤ) × (all_there (map (argument_value h) args) ≡ Some vs) × (request ≡ a_shape defs (predicate_of defs predicate) vs h.heap) × (left ≡ choices)
+    (vs : List ℤ) × (all_there (map (argument_value h) args) ≡ Some vs)
+    × (request ≡ a_shape defs (predicate_of defs predicate) vs h.heap) × (left ≡ choices)
 StatementAsks defs h (returns p right) choices request left = MaybeRightAsks h right choices request left
 StatementAsks defs h (assert_shape p predicate a args) choices request left = ⊥
 StatementAsks defs h (assert_empty p) choices request left = ⊥
@@ -99,16 +104,22 @@ ConditionAsks h (either c d) choices request left = ⊥
 abbrev pub DeclaratorAsks : Tables → Scope → Base → List InitialTree → Values → Heap → List Choice → Request → List Choice → Type 0
 DeclaratorAsks t s base [] values heap choices request left = ⊥
 DeclaratorAsks t s base (item ∷ items) values heap choices request left =
-    MaybeRightAsks (where_is t (visible (declare s (variable_of t base item.declarator))) values heap) item.value choices request left
+    MaybeRightAsks
+    (where_is t (visible (declare s (variable_of t base item.declarator))) values heap)
+    item.value choices request left
 
 -- the first task asks for this, when these choices are left
 abbrev pub TaskAsks : Program → Values → Heap → Tasks → List Choice → Request → List Choice → Type 0
 TaskAsks p values heap done choices request left = ⊥
-TaskAsks p values heap (task (perform s a) rest) choices request left = StatementAsks p.defs (where_is p.tables (visible s) values heap) a choices request left
-TaskAsks p values heap (task (declare_all s place base items) rest) choices request left = DeclaratorAsks p.tables s base items values heap choices request left
-TaskAsks p values heap (task (finish_turn vs x) rest) choices request left = SimpleAsks (where_is p.tables vs values heap) x choices request left
+TaskAsks p values heap (task (perform s a) rest) choices request left =
+    StatementAsks p.defs (where_is p.tables (visible s) values heap) a choices request left
+TaskAsks p values heap (task (declare_all s place base items) rest) choices request left =
+    DeclaratorAsks p.tables s base items values heap choices request left
+TaskAsks p values heap (task (finish_turn vs x) rest) choices request left =
+    SimpleAsks (where_is p.tables vs values heap) x choices request left
 TaskAsks p values heap (task (again s a) rest) choices request left = ⊥
-TaskAsks p values heap (task (test vs c a b) rest) choices request left = ConditionAsks (where_is p.tables vs values heap) c choices request left
+TaskAsks p values heap (task (test vs c a b) rest) choices request left =
+    ConditionAsks (where_is p.tables vs values heap) c choices request left
 TaskAsks p values heap (task (always go) rest) choices request left = ⊥
 TaskAsks p values heap (task (end_block vs) rest) choices request left = ⊥
 TaskAsks p values heap (task (end_loop vs) rest) choices request left = ⊥
@@ -119,4 +130,5 @@ TaskAsks p values heap (task (take_result target v) rest) choices request left =
 -- the step of the configuration asks for this, when these choices are left
 abbrev pub Asks : Program → Config → List Choice → Request → List Choice → Type 0
 Asks p c choices request left =
-    (values : Values) × (tasks : Tasks) × Arrives p.tables c.values c.tasks values tasks × TaskAsks p values c.heap tasks choices request left
+    (values : Values) × (tasks : Tasks) × Arrives p.tables c.values c.tasks values tasks
+    × TaskAsks p values c.heap tasks choices request left

@@ -10,8 +10,8 @@ ghost use Rattle.std.specs.Prelude.{List};
 
 use mc_meaning::{steps_are_determined, values_are_determined};
 
-/// Wherever the run of a well typed program has come to, with whatever choices left, it makes a step, has ended, or waits for
-/// a choice, which is missing or not allowed: it is exactly one of the three.
+/// Wherever the run of a well typed program has come to, with whatever choices left, it makes a step, has ended, or
+/// waits for a choice, which is missing or not allowed: it is exactly one of the three.
 pub fn programs_step_end_or_wait()
     ensures { ProgramsStepEndOrWait }
 {
@@ -24,7 +24,8 @@ pub fn flows_step_end_or_wait()
     ensures { FlowsStepEndOrWait }
 {}
 
-/// The run of a program comes to one end at most, in one number of steps. Telling of an end takes one look more than there are steps.
+/// The run of a program comes to one end at most, in one number of steps. Telling of an end takes one look more than
+/// there are steps.
 pub fn programs_come_to_one_end()
     ensures once { (p : Program) → ComesToOneEnd (Step p) }
     ensures reaches { (p : Program) → ReachesItsEnd (Step p) }
