@@ -1,0 +1,8 @@
+mod Blocks
+mod Holding
+mod Knowing
+mod Computing
+mod Moving
+mod Passing
+mod Stepping
+mod Running
