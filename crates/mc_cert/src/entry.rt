@@ -8,7 +8,8 @@ ghost use Rattle.mc_cert.specs.Entries.{struct_data, values_data, word_data};
 ghost use Rattle.mc_cert.specs.Reads.{Reads};
 
 use crate::LineFault;
-use mc_base::{Args, EdgeId, Id, Items, Kind, NodeId, PointId, PredId, StructId};
+use crate::ids::Id;
+use mc_base::{Args, EdgeId, Items, Kind, NodeId, PointId, PredId, StructId};
 use mc_state::{Form, Side};
 use serde_json::Value;
 use std::alloc::{AllocError, Global};

@@ -9,6 +9,7 @@ ghost use Rattle.mc_cert.specs.Document.{ReadsAs, Spells};
 
 mod entry;
 mod fault;
+mod ids;
 mod line;
 mod parts;
 mod pieces;

@@ -18,7 +18,7 @@ use Rattle.mc_flow.specs.Values.{address, all_there}
 use Rattle.mc_ast.specs.declared.trees.Comparison.{Comparison}
 use Rattle.mc_ast.specs.declared.trees.Comparison.TheVariants.{Unequal}
 use Rattle.mc_meaning.specs.Values.{Evaluated, fault_of, value_of}
-use Rattle.mc_meaning.specs.Steps.{Arguments, no_arguments, arguments, put_before, AfterFirst, compares}
+use Rattle.mc_meaning.specs.Steps.{Arguments, no_arguments, arguments, AfterFirst, compares}
 use Rattle.mc_resolved.specs.Programs.{Left, Expr, Cond, plain, compare, negation, both, either, Call, Right}
 use Rattle.mc_resolved.specs.Programs.{expression, result_of, allocation, Action, assign, add, subtract, call}
 use Rattle.mc_resolved.specs.Programs.{Initial, Argument, variable, constant, Stmt, declaration, block, empty}

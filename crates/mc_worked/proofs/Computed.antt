@@ -2,20 +2,20 @@
 use Rattle.std.proofs.Common.{◌≡◌, ℕ, zero, suc, ℤ, pos, ◌+ℤ◌, ◌-ℤ◌, ◌*ℤ◌, List, [], ◌∷◌, Option, Some, None, refl, inl, inr, subst}
 use Rattle.std.specs.Prelude.{option_map}
 use Rattle.mc_text.specs.declared.place.Place.{Place}
-use Rattle.mc_base.specs.Runs.{Outcome, next, last, Final, fault, Reaches}
+use Rattle.mc_base.specs.Runs.{next, last, Final, fault, Reaches}
 use Rattle.mc_heap.specs.Choices.{Choice}
 use Rattle.mc_heap.specs.Heap.{Heap}
 use Rattle.mc_defs.specs.declared.rules.Def.{Def}
 use Rattle.mc_flow.specs.Values.{all_there}
 use Rattle.mc_ast.specs.declared.trees.Comparison.TheVariants as Comparison
-use Rattle.mc_ast.specs.Trees.{Left, Expr, number, null, input, value, minus, parens, times, plus, difference, Cond, plain, compare, negation, enclosed, both, either, CallTree, Right, expression, result_of, allocation, InitialTree, SimpleTree, assign, add, subtract, increment, decrement, increment_first, decrement_first, call, Stmt, declaration, block, empty, simple, free, assert, assume, assume_shape, assert_shape, assert_empty, if_only, if_else, while_loop, do_loop, for_loop, break_loop, continue_loop, returns, FunctionTree}
+use Rattle.mc_ast.specs.Trees.{Left, Expr, number, null, input, value, minus, parens, times, plus, difference, Cond, plain, compare, negation, enclosed, both, either, CallTree, Right, expression, result_of, allocation, SimpleTree, assign, add, subtract, increment, decrement, increment_first, decrement_first, call, Stmt, declaration, block, empty, simple, free, assert, assume, assume_shape, assert_shape, assert_empty, if_only, if_else, while_loop, do_loop, for_loop, break_loop, continue_loop, returns, FunctionTree}
 use Rattle.mc_types.specs.Tables.{Tables, Variable, variable_of, called_function}
 use Rattle.mc_types.specs.Scopes.{visible, declare}
 use Rattle.mc_types.specs.Faults.{first_place}
 use Rattle.mc_meaning.specs.Configs.{Program, Values, Target, stored, returned, nowhere, perform, declare_all, finish_turn, again, test, always, end_block, end_loop, end_turn, end_call, take_result, Tasks, done, task, Branch, Config, Result}
 use Rattle.mc_meaning.specs.Values.{Here, Evaluated, fault_of, value_of, evaluated, left_value, right_operand, AfterLeft, Evaluates, assigned, combined}
 use Rattle.mc_meaning.specs.Moves.{moved, Arrives, here, there}
-use Rattle.mc_meaning.specs.Steps.{start, program_of, where_is, after, AfterValue, WithValue, Arguments, no_arguments, arguments, put_before, AfterFirst, EvaluateAll, begun, AfterArguments, Passes, Assigns, Combines, Performs, Declares, DeclaresFirst, Returns, returned_value, gone_back, taken, compared, Tests, Executes, Does, Step, simple_place}
+use Rattle.mc_meaning.specs.Steps.{start, program_of, where_is, after, AfterValue, WithValue, Arguments, no_arguments, arguments, put_before, AfterFirst, EvaluateAll, begun, AfterArguments, Passes, Assigns, Performs, Declares, Returns, returned_value, gone_back, taken, compared, Tests, Executes, Does, Step, simple_place}
 use Rattle.mc_meaning.specs.Examples.{main_of}
 use Rattle.mc_worked.specs.Variables.{with_functions, RunsTo}
 

@@ -8,7 +8,7 @@ use Rattle.mc_ast.specs.Trees.{Left, null, value, plus, difference, plain, compa
 use Rattle.mc_ast.specs.Trees.{result_of, increment, call, declares, Stmt, declaration, block, simple, assert}
 use Rattle.mc_ast.specs.Trees.{assume, assert_shape, if_only, while_loop, do_loop, for_loop, break_loop}
 use Rattle.mc_ast.specs.Trees.{continue_loop, returns, no_more, then, unnamed, listed, FunctionTree}
-use Rattle.mc_meaning.specs.Examples.{at, name, variable, x_word, p_word, int_is, var, num, node_is}
+use Rattle.mc_meaning.specs.Examples.{at, name, variable, x_word, p_word, var, num}
 use Rattle.mc_worked.specs.Programs.{i_word, y_word}
 use Rattle.mc_worked.specs.Variables.{function_of, an_int, parameter, calls, item, ints, int_of, sets, var_is, counted}
 

@@ -5,7 +5,6 @@ use Rattle.mc_ast.specs.declared.trees.Base.{Base}
 use Rattle.mc_ast.specs.declared.trees.Comparison.TheVariants as Comparison
 use Rattle.mc_ast.specs.declared.trees.Parameter.{Parameter}
 use Rattle.mc_ast.specs.declared.trees.Returned.{Returned}
-use Rattle.mc_ast.specs.declared.trees.Returned.TheVariants as Returned
 use Rattle.mc_ast.specs.Trees.{Expr, minus, Cond, plain, compare, CallTree, Right, expression, result_of}
 use Rattle.mc_ast.specs.Trees.{InitialTree, DeclarationTree, assign, increment, call, declares, Head, Stmt}
 use Rattle.mc_ast.specs.Trees.{declaration, block, empty, simple, assert, if_only, if_else, while_loop, do_loop}
