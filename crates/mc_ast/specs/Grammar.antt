@@ -195,7 +195,10 @@ pub data MoreInitials (aliases : List (List ℕ)) : List InitialTree → Tokens 
 
 -- a declaration with its `;`
 pub data IsDeclaration (aliases : List (List ℕ)) : DeclarationTree → Tokens → Tokens → Type 0 where
-  declared : {base : Base} {i : InitialTree} {is : List InitialTree} {semicolon : Token} {tokens mid behind rest : Tokens} → IsBase aliases base tokens mid → IsInitial aliases i mid behind → MoreInitials aliases (i ∷ []) behind is (semicolon ∷ rest) → IsMark (codes ";") semicolon → IsDeclaration aliases (record { base = base; items = is }) tokens rest
+  declared : {base : Base} {i : InitialTree} {is : List InitialTree} {semicolon : Token}
+      {tokens mid behind rest : Tokens} → IsBase aliases base tokens mid → IsInitial aliases i mid behind
+      → MoreInitials aliases (i ∷ []) behind is (semicolon ∷ rest) → IsMark (codes ";") semicolon
+      → IsDeclaration aliases (record { base = base; items = is }) tokens rest
 
 -- a simple statement without its `;`
 pub data IsSimple (aliases : List (List ℕ)) : SimpleTree → Tokens → Tokens → Type 0 where
@@ -244,7 +247,12 @@ pub data IsMaybeSimple (aliases : List (List ℕ)) : Option SimpleTree → Token
 
 -- the parentheses of a `for`, from its word on
 pub data IsHead (aliases : List (List ℕ)) : Head → Tokens → Tokens → Type 0 where
-  head : {start : Start} {condition : Option Cond} {last : Option SimpleTree} {word before semicolon after : Token} {tokens mid behind rest : Tokens} → IsWord (codes "for") word → IsMark (codes "(") before → IsStart aliases start tokens mid → IsMaybeCondition condition mid (semicolon ∷ behind) → IsMark (codes ";") semicolon → IsMaybeSimple aliases last behind (after ∷ rest) → IsMark (codes ")") after → IsHead aliases (record { place = word.place; start = start; condition = condition; last = last }) (word ∷ before ∷ tokens) rest
+  head : {start : Start} {condition : Option Cond} {last : Option SimpleTree} {word before semicolon after : Token}
+      {tokens mid behind rest : Tokens} → IsWord (codes "for") word
+      → IsMark (codes "(") before → IsStart aliases start tokens mid → IsMaybeCondition condition mid (semicolon ∷ behind)
+      → IsMark (codes ";") semicolon → IsMaybeSimple aliases last behind (after ∷ rest) → IsMark (codes ")") after
+      → IsHead aliases (record { place = word.place; start = start; condition = condition; last = last })
+      (word ∷ before ∷ tokens) rest
 
 mutual
   -- a statement; an `else` belongs to the nearest `if`
@@ -269,8 +277,18 @@ mutual
         → IsWord (codes "assume") word
         → IsMark (codes "(") before → IsCondition c tokens (after ∷ semicolon ∷ rest) → IsMark (codes ")") after
         → IsMark (codes ";") semicolon → IsStatement aliases (assume word.place c) (word ∷ before ∷ tokens) rest
-    assume_shape_statement : {args : List Argument} {word before predicate comma variable after semicolon : Token} {tokens rest : Tokens} → IsWord (codes "assume_shape") word → IsMark (codes "(") before → IsName predicate → IsMark (codes ",") comma → IsName variable → MoreArguments [] tokens args (after ∷ semicolon ∷ rest) → IsMark (codes ")") after → IsMark (codes ";") semicolon → IsStatement aliases (assume_shape word.place (name_of predicate) (name_of variable) args) (word ∷ before ∷ predicate ∷ comma ∷ variable ∷ tokens) rest
-    assert_shape_statement : {a : Argument} {args : List Argument} {word before predicate comma after semicolon : Token} {tokens mid rest : Tokens} → IsWord (codes "assert_shape") word → IsMark (codes "(") before → IsName predicate → IsMark (codes ",") comma → IsArgument a tokens mid → MoreArguments [] mid args (after ∷ semicolon ∷ rest) → IsMark (codes ")") after → IsMark (codes ";") semicolon → IsStatement aliases (assert_shape word.place (name_of predicate) a args) (word ∷ before ∷ predicate ∷ comma ∷ tokens) rest
+    assume_shape_statement : {args : List Argument} {word before predicate comma variable after semicolon : Token}
+        {tokens rest : Tokens} → IsWord (codes "assume_shape") word
+        → IsMark (codes "(") before → IsName predicate → IsMark (codes ",") comma → IsName variable
+        → MoreArguments [] tokens args (after ∷ semicolon ∷ rest) → IsMark (codes ")") after
+        → IsMark (codes ";") semicolon → IsStatement aliases (assume_shape word.place (name_of predicate)
+        (name_of variable) args) (word ∷ before ∷ predicate ∷ comma ∷ variable ∷ tokens) rest
+    assert_shape_statement : {a : Argument} {args : List Argument}
+        {word before predicate comma after semicolon : Token} {tokens mid rest : Tokens}
+        → IsWord (codes "assert_shape") word → IsMark (codes "(") before → IsName predicate → IsMark (codes ",") comma
+        → IsArgument a tokens mid → MoreArguments [] mid args (after ∷ semicolon ∷ rest) → IsMark (codes ")") after
+        → IsMark (codes ";") semicolon → IsStatement aliases (assert_shape word.place (name_of predicate) a args)
+        (word ∷ before ∷ predicate ∷ comma ∷ tokens) rest
     assert_empty_statement : {word before after semicolon : Token} {rest : Tokens}
         → IsWord (codes "assert_empty") word → IsMark (codes "(") before → IsMark (codes ")") after
         → IsMark (codes ";") semicolon
@@ -279,7 +297,12 @@ mutual
         → IsWord (codes "if") word → IsMark (codes "(") before → IsCondition c tokens (after ∷ mid)
         → IsMark (codes ")") after → IsStatement aliases s mid rest → IsNoElse rest
         → IsStatement aliases (if_only word.place c s) (word ∷ before ∷ tokens) rest
-    if_else_statement : {c : Cond} {s t : Stmt} {word before after otherwise : Token} {tokens mid behind rest : Tokens} → IsWord (codes "if") word → IsMark (codes "(") before → IsCondition c tokens (after ∷ mid) → IsMark (codes ")") after → IsStatement aliases s mid (otherwise ∷ behind) → IsWord (codes "else") otherwise → IsStatement aliases t behind rest → IsStatement aliases (if_else word.place c s t) (word ∷ before ∷ tokens) rest
+    if_else_statement : {c : Cond} {s t : Stmt} {word before after otherwise : Token}
+        {tokens mid behind rest : Tokens} → IsWord (codes "if") word
+        → IsMark (codes "(") before → IsCondition c tokens (after ∷ mid) → IsMark (codes ")") after
+        → IsStatement aliases s mid (otherwise ∷ behind) → IsWord (codes "else") otherwise
+        → IsStatement aliases t behind rest → IsStatement aliases (if_else word.place c s t)
+        (word ∷ before ∷ tokens) rest
     while_statement : {c : Cond} {s : Stmt} {word before after : Token} {tokens mid rest : Tokens}
         → IsWord (codes "while") word → IsMark (codes "(") before → IsCondition c tokens (after ∷ mid)
         → IsMark (codes ")") after → IsStatement aliases s mid rest
@@ -394,7 +417,17 @@ pub data IsBody (aliases : List (List ℕ)) : Option BodyTree → Tokens → Tok
 
 -- a function, or its prototype
 pub data IsFunction (aliases : List (List ℕ)) : FunctionTree → Tokens → Tokens → Type 0 where
-  defined : {static_place : Option Place} {returned : Returned} {parameters : ParametersTree} {body : Option BodyTree} {name before after : Token} {tokens mid more behind rest : Tokens} → IsStatic static_place tokens mid → IsReturned aliases returned mid (name ∷ before ∷ more) → IsName name → IsMark (codes "(") before → IsParameters aliases parameters more (after ∷ behind) → IsMark (codes ")") after → IsBody aliases body behind rest → IsFunction aliases (record { static_place = static_place; returned = returned; name = name_of name; parameters = parameters; body = body }) tokens rest
+  defined : {static_place : Option Place} {returned : Returned} {parameters : ParametersTree}
+      {body : Option BodyTree} {name before after : Token} {tokens mid more behind rest : Tokens}
+      → IsStatic static_place tokens mid → IsReturned aliases returned mid (name ∷ before ∷ more) → IsName name
+      → IsMark (codes "(") before → IsParameters aliases parameters more (after ∷ behind)
+      → IsMark (codes ")") after → IsBody aliases body behind rest → IsFunction aliases (record {
+        static_place = static_place;
+        returned = returned;
+        name = name_of name;
+        parameters = parameters;
+        body = body;
+      }) tokens rest
 
 -- a struct with its `;`, a typedef or a function
 pub data IsItem (aliases : List (List ℕ)) : ItemTree → Tokens → Tokens → Type 0 where

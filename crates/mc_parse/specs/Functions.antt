@@ -70,7 +70,15 @@ abbrev pub CompletesFunction : List (List ℕ) → FunctionReader → Tokens →
 CompletesFunction aliases (FunctionReader.Header static_place reader) = Then (CompletesHeader aliases reader) (λ header. BehindHeader aliases static_place header)
 CompletesFunction aliases (FunctionReader.Parameters static_place header reader) = Then (CompletesParameters aliases reader) (λ parameters. EndsFunction aliases static_place header parameters)
 CompletesFunction aliases (FunctionReader.Behind signature) = EndsFunction aliases signature.static_place signature.header (parameters_of signature.parameters)
-CompletesFunction aliases (FunctionReader.Body signature place reader) = Then (CompletesBody aliases reader.value) (λ ss. Gives (record { static_place = signature.static_place; returned = signature.header.returned; name = signature.header.name; parameters = parameters_of signature.parameters; body = Some (record { place = place; statements = ss }) }))
+CompletesFunction aliases (FunctionReader.Body signature place reader) = Then (CompletesBody aliases reader.value)
+    (λ ss. Gives (record {
+      static_place = signature.static_place;
+      returned = signature.header.returned;
+      name = signature.header.name;
+      parameters = parameters_of signature.parameters;
+      body = Some
+          (record { place = place; statements = ss });
+    }))
 
 abbrev pub FunctionStepIs : List (List ℕ) → FunctionReader → Token → Step FunctionReader Function → Type 0
 FunctionStepIs aliases reader token step = StepIs (CompletesFunction aliases) function_of (CompletesFunction aliases reader) token step

@@ -31,7 +31,10 @@ fn check_freed(
     sight: VisibleNames,
     pointer: &Expression,
 ) -> Result<(), AllocError>
-    ensures { OnOk result (told.new.fault ≡ told_of told.old.fault (expression_faults (tables_held sight.entry.tables.now) (variables_held sight.entry.scope.now) (expression_of pointer.now) ++ no_pointer (tables_held sight.entry.tables.now) (variables_held sight.entry.scope.now) (expression_of pointer.now))) }
+    ensures { OnOk result (told.new.fault ≡ told_of told.old.fault
+        (expression_faults (tables_held sight.entry.tables.now) (variables_held sight.entry.scope.now)
+        (expression_of pointer.now) ++ no_pointer (tables_held sight.entry.tables.now)
+        (variables_held sight.entry.scope.now) (expression_of pointer.now))) }
 {
     sight.check_expression(alloc, told, pointer)?;
     sight.want_pointer(told, pointer);

@@ -136,7 +136,25 @@ builds_a_list =
             ∷ (while_loop (at 12 3) (plain (value (record {
               name = named (codes "p") 12 10;
               fields = [];
-            }))) (block (at 12 13) (then (declaration (record { base = Base.Struct (at 12 15) (named (codes "s") 12 22); items = (record { declarator = (record { pointer = Some (at 12 24); name = named (codes "q") 12 25 }); value = Some (expression (value (record { name = named (codes "p") 12 29; fields = (named (codes "n") 12 32) ∷ [] }))) }) ∷ [] })) (then (free (at 12 35) (value (record { name = named (codes "p") 12 40; fields = [] }))) (then (simple (assign (record { name = named (codes "p") 12 44; fields = [] }) (expression (value (record { name = named (codes "q") 12 48; fields = [] }))))) no_more))))) ∷ (returns (at 13 3) (Some (expression (number 0 (at 13 10))))) ∷ [];
+            }))) (block (at 12 13) (then (declaration (record {
+              base = Base.Struct (at 12 15)
+                  (named (codes "s") 12 22);
+              items = (record {
+                declarator =
+                    (record { pointer = Some (at 12 24); name = named (codes "q") 12 25 });
+                value = Some
+                    (expression (value (record {
+                      name = named (codes "p") 12 29;
+                      fields = (named (codes "n") 12 32)
+                          ∷ [];
+                    })));
+              }) ∷ [];
+            })) (then (free (at 12 35) (value (record {
+              name = named (codes "p") 12 40;
+              fields = [];
+            }))) (then (simple (assign (record { name = named (codes "p") 12 44; fields = [] })
+            (expression (value (record { name = named (codes "q") 12 48; fields = [] }))))) no_more))))) ∷
+            (returns (at 13 3) (Some (expression (number 0 (at 13 10))))) ∷ [];
       });
     })) ∷ []
 

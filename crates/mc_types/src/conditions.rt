@@ -78,7 +78,11 @@ impl<'s, 'a> VisibleNames<'s, 'a> {
         stack: &mut Stack<&'c Condition>,
         current: &'c Condition,
     ) -> Result<(), AllocError>
-        ensures told { OnOk result (told_of told.new.fault (conditions_faults (tables_held self.now.tables.now) (variables_held self.now.scope.now) stack.new) ≡ told_of told.old.fault (condition_faults (tables_held self.now.tables.now) (variables_held self.now.scope.now) (condition_of current.now) ++ conditions_faults (tables_held self.now.tables.now) (variables_held self.now.scope.now) stack.old)) }
+        ensures told { OnOk result (told_of told.new.fault
+            (conditions_faults (tables_held self.now.tables.now) (variables_held self.now.scope.now) stack.new)
+            ≡ told_of told.old.fault (condition_faults (tables_held self.now.tables.now)
+            (variables_held self.now.scope.now) (condition_of current.now) ++ conditions_faults
+            (tables_held self.now.tables.now) (variables_held self.now.scope.now) stack.old)) }
         ensures less { OnOk result (conditions_size stack.new < condition_size (condition_of current.now) + conditions_size stack.old) }
     {
         match current {

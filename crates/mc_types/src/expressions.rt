@@ -192,7 +192,11 @@ impl<'s, 'a> VisibleNames<'s, 'a> {
         stack: &mut Stack<&'e Expression>,
         current: &'e Expression,
     ) -> Result<(), AllocError>
-        ensures told { OnOk result (told_of told.new.fault (expressions_faults (tables_held self.now.tables.now) (variables_held self.now.scope.now) stack.new) ≡ told_of told.old.fault (expression_faults (tables_held self.now.tables.now) (variables_held self.now.scope.now) (expression_of current.now) ++ expressions_faults (tables_held self.now.tables.now) (variables_held self.now.scope.now) stack.old)) }
+        ensures told { OnOk result (told_of told.new.fault
+            (expressions_faults (tables_held self.now.tables.now) (variables_held self.now.scope.now) stack.new)
+            ≡ told_of told.old.fault (expression_faults (tables_held self.now.tables.now)
+            (variables_held self.now.scope.now) (expression_of current.now) ++ expressions_faults
+            (tables_held self.now.tables.now) (variables_held self.now.scope.now) stack.old)) }
         ensures less { OnOk result (expressions_size stack.new < expression_size (expression_of current.now) + expressions_size stack.old) }
     {
         match current {
