@@ -169,16 +169,16 @@ item_static aliases w = record { forward = λ tokens rest i n. inl (item_static_
 
 -- at any other token
 other_function : (aliases : List (List ℕ)) {place : Option Place} {f : FunctionTree} {token : Token} {tokens mid rest : Tokens} (class : Class) → IsClass token class → (class ≡ Class.Static → ⊥) → IsStatic place (token ∷ tokens) mid → FunctionBehind aliases place mid rest f → FunctionItem aliases None (token ∷ tokens) rest (function f)
-other_function aliases class c not_static (static_place v) b = absurd (not_static (only_static class c v))
-other_function aliases class c not_static not_static b = (_, _, b, (refl, refl))
+other_function aliases class c no_static (static_place v) b = absurd (no_static (only_static class c v))
+other_function aliases class c no_static not_static b = (_, _, b, (refl, refl))
 
 item_other_in : {aliases : List (List ℕ)} {i : ItemTree} {token : Token} {tokens rest : Tokens} (class : Class) → IsClass token class → (class ≡ Class.Struct → ⊥) → (class ≡ Class.Typedef → ⊥) → (class ≡ Class.Static → ⊥) → IsItem aliases i (token ∷ tokens) rest → FunctionItem aliases None (token ∷ tokens) rest i
-item_other_in class c not_struct not_typedef not_static (struct_item (struct v n k f more after) semicolon) = absurd (not_struct (only_struct class c v))
-item_other_in class c not_struct not_typedef not_static (typedef_item (introduces v a ds k)) = absurd (not_typedef (only_typedef class c v))
-item_other_in class c not_struct not_typedef not_static (function_item f) = let s = function_splits f in other_function _ class c not_static s.2 s.3
+item_other_in class c not_struct not_typedef no_static (struct_item (struct v n k f more after) semicolon) = absurd (not_struct (only_struct class c v))
+item_other_in class c not_struct not_typedef no_static (typedef_item (introduces v a ds k)) = absurd (not_typedef (only_typedef class c v))
+item_other_in class c not_struct not_typedef no_static (function_item f) = let s = function_splits f in other_function _ class c no_static s.2 s.3
 
 pub item_other : (aliases : List (List ℕ)) {token : Token} (class : Class) → IsClass token class → (class ≡ Class.Struct → ⊥) → (class ≡ Class.Typedef → ⊥) → (class ≡ Class.Static → ⊥) → SameAt (λ tokens rest (i : ItemTree). IsItem aliases i tokens rest) (FunctionItem aliases None) token
-item_other aliases class c not_struct not_typedef not_static = record { forward = λ tokens rest i n. item_other_in class c not_struct not_typedef not_static n; backward = λ tokens rest i n. rw (n.3.0, n.3.1) (function_item (function_joins _ not_static n.2)) }
+item_other aliases class c not_struct not_typedef no_static = record { forward = λ tokens rest i n. item_other_in class c not_struct not_typedef no_static n; backward = λ tokens rest i n. rw (n.3.0, n.3.1) (function_item (function_joins _ no_static n.2)) }
 
 -- neither names nor functions begin with `{`
 brace_no_declarator : {d : Declarator} {token : Token} {tokens rest : Tokens} → IsMark (codes "{") token → IsDeclarator d (token ∷ tokens) rest → ⊥
