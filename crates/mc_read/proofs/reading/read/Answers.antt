@@ -17,11 +17,11 @@ returns-in-Err-Refused-clause-read c =
     let first = first_of unit c.args.entry.now c.in-Err-Refused.field-0 c.in-Err-Refused.fault c.in-Err-Refused.field-0-is c.in-Err-Refused.ensures in
     by_types unit c.in-Err-Refused.fault c.in_ok-unit.ensures first (sym c.of_typing.ensures)
 
-pub check_types-requires-small : goal.check_types-requires-small
-check_types-requires-small c = c.numbers_are_small.ensures (unit_of c.in_ok-unit.unit) c.in_ok-unit.ensures.tokens c.in_ok-unit.ensures.spells
+pub check_types-requires-clause-small : goal.check_types-requires-clause-small
+check_types-requires-clause-small c = c.numbers_are_small.ensures (unit_of c.in_ok-unit.unit) c.in_ok-unit.ensures.tokens c.in_ok-unit.ensures.spells
 
-pub check_types-requires-places : goal.check_types-requires-places
-check_types-requires-places c =
+pub check_types-requires-clause-places : goal.check_types-requires-clause-places
+check_types-requires-clause-places c =
     let unit = unit_of c.in_ok-unit.unit in
     let read = c.in_ok-unit.ensures in
     c.ascending_places_differ.ensures (declared_places unit) (c.declared_places_ascend.ensures c.args.text.now read.tokens unit read.lexes read.spells)
