@@ -178,7 +178,7 @@ item_other_in class c not_struct not_typedef no_static (typedef_item (introduces
 item_other_in class c not_struct not_typedef no_static (function_item f) = let s = function_splits f in other_function _ class c no_static s.2 s.3
 
 pub item_other : (aliases : List (List ℕ)) {token : Token} (class : Class) → IsClass token class → (class ≡ Class.Struct → ⊥) → (class ≡ Class.Typedef → ⊥) → (class ≡ Class.Static → ⊥) → SameAt (λ tokens rest (i : ItemTree). IsItem aliases i tokens rest) (FunctionItem aliases None) token
-item_other aliases class c not_struct not_typedef no_static = record { forward = λ tokens rest i n. item_other_in class c not_struct not_typedef no_static n; backward = λ tokens rest i n. rw (n.3.0, n.3.1) (function_item (function_joins _ no_static n.2)) }
+item_other aliases class c not_struct not_typedef no_static = record { forward = λ tokens rest i n. item_other_in class c not_struct not_typedef no_static n; backward = λ tokens rest i n. rw (n.3.0, n.3.1) (function_item (function_joins _ not_static n.2)) }
 
 -- neither names nor functions begin with `{`
 brace_no_declarator : {d : Declarator} {token : Token} {tokens rest : Tokens} → IsMark (codes "{") token → IsDeclarator d (token ∷ tokens) rest → ⊥
