@@ -1,0 +1,29 @@
+-- The first token that no definition file can have where it stands.
+use Rattle.std.specs.Prelude.{◌≡◌, ℕ, List, [], ◌∷◌, ◌++◌}
+use Rattle.mc_base.specs.declared.plain.Place.{Place}
+use Rattle.mc_lex.specs.declared.token.Token.{Token}
+use Rattle.mc_ast.specs.Names.{Tokens}
+use Rattle.mc_defread.specs.declared.tree.DefText.{DefText}
+use Rattle.mc_defread.specs.Grammar.{IsFile}
+
+-- the tokens of some file begin with these
+pub record CanBegin (tokens : Tokens) : Type 0 where
+  pub more : Tokens
+  pub file : List DefText
+  pub spells : IsFile file (tokens ++ more)
+
+-- the tokens go on with this one behind those that some file begins with, and no file does
+pub record StopsAt (tokens before : Tokens) (token : Token) : Type 0 where
+  pub after : Tokens
+  pub split : tokens ≡ before ++ token ∷ after
+  pub viable : CanBegin before
+  pub stuck : CanBegin (before ++ token ∷ []) → ⊥
+
+-- the first token that no file can have there stands at this place
+abbrev pub IsStop : Tokens → Place → Type 0
+IsStop tokens place = (before : Tokens) × (token : Token) × StopsAt tokens before token × (place ≡ token.place)
+
+-- the tokens spell this file, and no other
+pub record IsOnlyFile (file : List DefText) (tokens : Tokens) : Type 0 where
+  pub spells : IsFile file tokens
+  pub only : (other : List DefText) → IsFile other tokens → other ≡ file

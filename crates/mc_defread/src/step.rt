@@ -1,0 +1,17 @@
+// What readers make of tokens.
+
+/// What a reader makes of a token: it goes on, it is complete behind the token, or no text can have the token there.
+#[derive(Drop)]
+pub enum Step<R, X> {
+    Taken(R),
+    Closed(X),
+    Stuck,
+}
+
+/// The same of a reader that steps in place.
+#[derive(Drop)]
+pub enum Took<X> {
+    Taken,
+    Closed(X),
+    Stuck,
+}
