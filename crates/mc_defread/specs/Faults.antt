@@ -5,6 +5,9 @@ use Rattle.mc_lex.specs.declared.token.Token.{Token}
 use Rattle.mc_ast.specs.Names.{Tokens}
 use Rattle.mc_defread.specs.declared.tree.DefText.{DefText}
 use Rattle.mc_defread.specs.Grammar.{IsFile}
+use Rattle.mc_defread.specs.declared.fault.Cause.TheVariants as Cause
+use Rattle.mc_defread.specs.declared.fault.DefFault.{DefFault}
+use Rattle.mc_defread.specs.declared.fault.DefFault.TheVariants.{Refused, NoMemory}
 
 -- the tokens of some file begin with these
 pub record CanBegin (tokens : Tokens) : Type 0 where
@@ -27,3 +30,8 @@ IsStop tokens place = (before : Tokens) × (token : Token) × StopsAt tokens bef
 pub record IsOnlyFile (file : List DefText) (tokens : Tokens) : Type 0 where
   pub spells : IsFile file tokens
   pub only : (other : List DefText) → IsFile other tokens → other ≡ file
+
+-- the fault of the first token that no file can have there; memory may always be missing
+abbrev pub IsSyntaxFault : Tokens → DefFault → Type 0
+IsSyntaxFault tokens (Refused refusal) = (refusal.cause ≡ Cause.Syntax) × IsStop tokens refusal.place
+IsSyntaxFault tokens NoMemory = Unit {0}

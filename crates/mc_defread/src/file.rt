@@ -1,5 +1,5 @@
 // Whole files, token by token.
-ghost use Rattle.mc_defread.specs.Files.{FileTookIs, CompletesFile, FirstRuleEnds, RulesEnd, BraceEnds, BodyEnds, ThisGoesOn, BlockEnds, ItemsEnd, ItemEnds};
+ghost use Rattle.mc_defread.specs.Files.{FileTookIs, CompletesAt, CompletesFile, FirstRuleEnds, RulesEnd, BraceEnds, BodyEnds, ThisGoesOn, BlockEnds, ItemsEnd, ItemEnds};
 ghost use Rattle.mc_defread.specs.Blocks.{CompletesBlock};
 ghost use Rattle.mc_defread.specs.Grammar.{MoreDefs};
 ghost use Rattle.mc_defread.specs.Heads.{CompletesHead};
@@ -57,6 +57,33 @@ impl Drop for At {
     }
 }
 
+impl At {
+    // Takes the next token, where a file is read up to here.
+    fn step(
+        self,
+        alloc: Global,
+        file: &mut FileReader,
+        token: &Token,
+        symbol: Symbol,
+    ) -> Result<FileTook, AllocError>
+        requires { symbol ≡ symbol_of token.now }
+        ensures { IfOk result (λ took. FileTookIs (CompletesAt self file.old.done file.old.head file.old.rules file.old.block file.old.items) (CompletesFile file.new) token.now took) }
+    {
+        match self {
+            At::Outside => Ok(file.outside(alloc, token, symbol)),
+            At::Head(reader) => file.within_head(alloc, reader, token, symbol),
+            At::FirstRule => Ok(file.before_rule(alloc, token, symbol)),
+            At::Rules => file.behind_rule(alloc, token, symbol),
+            At::Brace => Ok(file.before_brace(token, symbol)),
+            At::Start => file.at_start(alloc, token, symbol),
+            At::This(this) => file.behind_this(alloc, this, token, symbol),
+            At::Block(reader) => file.within_block(alloc, reader, token, symbol),
+            At::Items => file.behind_item(alloc, token, symbol),
+            At::Item(reader) => file.within_item(alloc, reader, token, symbol),
+        }
+    }
+}
+
 /// What has been read of a file: whole definitions, and the head, the whole rules, the block and the whole items of the
 /// one that is open.
 #[derive(Drop)]
@@ -103,32 +130,31 @@ impl FileReader {
         ensures { IfOk result (λ took. FileTookIs (CompletesFile self.old) (CompletesFile self.new) token.now took) }
     {
         let symbol = classify(token);
-        match mem::replace(&mut self.at, At::Items) {
-            At::Outside => Ok(self.outside(alloc, token, symbol)),
-            At::Head(reader) => self.within_head(alloc, reader, token, symbol),
-            At::FirstRule => Ok(self.before_rule(alloc, token, symbol)),
-            At::Rules => self.behind_rule(alloc, token, symbol),
-            At::Brace => Ok(self.before_brace(token, symbol)),
-            At::Start => self.at_start(alloc, token, symbol),
-            At::This(this) => self.behind_this(alloc, this, token, symbol),
-            At::Block(reader) => self.within_block(alloc, reader, token, symbol),
-            At::Items => self.behind_item(alloc, token, symbol),
-            At::Item(reader) => self.within_item(alloc, reader, token, symbol),
-        }
+        let at = mem::replace(&mut self.at, At::Items);
+        at.step(alloc, self, token, symbol)
     }
 
     fn outside(&mut self, alloc: Global, token: &Token, symbol: Symbol) -> FileTook
         requires { symbol ≡ symbol_of token.now }
         ensures { FileTookIs (MoreDefs self.old.done) (CompletesFile self.new) token.now result }
     {
-        if token.kind == TokenKind::End {
-            return Took::Closed(mem::replace(&mut self.done, Items::new(alloc)));
+        match token.kind {
+            TokenKind::End => Took::Closed(mem::replace(&mut self.done, Items::new(alloc))),
+            _ => self.begin_def(token, symbol),
         }
-        if !is_word(token, symbol, b"def") {
-            return Took::Stuck;
+    }
+
+    fn begin_def(&mut self, token: &Token, symbol: Symbol) -> FileTook
+        requires now { symbol ≡ symbol_of token.now }
+        requires no_end { token.now.kind ≡ TokenKind.End → ⊥ }
+        ensures { FileTookIs (MoreDefs self.old.done) (CompletesFile self.new) token.now result }
+    {
+        if is_word(token, symbol, b"def") {
+            self.at = At::Head(HeadReader::Name);
+            Took::Taken
+        } else {
+            Took::Stuck
         }
-        self.at = At::Head(HeadReader::Name);
-        Took::Taken
     }
 
     fn within_head(
@@ -176,15 +202,26 @@ impl FileReader {
         requires { symbol ≡ symbol_of token.now }
         ensures { IfOk result (λ took. FileTookIs (RulesEnd self.old.done self.old.head self.old.rules) (CompletesFile self.new) token.now took) }
     {
-        if symbol == Symbol::CloseBrace {
-            self.end_def(alloc)?;
-            return Ok(Took::Taken);
+        match symbol {
+            Symbol::CloseBrace => {
+                self.end_def(alloc)?;
+                Ok(Took::Taken)
+            }
+            _ => Ok(self.next_rule(token, symbol)),
         }
-        if !is_word(token, symbol, b"rule") {
-            return Ok(Took::Stuck);
+    }
+
+    fn next_rule(&mut self, token: &Token, symbol: Symbol) -> FileTook
+        requires now { symbol ≡ symbol_of token.now }
+        requires no_brace { symbol ≡ Symbol.CloseBrace → ⊥ }
+        ensures { FileTookIs (RulesEnd self.old.done self.old.head self.old.rules) (CompletesFile self.new) token.now result }
+    {
+        if is_word(token, symbol, b"rule") {
+            self.at = At::Brace;
+            Took::Taken
+        } else {
+            Took::Stuck
         }
-        self.at = At::Brace;
-        Ok(Took::Taken)
     }
 
     // The open definition is whole.
@@ -224,11 +261,12 @@ impl FileReader {
     {
         if is_word(token, symbol, b"this") {
             self.at = At::This(name_at(alloc, token)?);
-            return Ok(Took::Taken);
+            Ok(Took::Taken)
+        } else {
+            self.block = None;
+            self.items = Items::new(alloc);
+            self.behind_item(alloc, token, symbol)
         }
-        self.block = None;
-        self.items = Items::new(alloc);
-        self.behind_item(alloc, token, symbol)
     }
 
     fn behind_this(
@@ -241,13 +279,17 @@ impl FileReader {
         requires { symbol ≡ symbol_of token.now }
         ensures { IfOk result (λ took. FileTookIs (ThisGoesOn self.old.done self.old.head self.old.rules this) (CompletesFile self.new) token.now took) }
     {
-        if symbol == Symbol::Arrow {
-            self.at = At::Block(BlockReader::Shape);
-            return Ok(Took::Taken);
+        match symbol {
+            Symbol::Arrow => {
+                self.at = At::Block(BlockReader::Shape);
+                Ok(Took::Taken)
+            }
+            _ => {
+                self.block = None;
+                self.items = Items::new(alloc);
+                self.within_item(alloc, ItemReader::Name(this), token, symbol)
+            }
         }
-        self.block = None;
-        self.items = Items::new(alloc);
-        self.within_item(alloc, ItemReader::Name(this), token, symbol)
     }
 
     fn within_block(
@@ -284,11 +326,13 @@ impl FileReader {
         requires { symbol ≡ symbol_of token.now }
         ensures { IfOk result (λ took. FileTookIs (ItemsEnd self.old.done self.old.head self.old.rules self.old.block self.old.items) (CompletesFile self.new) token.now took) }
     {
-        if symbol == Symbol::CloseBrace {
-            self.end_rule(alloc)?;
-            return Ok(Took::Taken);
+        match symbol {
+            Symbol::CloseBrace => {
+                self.end_rule(alloc)?;
+                Ok(Took::Taken)
+            }
+            _ => self.within_item(alloc, ItemReader::Start, token, symbol),
         }
-        self.within_item(alloc, ItemReader::Start, token, symbol)
     }
 
     // The open rule is whole.
