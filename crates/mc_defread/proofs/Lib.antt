@@ -6,3 +6,9 @@ pub mod FileLemmas
 pub mod Ends
 pub mod Viable
 pub mod WholeLemmas
+pub mod Positions
+pub mod Whole
+pub mod Fits
+pub mod OneReading
+pub mod Numbering
+pub mod Folds

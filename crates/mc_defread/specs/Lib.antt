@@ -6,3 +6,6 @@ pub mod Blocks
 pub mod Heads
 pub mod Files
 pub mod Faults
+pub mod Judging
+pub mod Scopes
+pub mod Readings

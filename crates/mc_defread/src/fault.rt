@@ -1,5 +1,5 @@
 // Why a text gives no definitions.
-ghost use Rattle.mc_defread.specs.declared.fault.DefFault.TheVariants.{NoMemory};
+ghost use Rattle.mc_defread.specs.declared.fault.DefFault.TheVariants.{NoMemory, Refused};
 ghost use Rattle.std.specs.Prelude.{◌≡◌};
 
 use mc_base::Place;
@@ -48,5 +48,13 @@ impl From<AllocError> for DefFault {
 
     fn from(_: AllocError) -> DefFault {
         DefFault::NoMemory
+    }
+}
+
+impl From<Refusal> for DefFault {
+    ghost from_gives = { λ refusal fault. fault ≡ Refused refusal };
+
+    fn from(refusal: Refusal) -> DefFault {
+        DefFault::Refused(refusal)
     }
 }
