@@ -1,6 +1,6 @@
 -- What is said of structs fits them.
 use native.Mathlib.Omega.{arith}
-use Rattle.std.proofs.Common.{◌≡◌, ◌≢◌, ℕ, zero, suc, ◌+◌, ◌-◌, ◌<◌, ◌≤◌, ◌*◌, ◌==◌, ℤ, pos, negsuc, neg_ℤ, ◌≤ℤ◌, List, [], ◌∷◌, ◌++◌, length, take, drop, refl, ap, sym, ◌∙◌, subst, append_assoc, Bool, true, false, inl, inr, map}
+use Rattle.std.proofs.Common.{◌≡◌, ◌≢◌, ℕ, zero, suc, ◌+◌, ◌-◌, ◌<◌, ◌≤◌, ◌*◌, ◌==◌, ℤ, pos, negsuc, neg_ℤ, ◌≤ℤ◌, List, [], ◌∷◌, ◌++◌, length, take, drop, get_or, refl, ap, sym, ◌∙◌, subst, append_assoc, Bool, true, false, inl, inr, map}
 use Rattle.std.specs.Prelude.{Option, Some, None, All, Result, Ok, Err, position, slice_get, slice_set, option_map, is_some, replicate, if◌then◌else◌}
 use Rattle.std.proofs.lemmas.Option.{slice_get_within}
 use Rattle.std.proofs.lemmas.List.{length-append}
@@ -21,6 +21,8 @@ use Rattle.mc_defs.specs.declared.shapes.FieldInfo.{FieldInfo}
 use Rattle.mc_defs.specs.Conditions as Conditions
 use Rattle.mc_defs.specs.Conditions.{content_kinds, numbers_from, IsNumber, IsKnown, BaseFits, OffsetFits, SumFits, AtomFits, known_after, AtomsFit, ArgsFit, CallFits, HasNames, RuleFits, RuleFitsStructs, DefFits, DefsFit}
 use Rattle.mc_defread.specs.declared.fault.Refusal.{Refusal}
+use Rattle.mc_defread.specs.declared.fault.Cause.TheVariants as Cause
+use Rattle.mc_defread.specs.declared.tree.Content.{Content}
 use Rattle.mc_defread.specs.declared.tree.Number.{Number}
 use Rattle.mc_defread.specs.declared.tree.Sum.{Sum}
 use Rattle.mc_defread.specs.declared.tree.Sum.TheVariants as Sum
@@ -34,18 +36,19 @@ use Rattle.mc_defread.specs.declared.tree.Parameter.{Parameter}
 use Rattle.mc_defread.specs.declared.tree.DefText.{DefText}
 use Rattle.mc_defread.specs.declared.scope.Added.{Added}
 use Rattle.mc_defread.specs.declared.scope.Known.{Known}
-use Rattle.mc_defread.specs.Judging.{Judged, ◌>>=◌, need, Scope, same_kind, of_kind, known, typed, introduced, value_of, constant, offset, sum, Context, Body, arguments, call_at, call_with, call, with_atom, bounded, item, items, placed, block_of, with_scope, placed, rule_by, this_alone, bare_rule, block_rule, rules, parameters, kinds_of, definition_of, definition, definitions, context_of, judged}
+use Rattle.mc_defread.specs.Judging.{Judged, ◌>>=◌, need, at, number_in, at_end, rule_with, Scope, same_kind, of_kind, known, typed, introduced, value_of, constant, offset, sum, Context, Body, arguments, call_at, call_with, call, with_atom, bounded, item, items, placed, block_of, with_scope, placed, rule_by, this_alone, bare_rule, block_rule, rules, parameters, kinds_of, definition_of, definition, definitions, context_of, judged}
 use Rattle.mc_defread.proofs.Positions.{get_front}
-use Rattle.mc_defread.proofs.Whole.{IsSmall, IsSmallSum, IsSmallItem, IsSmallRule, IsWhole}
+use Rattle.mc_defread.proofs.Whole.{Each, each_push, IsSmall, IsSmallSum, IsSmallItem, IsSmallRule, IsWhole}
 
 -- ---- what is said
 bind_ok : {A B : Type 0} (a : Judged A) (f : A → Judged B) (b : B) → (a >>= f) ≡ Ok b → (x : A) × (a ≡ Ok x) × (f x ≡ Ok b)
 bind_ok (Ok x) f b e = (x, refl, e)
 bind_ok (Err r) f b e = absurd (cc)
 
-need_ok : {A : Type 0} (o : Option A) (r : Refusal) (a : A) → need o r ≡ Ok a → o ≡ Some a
-need_ok (Some b) r a e = cc
-need_ok None r a e = absurd (cc)
+-- what is needed is there
+needs_ok : {A B : Type 0} (o : Option A) (r : Refusal) (f : A → Judged B) (b : B) → (need o r >>= f) ≡ Ok b → (x : A) × (o ≡ Some x) × (f x ≡ Ok b)
+needs_ok (Some x) r f b e = (x, refl, e)
+needs_ok None r f b e = absurd (cc)
 
 then_ok : {A : Type 0} (t : Bool) (a : Judged A) (r : Refusal) (b : A) → (if t then a else Err r) ≡ Ok b → (t ≡ true) × (a ≡ Ok b)
 then_ok true a r b e = (refl, e)
@@ -61,15 +64,18 @@ same_kinds Int Ptr e = absurd (cc)
 same_kinds Ptr Int e = absurd (cc)
 same_kinds Ptr Ptr e = refl
 
-ok_is : {A : Type 0} (a b : A) → Ok {E = Refusal} a ≡ Ok b → a ≡ b
+abbrev ok : {A : Type 0} → A → Judged A
+ok a = Ok a
+
+ok_is : {A : Type 0} (a b : A) → ok a ≡ ok b → a ≡ b
 ok_is a b e = cc
 
 -- ---- names and sums
 known_ok : (scope : Scope) (x : Name) (k : Known) → known scope x ≡ Ok k → slice_get scope.kinds k.number ≡ Some k.kind
 known_ok scope x k e =
-    let s = bind_ok _ _ k e in
-    let t = bind_ok _ _ k s.2 in
-    let there = need_ok _ _ _ t.1 in
+    let s = needs_ok (number_in scope.names x.text) (at Cause.Undetermined x) (λ i. need (slice_get scope.kinds i) (at Cause.Undetermined x) >>= (λ kind. Ok (record { number = i; kind = kind }))) k e in
+    let t = needs_ok (slice_get scope.kinds s.0) (at Cause.Undetermined x) (λ kind. Ok (record { number = s.0; kind = kind })) k s.2 in
+    let there = t.1 in
     let is = ok_is _ k t.2 in
     subst (λ known. slice_get scope.kinds known.number ≡ Some known.kind) is there
 
@@ -85,9 +91,12 @@ typed_ok scope kind x i e =
 is_known : (kinds : List Kind) (kind : Kind) (i : ℕ) → slice_get kinds i ≡ Some kind → IsKnown kinds (length kinds) kind i
 is_known kinds kind i e = (slice_get_within kinds i kind e, e)
 
+signed_fits : (minus : Bool) (v : ℕ) → v ≤ 2147483647 → IsNumber (if minus then neg_ℤ (pos v) else pos v)
+signed_fits true v small = (omega (arith, ints), omega (arith, ints))
+signed_fits false v small = (omega (arith, ints), omega (arith, ints))
+
 number_fits : (n : Number) → IsSmall n → IsNumber (value_of n)
-number_fits (record { minus = true; value = v; place = p }) small = (omega (arith, ints), omega (arith, ints))
-number_fits (record { minus = false; value = v; place = p }) small = (omega (arith, ints), omega (arith, ints))
+number_fits n small = signed_fits n.minus n.value small
 
 zero_fits : IsNumber (pos 0)
 zero_fits = (omega (arith, ints), omega (arith, ints))
@@ -177,12 +186,12 @@ args_more kinds more (i ∷ args) (p ∷ ps) e =
     let others : map (slice_get kinds) args ≡ map (λ k. Some k) ps = cc in
     rw (get_front kinds more i p first, args_more kinds more args ps others) refl
 
-calls_more : (params : List (List Kind)) (kinds more : List Kind) (cs : List Call) → All (Calls params kinds) cs → All (Calls params (kinds ++ more)) cs
+calls_more : (params : List (List Kind)) (kinds more : List Kind) (cs : List Call) → Each (Calls params kinds) cs → Each (Calls params (kinds ++ more)) cs
 calls_more params kinds more [] a = tt
 calls_more params kinds more (c ∷ cs) (one, a) = (record { ps = one.ps; defined = one.defined; pointer = get_front kinds more c.at Ptr one.pointer; args = args_more kinds more c.args one.ps one.args }, calls_more params kinds more cs a)
 
 arguments_fit : (scope : Scope) (ps : List Kind) (xs : List Name) (numbers : List ℕ) → length xs ≡ length ps → arguments scope ps xs ≡ Ok numbers → ArgsFit scope.kinds numbers ps
-arguments_fit scope [] [] numbers same e = rw (sym (ok_is _ numbers e)) refl
+arguments_fit scope [] [] numbers same e = subst (λ l. ArgsFit scope.kinds l []) (ok_is [] numbers e) refl
 arguments_fit scope [] (x ∷ xs) numbers same e = absurd (omega arith)
 arguments_fit scope (k ∷ ks) [] numbers same e = absurd (omega arith)
 arguments_fit scope (k ∷ ks) (x ∷ xs) numbers same e =
@@ -206,15 +215,16 @@ call_with_ok params scope pred ps p (x ∷ xs) c there e =
 
 call_ok : (context : Context) (guarded : Bool) (scope : Scope) (p : Name) (xs : List Name) (c : Call) → call context guarded scope p xs ≡ Ok c → (guarded ≡ true) × Calls context.params scope.kinds c
 call_ok context guarded scope p xs c e =
-    let s = bind_ok _ _ c e in
-    let t = bind_ok _ _ c s.2 in
-    let u = then_ok guarded _ _ c t.2 in
-    (u.0, call_with_ok context.params scope s.0 t.0 p xs c (need_ok _ _ _ t.1) u.1)
+    let go = λ (pred : ℕ) (params : List Kind). if guarded then call_with scope pred params p xs else Err (at Cause.Unguarded p) in
+    let s = needs_ok (position (λ name. is_same name p.text) context.preds) (at Cause.UnknownName p) (λ pred. need (slice_get context.params pred) (at Cause.UnknownName p) >>= go pred) c e in
+    let t = needs_ok (slice_get context.params s.0) (at Cause.UnknownName p) (go s.0) c s.2 in
+    let u = then_ok guarded (call_with scope s.0 t.0 p xs) (at Cause.Unguarded p) c t.2 in
+    (u.0, call_with_ok context.params scope s.0 t.0 p xs c t.1 u.1)
 
 -- ---- what a rule says up to an item
 record BodyFits (params : List (List Kind)) (front : ℕ) (body : Body) : Type 0 where
   atoms : AtomsFit body.scope.kinds front body.atoms
-  calls : All (Calls params body.scope.kinds) body.calls
+  calls : Each (Calls params body.scope.kinds) body.calls
 
 -- a body behind an item: names are added at the end, and calls stand in a rule with a block alone
 record Goes (context : Context) (guarded : Bool) (front : ℕ) (body next : Body) : Type 0 where
@@ -222,10 +232,6 @@ record Goes (context : Context) (guarded : Bool) (front : ℕ) (body next : Body
   grown : next.scope.kinds ≡ body.scope.kinds ++ more
   fits : BodyFits context.params front next
   bare : guarded ≡ false → body.calls ≡ [] → next.calls ≡ []
-
-all_push : {X : Type 0} {P : X → Type 0} (xs : List X) (x : X) → All P xs → P x → All P (xs ++ x ∷ [])
-all_push [] x a p = (p, tt)
-all_push (y ∷ xs) x a p = (a.0, all_push xs x a.1 p)
 
 -- a scope that stays, and one more atom
 goes_atom : (context : Context) (guarded : Bool) (front : ℕ) (body next : Body) (a : DefAtom) → BodyFits context.params front body → AtomFits body.scope.kinds (length body.scope.kinds) a → known_after (length body.scope.kinds) a ≡ length body.scope.kinds → with_atom body body.scope a ≡ next → Goes context guarded front body next
@@ -249,7 +255,7 @@ item_ok context guarded front body next (Item.Call p xs) small b e =
     subst (λ n. Goes context guarded front body n) is (record {
       more = [];
       grown = sym (append_nil body.scope.kinds);
-      fits = record { atoms = b.atoms; calls = all_push body.calls s.0 b.calls c.1 };
+      fits = record { atoms = b.atoms; calls = each_push (Calls context.params body.scope.kinds) body.calls s.0 b.calls c.1 };
       bare = λ g e. absurd (let both = sym c.0 ∙ g in cc);
     })
 item_ok context guarded front body next (Item.Relates x (Fixes kind) s) small b e =
@@ -298,7 +304,7 @@ goes_through context guarded front body mid next g h = record {
   bare = λ f e. h.bare f (g.bare f e);
 }
 
-items_ok : (context : Context) (guarded : Bool) (front : ℕ) (body next : Body) (is : List Item) → All IsSmallItem is → BodyFits context.params front body → items context guarded body is ≡ Ok next → Goes context guarded front body next
+items_ok : (context : Context) (guarded : Bool) (front : ℕ) (body next : Body) (is : List Item) → Each IsSmallItem is → BodyFits context.params front body → items context guarded body is ≡ Ok next → Goes context guarded front body next
 items_ok context guarded front body next [] small b e = subst (λ n. Goes context guarded front body n) (ok_is _ next e) (record { more = []; grown = sym (append_nil body.scope.kinds); fits = b; bare = λ g e. e })
 items_ok context guarded front body next (i ∷ is) small b e =
     let s = bind_ok _ _ next e in
@@ -319,9 +325,10 @@ placed_ok : (b : Block) (scope next : Scope) (fields : List FieldInfo) (held : L
 placed_ok b scope next [] held e = ap (λ s. s.kinds) (sym (ok_is _ next e)) ∙ sym (append_nil scope.kinds)
 placed_ok b scope next (field ∷ fields) [] e = absurd (cc)
 placed_ok b scope next (field ∷ fields) (one ∷ held) e =
-    let s = bind_ok _ _ next e in
-    let t = bind_ok _ _ next s.2 in
-    placed_ok b _ next fields held t.2 ∙ append_assoc scope.kinds (field.kind ∷ []) (field_kinds fields)
+    let go = λ (c : Content). placed b (record { names = scope.names ++ c.name.text ∷ []; kinds = scope.kinds ++ field.kind ∷ [] }) fields held in
+    let s = needs_ok one (at_end b) (λ number. need (slice_get b.contents number) (at_end b) >>= go) next e in
+    let t = needs_ok (slice_get b.contents s.0) (at_end b) go next s.2 in
+    placed_ok b (record { names = scope.names ++ t.0.name.text ∷ []; kinds = scope.kinds ++ field.kind ∷ [] }) next fields held t.2 ∙ append_assoc scope.kinds (field.kind ∷ []) (field_kinds fields)
 
 block_ok : (scope next : Scope) (info : StructInfo) (b : Block) → block_of scope info b ≡ Ok next → next.kinds ≡ scope.kinds ++ field_kinds info.fields
 block_ok scope next info b e = let s = bind_ok _ _ next e in placed_ok b scope next info.fields s.0.fields s.2
@@ -331,7 +338,7 @@ record RuleOk (context : Context) (ps : List Kind) (r : Rule) : Type 0 where
   block : Conditions.kinds_of context.structs r.block ≡ Some (content_kinds ps r)
   names : HasNames ps r
   guarded : r.block ≡ None → r.calls ≡ []
-  calls : All (Calls context.params r.names) r.calls
+  calls : Each (Calls context.params r.names) r.calls
 
 take_seam : {X : Type 0} (xs ys : List X) → take (length xs) (xs ++ ys) ≡ xs
 take_seam [] ys = refl
@@ -345,7 +352,7 @@ numbers_long : (first count : ℕ) → length (numbers_from first count) ≡ cou
 numbers_long first zero = refl
 numbers_long first (suc count) = ap (λ n. suc n) (numbers_long (suc first) count)
 
-bare_rule_ok : (context : Context) (scope : Scope) (ps : List Kind) (is : List Item) (r : Rule) → scope.kinds ≡ Ptr ∷ ps → All IsSmallItem is → bare_rule context scope is ≡ Ok r → RuleOk context ps r
+bare_rule_ok : (context : Context) (scope : Scope) (ps : List Kind) (is : List Item) (r : Rule) → scope.kinds ≡ Ptr ∷ ps → Each IsSmallItem is → bare_rule context scope is ≡ Ok r → RuleOk context ps r
 bare_rule_ok context scope ps is r front small e =
     let s = bind_ok _ _ r e in
     let begins : suc (length ps) ≡ length scope.kinds = sym (ap length front) in
@@ -362,12 +369,14 @@ bare_rule_ok context scope ps is r front small e =
       calls = g.fits.calls;
     })
 
-block_rule_ok : (context : Context) (scope : Scope) (ps : List Kind) (b : Block) (is : List Item) (r : Rule) → scope.kinds ≡ Ptr ∷ ps → All IsSmallItem is → block_rule context scope b is ≡ Ok r → RuleOk context ps r
+block_rule_ok : (context : Context) (scope : Scope) (ps : List Kind) (b : Block) (is : List Item) (r : Rule) → scope.kinds ≡ Ptr ∷ ps → Each IsSmallItem is → block_rule context scope b is ≡ Ok r → RuleOk context ps r
 block_rule_ok context scope ps b is r front small e =
-    let s = bind_ok _ _ r e in
-    let t = bind_ok _ _ r s.2 in
-    let u = bind_ok _ _ r t.2 in
-    let v = bind_ok _ _ r u.2 in
+    let last = λ (shape : ℕ) (inner : Scope) (body : Body). ok (rule_with (Some (record { 0 = shape })) (numbers_from (length scope.kinds) (length inner.kinds - length scope.kinds)) body) in
+    let middle = λ (shape : ℕ) (info : StructInfo). block_of scope info b >>= (λ inner. items context true (with_scope inner) is >>= last shape inner) in
+    let s = needs_ok (position (λ name. is_same name b.shape.text) context.shapes) (at Cause.UnknownName b.shape) (λ shape. need (slice_get context.structs shape) (at Cause.UnknownName b.shape) >>= middle shape) r e in
+    let t = needs_ok (slice_get context.structs s.0) (at Cause.UnknownName b.shape) (middle s.0) r s.2 in
+    let u = bind_ok (block_of scope t.0 b) (λ inner. items context true (with_scope inner) is >>= last s.0 inner) r t.2 in
+    let v = bind_ok (items context true (with_scope u.0) is) (last s.0 u.0) r u.2 in
     let fields = field_kinds t.0.fields in
     let inner : u.0.kinds ≡ (Ptr ∷ ps) ++ fields = block_ok scope u.0 t.0 b u.1 ∙ ap (λ ks. ks ++ fields) front in
     let long : length u.0.kinds ≡ suc (length ps) + length fields = ap length inner ∙ length-append (Ptr ∷ ps) fields in
@@ -378,7 +387,7 @@ block_rule_ok context scope ps b is r front small e =
     let held = numbers_from (length scope.kinds) (length u.0.kinds - length scope.kinds) in
     let held_is : held ≡ numbers_from (suc (length ps)) (length fields) = rw (short, ap (λ n. n) count) refl in
     let held_long : length held ≡ length fields = ap length held_is ∙ numbers_long (suc (length ps)) (length fields) in
-    let there : slice_get context.structs s.0 ≡ Some t.0 = need_ok _ _ _ t.1 in
+    let there : slice_get context.structs s.0 ≡ Some t.0 = t.1 in
     let inside : take (length held) (drop (suc (length ps)) v.0.scope.kinds) ≡ fields =
         ap (λ n. take n (drop (suc (length ps)) v.0.scope.kinds)) held_long ∙ ap (λ ks. take (length fields) (drop (suc (length ps)) ks)) whole ∙ ap (take (length fields)) (drop_seam (Ptr ∷ ps) (fields ++ g.more)) ∙ take_seam fields g.more in
     subst (RuleOk context ps) (ok_is _ r v.2) (record {
@@ -392,28 +401,29 @@ block_rule_ok context scope ps b is r front small e =
       calls = g.fits.calls;
     })
 
-rule_ok : (context : Context) (scope : Scope) (ps : List Kind) (b : Option Block) (is : List Item) (r : Rule) → scope.kinds ≡ Ptr ∷ ps → All IsSmallItem is → rule_by context scope b is ≡ Ok r → RuleOk context ps r
+rule_ok : (context : Context) (scope : Scope) (ps : List Kind) (b : Option Block) (is : List Item) (r : Rule) → scope.kinds ≡ Ptr ∷ ps → Each IsSmallItem is → rule_by context scope b is ≡ Ok r → RuleOk context ps r
 rule_ok context scope ps None is r front small e = bare_rule_ok context scope ps is r front small e
 rule_ok context scope ps (Some b) is r front small e = block_rule_ok context scope ps b is r front small e
 
-rules_ok : (context : Context) (scope : Scope) (ps : List Kind) (texts : List RuleText) (rs : List Rule) → scope.kinds ≡ Ptr ∷ ps → All IsSmallRule texts → rules context scope texts ≡ Ok rs → All (RuleOk context ps) rs
-rules_ok context scope ps [] rs front small e = subst (All (RuleOk context ps)) (ok_is _ rs e) tt
+rules_ok : (context : Context) (scope : Scope) (ps : List Kind) (texts : List RuleText) (rs : List Rule) → scope.kinds ≡ Ptr ∷ ps → Each IsSmallRule texts → rules context scope texts ≡ Ok rs → Each (RuleOk context ps) rs
+rules_ok context scope ps [] rs front small e = subst (Each (RuleOk context ps)) (ok_is _ rs e) tt
 rules_ok context scope ps (t ∷ texts) rs front small e =
     let s = bind_ok _ _ rs e in
     let u = bind_ok _ _ rs s.2 in
-    subst (All (RuleOk context ps)) (ok_is _ rs u.2) (rule_ok context scope ps t.block t.items s.0 front small.0 s.1, rules_ok context scope ps texts u.0 front small.1 u.1)
+    let both : Each (RuleOk context ps) (s.0 ∷ u.0) = (rule_ok context scope ps t.block t.items s.0 front small.0 s.1, rules_ok context scope ps texts u.0 front small.1 u.1) in
+    subst (Each (RuleOk context ps)) (ok_is _ rs u.2) both
 
 some_rules : (context : Context) (scope : Scope) (texts : List RuleText) (rs : List Rule) → texts ≢ [] → rules context scope texts ≡ Ok rs → rs ≢ []
 some_rules context scope [] rs some e = absurd (some refl)
 some_rules context scope (t ∷ texts) rs some e =
     let s = bind_ok _ _ rs e in
     let u = bind_ok _ _ rs s.2 in
-    let is = ok_is _ rs u.2 in λ none. cc
+    let is : s.0 ∷ u.0 ≡ rs = ok_is _ rs u.2 in λ none. absurd (let both : s.0 ∷ u.0 ≡ [] = is ∙ none in cc)
 
 -- ---- definitions
 record DefOk (context : Context) (d : Def) : Type 0 where
   some : d.rules ≢ []
-  rules : All (RuleOk context d.params) d.rules
+  rules : Each (RuleOk context d.params) d.rules
 
 definition_of_ok : (context : Context) (t : DefText) (d : Def) → IsWhole t → definition_of context t ≡ Ok d → DefOk context d × (d.params ≡ kinds_of t.head.params)
 definition_of_ok context t d whole e =
@@ -427,27 +437,34 @@ definition_of_ok context t d whole e =
 
 definition_ok : (context : Context) (n : ℕ) (t : DefText) (d : Def) → IsWhole t → definition context n t ≡ Ok d → DefOk context d × (d.params ≡ kinds_of t.head.params)
 definition_ok context n t d whole e =
-    let s = bind_ok _ _ d e in
-    let u = then_ok _ _ _ d s.2 in definition_of_ok context t d whole u.1
+    let s = needs_ok (position (λ name. is_same name t.head.name.text) context.preds) (at Cause.Twice t.head.name) (λ first. if first == n then definition_of context t else Err (at Cause.Twice t.head.name)) d e in
+    let u = then_ok (s.0 == n) (definition_of context t) (at Cause.Twice t.head.name) d s.2 in definition_of_ok context t d whole u.1
 
-definitions_ok : (context : Context) (n : ℕ) (ts : List DefText) (ds : List Def) → All IsWhole ts → definitions context n ts ≡ Ok ds → All (DefOk context) ds × (map (λ d. d.params) ds ≡ map (λ t. kinds_of t.head.params) ts)
-definitions_ok context n [] ds whole e = let is = ok_is _ ds e in (subst (All (DefOk context)) is tt, ap (map (λ d. d.params)) (sym is))
+definitions_ok : (context : Context) (n : ℕ) (ts : List DefText) (ds : List Def) → Each IsWhole ts → definitions context n ts ≡ Ok ds → Each (DefOk context) ds × (map (λ d. d.params) ds ≡ map (λ t. kinds_of t.head.params) ts)
+definitions_ok context n [] ds whole e = let is = ok_is _ ds e in (subst (Each (DefOk context)) is tt, ap (map (λ d. d.params)) (sym is))
 definitions_ok context n (t ∷ ts) ds whole e =
     let s = bind_ok _ _ ds e in
     let u = bind_ok _ _ ds s.2 in
     let is = ok_is _ ds u.2 in
     let one = definition_ok context n t s.0 whole.0 s.1 in
     let more = definitions_ok context (suc n) ts u.0 whole.1 u.1 in
-    (subst (All (DefOk context)) is (one.0, more.0), ap (map (λ d. d.params)) (sym is) ∙ (rw (one.1, more.1) refl))
+    let both : Each (DefOk context) (s.0 ∷ u.0) = (one.0, more.0) in
+    (subst (Each (DefOk context)) is both, ap (map (λ d. d.params)) (sym is) ∙ (rw (one.1, more.1) refl))
 
 get_mapped : (ds : List Def) (i : ℕ) (ps : List Kind) → slice_get (map (λ d. d.params) ds) i ≡ Some ps → (d : Def) × (slice_get ds i ≡ Some d) × (d.params ≡ ps)
 get_mapped [] i ps e = absurd (cc)
 get_mapped (d ∷ ds) zero ps e = (d, refl, cc)
 get_mapped (d ∷ ds) (suc i) ps e = get_mapped ds i ps e
 
-all_map : {X : Type 0} {P Q : X → Type 0} (xs : List X) → ((x : X) → P x → Q x) → All P xs → All Q xs
-all_map [] f a = tt
-all_map (x ∷ xs) f (p, a) = (f x p, all_map xs f a)
+all_cons : {X : Type 0} (Q : X → Type 0) (x : X) (xs : List X) → Q x → All Q xs → All Q (x ∷ xs)
+all_cons {X} Q x xs p a = λ k d below. go k d below where
+  go : (k : ℕ) (d : X) → k < length (x ∷ xs) → Q (get_or (x ∷ xs) k d)
+  go zero d below = p
+  go (suc k) d below = a k d (omega arith)
+
+all_of : {X : Type 0} {P : X → Type 0} (Q : X → Type 0) (xs : List X) → ((x : X) → P x → Q x) → Each P xs → All Q xs
+all_of Q [] f a = λ k d below. absurd (omega arith)
+all_of Q (x ∷ xs) f (p, a) = all_cons Q x xs (f x p) (all_of Q xs f a)
 
 calls_fit : (params : List (List Kind)) (ds : List Def) (names : List Kind) → map (λ d. d.params) ds ≡ params → (c : Call) → Calls params names c → CallFits ds names c
 calls_fit params ds names same c f =
@@ -457,12 +474,12 @@ calls_fit params ds names same c f =
 rule_fits : (context : Context) (ds : List Def) (ps : List Kind) → map (λ d. d.params) ds ≡ context.params → (r : Rule) → RuleOk context ps r → RuleFitsStructs context.structs ds ps r
 rule_fits context ds ps same r f = record {
   block = f.block;
-  fits = record { names = f.names; guarded = f.guarded; calls = all_map r.calls (calls_fit context.params ds r.names same) f.calls };
+  fits = record { names = f.names; guarded = f.guarded; calls = all_of (CallFits ds r.names) r.calls (calls_fit context.params ds r.names same) f.calls };
 }
 
 -- what is said of a file fits the structs
-pub judged_fits : (structs : List StructInfo) (file : List DefText) (ds : List Def) → All IsWhole file → judged structs file ≡ Ok ds → DefsFit structs ds
+pub judged_fits : (structs : List StructInfo) (file : List DefText) (ds : List Def) → Each IsWhole file → judged structs file ≡ Ok ds → DefsFit structs ds
 judged_fits structs file ds whole e =
     let context = context_of structs file in
     let f = definitions_ok context 0 file ds whole e in
-    all_map ds (λ d g. record { some = g.some; rules = all_map d.rules (rule_fits context ds d.params f.1) g.rules }) f.0
+    all_of (DefFits structs ds) ds (λ d g. record { some = g.some; rules = all_of (RuleFitsStructs structs ds d.params) d.rules (rule_fits context ds d.params f.1) g.rules }) f.0

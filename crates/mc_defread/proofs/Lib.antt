@@ -12,3 +12,4 @@ pub mod Fits
 pub mod OneReading
 pub mod Numbering
 pub mod Folds
+pub mod Sayings

@@ -183,6 +183,16 @@ impl<'a, 'b> Body<'a, 'b> {
         Ok(())
     }
 
+    fn relate(&mut self, name: &'a Name, relation: Relation, sum: &Sum) -> Result<(), DefFault>
+        ensures { (context : Context) (guarded : Bool) → Finds (item context guarded (body_of self.old) (Item.Relates name.now relation sum.now)) (λ done. body_of self.new) result }
+    {
+        match relation {
+            Relation::Fixes(kind) => self.fix(kind, name, sum),
+            Relation::Equals => self.equal(name, sum),
+            Relation::Differs => self.differ(name, sum),
+        }
+    }
+
     fn bound(&mut self, name: &Name, bound: Bound, number: Number) -> Result<(), DefFault>
         ensures { (context : Context) (guarded : Bool) → Finds (item context guarded (body_of self.old) (Item.Bounds name.now bound number)) (λ done. body_of self.new) result }
     {
@@ -220,9 +230,7 @@ impl<'a, 'b> Body<'a, 'b> {
     {
         match one {
             Item::Call(name, args) => self.call(alloc, setting, guarded, name, args.as_slice()),
-            Item::Relates(name, Relation::Fixes(kind), sum) => self.fix(*kind, name, sum),
-            Item::Relates(name, Relation::Equals, sum) => self.equal(name, sum),
-            Item::Relates(name, Relation::Differs, sum) => self.differ(name, sum),
+            Item::Relates(name, relation, sum) => self.relate(name, *relation, sum),
             Item::Bounds(name, bound, number) => self.bound(name, *bound, *number),
         }
     }

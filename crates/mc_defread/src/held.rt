@@ -1,7 +1,7 @@
 // Blocks, judged content by content.
 ghost use Rattle.mc_defread.specs.Judging.{number_in, holds, contents, placed, block_of, Finds};
 ghost use Rattle.mc_defread.specs.Scopes.{scope_of, held_of};
-ghost use Rattle.std.specs.Prelude.{◌≡◌, ◌++◌, ◌≤◌, [], None, IfOk, is_some, length, map, replicate};
+ghost use Rattle.std.specs.Prelude.{◌≡◌, ◌++◌, ◌≤◌, [], None, IfOk, is_some, slice_get, length, map, replicate};
 
 use crate::fault::{Cause, DefFault, Refusal};
 use crate::kept::Scope;
@@ -29,8 +29,18 @@ fn is_taken(front: &Names, own: &Names, name: &Text) -> bool
     }
     match front.place(name) {
         Some(_) => true,
-        None => own.place(name).is_some(),
+        None => match own.place(name) {
+            Some(_) => true,
+            None => false,
+        },
     }
+}
+
+// Which content names the field of this number.
+fn holder(fields: &[Option<usize>], place: usize) -> Option<Option<usize>>
+    ensures { result ≡ slice_get fields.now place }
+{
+    fields.get(place).copied()
 }
 
 fn at_end(block: &Block) -> DefFault
@@ -54,7 +64,7 @@ impl<'a, 'b> Held<'a, 'b> {
         let Some(place) = names.place(&content.field.text) else {
             return Err(DefFault::Refused(at(Cause::UnknownName, &content.field)));
         };
-        match self.fields.get(place) {
+        match holder(self.fields.as_slice(), place) {
             None => return Err(DefFault::Refused(at(Cause::UnknownName, &content.field))),
             Some(Some(_)) => return Err(DefFault::Refused(at(Cause::Twice, &content.field))),
             Some(None) => {}
@@ -109,13 +119,14 @@ impl<'a, 'b> Scope<'a, 'b> {
     ) -> Result<(), DefFault>
         ensures { Finds (placed block.now (scope_of self.old) fields.now held.now) (λ done. scope_of self.new) result }
     {
-        let contents = block.contents.as_slice();
         for (i, field) in fields.iter().enumerate() {
-            let Some(Some(number)) = held.get(i) else {
-                return Err(at_end(block));
+            let number = match holder(held, i) {
+                Some(Some(number)) => number,
+                Some(None) | None => return Err(at_end(block)),
             };
-            let Some(content) = contents.get(*number) else {
-                return Err(at_end(block));
+            let content = match block.contents.get(number) {
+                Some(content) => content,
+                None => return Err(at_end(block)),
             };
             self.push(field.kind, &content.name.text)?;
         }

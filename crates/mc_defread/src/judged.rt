@@ -21,8 +21,8 @@ fn numbers_between(alloc: Global, first: usize, last: usize) -> Result<Items<u64
     ensures { IfOk result (λ numbers. numbers ≡ numbers_from first (last - first)) }
 {
     let mut numbers = Items::new(alloc);
-    for number in first..last {
-        numbers.push(number as u64)?;
+    for i in 0..last.saturating_sub(first) {
+        numbers.push((first + i) as u64)?;
     }
     Ok(numbers)
 }

@@ -174,6 +174,7 @@ impl<'a, 'b> Scope<'a, 'b> {
     pub fn push(&mut self, kind: Kind, name: &'a Text) -> Result<(), AllocError>
         ensures ok { OnOk result (scope_of self.new ≡ with_name (scope_of self.old) kind name.now) }
         ensures err { OnErr result (scope_of self.new ≡ scope_of self.old) }
+        ensures front { self.new.front.now ≡ self.old.front.now }
     {
         self.kinds.push(kind)?;
         if let Err(fault) = self.own.push(name) {
@@ -185,7 +186,8 @@ impl<'a, 'b> Scope<'a, 'b> {
 
     /// Introduces a name.
     pub fn introduce(&mut self, kind: Kind, name: &'a Name) -> Result<(), DefFault>
-        ensures { Finds (introduced (scope_of self.old) kind name.now) (λ done. scope_of self.new) result }
+        ensures found { Finds (introduced (scope_of self.old) kind name.now) (λ done. scope_of self.new) result }
+        ensures front { self.new.front.now ≡ self.old.front.now }
     {
         if self.place(&name.text).is_some() {
             return Err(DefFault::Refused(at(Cause::Twice, name)));
