@@ -65,3 +65,6 @@ placed_step b s fields fs held hs f n c e h there = rw (e, h) (rw there refl)
 
 pub placed_none : (b : Block) (s : Scope) (fields fs : List FieldInfo) (held hs : List (Option ℕ)) (f : FieldInfo) (n : ℕ) → fields ≡ f ∷ fs → held ≡ Some n ∷ hs → slice_get b.contents n ≡ None → placed b s fields held ≡ Err (at_end b)
 placed_none b s fields fs held hs f n e h there = rw (e, h) (rw there refl)
+
+pub placed_missing : (b : Block) (s : Scope) (fields fs : List FieldInfo) (held hs : List (Option ℕ)) (f : FieldInfo) → fields ≡ f ∷ fs → held ≡ None ∷ hs → placed b s fields held ≡ Err (at_end b)
+placed_missing b s fields fs held hs f e h = rw (e, h) refl
