@@ -122,7 +122,8 @@ impl<'a, 'b> Scope<'a, 'b> {
         for (i, field) in fields.iter().enumerate() {
             let number = match holder(held, i) {
                 Some(Some(number)) => number,
-                Some(None) | None => return Err(at_end(block)),
+                Some(None) => return Err(at_end(block)),
+                None => return Err(at_end(block)),
             };
             let content = match block.contents.get(number) {
                 Some(content) => content,
