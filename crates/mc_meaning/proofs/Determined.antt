@@ -10,7 +10,7 @@ use Rattle.mc_ast.specs.declared.trees.Malloc.{Malloc}
 use Rattle.mc_ast.specs.Trees.{Left, Expr, number, null, input, value, minus, parens, times, plus, less, Cond, plain, compare, negation, enclosed, both, either, CallTree, Right, expression, result_of, allocation, SimpleTree, assign, add, subtract, increment, decrement, increment_first, decrement_first, call, Stmt, declaration, block, empty, simple, free, assert, assume, assume_shape, assert_shape, assert_empty, if_only, if_else, while_loop, do_loop, for_loop, break_loop, continue_loop, returns, FunctionTree}
 use Rattle.mc_types.specs.Tables.{Tables, Variable, variable_of, called_function}
 use Rattle.mc_types.specs.Scopes.{visible, declare}
-use Rattle.mc_meaning.specs.Configs.{Program, Values, with_variable, Target, perform, declare_all, finish_turn, again, test, always, end_block, end_loop, end_turn, end_call, take_result, Tasks, done, task, Branch, Config, Result}
+use Rattle.mc_meaning.specs.Configs.{Program, Values, Target, perform, declare_all, finish_turn, again, test, always, end_block, end_loop, end_turn, end_call, take_result, Tasks, done, task, Branch, Config, Result}
 use Rattle.mc_meaning.specs.Values.{Here, Evaluated, fault_of, value_of, IsInput, right_operand, AfterLeft, Evaluates}
 use Rattle.mc_meaning.specs.Moves.{Arrives, here, there}
 use Rattle.mc_meaning.specs.Steps.{put_before, AfterValue, WithValue, Allocates, Arguments, no_arguments, arguments, AfterFirst, EvaluateAll, AfterArguments, Passes, Assigns, Performs, Declares, AddsShape, Assumes, Demands, Asserts, Returns, Tests, Executes, Does, Step, where_is, simple_place}
@@ -88,13 +88,13 @@ passes h c target place rest choices r s (x, is, i) (y, is', j) =
     after_arguments h (called_function h.tables c.function.text) target place rest x r s i
     (subst (λ z. AfterArguments h (called_function h.tables c.function.text) target place rest z s) (sym (evaluate_all h c.arguments choices x y is is')) j)
 
-assigns : (h : Here) (l : Left) (right : Right) (place : Place) (rest : Tasks) (choices : List Choice) → IsDetermined (Assigns h l right place rest choices)
-assigns h l (expression e) place rest choices = with_value h e place choices _ (λ v left r s i j. joined i j)
-assigns h l (result_of c) place rest choices = passes h c _ place rest choices
-assigns h l (allocation m) place rest choices = allocates h m choices _ (λ v heap left r s i j. joined i j)
+assigns : (h : Here) (vs : List Variable) (l : Left) (right : Right) (place : Place) (rest : Tasks) (choices : List Choice) → IsDetermined (Assigns h vs l right place rest choices)
+assigns h vs l (expression e) place rest choices = with_value h e place choices _ (λ v left r s i j. joined i j)
+assigns h vs l (result_of c) place rest choices = passes h c _ place rest choices
+assigns h vs l (allocation m) place rest choices = allocates h m choices _ (λ v heap left r s i j. joined i j)
 
 performs : (h : Here) (x : SimpleTree) (place : Place) (rest : Tasks) (choices : List Choice) → IsDetermined (Performs h x place rest choices)
-performs h (assign l right) place rest choices = assigns h l right place rest choices
+performs h (assign l right) place rest choices = assigns h h.variables l right place rest choices
 performs h (add l e) place rest choices = with_value h e place choices _ (λ v left r s i j. joined i j)
 performs h (subtract l e) place rest choices = with_value h e place choices _ (λ v left r s i j. joined i j)
 performs h (increment l) place rest choices = λ r s i j. joined i j
@@ -105,7 +105,7 @@ performs h (call c) place rest choices = passes h c _ place rest choices
 
 declares : (h : Here) (x : Variable) (right : Option Right) (place : Place) (rest : Tasks) (choices : List Choice) → IsDetermined (Declares h x right place rest choices)
 declares h x None place rest choices = λ r s i j. joined i j
-declares h x (Some right) place rest choices = assigns h (record { name = record { text = x.name; place = x.place }; fields = [] }) right place rest choices
+declares h x (Some right) place rest choices = assigns h (x ∷ []) (record { name = record { text = x.name; place = x.place }; fields = [] }) right place rest choices
 
 adds_shape : (defs : List Def) (predicate : Name) (args : List ℤ) (h : Here) (x : Name) (rest : Tasks) (place : Place) (choices : List Choice) → IsDetermined (AddsShape defs predicate args h x rest place choices)
 adds_shape defs predicate args h x rest place [] r s i j = elim i [ ]
@@ -166,14 +166,14 @@ does : (p : Program) (values : Values) (heap : Heap) (tasks : Tasks) (choices : 
 does p values heap done choices = λ r s i j. joined i j
 does p values heap (task (perform s a) rest) choices = executes p.defs (where_is p.tables (visible s) values heap) a rest choices
 does p values heap (task (declare_all s place base []) rest) choices = λ r t i j. elim i [ ]
-does p values heap (task (declare_all s place base (item ∷ items)) rest) choices = declares (where_is p.tables (visible (declare s (variable_of p.tables base item.declarator))) (with_variable values (variable_of p.tables base item.declarator).place None) heap) (variable_of p.tables base item.declarator) item.value place (task (declare_all (declare s (variable_of p.tables base item.declarator)) place base items) rest) choices
+does p values heap (task (declare_all s place base (item ∷ items)) rest) choices = declares (where_is p.tables (visible (declare s (variable_of p.tables base item.declarator))) values heap) (variable_of p.tables base item.declarator) item.value place (task (declare_all (declare s (variable_of p.tables base item.declarator)) place base items) rest) choices
 does p values heap (task (finish_turn vs x) rest) choices = performs (where_is p.tables vs values heap) x (simple_place x) rest choices
 does p values heap (task (again s a) rest) choices = λ r t i j. elim i [ ]
 does p values heap (task (test vs c a b) rest) choices = tests (where_is p.tables vs values heap) c a b choices
 does p values heap (task (always go) rest) choices = λ r s i j. joined i j
-does p values heap (task (end_block s) rest) choices = λ r t i j. elim i [ ]
-does p values heap (task (end_loop s) rest) choices = λ r t i j. elim i [ ]
-does p values heap (task (end_turn s) rest) choices = λ r t i j. elim i [ ]
+does p values heap (task (end_block vs) rest) choices = λ r t i j. elim i [ ]
+does p values heap (task (end_loop vs) rest) choices = λ r t i j. elim i [ ]
+does p values heap (task end_turn rest) choices = λ r t i j. elim i [ ]
 does p values heap (task (end_call saved target) rest) choices = λ r t i j. elim i [ ]
 does p values heap (task (take_result target v) rest) choices = λ r s i j. joined i j
 

@@ -9,7 +9,7 @@ use Rattle.mc_defs.specs.declared.rules.Def.{Def}
 use Rattle.mc_ast.specs.declared.trees.Base.{Base}
 use Rattle.mc_ast.specs.Trees.{Left, Cond, InitialTree, SimpleTree, Stmt}
 use Rattle.mc_types.specs.Tables.{Tables, Variable}
-use Rattle.mc_types.specs.Scopes.{Scope, visible}
+use Rattle.mc_types.specs.Scopes.{Scope}
 
 -- what a program's names mean, and the definitions of its shapes
 pub record Program : Type 0 where
@@ -30,11 +30,12 @@ is_place p q = p.line == q.line && p.column == q.column
 abbrev pub with_variable : Values → Place → Option ℤ → Values
 with_variable values place value other = if is_place other place then value else values other
 
--- only the variables of the scope keep what they hold
-abbrev pub within : Scope → Values → Values
-within scope values place = if list_any (λ v. is_place v.place place) (visible scope) then values place else None
+-- these variables are undefined, and the others hold what they held
+abbrev pub without : List Variable → Values → Values
+without variables values place = if list_any (λ v. is_place v.place place) variables then None else values place
 
--- where the result of a call goes: nowhere, to a variable or field at the place of its statement, or back as a result
+-- where the result of a call goes: nowhere, to one of these variables or a field behind it at the place of its statement,
+-- or back as a result
 pub data Target : Type 0 where
   nowhere : Target
   stored : List Variable → Left → Place → Target
@@ -53,10 +54,11 @@ mutual
     test : List Variable → Cond → Branch → Branch → Task
     -- a condition of a `for` that is missing
     always : Tasks → Task
-    -- the end of a block; the end of a loop, behind which `break` goes; the end of a turn, to which `continue` goes
-    end_block : Scope → Task
-    end_loop : Scope → Task
-    end_turn : Scope → Task
+    -- the end of a block, and the end of a loop, behind which `break` goes: the block's variables, and those of the
+    -- loop's head, are undefined from there on; the end of a turn, to which `continue` goes
+    end_block : List Variable → Task
+    end_loop : List Variable → Task
+    end_turn : Task
     -- the end of a function, with what the caller's variables hold
     end_call : Values → Target → Task
     -- the result of a call is taken

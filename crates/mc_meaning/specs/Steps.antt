@@ -31,6 +31,10 @@ use Rattle.mc_meaning.specs.Configs.{Program, Values, no_values, with_variable, 
 use Rattle.mc_meaning.specs.Values.{Here, held, Evaluated, fault_of, value_of, Evaluates, Changed, fault_in, changed, set_variable, assigned, combined}
 use Rattle.mc_meaning.specs.Moves.{in_a_row, given, Arrives}
 
+-- where something is computed
+abbrev pub where_is : Tables → List Variable → Values → Heap → Here
+where_is t vs values heap = record { tables = t; variables = vs; values = values; heap = heap }
+
 -- ---- what a step leads to
 -- the run goes on with these tasks, or faults at the place
 abbrev pub after : Tasks → Place → List Choice → Changed → Result
@@ -56,9 +60,9 @@ returning (task (finish_turn vs x) rest) v = returning rest v
 returning (task (again s a) rest) v = returning rest v
 returning (task (test vs c a b) rest) v = returning rest v
 returning (task (always a) rest) v = returning rest v
-returning (task (end_block s) rest) v = returning rest v
-returning (task (end_loop s) rest) v = returning rest v
-returning (task (end_turn s) rest) v = returning rest v
+returning (task (end_block vs) rest) v = returning rest v
+returning (task (end_loop vs) rest) v = returning rest v
+returning (task end_turn rest) v = returning rest v
 returning (task (take_result target w) rest) v = returning rest v
 
 abbrev pub gone_back : Heap → Tasks → Option ℤ → List Choice → Result
@@ -138,13 +142,13 @@ Passes h c target place rest choices r =
     (all : Arguments) × EvaluateAll h c.arguments choices all × AfterArguments h (called_function h.tables c.function.text) target place rest all r
 
 -- ---- simple statements
--- a variable or field gets what a right side comes to
-abbrev pub Assigns : Here → Left → Right → Place → Tasks → List Choice → Result → Type 0
-Assigns h l (expression e) place rest choices r =
-    WithValue h e place choices (λ v left other. other ≡ after rest place left (assigned h l v)) r
-Assigns h l (result_of c) place rest choices r = Passes h c (stored h.variables l place) place rest choices r
-Assigns h l (allocation m) place rest choices r =
-    Allocates h m choices (λ v heap left other. other ≡ after rest place left (assigned (record { tables = h.tables; variables = h.variables; values = h.values; heap = heap }) l (Some v))) r
+-- a variable, one of these, or a field behind it gets what a right side comes to
+abbrev pub Assigns : Here → List Variable → Left → Right → Place → Tasks → List Choice → Result → Type 0
+Assigns h vs l (expression e) place rest choices r =
+    WithValue h e place choices (λ v left other. other ≡ after rest place left (assigned (where_is h.tables vs h.values h.heap) l v)) r
+Assigns h vs l (result_of c) place rest choices r = Passes h c (stored vs l place) place rest choices r
+Assigns h vs l (allocation m) place rest choices r =
+    Allocates h m choices (λ v heap left other. other ≡ after rest place left (assigned (where_is h.tables vs h.values heap) l (Some v))) r
 
 -- a variable or field and the value of an expression are combined
 abbrev pub Combines : (ℤ → ℤ → ℤ) → Here → Left → Expr → Place → Tasks → List Choice → Result → Type 0
@@ -152,7 +156,7 @@ Combines operation h l e place rest choices r =
     WithValue h e place choices (λ v left other. other ≡ after rest place left (combined operation h l v)) r
 
 abbrev pub Performs : Here → SimpleTree → Place → Tasks → List Choice → Result → Type 0
-Performs h (assign l right) place rest choices r = Assigns h l right place rest choices r
+Performs h (assign l right) place rest choices r = Assigns h h.variables l right place rest choices r
 Performs h (add l e) place rest choices r = Combines (λ a b. a +ℤ b) h l e place rest choices r
 Performs h (subtract l e) place rest choices r = Combines (λ a b. a -ℤ b) h l e place rest choices r
 Performs h (increment l) place rest choices r = r ≡ after rest place choices (combined (λ a b. a +ℤ b) h l (Some (pos 1)))
@@ -171,10 +175,11 @@ simple_place (increment_first p l) = p
 simple_place (decrement_first p l) = p
 simple_place (call c) = c.function.place
 
--- a variable is declared: it is undefined, and then gets its value, if there is one
+-- a variable is declared: without a value it is undefined, and a value goes to it whatever else has its name
 abbrev pub Declares : Here → Variable → Option Right → Place → Tasks → List Choice → Result → Type 0
-Declares h x None place rest choices r = r ≡ next (record { tasks = rest; values = h.values; heap = h.heap }) choices
-Declares h x (Some right) place rest choices r = Assigns h (record { name = record { text = x.name; place = x.place }; fields = [] }) right place rest choices r
+Declares h x None place rest choices r = r ≡ next (record { tasks = rest; values = with_variable h.values x.place None; heap = h.heap }) choices
+Declares h x (Some right) place rest choices r =
+    Assigns h (x ∷ []) (record { name = record { text = x.name; place = x.place }; fields = [] }) right place rest choices r
 
 -- ---- shapes
 -- the value of an argument of a shape command
@@ -290,14 +295,11 @@ Executes defs h (for_loop head a) rest choices r = ⊥
 Executes defs h (break_loop p) rest choices r = ⊥
 Executes defs h (continue_loop p) rest choices r = ⊥
 
-abbrev pub where_is : Tables → List Variable → Values → Heap → Here
-where_is t vs values heap = record { tables = t; variables = vs; values = values; heap = heap }
-
 -- the first declarator of several
 abbrev pub DeclaresFirst : Tables → Scope → Place → Base → List InitialTree → Values → Heap → Tasks → List Choice → Result → Type 0
 DeclaresFirst t s place base [] values heap rest choices r = ⊥
 DeclaresFirst t s place base (item ∷ items) values heap rest choices r =
-    Declares (where_is t (visible (declare s x)) (with_variable values x.place None) heap) x item.value place (task (declare_all (declare s x) place base items) rest) choices r
+    Declares (where_is t (visible (declare s x)) values heap) x item.value place (task (declare_all (declare s x) place base items) rest) choices r
   where
     x : Variable
     x = variable_of t base item.declarator
@@ -311,9 +313,9 @@ Does p values heap (task (finish_turn vs x) rest) choices r = Performs (where_is
 Does p values heap (task (again s a) rest) choices r = ⊥
 Does p values heap (task (test vs c a b) rest) choices r = Tests (where_is p.tables vs values heap) c a b choices r
 Does p values heap (task (always go) rest) choices r = r ≡ next (record { tasks = go; values = values; heap = heap }) choices
-Does p values heap (task (end_block s) rest) choices r = ⊥
-Does p values heap (task (end_loop s) rest) choices r = ⊥
-Does p values heap (task (end_turn s) rest) choices r = ⊥
+Does p values heap (task (end_block vs) rest) choices r = ⊥
+Does p values heap (task (end_loop vs) rest) choices r = ⊥
+Does p values heap (task end_turn rest) choices r = ⊥
 Does p values heap (task (end_call saved target) rest) choices r = ⊥
 Does p values heap (task (take_result target v) rest) choices r = r ≡ taken (where_is p.tables [] values heap) target v rest choices
 

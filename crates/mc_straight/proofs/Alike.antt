@@ -1,5 +1,5 @@
 -- Configurations of a tree and of the program that it is in short, and steps that lead from one such pair to another.
-use Rattle.std.proofs.Common.{◌≡◌, ◌⊎◌, inl, inr, ℕ, List, [], ◌∷◌, ◌++◌, map, Option, Some, None, refl, sym, ap, ◌∙◌, subst, ℤ}
+use Rattle.std.proofs.Common.{◌≡◌, ◌⊎◌, inl, inr, ℕ, false, List, [], ◌∷◌, ◌++◌, map, Option, Some, None, refl, sym, ap, ◌∙◌, subst, ℤ}
 use Rattle.std.specs.Prelude.{slice_get, position}
 use Rattle.std.specs.Option.{option_map_or}
 use Rattle.std.proofs.lemmas.Option.{none-some}
@@ -14,19 +14,35 @@ use Rattle.mc_ast.specs.Names.{is_same}
 use Rattle.mc_types.specs.Tables.{Tables, Variable, struct_number, fields_of}
 use Rattle.mc_types.specs.Scopes.{Scope}
 use Rattle.mc_types.specs.Faults.{Context, statements_faults}
-use Rattle.mc_meaning.specs.Configs.{Values, Config, Result, Tasks, done, task, declare_all}
+use Rattle.mc_meaning.specs.Configs.{Values, no_values, is_place, with_variable, Config, Result, Tasks, done, task, declare_all}
 use Rattle.mc_meaning.specs.Moves.{in_a_row, moved, Arrives, here, there}
 use Rattle.mc_meaning.specs.Steps.{Step, Does, field_count}
 use Rattle.mc_straight.specs.declared.tree.Stmt.{Stmt}
 use Rattle.mc_straight.specs.Meaning as short
 use Rattle.mc_straight.specs.Straight.{AreStatements}
 use Rattle.mc_places.specs.Places.{statements_places}
-use Rattle.mc_straight.proofs.Variables.{scope_of, infos, held_in, places, AreTyped, AreNamed, ArePlaced, IsElsewhere}
+use Rattle.mc_straight.proofs.Variables.{scope_of, infos, held_in, held_one, places, AreTyped, AreNamed, ArePlaced, IsElsewhere}
 
 -- each place is none of those before it
 abbrev pub AreFresh : List Place → List Place → Type 0
 AreFresh seen [] = Unit {0}
 AreFresh seen (p ∷ ps) = IsElsewhere p seen × AreFresh (p ∷ seen) ps
+
+-- nothing is held at any of these places
+abbrev pub AreUndefined : Values → List Place → Type 0
+AreUndefined values [] = Unit {0}
+AreUndefined values (p ∷ ps) = (values p ≡ None) × AreUndefined values ps
+
+pub none_at_first : (ps : List Place) → AreUndefined no_values ps
+none_at_first [] = tt
+none_at_first (p ∷ ps) = (refl, none_at_first ps)
+
+-- a variable that is none of these gets a value
+pub still_undefined : (values : Values) (at : Place) (w : Option ℤ) (seen ps : List Place) → ((p : Place) → IsElsewhere p seen → is_place p at ≡ false) → AreFresh seen ps → AreUndefined values ps
+    → AreUndefined (with_variable values at w) ps
+still_undefined values at w seen [] apart fresh none = tt
+still_undefined values at w seen (p ∷ ps) apart fresh none =
+    (held_one values at p w (apart p fresh.0) ∙ none.0, still_undefined values at w (p ∷ seen) ps (λ q e. apart q e.2) fresh.1 none.1)
 
 -- what is known between two statements: of the variables that are declared, and of the statements that are left
 pub record Standing (c : Context) (own : List Variable) (ss : List Statement) : Type 0 where
@@ -39,7 +55,7 @@ pub record Standing (c : Context) (own : List Variable) (ss : List Statement) : 
 -- a configuration of the tree, and the same in short
 pub data Tied (c : Context) (s : Option StructInfo) : Config → short.Config → Type 0 where
   between : {own : List Variable} {ss : List Statement} {left : List Stmt} {all : List Rattle.mc_base.specs.declared.plain.VarInfo.VarInfo} {values : Values} {heap : Heap}
-      → Standing c own ss → AreStatements s (infos own) ss left all
+      → Standing c own ss → AreUndefined values (statements_places (stmts_of ss)) → AreStatements s (infos own) ss left all
       → Tied c s (record { tasks = in_a_row c.tables (scope_of own) (stmts_of ss) done; values = values; heap = heap }) (record { left = left; vars = held_in values own; heap = heap })
   behind_declarator : {scope : Scope} {place : Place} {base : Base} {rest : Tasks} {values : Values} {heap : Heap} {d : short.Config} → Tied c s (record { tasks = rest; values = values; heap = heap }) d
       → Tied c s (record { tasks = task (declare_all scope place base []) rest; values = values; heap = heap }) d

@@ -36,8 +36,8 @@ use Rattle.mc_straight.specs.Typing.{fields_of}
 use Rattle.mc_straight.specs.Meaning as short
 use Rattle.mc_straight.specs.Straight.{IsVariable, IsField, IsType, int, pointer, IsMalloc, of_struct, IsStored, variable, null_word, null_number, numeral, IsFreed, pointed, nothing, alone, field_of, next_of, with_next, leaves, AreStatements, more}
 use Rattle.mc_places.specs.Places.{statements_places}
-use Rattle.mc_straight.proofs.Variables.{scope_of, infos, held_in, places, type_of, AreTyped, AreNamed, held_next, held_again, Found, found_variable, read_next}
-use Rattle.mc_straight.proofs.Alike.{AreFresh, Standing, Tied, between, behind_declarator, Alike, goes_on, comes_to, is_over, Both, both_are, TreeStep, both_here, both_there, Fits}
+use Rattle.mc_straight.proofs.Variables.{scope_of, infos, held_in, places, type_of, AreTyped, AreNamed, held_next, Found, found_variable, read_next}
+use Rattle.mc_straight.proofs.Alike.{AreFresh, AreUndefined, still_undefined, Standing, Tied, between, behind_declarator, Alike, goes_on, comes_to, is_over, Both, both_are, TreeStep, both_here, both_there, Fits}
 use Rattle.mc_straight.proofs.Values.{held_is, type_is, set_is, set_last, both_value, both_found, TiedAnyHeap, put_alike, freed_alike, load_both, both_malloc}
 
 -- ---- what typing says
@@ -119,21 +119,23 @@ tasks_of c own ss = in_a_row c.tables (scope_of own) (stmts_of ss) done
 abbrev pub tasks_behind : Context → Base → Option Place → Name → List Variable → List Statement → Tasks
 tasks_behind c base star x own ss = task (declare_all (scope_of (variable_next c base star x ∷ own)) (base_place base) base []) (tasks_of c (variable_next c base star x ∷ own) ss)
 
--- what the variables hold when the declared one is still undefined
-abbrev pub values_next : Context → Base → Option Place → Name → Values → Values
-values_next c base star x values = with_variable values x.place None
+-- no variable is declared with a value yet that is declared behind this one
+behind_it : (c : Context) (base : Base) (star : Option Place) (x : Name) (own : List Variable) (ss : List Statement) (values : Values) (w : Option ℤ)
+    → Standing c (variable_next c base star x ∷ own) ss → AreUndefined values (statements_places (stmts_of ss)) → AreUndefined (with_variable values x.place w) (statements_places (stmts_of ss))
+behind_it c base star x own ss values w later none =
+    still_undefined values x.place w (places (variable_next c base star x ∷ own)) (statements_places (stmts_of ss)) (λ p e. e.0) later.fresh none
 
 tied_next : (c : Context) (s : Option StructInfo) (base : Base) (star : Option Place) (x : Name) (own : List Variable) (ss : List Statement) (left : List Stmt) (all : List VarInfo) (values : Values) (vars : List (Option ℤ)) (heap : Heap)
-    → Standing c (variable_next c base star x ∷ own) ss → AreStatements s (infos (variable_next c base star x ∷ own)) ss left all
+    → Standing c (variable_next c base star x ∷ own) ss → AreUndefined values (statements_places (stmts_of ss)) → AreStatements s (infos (variable_next c base star x ∷ own)) ss left all
     → held_in values (variable_next c base star x ∷ own) ≡ vars
     → Tied c s (record { tasks = tasks_behind c base star x own ss; values = values; heap = heap }) (record { left = left; vars = vars; heap = heap })
-tied_next c s base star x own ss left all values vars heap st rest e =
+tied_next c s base star x own ss left all values vars heap st none rest e =
     let P : List (Option ℤ) → Type 0 = λ vs. Tied c s (record { tasks = tasks_behind c base star x own ss; values = values; heap = heap }) (record { left = left; vars = vs; heap = heap }) in
-    subst P e (behind_declarator (between st rest))
+    subst P e (behind_declarator (between st none rest))
 
 -- a step of a declaration is that of its declarator
 declared_both : (c : Context) (s : Option StructInfo) (base : Base) (star : Option Place) (x : Name) (right : Option Right) (own : List Variable) (ss : List Statement) (values : Values) (heap : Heap) (choices : List Choice) (B : short.Result → Type 0)
-    → Both c s (λ r. Declares (where_is c.tables (variable_next c base star x ∷ (own ++ [])) (values_next c base star x values) heap) (variable_next c base star x) right (base_place base) (tasks_behind c base star x own ss) choices r) B
+    → Both c s (λ r. Declares (where_is c.tables (variable_next c base star x ∷ (own ++ [])) values heap) (variable_next c base star x) right (base_place base) (tasks_behind c base star x own ss) choices r) B
     → Both c s (TreeStep c (record { tasks = tasks_of c own (declaring base star x right ∷ ss); values = values; heap = heap }) choices) B
 declared_both c s base star x right own ss values heap choices B h =
     both_there c s (tasks_of c own (declaring base star x right ∷ ss))
@@ -142,27 +144,27 @@ declared_both c s base star x right own ss values heap choices B h =
     (both_here c s (task (declare_all (scope_of own) (base_place base) base (record { declarator = declarator_of star x; value = right } ∷ [])) (tasks_of c (variable_next c base star x ∷ own) ss)) values heap choices B refl h)
 
 pub declare_both : (c : Context) (s : Option StructInfo) (base : Base) (star : Option Place) (x : Name) (own : List Variable) (ss : List Statement) (left : List Stmt) (all : List VarInfo) (values : Values) (heap : Heap) (choices : List Choice)
-    → Fits c.tables s → Standing c own (declaring base star x None ∷ ss) → IsType s Kind.Ptr base star → AreStatements s (with_next (infos own) Kind.Ptr x) ss left all
+    → Fits c.tables s → Standing c own (declaring base star x None ∷ ss) → AreUndefined values (x.place ∷ statements_places (stmts_of ss)) → IsType s Kind.Ptr base star → AreStatements s (with_next (infos own) Kind.Ptr x) ss left all
     → Both c s (TreeStep c (record { tasks = tasks_of c own (declaring base star x None ∷ ss); values = values; heap = heap }) choices)
     (short.StepFrom s (Declare (next_of (infos own)) (base_place base) ∷ left) (record { left = Declare (next_of (infos own)) (base_place base) ∷ left; vars = held_in values own; heap = heap }) choices)
-declare_both c s base star x own ss left all values heap choices fits st is rest =
+declare_both c s base star x own ss left all values heap choices fits st none is rest =
     let later = stands_next c s Kind.Ptr base star x None own ss fits is st in
     declared_both c s base star x None own ss values heap choices (λ r. r ≡ next (record { left = left; vars = held_in values own ++ None ∷ []; heap = heap }) choices)
     (both_are c s _ (next (record { left = left; vars = held_in values own ++ None ∷ []; heap = heap }) choices)
-    (goes_on (tied_next c s base star x own ss left all (values_next c base star x values) (held_in values own ++ None ∷ []) heap later (left_next c s Kind.Ptr base star x own ss left all fits is rest)
+    (goes_on (tied_next c s base star x own ss left all (with_variable values x.place None) (held_in values own ++ None ∷ []) heap later (behind_it c base star x own ss values None later none.1) (left_next c s Kind.Ptr base star x own ss left all fits is rest)
     (held_next values None (variable_next c base star x) own later.placed.0))))
 
 -- the declared variable gets a value
 first_value : (c : Context) (s : Option StructInfo) (kind : Kind) (base : Base) (star : Option Place) (x : Name) (right : Option Right) (own : List Variable) (ss : List Statement) (left : List Stmt) (all : List VarInfo) (values : Values) (heap : Heap) (w : ℤ) (choices : List Choice)
-    → Fits c.tables s → Standing c own (declaring base star x right ∷ ss) → IsType s kind base star → AreStatements s (with_next (infos own) kind x) ss left all
-    → Alike c s (after (tasks_behind c base star x own ss) (base_place base) choices (set_variable (where_is c.tables (variable_next c base star x ∷ (own ++ [])) (values_next c base star x values) heap) (record { text = x.text; place = x.place }) (Some w)))
+    → Fits c.tables s → Standing c own (declaring base star x right ∷ ss) → AreUndefined values (x.place ∷ statements_places (stmts_of ss)) → IsType s kind base star → AreStatements s (with_next (infos own) kind x) ss left all
+    → Alike c s (after (tasks_behind c base star x own ss) (base_place base) choices (set_variable (where_is c.tables (variable_next c base star x ∷ []) values heap) (record { text = x.text; place = x.place }) (Some w)))
     (next (record { left = left; vars = held_in values own ++ Some w ∷ []; heap = heap }) choices)
-first_value c s kind base star x right own ss left all values heap w choices fits st is rest =
+first_value c s kind base star x right own ss left all values heap w choices fits st none is rest =
     let later = stands_next c s kind base star x right own ss fits is st in
     let P : Changed → Type 0 = λ changed. Alike c s (after (tasks_behind c base star x own ss) (base_place base) choices changed) (next (record { left = left; vars = held_in values own ++ Some w ∷ []; heap = heap }) choices) in
-    subst P (sym (set_last c.tables (variable_next c base star x) (own ++ []) (values_next c base star x values) heap w))
-    (goes_on (tied_next c s base star x own ss left all (with_variable (values_next c base star x values) x.place (Some w)) (held_in values own ++ Some w ∷ []) heap later (left_next c s kind base star x own ss left all fits is rest)
-    (held_again values None (Some w) (variable_next c base star x) own later.placed.0)))
+    subst P (sym (set_last c.tables (variable_next c base star x) [] values heap w))
+    (goes_on (tied_next c s base star x own ss left all (with_variable values x.place (Some w)) (held_in values own ++ Some w ∷ []) heap later (behind_it c base star x own ss values (Some w) later none.1) (left_next c s kind base star x own ss left all fits is rest)
+    (held_next values (Some w) (variable_next c base star x) own later.placed.0)))
 
 -- the struct that is allocated is the one struct
 malloc_struct : (c : Context) (s : Option StructInfo) (vs : List Variable) (m : Malloc) → Fits c.tables s → IsMalloc s (allocation m) → (struct_of (size_meaning c.tables vs m.size) ≡ 0) × (field_count c.tables 0 ≡ length (fields_of s))
@@ -170,18 +172,18 @@ malloc_struct c s vs m fits (of_struct) = (ap (λ o. struct_of (struct_meaning o
 
 -- ---- `malloc`
 pub declare_malloc_both : (c : Context) (s : Option StructInfo) (base : Base) (star : Option Place) (x : Name) (m : Malloc) (own : List Variable) (ss : List Statement) (left : List Stmt) (all : List VarInfo) (values : Values) (heap : Heap) (choices : List Choice)
-    → Fits c.tables s → Standing c own (declaring base star x (Some (allocation m)) ∷ ss) → IsType s Kind.Ptr base star → IsMalloc s (allocation m) → AreStatements s (with_next (infos own) Kind.Ptr x) ss left all
+    → Fits c.tables s → Standing c own (declaring base star x (Some (allocation m)) ∷ ss) → AreUndefined values (x.place ∷ statements_places (stmts_of ss)) → IsType s Kind.Ptr base star → IsMalloc s (allocation m) → AreStatements s (with_next (infos own) Kind.Ptr x) ss left all
     → Both c s (TreeStep c (record { tasks = tasks_of c own (declaring base star x (Some (allocation m)) ∷ ss); values = values; heap = heap }) choices)
     (short.StepFrom s (DeclareMalloc (next_of (infos own)) (base_place base) ∷ left) (record { left = DeclareMalloc (next_of (infos own)) (base_place base) ∷ left; vars = held_in values own; heap = heap }) choices)
-declare_malloc_both c s base star x m own ss left all values heap choices fits st is allocates rest =
+declare_malloc_both c s base star x m own ss left all values heap choices fits st none is allocates rest =
     let x_is : Variable = variable_next c base star x in
     let sizes = malloc_struct c s (x_is ∷ (own ++ [])) m fits allocates in
     declared_both c s base star x (Some (allocation m)) own ss values heap choices (λ r. short.StepFrom s (DeclareMalloc (next_of (infos own)) (base_place base) ∷ left) (record { left = DeclareMalloc (next_of (infos own)) (base_place base) ∷ left; vars = held_in values own; heap = heap }) choices r)
-    (both_malloc c s (where_is c.tables (x_is ∷ (own ++ [])) (values_next c base star x values) heap) m (length (fields_of s)) (record { left = left; vars = held_in values own; heap = heap }) (λ v. short.declared (Some v))
-    (λ w later behind r. r ≡ after (tasks_behind c base star x own ss) (base_place base) behind (set_variable (where_is c.tables (x_is ∷ (own ++ [])) (values_next c base star x values) later) (record { text = x.text; place = x.place }) (Some w)))
+    (both_malloc c s (where_is c.tables (x_is ∷ (own ++ [])) values heap) m (length (fields_of s)) (record { left = left; vars = held_in values own; heap = heap }) (λ v. short.declared (Some v))
+    (λ w later behind r. r ≡ after (tasks_behind c base star x own ss) (base_place base) behind (set_variable (where_is c.tables (x_is ∷ []) values later) (record { text = x.text; place = x.place }) (Some w)))
     refl sizes.0 sizes.1
     (λ w later behind. both_are c s _ (next (record { left = left; vars = held_in values own ++ Some w ∷ []; heap = later }) behind)
-    (first_value c s Kind.Ptr base star x (Some (allocation m)) own ss left all values later w behind fits st is rest))
+    (first_value c s Kind.Ptr base star x (Some (allocation m)) own ss left all values later w behind fits st none is rest))
     choices)
 
 -- behind a statement that declares nothing
@@ -196,10 +198,10 @@ stands_behind c own faults ss a split same st = record {
 }
 
 pub malloc_both : (c : Context) (s : Option StructInfo) (name : Name) (x : VarId) (m : Malloc) (own : List Variable) (ss : List Statement) (left : List Stmt) (all : List VarInfo) (values : Values) (heap : Heap) (choices : List Choice)
-    → Fits c.tables s → Standing c own (simple (assign (alone name) (allocation m)) ∷ ss) → IsVariable (infos own) Kind.Ptr name x → IsMalloc s (allocation m) → AreStatements s (infos own) ss left all
+    → Fits c.tables s → Standing c own (simple (assign (alone name) (allocation m)) ∷ ss) → AreUndefined values (statements_places (stmts_of ss)) → IsVariable (infos own) Kind.Ptr name x → IsMalloc s (allocation m) → AreStatements s (infos own) ss left all
     → Both c s (TreeStep c (record { tasks = tasks_of c own (simple (assign (alone name) (allocation m)) ∷ ss); values = values; heap = heap }) choices)
     (short.StepFrom s (Allocate x name.place ∷ left) (record { left = Allocate x name.place ∷ left; vars = held_in values own; heap = heap }) choices)
-malloc_both c s name x m own ss left all values heap choices fits st is allocates rest =
+malloc_both c s name x m own ss left all values heap choices fits st none is allocates rest =
     let f = found_variable own Kind.Ptr name x st.named st.typed is in
     let sizes = malloc_struct c s (own ++ []) m fits allocates in
     let later : Standing c own ss = stands_behind c own _ ss _ refl refl st in
@@ -212,7 +214,7 @@ malloc_both c s name x m own ss left all values heap choices fits st is allocate
     let P : Changed → Type 0 = λ changed. Alike c s (after (tasks_of c own ss) name.place behind changed) (next (record { left = left; vars = set (held_in values own) x.0 (Some w); heap = onward }) behind) in
     let Q : List (Option ℤ) → Type 0 = λ vars. Tied c s (record { tasks = tasks_of c own ss; values = with_variable values f.variable.place (Some w); heap = onward }) (record { left = left; vars = vars; heap = onward }) in
     both_are c s _ (next (record { left = left; vars = set (held_in values own) x.0 (Some w); heap = onward }) behind)
-    (subst P (sym (set_is c.tables own values onward name Kind.Ptr x.0 w f)) (goes_on (subst Q (f.put values (Some w) st.placed) (between later rest)))))
+    (subst P (sym (set_is c.tables own values onward name Kind.Ptr x.0 w f)) (goes_on (subst Q (f.put values (Some w) st.placed) (between later (still_undefined values f.variable.place (Some w) (places own) (statements_places (stmts_of ss)) (λ p e. f.apart p e) later.fresh none) rest)))))
     choices)
 
 -- ---- reads and writes
@@ -222,24 +224,24 @@ same_field c None kind field f fits is = absurd (none-some kind is.1)
 same_field c (Some s) kind field f fits is = ap (λ o. unwrap_or o 0) (fits.field field.text ∙ is.0)
 
 pub load_form : (c : Context) (s : Option StructInfo) (kind : Kind) (base : Base) (star : Option Place) (x name field : Name) (y : VarId) (f : ℕ) (own : List Variable) (ss : List Statement) (left : List Stmt) (all : List VarInfo) (values : Values) (heap : Heap) (choices : List Choice)
-    → Fits c.tables s → Standing c own (declaring base star x (Some (expression (value (field_of name field)))) ∷ ss) → IsType s kind base star → IsVariable (with_next (infos own) kind x) Kind.Ptr name y → IsField s kind field f
+    → Fits c.tables s → Standing c own (declaring base star x (Some (expression (value (field_of name field)))) ∷ ss) → AreUndefined values (x.place ∷ statements_places (stmts_of ss)) → IsType s kind base star → IsVariable (with_next (infos own) kind x) Kind.Ptr name y → IsField s kind field f
     → AreStatements s (with_next (infos own) kind x) ss left all
     → Both c s (TreeStep c (record { tasks = tasks_of c own (declaring base star x (Some (expression (value (field_of name field)))) ∷ ss); values = values; heap = heap }) choices)
     (short.StepFrom s (Load (next_of (infos own)) y f (base_place base) ∷ left) (record { left = Load (next_of (infos own)) y f (base_place base) ∷ left; vars = held_in values own; heap = heap }) choices)
-load_form c s kind base star x name field y f own ss left all values heap choices fits st is read fields rest =
+load_form c s kind base star x name field y f own ss left all values heap choices fits st none is read fields rest =
     let x_is : Variable = variable_next c base star x in
     let right : Option Right = Some (expression (value (field_of name field))) in
     let later : Standing c (x_is ∷ own) ss = stands_next c s kind base star x right own ss fits is st in
     let V : List VarInfo → Type 0 = λ vars. IsVariable vars Kind.Ptr name y in
     let y_is = found_variable (x_is ∷ own) Kind.Ptr name y later.named later.typed (subst V (infos_next c s kind base star x own fits is) read) in
-    let here : Here = where_is c.tables (x_is ∷ (own ++ [])) (values_next c base star x values) heap in
+    let here : Here = where_is c.tables (x_is ∷ (own ++ [])) values heap in
     let d : short.Config = record { left = left; vars = held_in values own; heap = heap } in
-    let go : Option ℤ → List Choice → Result → Type 0 = λ v behind r. r ≡ after (tasks_behind c base star x own ss) (base_place base) behind (set_variable here (record { text = x.text; place = x.place }) v) in
+    let go : Option ℤ → List Choice → Result → Type 0 = λ v behind r. r ≡ after (tasks_behind c base star x own ss) (base_place base) behind (set_variable (where_is c.tables (x_is ∷ []) values heap) (record { text = x.text; place = x.place }) v) in
     let held_y : held here name ≡ get_or (held_in values own) y.0 None =
-    held_is c.tables (x_is ∷ own) (values_next c base star x values) heap name Kind.Ptr y.0 y_is
-    ∙ ap (λ vs. get_or vs y.0 None) (held_next values None x_is own later.placed.0) ∙ read_next (held_in values own) y.0 in
+    held_is c.tables (x_is ∷ own) values heap name Kind.Ptr y.0 y_is
+    ∙ ap (λ o. get_or (held_in values own ++ o ∷ []) y.0 None) none.0 ∙ read_next (held_in values own) y.0 in
     let reads = load_both c s c.tables (base_place base) d choices go
-    (λ w. both_are c s _ (next (record { left = left; vars = held_in values own ++ Some w ∷ []; heap = heap }) choices) (first_value c s kind base star x right own ss left all values heap w choices fits st is rest))
+    (λ w. both_are c s _ (next (record { left = left; vars = held_in values own ++ Some w ∷ []; heap = heap }) choices) (first_value c s kind base star x right own ss left all values heap w choices fits st none is rest))
     field (get_or (held_in values own) y.0 None) in
     let F : ℕ → Type 0 = λ k. Both c s (λ r. AfterValue (base_place base) go (evaluated (after_found (loaded c.tables heap (Pointer (record { 0 = 0 })) field (get_or (held_in values own) y.0 None)) (λ w. found w)) choices) r) (λ r. r ≡ short.loaded k (base_place base) d choices (get_or (held_in values own) y.0 None)) in
     let T : VariableType → Type 0 = λ type. Both c s (λ r. AfterValue (base_place base) go (evaluated (after_found (loaded c.tables heap type field (get_or (held_in values own) y.0 None)) (λ w. found w)) choices) r) (λ r. r ≡ short.loaded f (base_place base) d choices (get_or (held_in values own) y.0 None)) in
@@ -269,22 +271,22 @@ freed_operand c own values heap e a named typed (pointed {name = name} {x = x} i
 freed_operand c own values heap e a named typed nothing = λ choices place s go B h. both_value c s place (Some (pos 0)) choices go B h
 
 -- the configurations behind a statement that changes no variable
-tied_heap : (c : Context) (s : Option StructInfo) (own : List Variable) (ss : List Statement) (left : List Stmt) (all : List VarInfo) (values : Values) → Standing c own ss → AreStatements s (infos own) ss left all
+tied_heap : (c : Context) (s : Option StructInfo) (own : List Variable) (ss : List Statement) (left : List Stmt) (all : List VarInfo) (values : Values) → Standing c own ss → AreUndefined values (statements_places (stmts_of ss)) → AreStatements s (infos own) ss left all
     → TiedAnyHeap c s (tasks_of c own ss) values left (held_in values own)
-tied_heap c s own ss left all values st rest heap = between st rest
+tied_heap c s own ss left all values st none rest heap = between st none rest
 
 pub store_form : (c : Context) (s : Option StructInfo) (kind : Kind) (name field : Name) (y : VarId) (f : ℕ) (e : Expr) (a : Operand) (own : List Variable) (ss : List Statement) (left : List Stmt) (all : List VarInfo) (values : Values) (heap : Heap) (choices : List Choice)
-    → Fits c.tables s → Standing c own (simple (assign (field_of name field) (expression e)) ∷ ss) → IsVariable (infos own) Kind.Ptr name y → IsField s kind field f → IsStored (infos own) kind e a → AreStatements s (infos own) ss left all
+    → Fits c.tables s → Standing c own (simple (assign (field_of name field) (expression e)) ∷ ss) → AreUndefined values (statements_places (stmts_of ss)) → IsVariable (infos own) Kind.Ptr name y → IsField s kind field f → IsStored (infos own) kind e a → AreStatements s (infos own) ss left all
     → Both c s (TreeStep c (record { tasks = tasks_of c own (simple (assign (field_of name field) (expression e)) ∷ ss); values = values; heap = heap }) choices)
     (short.StepFrom s (Store y f a name.place ∷ left) (record { left = Store y f a name.place ∷ left; vars = held_in values own; heap = heap }) choices)
-store_form c s kind name field y f e a own ss left all values heap choices fits st is fields stored rest =
+store_form c s kind name field y f e a own ss left all values heap choices fits st none is fields stored rest =
     let later : Standing c own ss = stands_behind c own _ ss _ refl refl st in
     let y_is = found_variable own Kind.Ptr name y st.named st.typed is in
     let here : Here = where_is c.tables (own ++ []) values heap in
     let d : short.Config = record { left = left; vars = held_in values own; heap = heap } in
     let v : Option ℤ = operand_value (held_in values own) a in
     let base : Option ℤ = get_or (held_in values own) y.0 None in
-    let same = put_alike c s here (tasks_of c own ss) left (held_in values own) (tied_heap c s own ss left all values later rest) name.place choices field v base in
+    let same = put_alike c s here (tasks_of c own ss) left (held_in values own) (tied_heap c s own ss left all values later none rest) name.place choices field v base in
     let F : ℕ → Type 0 = λ k. Alike c s (after (tasks_of c own ss) name.place choices (put here (Pointer (record { 0 = 0 })) field v base)) (short.stored k name.place d choices v base) in
     let T : VariableType → Type 0 = λ type. Alike c s (after (tasks_of c own ss) name.place choices (put here type field v base)) (short.stored f name.place d choices v base) in
     let H : Option ℤ → Type 0 = λ w. Alike c s (after (tasks_of c own ss) name.place choices (put here (variable_type (own ++ []) name) field v w)) (short.stored f name.place d choices v base) in
@@ -296,10 +298,10 @@ store_form c s kind name field y f e a own ss left all values heap choices fits 
     (subst H (sym (held_is c.tables own values heap name Kind.Ptr y.0 y_is)) (subst T (sym (type_is own name Kind.Ptr y.0 y_is)) (subst F (same_field c s kind field f fits fields) same)))))
 
 pub free_form : (c : Context) (s : Option StructInfo) (p : Place) (e : Expr) (a : Operand) (own : List Variable) (ss : List Statement) (left : List Stmt) (all : List VarInfo) (values : Values) (heap : Heap) (choices : List Choice)
-    → Standing c own (free p e ∷ ss) → IsFreed (infos own) e a → AreStatements s (infos own) ss left all
+    → Standing c own (free p e ∷ ss) → AreUndefined values (statements_places (stmts_of ss)) → IsFreed (infos own) e a → AreStatements s (infos own) ss left all
     → Both c s (TreeStep c (record { tasks = tasks_of c own (free p e ∷ ss); values = values; heap = heap }) choices)
     (short.StepFrom s (Free a p ∷ left) (record { left = Free a p ∷ left; vars = held_in values own; heap = heap }) choices)
-free_form c s p e a own ss left all values heap choices st is rest =
+free_form c s p e a own ss left all values heap choices st none is rest =
     let later : Standing c own ss = stands_behind c own _ ss _ refl refl st in
     let here : Here = where_is c.tables (own ++ []) values heap in
     let d : short.Config = record { left = left; vars = held_in values own; heap = heap } in
@@ -307,7 +309,7 @@ free_form c s p e a own ss left all values heap choices st is rest =
     both_here c s (tasks_of c own (free p e ∷ ss)) values heap choices (λ r. r ≡ short.freed p d choices v) refl
     (freed_operand c own values heap e a st.named st.typed is choices p s
     (λ w behind r. r ≡ after (tasks_of c own ss) p behind (freed here w)) (λ r. r ≡ short.freed p d choices v)
-    (both_are c s _ (short.freed p d choices v) (freed_alike c s here (tasks_of c own ss) left (held_in values own) (tied_heap c s own ss left all values later rest) p choices v)))
+    (both_are c s _ (short.freed p d choices v) (freed_alike c s here (tasks_of c own ss) left (held_in values own) (tied_heap c s own ss left all values later none rest) p choices v)))
 
 -- ---- conditions and returns
 -- `return 0;`
@@ -348,10 +350,10 @@ tested_alike c s here yes_tasks no_tasks choices inner left vars place (Some p) 
     tested_if c s yes_tasks no_tasks here.values here.heap choices (inner ∷ left) left vars (int_eq p (pos 0)) yes_tied no_tied
 
 pub if_form : (c : Context) (s : Option StructInfo) (p q r zero_place : Place) (name : Name) (y : VarId) (own : List Variable) (ss : List Statement) (left : List Stmt) (all : List VarInfo) (values : Values) (heap : Heap) (choices : List Choice)
-    → Standing c own (leaving_if_null p q r zero_place name ∷ ss) → IsVariable (infos own) Kind.Ptr name y → AreStatements s (infos own) ss left all
+    → Standing c own (leaving_if_null p q r zero_place name ∷ ss) → AreUndefined values (statements_places (stmts_of ss)) → IsVariable (infos own) Kind.Ptr name y → AreStatements s (infos own) ss left all
     → Both c s (TreeStep c (record { tasks = tasks_of c own (leaving_if_null p q r zero_place name ∷ ss); values = values; heap = heap }) choices)
     (short.StepFrom s (ReturnIfNull y (record { keyword = p; condition = name.place; returned = r }) ∷ left) (record { left = ReturnIfNull y (record { keyword = p; condition = name.place; returned = r }) ∷ left; vars = held_in values own; heap = heap }) choices)
-if_form c s p q r zero_place name y own ss left all values heap choices st is rest =
+if_form c s p q r zero_place name y own ss left all values heap choices st none is rest =
     let later : Standing c own ss = stands_behind c own _ ss _ refl refl st in
     let of_test : List Fault = condition_faults c.tables (own ++ []) (compare Equal (value (alone name)) (null q)) in
     let of_return : List Fault = statement_faults c (scope_of own) (returning_zero r zero_place) in
@@ -374,4 +376,4 @@ if_form c s p q r zero_place name y own ss left all values heap choices st is re
     (both_value c s name.place (Some (pos 0)) choices (λ w more onward. onward ≡ compared here Equal (go_on (tasks_of c own (returning_zero r zero_place ∷ ss))) (go_on (tasks_of c own ss)) name.place (get_or (held_in values own) y.0 None) w more) B
     (both_are c s _ (short.tested (ReturnZero r) name.place (record { left = left; vars = held_in values own; heap = heap }) choices (get_or (held_in values own) y.0 None))
     (tested_alike c s here (tasks_of c own (returning_zero r zero_place ∷ ss)) (tasks_of c own ss) choices (ReturnZero r) left (held_in values own) name.place (get_or (held_in values own) y.0 None)
-    (between inner (more leaves rest)) (between later rest))))))
+    (between inner none (more leaves rest)) (between later none rest))))))

@@ -23,7 +23,7 @@ use Rattle.mc_straight.specs.Straight.{main_of, AreStatements, IsStruct, struct_
 use Rattle.mc_straight.specs.Runs.{IsEntry, ReadsAs, TreeComesTo, ShortComesTo, TreeRunsAlike}
 use Rattle.mc_straight.specs.Lowering.{flow_of}
 use Rattle.mc_straight.proofs.Variables.{scope_of}
-use Rattle.mc_straight.proofs.Alike.{Standing, Tied, between, Fits}
+use Rattle.mc_straight.proofs.Alike.{none_at_first, Standing, Tied, between, Fits}
 use Rattle.mc_straight.proofs.Forms.{none_left, none_right}
 use Rattle.mc_straight.proofs.Trees.{forward, backward}
 use Rattle.mc_straight.proofs.Typed.{straight_is_typed}
@@ -56,7 +56,7 @@ begins_without p q r ss body vars are places plain =
     let unit : UnitTree = main_of p q r ss ∷ [] in
     let faults : List Fault = statements_faults (context_of unit) (scope_of []) (stmts_of ss) in
     let items : faults ++ [] ≡ [] = none_right (table_faults unit (tables_of unit)) (faults ++ []) plain in
-    (tt, between (standing unit ss places (none_left faults [] items)) are)
+    (tt, between (standing unit ss places (none_left faults [] items)) (none_at_first (statements_places (stmts_of ss))) are)
 
 begins_with : (s : StructInfo) (item : ItemTree) (p q r : Place) (ss : List Statement) (body : List Stmt) (vars : List VarInfo) → IsStruct s item → AreStatements (Some s) [] ss body vars
     → HasDistinctPlaces (item ∷ main_of p q r ss ∷ []) → plain_faults (item ∷ main_of p q r ss ∷ []) ≡ [] → Begins (item ∷ main_of p q r ss ∷ []) (function_of p q r ss) (record { structure = Some s; vars = vars; body = body })
@@ -65,7 +65,7 @@ begins_with s item p q r ss body vars (struct_is fields) are places plain =
     let faults : List Fault = statements_faults (context_of unit) (scope_of []) (stmts_of ss) in
     let of_struct : List Fault = item_tree_faults (tables_of unit) item in
     let items : of_struct ++ (faults ++ []) ≡ [] = none_right (table_faults unit (tables_of unit)) (of_struct ++ (faults ++ [])) plain in
-    (has_struct (tables_of unit) s _ refl refl fields, between (standing unit ss places (none_left faults [] (none_right of_struct (faults ++ []) items))) are)
+    (has_struct (tables_of unit) s _ refl refl fields, between (standing unit ss places (none_left faults [] (none_right of_struct (faults ++ []) items))) (none_at_first (statements_places (stmts_of ss))) are)
 
 begins : (unit : UnitTree) (f : FunctionTree) (p : Program) → IsStraight unit p → HasDistinctPlaces unit → plain_faults unit ≡ [] → IsEntry unit f → Begins unit f p
 begins unit f program (without_struct {p = p} {q = q} {r = r} {statements = ss} {body = body} {vars = vars} are) places plain entry =

@@ -5,7 +5,7 @@ use Rattle.mc_base.specs.Runs.{next, last, Final, ended, Reaches}
 use Rattle.mc_heap.specs.Heap.{Heap}
 use Rattle.mc_heap.specs.Choices.{Choice}
 use Rattle.mc_defs.specs.declared.shapes.StructInfo.{StructInfo}
-use Rattle.mc_ast.specs.Trees.{Stmt as Statement}
+use Rattle.mc_ast.specs.Trees.{Stmt as Statement, stmts_of}
 use Rattle.mc_types.specs.Tables.{Variable}
 use Rattle.mc_types.specs.Faults.{Context}
 use Rattle.mc_meaning.specs.Configs.{Values, Config, Result, done, task, declare_all}
@@ -13,8 +13,9 @@ use Rattle.mc_meaning.specs.Moves.{here}
 use Rattle.mc_straight.specs.declared.tree.Stmt.{Stmt}
 use Rattle.mc_straight.specs.Meaning as short
 use Rattle.mc_straight.specs.Straight.{IsStatement, declares, declares_block, allocates, loads, stores, frees, leaves_if_null, leaves, of_struct, AreStatements, none, more}
+use Rattle.mc_places.specs.Places.{statements_places}
 use Rattle.mc_straight.proofs.Variables.{infos, held_in}
-use Rattle.mc_straight.proofs.Alike.{Standing, Tied, between, behind_declarator, Alike, goes_on, comes_to, is_over, Both, both_are, TreeStep, both_here, both_there, step_here, Fits}
+use Rattle.mc_straight.proofs.Alike.{AreUndefined, Standing, Tied, between, behind_declarator, Alike, goes_on, comes_to, is_over, Both, both_are, TreeStep, both_here, both_there, step_here, Fits}
 use Rattle.mc_straight.proofs.Forms.{tasks_of, declare_both, declare_malloc_both, malloc_both, load_form, store_form, free_form, if_form, return_form}
 
 -- the step of a program in short, whatever its variables are
@@ -23,37 +24,37 @@ ShortStep s c = short.StepFrom s c.left c
 
 -- ---- one step
 one_both : (c : Context) (s : Option StructInfo) → Fits c.tables s → (own : List Variable) (a : Statement) (ss : List Statement) (x : Stmt) (left : List Stmt) (behind all : List VarInfo) (values : Values) (heap : Heap) (choices : List Choice)
-    → Standing c own (a ∷ ss) → IsStatement s (infos own) a x behind → AreStatements s behind ss left all
+    → Standing c own (a ∷ ss) → AreUndefined values (statements_places (stmts_of (a ∷ ss))) → IsStatement s (infos own) a x behind → AreStatements s behind ss left all
     → Both c s (TreeStep c (record { tasks = tasks_of c own (a ∷ ss); values = values; heap = heap }) choices) (ShortStep s (record { left = x ∷ left; vars = held_in values own; heap = heap }) choices)
-one_both c s fits own a ss x left behind all values heap choices st (declares {base = base} {star = star} {x = name} is) rest =
-    declare_both c s base star name own ss left all values heap choices fits st is rest
-one_both c s fits own a ss x left behind all values heap choices st (declares_block {base = base} {star = star} {x = name} is (of_struct)) rest =
-    declare_malloc_both c _ base star name _ own ss left all values heap choices fits st is of_struct rest
-one_both c s fits own a ss x left behind all values heap choices st (allocates {name = name} {x = number} is (of_struct)) rest =
-    malloc_both c _ name number _ own ss left all values heap choices fits st is of_struct rest
-one_both c s fits own a ss x left behind all values heap choices st (loads {kind = kind} {base = base} {star = star} {x = name} {name = read} {field = field} {y = y} {f = f} is variable fields) rest =
-    load_form c s kind base star name read field y f own ss left all values heap choices fits st is variable fields rest
-one_both c s fits own a ss x left behind all values heap choices st (stores {kind = kind} {name = name} {field = field} {y = y} {f = f} {e = e} {a = operand} is fields stored) rest =
-    store_form c s kind name field y f e operand own ss left all values heap choices fits st is fields stored rest
-one_both c s fits own a ss x left behind all values heap choices st (frees {p = p} {e = e} {a = operand} is) rest =
-    free_form c s p e operand own ss left all values heap choices st is rest
-one_both c s fits own a ss x left behind all values heap choices st (leaves_if_null {p = p} {q = q} {r = r} {zero_place = z} {name = name} {y = y} is) rest =
-    if_form c s p q r z name y own ss left all values heap choices st is rest
-one_both c s fits own a ss x left behind all values heap choices st (leaves {p = p} {zero_place = z}) rest =
+one_both c s fits own a ss x left behind all values heap choices st undefined (declares {base = base} {star = star} {x = name} is) rest =
+    declare_both c s base star name own ss left all values heap choices fits st undefined is rest
+one_both c s fits own a ss x left behind all values heap choices st undefined (declares_block {base = base} {star = star} {x = name} is (of_struct)) rest =
+    declare_malloc_both c _ base star name _ own ss left all values heap choices fits st undefined is of_struct rest
+one_both c s fits own a ss x left behind all values heap choices st undefined (allocates {name = name} {x = number} is (of_struct)) rest =
+    malloc_both c _ name number _ own ss left all values heap choices fits st undefined is of_struct rest
+one_both c s fits own a ss x left behind all values heap choices st undefined (loads {kind = kind} {base = base} {star = star} {x = name} {name = read} {field = field} {y = y} {f = f} is variable fields) rest =
+    load_form c s kind base star name read field y f own ss left all values heap choices fits st undefined is variable fields rest
+one_both c s fits own a ss x left behind all values heap choices st undefined (stores {kind = kind} {name = name} {field = field} {y = y} {f = f} {e = e} {a = operand} is fields stored) rest =
+    store_form c s kind name field y f e operand own ss left all values heap choices fits st undefined is fields stored rest
+one_both c s fits own a ss x left behind all values heap choices st undefined (frees {p = p} {e = e} {a = operand} is) rest =
+    free_form c s p e operand own ss left all values heap choices st undefined is rest
+one_both c s fits own a ss x left behind all values heap choices st undefined (leaves_if_null {p = p} {q = q} {r = r} {zero_place = z} {name = name} {y = y} is) rest =
+    if_form c s p q r z name y own ss left all values heap choices st undefined is rest
+one_both c s fits own a ss x left behind all values heap choices st undefined (leaves {p = p} {zero_place = z}) rest =
     return_form c s p z own ss left values heap choices
 
 between_both : (c : Context) (s : Option StructInfo) → Fits c.tables s → (own : List Variable) (ss : List Statement) (left : List Stmt) (vars all : List VarInfo) (values : Values) (heap : Heap) (choices : List Choice)
-    → Standing c own ss → AreStatements s vars ss left all → vars ≡ infos own
+    → Standing c own ss → AreUndefined values (statements_places (stmts_of ss)) → AreStatements s vars ss left all → vars ≡ infos own
     → Both c s (TreeStep c (record { tasks = tasks_of c own ss; values = values; heap = heap }) choices) (ShortStep s (record { left = left; vars = held_in values own; heap = heap }) choices)
-between_both c s fits own ss left vars all values heap choices st none e =
+between_both c s fits own ss left vars all values heap choices st undefined none e =
     both_here c s done values heap choices (λ r. r ≡ last ended) refl (both_are c s (last ended) (last ended) comes_to)
-between_both c s fits own ss left vars all values heap choices st (more {behind = behind} {a = a} {more = later} {short = x} {left = onward} is rest) e =
+between_both c s fits own ss left vars all values heap choices st undefined (more {behind = behind} {a = a} {more = later} {short = x} {left = onward} is rest) e =
     let P : List VarInfo → Type 0 = λ vs. IsStatement s vs a x behind in
-    one_both c s fits own a later x onward behind all values heap choices st (subst P e is) rest
+    one_both c s fits own a later x onward behind all values heap choices st undefined (subst P e is) rest
 
 step_both : (c : Context) (s : Option StructInfo) → Fits c.tables s → (x : Config) (y : short.Config) (choices : List Choice) → Tied c s x y → Both c s (TreeStep c x choices) (ShortStep s y choices)
-step_both c s fits x y choices (between {own = own} {ss = ss} {left = left} {all = all} {values = values} {heap = heap} st rest) =
-    between_both c s fits own ss left (infos own) all values heap choices st rest refl
+step_both c s fits x y choices (between {own = own} {ss = ss} {left = left} {all = all} {values = values} {heap = heap} st undefined rest) =
+    between_both c s fits own ss left (infos own) all values heap choices st undefined rest refl
 step_both c s fits x y choices (behind_declarator {scope = scope} {place = place} {base = base} {rest = rest} {values = values} {heap = heap} {d = d} tied) =
     both_there c s (task (declare_all scope place base []) rest) rest values values heap choices (ShortStep s d choices) refl
     (step_both c s fits (record { tasks = rest; values = values; heap = heap }) d choices tied)

@@ -77,7 +77,7 @@ ArePlaced [] = Unit {0}
 ArePlaced (v ∷ own) = IsElsewhere v.place (places own) × ArePlaced own
 
 -- ---- what is held
-held_one : (values : Values) (p q : Place) (w : Option ℤ) → is_place q p ≡ false → with_variable values p w q ≡ values q
+pub held_one : (values : Values) (p q : Place) (w : Option ℤ) → is_place q p ≡ false → with_variable values p w q ≡ values q
 held_one values p q w e = ap (λ b. if b then w else values q) e
 
 held_here : (values : Values) (p : Place) (w : Option ℤ) → with_variable values p w p ≡ w
@@ -91,12 +91,6 @@ held_other values p w (v ∷ own) e =
 pub held_next : (values : Values) (w : Option ℤ) (x : Variable) (own : List Variable) → IsElsewhere x.place (places own) → held_in (with_variable values x.place w) (x ∷ own) ≡ held_in values own ++ w ∷ []
 held_next values w x own e =
     ap (λ l. l ++ with_variable values x.place w x.place ∷ []) (held_other values x.place w own e) ∙ ap (λ o. held_in values own ++ o ∷ []) (held_here values x.place w)
-
--- a variable that is undefined at first, and then gets its value
-pub held_again : (values : Values) (first w : Option ℤ) (x : Variable) (own : List Variable) → IsElsewhere x.place (places own)
-    → held_in (with_variable (with_variable values x.place first) x.place w) (x ∷ own) ≡ held_in values own ++ w ∷ []
-held_again values first w x own e =
-    held_next (with_variable values x.place first) w x own e ∙ ap (λ l. l ++ w ∷ []) (held_other values x.place first own e)
 
 -- ---- the variable that a name means
 pub record Found (own : List Variable) (name : List ℕ) (kind : Kind) (k : ℕ) : Type 0 where
