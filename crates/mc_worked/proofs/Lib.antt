@@ -1,4 +1,5 @@
 pub mod Blocks
+pub mod Computed
 pub mod Memory
 pub mod Numbers
 pub mod Orders

@@ -17,6 +17,7 @@ use Rattle.mc_meaning.specs.Steps.{after}
 use Rattle.mc_meaning.specs.Values.{Evaluated, evaluated, Found, faulty, found, after_found, read, Changed, fault_in, behind_base}
 use Rattle.mc_worked.specs.Orders.{linking, result_in_field, storing_undefined, storing_behind, adding_undefined, assuming_undefined, asserting_undefined}
 use Rattle.mc_worked.specs.Programs.{ComesWithLists}
+use Rattle.mc_worked.specs.Turns.{asserting_of_undefined}
 use Rattle.mc_worked.proofs.Running.{arrived, no_block, is_there, seen, frees, stores, put_in, new, holding, fresh}
 
 -- ---- a node at 7 whose next one is at 9
@@ -195,4 +196,18 @@ asserting_undefined_faults =
       _,
       (_, _, arrived 9 _ _ _ refl, refl),
       inl (_, _, arrived 9 _ _ _ refl, refl),
+    )
+
+pub asserting_of_undefined_faults : ComesWithLists asserting_of_undefined 3 [] (fault Uninit (at 43))
+asserting_of_undefined_faults =
+    inr (
+      _,
+      _,
+      (_, _, arrived 9 _ _ _ refl, (_, refl, refl)),
+      inr (
+        _,
+        _,
+        (_, _, arrived 9 _ _ _ refl, refl),
+        inl (_, _, arrived 9 _ _ _ refl, refl),
+      ),
     )

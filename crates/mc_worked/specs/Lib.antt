@@ -1,2 +1,4 @@
 pub mod Orders
 pub mod Programs
+pub mod Turns
+pub mod Variables

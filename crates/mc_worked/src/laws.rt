@@ -1,13 +1,15 @@
 // Runs that were worked out by hand.
 ghost use Rattle.std.specs.Prelude.{[], ◌∷◌, pos};
-ghost use Rattle.mc_base.specs.Runs.{ended, fault};
-ghost use Rattle.mc_base.specs.declared.plain.FaultKind.TheVariants.{Null, Freed, Uninit, BadFree, Shape, NotEmpty};
+ghost use Rattle.mc_base.specs.Runs.{ended, stopped, fault};
+ghost use Rattle.mc_base.specs.declared.plain.FaultKind.TheVariants.{Null, Freed, Uninit, BadFree, Assertion, Shape, NotEmpty};
 ghost use Rattle.mc_heap.specs.Choices.{malloc as choose_malloc, shape as choose_shape};
 ghost use Rattle.mc_defs.specs.Examples.{second_cell};
 ghost use Rattle.mc_meaning.specs.Examples.{at, Comes};
 ghost use Rattle.mc_worked.specs.Programs.{keeping, reading_undefined, storing_at_null, reading_freed, freeing_twice, freeing_null, counting, wrapping, computing, empty_at_first, not_empty, empty_again, forgetting, going_on};
 ghost use Rattle.mc_worked.specs.Orders.{linking, result_in_field, storing_undefined, storing_behind, adding_undefined, assuming_undefined, asserting_undefined};
 ghost use Rattle.mc_worked.specs.Programs.{deeply_returning, missing_result, ComesWithDeep, assuming_list, asserting_no_list, ComesWithLists};
+ghost use Rattle.mc_worked.specs.Variables.{RunsTo, same_function, inner_function, local_function, hidden_by_head, hiding_ends, hidden_result, own_value, own_undefined, one_after_other, hiding_outer, hiding_head, hiding_parameter, kept_in_turns, kept_for_condition, never_reached, left_by_break, left_by_continue, left_at_end, left_by_return};
+ghost use Rattle.mc_worked.specs.Turns.{minus_function, none_function, stop_function, spin_function, find_function, going_on_in_do, going_on_in_for, going_on_within, broken_within, without_condition, result_in_order, argument_undefined, field_before_argument, returned_without, stopped_within, called_in_turns, returned_from_loops, asserting_of_undefined};
 
 use mc_defs::example_premises;
 
@@ -71,3 +73,63 @@ pub fn shapes_are_told()
 {
     example_premises();
 }
+
+/// A declarator gives its value to the variable that it declares, also where the head of a loop hides it. Within the value its
+/// name means that variable, which is undefined the first time, and keeps what it held in an earlier turn.
+pub fn values_go_to_their_declarators()
+    ensures hidden_by_head { RunsTo [] hidden_by_head 6 (fault Assertion (at 60)) }
+    ensures hiding_ends { RunsTo [] hiding_ends 7 ended }
+    ensures hidden_result { RunsTo (same_function ∷ []) hidden_result 9 ended }
+    ensures own_value { RunsTo [] own_value 12 ended }
+    ensures own_undefined { RunsTo [] own_undefined 2 (fault Uninit (at 26)) }
+    ensures one_after_other { RunsTo [] one_after_other 4 ended }
+{}
+
+/// An inner block, the head of a loop and a block within a function hide what has the same name around them.
+pub fn names_hide_names()
+    ensures hiding_outer { RunsTo [] hiding_outer 5 ended }
+    ensures hiding_head { RunsTo [] hiding_head 7 ended }
+    ensures hiding_parameter { RunsTo (inner_function ∷ []) hiding_parameter 7 ended }
+{}
+
+/// A variable that is declared without braces belongs to the block around: neither an empty block nor the end of a turn
+/// undefines it.
+pub fn variables_outlive_turns()
+    ensures kept_in_turns { RunsTo [] kept_in_turns 12 ended }
+    ensures kept_for_condition { RunsTo [] kept_for_condition 4 ended }
+    ensures never_reached { RunsTo [] never_reached 2 (fault Uninit (at 38)) }
+{}
+
+/// The variables of a block are undefined where it is left: by `break`, by `continue`, at its end, and by `return`.
+pub fn variables_are_left()
+    ensures left_by_break { RunsTo [] left_by_break 11 (fault Uninit (at 82)) }
+    ensures left_by_continue { RunsTo [] left_by_continue 11 (fault Uninit (at 97)) }
+    ensures left_at_end { RunsTo [] left_at_end 9 (fault Uninit (at 70)) }
+    ensures left_by_return { RunsTo (local_function ∷ []) left_by_return 11 (fault Uninit (at 43)) }
+{}
+
+/// `continue` and `break` in each loop, and in loops within loops; and a `for` without a condition.
+pub fn turns_go_on()
+    ensures going_on_in_do { RunsTo [] going_on_in_do 8 ended }
+    ensures going_on_in_for { RunsTo [] going_on_in_for 10 ended }
+    ensures going_on_within { RunsTo [] going_on_within 17 ended }
+    ensures broken_within { RunsTo [] broken_within 13 ended }
+    ensures without_condition { RunsTo [] without_condition 10 ended }
+{}
+
+/// Arguments from left to right and before the first is passed; a result that is missing; a `stop` within a call; and calls
+/// within loops, and out of them.
+pub fn functions_are_called()
+    ensures result_in_order { RunsTo (minus_function ∷ []) result_in_order 7 ended }
+    ensures argument_undefined { RunsTo (minus_function ∷ []) argument_undefined 2 (fault Uninit (at 62)) }
+    ensures field_before_argument { RunsTo (minus_function ∷ []) field_before_argument 3 (fault Null (at 85)) }
+    ensures returned_without { RunsTo (none_function ∷ []) returned_without 5 (fault Uninit (at 59)) }
+    ensures stopped_within { RunsTo (stop_function ∷ []) stopped_within 4 stopped }
+    ensures called_in_turns { RunsTo (spin_function ∷ []) called_in_turns 12 ended }
+    ensures returned_from_loops { RunsTo (find_function ∷ []) returned_from_loops 17 ended }
+{}
+
+/// The arguments of a shape that is asserted are taken before it is looked for.
+pub fn shapes_take_their_arguments()
+    ensures { ComesWithLists asserting_of_undefined 3 [] (fault Uninit (at 43)) }
+{}
