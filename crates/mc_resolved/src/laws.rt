@@ -1,0 +1,15 @@
+// Laws of resolved programs.
+ghost use Rattle.mc_ast.specs.Trees.{FunctionTree};
+ghost use Rattle.mc_defs.specs.declared.rules.Def.{Def};
+ghost use Rattle.mc_heap.specs.Choices.{Choice};
+ghost use Rattle.mc_meaning.specs.Configs.{Config as NamedConfig};
+ghost use Rattle.mc_resolved.specs.Configs.{Config};
+ghost use Rattle.mc_resolved.specs.Running.{Match, RunAlike, StepAlike};
+ghost use Rattle.mc_types.specs.Tables.{Tables, called_function};
+ghost use Rattle.std.specs.Prelude.{◌≡◌, ℕ, List};
+
+/// A program and its resolved program run alike, step by step: with the same choices, faults, places, ends, stops and waits.
+pub fn resolved_programs_run_alike()
+    ensures steps { (t : Tables) (defs : List Def) (entry : List ℕ) (c : NamedConfig) (d : Config) (choices : List Choice) → Match t defs c d → StepAlike t defs entry c d choices }
+    ensures runs { (t : Tables) (defs : List Def) (entry : List ℕ) (f : FunctionTree) → called_function t entry ≡ Some f → RunAlike t defs entry f }
+{}
