@@ -2,3 +2,5 @@ mod Holding
 mod Knowing
 mod Computing
 mod Moving
+mod Passing
+mod Stepping
