@@ -4,3 +4,4 @@ mod Computing
 mod Moving
 mod Passing
 mod Stepping
+mod Running

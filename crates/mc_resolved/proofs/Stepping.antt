@@ -53,53 +53,53 @@ BothWays t defs P Q =
     ((r : named.Result) → P r → (s : Result) × Q s × SameResult t defs r s)
     × ((s : Result) → Q s → (r : named.Result) × P r × SameResult t defs r s)
 
-equal_both : (t : Tables) (defs : List Def) {x : named.Result} {y : Result} → SameResult t defs x y → BothWays t defs (λ r. r ≡ x) (λ s. s ≡ y)
+pub equal_both : (t : Tables) (defs : List Def) {x : named.Result} {y : Result} → SameResult t defs x y → BothWays t defs (λ r. r ≡ x) (λ s. s ≡ y)
 equal_both t defs {x} {y} same = (
   λ r e. (y, refl, subst (λ z. SameResult t defs z y) (sym e) same),
   λ s e. (x, refl, subst (λ z. SameResult t defs x z) (sym e) same),
 )
 
-never_both : (t : Tables) (defs : List Def) → BothWays t defs (λ r. ⊥) (λ s. ⊥)
+pub never_both : (t : Tables) (defs : List Def) → BothWays t defs (λ r. ⊥) (λ s. ⊥)
 never_both t defs = (λ r bad. absurd bad, λ s bad. absurd bad)
 
 -- what is around a step: the function's variables, which are visible, and what they hold
-record Around : Type 0 where
-  t : Tables
-  defs : List Def
-  locals : List Variable
-  vs : List Variable
-  values : named.Values
-  numbered : Values
-  heap : Heap
-  agree : Agree locals values numbered
-  known : AreKnown locals vs
+pub record Around : Type 0 where
+  pub t : Tables
+  pub defs : List Def
+  pub locals : List Variable
+  pub vs : List Variable
+  pub values : named.Values
+  pub numbered : Values
+  pub heap : Heap
+  pub agree : Agree locals values numbered
+  pub known : AreKnown locals vs
 
-abbrev naming_in : Around → Naming
+abbrev pub naming_in : Around → Naming
 naming_in a = naming a.t a.defs a.locals
 
-abbrev there : Around → named_values.Here
+abbrev pub there : Around → named_values.Here
 there a = where_is a.t a.vs a.values a.heap
 
-abbrev here : Around → Here
+abbrev pub here : Around → Here
 here a = record { values = a.numbered; heap = a.heap }
 
-abbrev Both : Around → (named.Result → Type 0) → (Result → Type 0) → Type 0
+abbrev pub Both : Around → (named.Result → Type 0) → (Result → Type 0) → Type 0
 Both a P Q = BothWays a.t a.defs P Q
 
-abbrev Same : Around → named.Tasks → Tasks → Type 0
+abbrev pub Same : Around → named.Tasks → Tasks → Type 0
 Same a rest more = SameTasks a.t a.defs a.locals rest more
 
 -- ---- what a step leads to
-going : (t : Tables) (defs : List Def) (locals : List Variable) {values : named.Values} {numbered : Values} {rest : named.Tasks} {more : Tasks} (heap : Heap) (choices : List Choice) → Agree locals values numbered → SameTasks t defs locals rest more
+pub going : (t : Tables) (defs : List Def) (locals : List Variable) {values : named.Values} {numbered : Values} {rest : named.Tasks} {more : Tasks} (heap : Heap) (choices : List Choice) → Agree locals values numbered → SameTasks t defs locals rest more
     → SameResult t defs (next (record { tasks = rest; values = values; heap = heap }) choices) (next (record { tasks = more; values = numbered; heap = heap }) choices)
 going t defs locals heap choices agree same = both_go (record { locals = locals; tasks = same; values = agree; heap = refl })
 
-after_same : (t : Tables) (defs : List Def) (locals : List Variable) {rest : named.Tasks} {more : Tasks} {x : named_values.Changed} {y : Changed} (place : Place) (choices : List Choice) → SameTasks t defs locals rest more → SameChange locals x y
+pub after_same : (t : Tables) (defs : List Def) (locals : List Variable) {rest : named.Tasks} {more : Tasks} {x : named_values.Changed} {y : Changed} (place : Place) (choices : List Choice) → SameTasks t defs locals rest more → SameChange locals x y
     → SameResult t defs (named_steps.after rest place choices x) (steps.after more place choices y)
 after_same t defs locals place choices same same_fault = both_end
 after_same t defs locals place choices same (same_change {heap = heap} agree) = going t defs locals heap choices agree same
 
-with_value : (a : Around) (e : tree.Expr) (place : Place) (choices : List Choice) (go : Option ℤ → List Choice → named.Result → Type 0) (on : Option ℤ → List Choice → Result → Type 0)
+pub with_value : (a : Around) (e : tree.Expr) (place : Place) (choices : List Choice) (go : Option ℤ → List Choice → named.Result → Type 0) (on : Option ℤ → List Choice → Result → Type 0)
     → ((v : Option ℤ) (left : List Choice) → Both a (go v left) (on v left))
     → Both a (named_steps.WithValue (there a) e place choices go) (steps.WithValue (here a) (resolved_expression (naming_in a) a.vs e) place choices on)
 with_value a e place choices go on same = (forth, back)
@@ -144,18 +144,18 @@ returning_same t defs (same_task (ends_loop known) rest) v = returning_same t de
 returning_same t defs (same_task ends_turn rest) v = returning_same t defs rest v
 returning_same t defs (same_task (takes target) rest) v = returning_same t defs rest v
 
-gone_back_same : (t : Tables) (defs : List Def) {locals : List Variable} {ts : named.Tasks} {us : Tasks} (heap : Heap) (choices : List Choice) (v : Option ℤ) → SameTasks t defs locals ts us
+pub gone_back_same : (t : Tables) (defs : List Def) {locals : List Variable} {ts : named.Tasks} {us : Tasks} (heap : Heap) (choices : List Choice) (v : Option ℤ) → SameTasks t defs locals ts us
     → SameResult t defs (named_steps.gone_back heap ts v choices) (steps.gone_back heap us v choices)
 gone_back_same t defs heap choices v same =
     let back = returning_same t defs same v in going t defs back.locals heap choices back.agree back.same
 
-returned_same : (t : Tables) (defs : List Def) {locals : List Variable} {ts : named.Tasks} {us : Tasks} (heap : Heap) (place : Place) (choices : List Choice) (v : Option ℤ) → SameTasks t defs locals ts us
+pub returned_same : (t : Tables) (defs : List Def) {locals : List Variable} {ts : named.Tasks} {us : Tasks} (heap : Heap) (place : Place) (choices : List Choice) (v : Option ℤ) → SameTasks t defs locals ts us
     → SameResult t defs (named_steps.returned_value heap ts place choices v) (steps.returned_value heap us place choices v)
 returned_same t defs heap place choices None same = both_end
 returned_same t defs heap place choices (Some v) same = gone_back_same t defs heap choices (Some v) same
 
 -- ---- memory
-allocates_both : (a : Around) (m : Malloc) (choices : List Choice) (go : ℤ → Heap → List Choice → named.Result → Type 0) (on : ℤ → Heap → List Choice → Result → Type 0)
+pub allocates_both : (a : Around) (m : Malloc) (choices : List Choice) (go : ℤ → Heap → List Choice → named.Result → Type 0) (on : ℤ → Heap → List Choice → Result → Type 0)
     → ((v : ℤ) (heap : Heap) (left : List Choice) → Both a (go v heap left) (on v heap left))
     → Both a (named_steps.Allocates (there a) m choices go) (steps.Allocates a.heap (allocated_struct a.t a.vs m) (field_count a.t (allocated_struct a.t a.vs m)) choices on)
 allocates_both a m [] go on same = never_both a.t a.defs
@@ -170,7 +170,7 @@ freed_at_same : (a : Around) (at : ℕ) (b : Option Block) → SameChange a.loca
 freed_at_same a at None = same_fault
 freed_at_same a at (Some b) = same_change a.agree
 
-freed_same : (a : Around) (v : Option ℤ) → SameChange a.locals (named_steps.freed (there a) v) (steps.freed (here a) v)
+pub freed_same : (a : Around) (v : Option ℤ) → SameChange a.locals (named_steps.freed (there a) v) (steps.freed (here a) v)
 freed_same a None = same_fault
 freed_same a (Some p) = chosen a.locals (address p == 0) (same_change a.agree) (freed_at_same a (address p) (region_of a.heap (address p)))
 
@@ -203,7 +203,7 @@ after_arguments a (Some f) place (no_arguments kind) target rest = equal_both a.
 after_arguments a None place (arguments vs choices) target rest = never_both a.t a.defs
 after_arguments a (Some f) place (arguments vs choices) target rest = equal_both a.t a.defs (begun_same a f place choices (all_there vs) target rest)
 
-passes_both : (a : Around) (entry : List ℕ) (c : tree.CallTree) (place : Place) (choices : List Choice) {target : named.Target} {goal : Target} {rest : named.Tasks} {more : Tasks} → SameTarget a.t a.defs a.locals target goal → Same a rest more
+pub passes_both : (a : Around) (entry : List ℕ) (c : tree.CallTree) (place : Place) (choices : List Choice) {target : named.Target} {goal : Target} {rest : named.Tasks} {more : Tasks} → SameTarget a.t a.defs a.locals target goal → Same a rest more
     → Both a (named_steps.Passes (there a) c target place rest choices) (steps.Passes (resolved_program a.t a.defs entry) (here a) (resolved_call (naming_in a) a.vs c) goal place more choices)
 passes_both a entry c place choices {target} {goal} {rest} {more} same_target same = (
   λ r is.
@@ -218,7 +218,7 @@ passes_both a entry c place choices {target} {goal} {rest} {more} same_target sa
 
 -- ---- simple statements
 -- the left side is sought among these variables, the right one among those that are visible
-assigns_both : (a : Around) (entry : List ℕ) (own : List Variable) (l : tree.Left) (right : tree.Right) (place : Place) (choices : List Choice) {rest : named.Tasks} {more : Tasks} → AreKnown a.locals own → Same a rest more
+pub assigns_both : (a : Around) (entry : List ℕ) (own : List Variable) (l : tree.Left) (right : tree.Right) (place : Place) (choices : List Choice) {rest : named.Tasks} {more : Tasks} → AreKnown a.locals own → Same a rest more
     → Both a (named_steps.Assigns (there a) own l right place rest choices)
       (steps.Assigns (resolved_program a.t a.defs entry) (here a) (resolved_left (naming_in a) own l) (resolved_right (naming_in a) a.vs right) place more choices)
 assigns_both a entry own l (tree.expression e) place choices own_known same =
@@ -254,7 +254,7 @@ counts_both operation a l place choices {rest} {more} same = (
         → s ≡ steps.after more place choices y
     back s one e is = subst (λ z. steps.AfterValue place (λ v left other. other ≡ steps.after more place left (numbered_values.combined operation a.numbered a.heap (resolved_left (naming_in a) a.vs l) v)) z s) e is
 
-performs_both : (a : Around) (entry : List ℕ) (x : tree.SimpleTree) (place : Place) (choices : List Choice) {rest : named.Tasks} {more : Tasks} → Same a rest more
+pub performs_both : (a : Around) (entry : List ℕ) (x : tree.SimpleTree) (place : Place) (choices : List Choice) {rest : named.Tasks} {more : Tasks} → Same a rest more
     → Both a (named_steps.Performs (there a) x place rest choices) (steps.Performs (resolved_program a.t a.defs entry) (here a) (resolved_action (naming_in a) a.vs x) place more choices)
 performs_both a entry (tree.assign l right) place choices same = assigns_both a entry a.vs l right place choices a.known same
 performs_both a entry (tree.add l e) place choices same = combines_both (λ x y. x +ℤ y) a l e place choices same
