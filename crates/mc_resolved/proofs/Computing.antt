@@ -175,7 +175,7 @@ fields_alike t defs locals vs values numbered heap name [] v agree known = set_a
 fields_alike t defs locals vs values numbered heap name (field ∷ fields) v agree known =
     let type : VariableType = variable_type vs name in
     let P : Option ℤ → Type 0 = λ base. SameChange locals (named_values.assigned_behind (where_is t vs values heap) type (named_values.held (where_is t vs values heap) name) field fields v)
-        (assigned_behind numbered heap base (record { shape = struct_behind type; field = field_number t type field }) (resolved_fields t (behind_fields t type (field ∷ [])) fields) v) in
+    (assigned_behind numbered heap base (record { shape = struct_behind type; field = field_number t type field }) (resolved_fields t (behind_fields t type (field ∷ [])) fields) v) in
     subst P (sym (held_alike t defs locals vs values numbered heap name agree known))
     (behind_field_alike t locals vs values numbered heap type (named_values.held (where_is t vs values heap) name) field fields v agree)
 

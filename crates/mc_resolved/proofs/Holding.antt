@@ -43,14 +43,14 @@ one_place locals p q known other same =
 set_alike : (locals : List Variable) (values : named.Values) (numbered : Values) (place : Place) (v : Option ℤ) → Agree locals values numbered → IsKnown locals place
     → (other : Place) → IsKnown locals other → held (with_variable numbered (number_in locals place) v) (number_in locals other) ≡ named.with_variable values place v other
 set_alike locals values numbered place v agree known other is_known = same_or_not (is_place other place)
-  (λ hit.
+    (λ hit.
     let e : other ≡ place = place_of other place hit in
     let low : number_in locals place < length numbered = subst (λ n. number_in locals place < n) (sym agree.same_length) known in
     rw (hit, e) (get_or-set_same numbered (number_in locals place) v None low))
-  (λ miss.
+    (λ miss.
     let apart : number_in locals other ≢ number_in locals place = λ same.
-        let e : other ≡ place = one_place locals other place is_known known same in
-        let bad : true ≡ false = sym (place_self place) ∙ subst (λ z. is_place z place ≡ false) e miss in absurd (grind (arith, bad)) in
+    let e : other ≡ place = one_place locals other place is_known known same in
+    let bad : true ≡ false = sym (place_self place) ∙ subst (λ z. is_place z place ≡ false) e miss in absurd (grind (arith, bad)) in
     rw miss (get_or-set_other numbered (number_in locals place) (number_in locals other) v None apart ∙ agree.same other is_known))
 
 pub set_agree : (locals : List Variable) (values : named.Values) (numbered : Values) (place : Place) (v : Option ℤ) → Agree locals values numbered → IsKnown locals place
@@ -60,8 +60,8 @@ set_agree locals values numbered place v agree known =
 
 place_swap : (p q : Place) → is_place p q ≡ is_place q p
 place_swap p q = same_or_not (is_place p q)
-  (λ hit. let e : p ≡ q = place_of p q hit in subst (λ z. is_place p z ≡ is_place z p) e refl)
-  (λ miss. same_or_not (is_place q p)
+    (λ hit. let e : p ≡ q = place_of p q hit in subst (λ z. is_place p z ≡ is_place z p) e refl)
+    (λ miss. same_or_not (is_place q p)
     (λ hit. let e : q ≡ p = place_of q p hit in subst (λ z. is_place z q ≡ is_place q z) e refl)
     (λ other. miss ∙ sym other))
 
@@ -69,8 +69,8 @@ place_swap p q = same_or_not (is_place p q)
 without_more : (v : Variable) (vs : List Variable) (values : named.Values) (place : Place)
     → named.with_variable (named.without vs values) v.place None place ≡ named.without (v ∷ vs) values place
 without_more v vs values place = same_or_not (is_place v.place place)
-  (λ hit. rw (place_swap place v.place, hit) refl)
-  (λ miss. rw (place_swap place v.place, miss) refl)
+    (λ hit. rw (place_swap place v.place, hit) refl)
+    (λ miss. rw (place_swap place v.place, miss) refl)
 
 pub without_agree : (locals : List Variable) (values : named.Values) (numbered : Values) (vs : List Variable) → Agree locals values numbered → AreKnown locals vs
     → Agree locals (named.without vs values) (without (numbers_in locals vs) numbered)
@@ -78,5 +78,5 @@ without_agree locals values numbered [] agree known = record { same_length = agr
 without_agree locals values numbered (v ∷ vs) agree known =
     let before : Agree locals (named.without vs values) (without (numbers_in locals vs) numbered) = without_agree locals values numbered vs agree known.1 in
     let set : Agree locals (named.with_variable (named.without vs values) v.place None) (without (numbers_in locals (v ∷ vs)) numbered) =
-        set_agree locals (named.without vs values) (without (numbers_in locals vs) numbered) v.place None before known.0 in
+    set_agree locals (named.without vs values) (without (numbers_in locals vs) numbered) v.place None before known.0 in
     record { same_length = set.same_length; same = λ place is_known. set.same place is_known ∙ without_more v vs values place }

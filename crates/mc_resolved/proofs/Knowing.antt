@@ -27,8 +27,8 @@ known_right locals (x ∷ xs) ys known = known_right locals xs ys known.1
 
 is_known_more : (x : Variable) (xs : List Variable) (p : Place) → IsKnown xs p → IsKnown (x ∷ xs) p
 is_known_more x xs p known = same_or_not (is_place x.place p)
-  (λ hit. rw hit (omega arith))
-  (λ miss. rw miss (omega (arith, known)))
+    (λ hit. rw hit (omega arith))
+    (λ miss. rw miss (omega (arith, known)))
 
 known_more : (x : Variable) (xs vs : List Variable) → AreKnown xs vs → AreKnown (x ∷ xs) vs
 known_more x xs [] known = tt
@@ -108,9 +108,9 @@ behind_known locals t s (tree.while_loop p c a) known new = behind_known locals 
 behind_known locals t s (tree.do_loop p a c) known new = behind_known locals t s a known new
 behind_known locals t s (tree.for_loop h a) known new =
     let began : AreKnown locals (visible (behind_start t s h.start)) =
-        start_known locals t s h.start known (known_left locals (start_variables t h.start) (statement_variables t a) new) in
+    start_known locals t s h.start known (known_left locals (start_variables t h.start) (statement_variables t a) new) in
     let later : AreKnown locals (visible (behind t (behind_start t s h.start) a)) =
-        behind_known locals t (behind_start t s h.start) a began (known_right locals (start_variables t h.start) (statement_variables t a) new) in
+    behind_known locals t (behind_start t s h.start) a began (known_right locals (start_variables t h.start) (statement_variables t a) new) in
     scope_known locals s.heads (behind t (behind_start t s h.start) a).own s.outer (heads_known locals s known)
     (own_known locals (behind t (behind_start t s h.start) a) later) (outer_known locals s known)
 behind_known locals t s (tree.break_loop p) known new = known

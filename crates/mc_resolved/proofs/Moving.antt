@@ -150,9 +150,9 @@ enters t defs locals values numbered s (tree.returns p r) agree known new rest =
 for_again : (t : Tables) (defs : List Def) (locals : List Variable) (values : named.Values) (numbered : Values) (s : Scope) (p : Place) (start : tree.Start) (condition : Option tree.Cond) (ends : Option tree.SimpleTree) (a : tree.Stmt) {rest : named.Tasks} {more : Tasks}
     → Agree locals values numbered → AreKnown locals (visible s) → AreKnown locals (statement_variables t (tree.for_loop (record { place = p; start = start; condition = condition; last = ends }) a)) → SameTasks t defs locals rest more
     → SameTasks t defs locals (named.task (named.again s (tree.for_loop (record { place = p; start = start; condition = condition; last = ends }) a)) rest)
-      (task (again (option_map (resolved_condition (naming t defs locals) (visible (behind_start t s start))) condition) (resolved_statement (naming t defs locals) (behind_start t s start) a) (option_map (resolved_simple (naming t defs locals) (visible (behind_start t s start))) ends)) more)
+    (task (again (option_map (resolved_condition (naming t defs locals) (visible (behind_start t s start))) condition) (resolved_statement (naming t defs locals) (behind_start t s start) a) (option_map (resolved_simple (naming t defs locals) (visible (behind_start t s start))) ends)) more)
     → SameMove t defs (named_moves.at_condition t values s (tree.for_loop (record { place = p; start = start; condition = condition; last = ends }) a) rest)
-      (moved numbered (task (again (option_map (resolved_condition (naming t defs locals) (visible (behind_start t s start))) condition) (resolved_statement (naming t defs locals) (behind_start t s start) a) (option_map (resolved_simple (naming t defs locals) (visible (behind_start t s start))) ends)) more))
+    (moved numbered (task (again (option_map (resolved_condition (naming t defs locals) (visible (behind_start t s start))) condition) (resolved_statement (naming t defs locals) (behind_start t s start) a) (option_map (resolved_simple (naming t defs locals) (visible (behind_start t s start))) ends)) more))
 for_again t defs locals values numbered s p start condition None a agree known new rest once_more =
     let first : AreKnown locals (start_variables t start) = known_left locals (start_variables t start) (statement_variables t a) new in
     let later : AreKnown locals (visible (behind_start t s start)) = start_known locals t s start known first in

@@ -51,28 +51,28 @@ number_first x locals p hit = rw hit refl
 nothing_passed : (locals : List Variable) (vs : List ℤ) (p : Place) → IsKnown locals p → held (passed zero (map local_of locals) vs) (number_in locals p) ≡ None
 nothing_passed [] vs p known = absurd (omega (arith, known))
 nothing_passed (x ∷ locals) vs p known = same_or_not (is_place x.place p)
-  (λ hit. rw (number_first x locals p hit) refl)
-  (λ miss. rw (number_later x locals p miss) (held_later None (passed zero (map local_of locals) vs) (number_in locals p) ∙ nothing_passed locals vs p (known_later x locals p miss known)))
+    (λ hit. rw (number_first x locals p hit) refl)
+    (λ miss. rw (number_later x locals p miss) (held_later None (passed zero (map local_of locals) vs) (number_in locals p) ∙ nothing_passed locals vs p (known_later x locals p miss known)))
 
 none_left : (k : ℕ) (locals : List Variable) (p : Place) → IsKnown locals p → held (passed k (map local_of locals) []) (number_in locals p) ≡ None
 none_left k [] p known = absurd (omega (arith, known))
 none_left zero (x ∷ locals) p known = nothing_passed (x ∷ locals) [] p known
 none_left (suc k) (x ∷ locals) p known = same_or_not (is_place x.place p)
-  (λ hit. rw (number_first x locals p hit) refl)
-  (λ miss. rw (number_later x locals p miss) (held_later None (passed k (map local_of locals) []) (number_in locals p) ∙ none_left k locals p (known_later x locals p miss known)))
+    (λ hit. rw (number_first x locals p hit) refl)
+    (λ miss. rw (number_later x locals p miss) (held_later None (passed k (map local_of locals) []) (number_in locals p) ∙ none_left k locals p (known_later x locals p miss known)))
 
 passed_same : (ps more : List Variable) (vs : List ℤ) (p : Place) → IsKnown (ps ++ more) p
     → held (passed (length ps) (map local_of (ps ++ more)) vs) (number_in (ps ++ more) p) ≡ named_steps.passed ps vs p
 passed_same [] more vs p known = nothing_passed more vs p known
 passed_same (x ∷ ps) more [] p known = none_left (suc (length ps)) (x ∷ ps ++ more) p known
 passed_same (x ∷ ps) more (v ∷ vs) p known = same_or_not (is_place x.place p)
-  (λ hit. let e : x.place ≡ p = place_of x.place p hit in
+    (λ hit. let e : x.place ≡ p = place_of x.place p hit in
     let own : is_place p x.place ≡ true = subst (λ z. is_place p z ≡ true) (sym e) (place_self p) in
     rw (number_first x (ps ++ more) p hit, own) refl)
-  (λ miss. let other : is_place p x.place ≡ false = same_or_not (is_place p x.place)
-      (λ hit. let e : p ≡ x.place = place_of p x.place hit in
-        let bad : true ≡ false = sym (place_self x.place) ∙ subst (λ z. is_place x.place z ≡ false) e miss in absurd (grind (arith, bad)))
-      (λ m. m) in
+    (λ miss. let other : is_place p x.place ≡ false = same_or_not (is_place p x.place)
+    (λ hit. let e : p ≡ x.place = place_of p x.place hit in
+    let bad : true ≡ false = sym (place_self x.place) ∙ subst (λ z. is_place x.place z ≡ false) e miss in absurd (grind (arith, bad)))
+    (λ m. m) in
     rw (number_later x (ps ++ more) p miss, other)
     (held_later (Some v) (passed (length ps) (map local_of (ps ++ more)) vs) (number_in (ps ++ more) p) ∙ passed_same ps more vs p (known_later x (ps ++ more) p miss known)))
 
@@ -86,7 +86,7 @@ started_agree locals = record { same_length = passed_length 0 locals []; same = 
 body_same : (t : Tables) (defs : List Def) (locals : List Variable) (s : Scope) (b : Option tree.BodyTree) {rest : named.Tasks} {more : Tasks} → AreKnown locals (visible s)
     → AreKnown locals (statements_variables t (option_map_or (λ body. tree.stmts_of body.statements) b tree.no_more)) → SameTasks t defs locals rest more
     → SameTasks t defs locals (option_map_or (λ body. named_moves.in_a_row t s (tree.stmts_of body.statements) rest) b rest)
-      (in_a_row (resolved_statements (naming t defs locals) s (option_map_or (λ body. tree.stmts_of body.statements) b tree.no_more)) more)
+    (in_a_row (resolved_statements (naming t defs locals) s (option_map_or (λ body. tree.stmts_of body.statements) b tree.no_more)) more)
 body_same t defs locals s None known new same = same
 body_same t defs locals s (Some body) known new same = row_same t defs locals s (tree.stmts_of body.statements) known new same
 

@@ -57,16 +57,16 @@ own_left a x =
 declares_both : (a : Around) (entry : List ℕ) (x : Variable) (item : Initial) (right : Option tree.Right) (place : Place) (choices : List Choice) {rest : named.Tasks} {more : Tasks} → item.variable ≡ number_in a.locals x.place
     → IsKnown a.locals x.place → Same a rest more
     → Both a (named_steps.Declares (there a) x right place rest choices)
-      (steps.Declares (resolved_program a.t a.defs entry) (here a) item place more choices (option_map (resolved_right (naming_in a) a.vs) right))
+    (steps.Declares (resolved_program a.t a.defs entry) (here a) item place more choices (option_map (resolved_right (naming_in a) a.vs) right))
 declares_both a entry x item None place choices {rest} {more} number known same =
     let P : ℕ → Type 0 = λ k. Both a (named_steps.Declares (there a) x None place rest choices) (λ r. r ≡ next (record { tasks = more; values = with_variable a.numbered k None; heap = a.heap }) choices) in
     subst P (sym number) (equal_both a.t a.defs (going a.t a.defs a.locals a.heap choices (set_agree a.locals a.values a.numbered x.place None a.agree known) same))
 declares_both a entry x item (Some right) place choices {rest} {more} number known same =
     let l : tree.Left = record { name = record { text = x.name; place = x.place }; fields = [] } in
     let P : Left → Type 0 = λ m. Both a (named_steps.Assigns (there a) (x ∷ []) l right place rest choices)
-        (steps.Assigns (resolved_program a.t a.defs entry) (here a) m (resolved_right (naming_in a) a.vs right) place more choices) in
+    (steps.Assigns (resolved_program a.t a.defs entry) (here a) m (resolved_right (naming_in a) a.vs right) place more choices) in
     let e : resolved_left (naming_in a) (x ∷ []) l ≡ record { variable = item.variable; fields = [] } =
-        own_left a x ∙ ap (λ (k : ℕ). let r : Left = record { variable = k; fields = [] } in r) (sym number) in
+    own_left a x ∙ ap (λ (k : ℕ). let r : Left = record { variable = k; fields = [] } in r) (sym number) in
     subst P e (assigns_both a entry (x ∷ []) l right place choices (known, tt) same)
 
 -- ---- shapes
@@ -186,7 +186,7 @@ executes_both a entry s (tree.returns p right) choices seen same stays = rw (sym
 items_both : (t : Tables) (defs : List Def) (entry : List ℕ) (locals : List Variable) (values : named.Values) (numbered : Values) (heap : Heap) (s : Scope) (p : Place) (base : Base) (items : List tree.InitialTree) (choices : List Choice) {rest : named.Tasks} {more : Tasks}
     → Agree locals values numbered → AreKnown locals (visible s) → AreKnown locals (map (λ item. declared_variable t base item.declarator) items) → SameTasks t defs locals rest more → named_moves.declared_all values items rest ≡ None
     → BothWays t defs (named_steps.DeclaresFirst t s p base items values heap rest choices)
-      (steps.DeclaresFirst (resolved_program t defs entry) (record { values = numbered; heap = heap }) (resolved_items (naming t defs locals) s base items) p more choices)
+    (steps.DeclaresFirst (resolved_program t defs entry) (record { values = numbered; heap = heap }) (resolved_items (naming t defs locals) s base items) p more choices)
 items_both t defs entry locals values numbered heap s p base [] choices agree known new same stays = absurd (some_is_none stays)
 items_both t defs entry locals values numbered heap s p base (item ∷ items) choices agree known new same stays =
     let x : Variable = declared_variable t base item.declarator in
@@ -242,7 +242,7 @@ steps_both t defs entry c d choices m = (forth, back)
     back s (numbered, us, path, does) =
         let at = arrive_back t defs path m.locals c.values c.tasks m.values m.tasks in
         let here : steps.Does (resolved_program t defs entry) (record { values = numbered; heap = c.heap }) us choices s =
-            subst (λ h. steps.Does (resolved_program t defs entry) (record { values = numbered; heap = h }) us choices s) m.heap does in
+        subst (λ h. steps.Does (resolved_program t defs entry) (record { values = numbered; heap = h }) us choices s) m.heap does in
         let k = (does_both t defs entry at.3.locals at.0 numbered c.heap choices at.3.agree at.3.same at.3.stays).1 s here in
         (k.0, (at.0, at.1, at.2, k.1), k.2)
 
@@ -293,7 +293,7 @@ runs_back t defs entry (suc n) c d choices final m (inr run) =
 pub run_alike : (t : Tables) (defs : List Def) (entry : List ℕ) (f : tree.FunctionTree) → called_function t entry ≡ Some f → RunAlike t defs entry f
 run_alike t defs entry f e =
     let begin : Match t defs (named_steps.start (program t defs) f) (steps.start (resolved_function t defs f)) =
-        record { locals = function_variables t f; tasks = function_same t defs f same_done; values = started_agree (function_variables t f); heap = refl } in
+    record { locals = function_variables t f; tasks = function_same t defs f same_done; values = started_agree (function_variables t f); heap = refl } in
     record {
       function = resolved_function t defs f;
       there = called_same t defs entry entry ∙ ap (option_map (resolved_function t defs)) e;

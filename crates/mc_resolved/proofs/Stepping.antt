@@ -207,12 +207,18 @@ pub passes_both : (a : Around) (entry : List ℕ) (c : tree.CallTree) (place : P
     → Both a (named_steps.Passes (there a) c target place rest choices) (steps.Passes (resolved_program a.t a.defs entry) (here a) (resolved_call (naming_in a) a.vs c) goal place more choices)
 passes_both a entry c place choices {target} {goal} {rest} {more} same_target same = (
   λ r is.
-      let k = (after_arguments a (called_function a.t c.function.text) place is.0 same_target same).0 r is.2 in
-      (k.0, (is.0, all_forth a c.arguments choices is.0 is.1,
-        subst (λ f. steps.AfterArguments (here a) f goal place more is.0 k.0) (sym (called_same a.t a.defs entry c.function.text)) k.1), k.2),
+      let k = (after_arguments a (called_function a.t c.function.text) place is.0 same_target same).0 r is.2 in (
+        k.0,
+        (
+          is.0,
+          all_forth a c.arguments choices is.0 is.1,
+          subst (λ f. steps.AfterArguments (here a) f goal place more is.0 k.0) (sym (called_same a.t a.defs entry c.function.text)) k.1,
+        ),
+        k.2,
+      ),
   λ s is.
       let k = (after_arguments a (called_function a.t c.function.text) place is.0 same_target same).1 s
-        (subst (λ f. steps.AfterArguments (here a) f goal place more is.0 s) (called_same a.t a.defs entry c.function.text) is.2) in
+      (subst (λ f. steps.AfterArguments (here a) f goal place more is.0 s) (called_same a.t a.defs entry c.function.text) is.2) in
       (k.0, (is.0, all_back a c.arguments choices is.0 is.1, k.1), k.2),
 )
 
@@ -220,7 +226,7 @@ passes_both a entry c place choices {target} {goal} {rest} {more} same_target sa
 -- the left side is sought among these variables, the right one among those that are visible
 pub assigns_both : (a : Around) (entry : List ℕ) (own : List Variable) (l : tree.Left) (right : tree.Right) (place : Place) (choices : List Choice) {rest : named.Tasks} {more : Tasks} → AreKnown a.locals own → Same a rest more
     → Both a (named_steps.Assigns (there a) own l right place rest choices)
-      (steps.Assigns (resolved_program a.t a.defs entry) (here a) (resolved_left (naming_in a) own l) (resolved_right (naming_in a) a.vs right) place more choices)
+    (steps.Assigns (resolved_program a.t a.defs entry) (here a) (resolved_left (naming_in a) own l) (resolved_right (naming_in a) a.vs right) place more choices)
 assigns_both a entry own l (tree.expression e) place choices own_known same =
     with_value a e place choices _ _ (λ v left. equal_both a.t a.defs (after_same a.t a.defs a.locals place left same (assigned_alike a.t a.defs a.locals own a.values a.numbered a.heap l v a.agree own_known)))
 assigns_both a entry own l (tree.result_of c) place choices own_known same = passes_both a entry c place choices (same_stored own_known) same

@@ -5,3 +5,4 @@ pub mod Moves
 pub mod Steps
 pub mod Resolving
 pub mod Running
+pub mod Examples

@@ -47,7 +47,6 @@ mutual
     ends_call : {locals caller : List Variable} {saved : named.Values} {values : Values} {target : named.Target} {goal : Target} {rest : named.Tasks} {more : Tasks}
         → Agree caller saved values → SameTarget t defs caller target goal → SameTasks t defs caller rest more
         → SameTasks t defs locals (named.task (named.end_call saved target) rest) (task (end_call values goal) more)
-
     -- nothing is left behind a test but its branches
     tests : {locals vs : List Variable} {c : tree.Cond} {a b : named.Branch} {x y : Branch} → AreKnown locals vs → SameBranch t defs locals a x → SameBranch t defs locals b y
         → SameTasks t defs locals (named.task (named.test vs c a b) named.done) (task (test (resolved_condition (naming t defs locals) vs c) x y) done)
@@ -62,15 +61,15 @@ mutual
         → SameTask t defs locals (named.finish_turn vs x) (perform (simple (resolved_simple (naming t defs locals) vs x)))
     again_while : {locals : List Variable} {s : Scope} {p : Place} {c : tree.Cond} {a : tree.Stmt} → AreKnown locals (visible s) → AreKnown locals (statement_variables t a)
         → SameTask t defs locals (named.again s (tree.while_loop p c a))
-          (again (Some (resolved_condition (naming t defs locals) (visible s) c)) (resolved_statement (naming t defs locals) s a) None)
+        (again (Some (resolved_condition (naming t defs locals) (visible s) c)) (resolved_statement (naming t defs locals) s a) None)
     again_do : {locals : List Variable} {s : Scope} {p : Place} {c : tree.Cond} {a : tree.Stmt} → AreKnown locals (visible s) → AreKnown locals (statement_variables t a)
         → SameTask t defs locals (named.again s (tree.do_loop p a c))
-          (again (Some (resolved_condition (naming t defs locals) (visible (behind t s a)) c)) (resolved_statement (naming t defs locals) s a) None)
+        (again (Some (resolved_condition (naming t defs locals) (visible (behind t s a)) c)) (resolved_statement (naming t defs locals) s a) None)
     again_for : {locals : List Variable} {s : Scope} {h : tree.Head} {a : tree.Stmt} → AreKnown locals (visible s) → AreKnown locals (statement_variables t (tree.for_loop h a))
         → SameTask t defs locals (named.again s (tree.for_loop h a))
-          (again (option_map (resolved_condition (naming t defs locals) (visible (behind_start t s h.start))) h.condition)
-          (resolved_statement (naming t defs locals) (behind_start t s h.start) a)
-          (option_map (resolved_simple (naming t defs locals) (visible (behind_start t s h.start))) h.last))
+        (again (option_map (resolved_condition (naming t defs locals) (visible (behind_start t s h.start))) h.condition)
+        (resolved_statement (naming t defs locals) (behind_start t s h.start) a)
+        (option_map (resolved_simple (naming t defs locals) (visible (behind_start t s h.start))) h.last))
     goes : {locals : List Variable} {go : named.Tasks} {on : Tasks} → SameTasks t defs locals go on → SameTask t defs locals (named.always go) (always on)
     ends_block : {locals vs : List Variable} → AreKnown locals vs → SameTask t defs locals (named.end_block vs) (end_block (numbers_in locals vs))
     ends_loop : {locals vs : List Variable} → AreKnown locals vs → SameTask t defs locals (named.end_loop vs) (end_loop (numbers_in locals vs))

@@ -3,7 +3,9 @@ ghost use Rattle.mc_ast.specs.Trees.{FunctionTree};
 ghost use Rattle.mc_defs.specs.declared.rules.Def.{Def};
 ghost use Rattle.mc_heap.specs.Choices.{Choice};
 ghost use Rattle.mc_meaning.specs.Configs.{Config as NamedConfig};
+ghost use Rattle.mc_meaning.specs.Examples.{turning};
 ghost use Rattle.mc_resolved.specs.Configs.{Config};
+ghost use Rattle.mc_resolved.specs.Examples.{hiding, hiding_resolved, linking, linking_resolved, resolved, turning_resolved};
 ghost use Rattle.mc_resolved.specs.Running.{Match, RunAlike, StepAlike};
 ghost use Rattle.mc_types.specs.Tables.{Tables, called_function};
 ghost use Rattle.std.specs.Prelude.{◌≡◌, ℕ, List};
@@ -12,4 +14,12 @@ ghost use Rattle.std.specs.Prelude.{◌≡◌, ℕ, List};
 pub fn resolved_programs_run_alike()
     ensures steps { (t : Tables) (defs : List Def) (entry : List ℕ) (c : NamedConfig) (d : Config) (choices : List Choice) → Match t defs c d → StepAlike t defs entry c d choices }
     ensures runs { (t : Tables) (defs : List Def) (entry : List ℕ) (f : FunctionTree) → called_function t entry ≡ Some f → RunAlike t defs entry f }
+{}
+
+/// What is left of small programs: a variable that hides another one in its block, and in its own value; the variable of the
+/// head of a `for`; an argument of a call; and a struct with a field.
+pub fn small_programs_are_resolved()
+    ensures hiding { resolved hiding ≡ hiding_resolved }
+    ensures turning { resolved turning ≡ turning_resolved }
+    ensures linking { resolved linking ≡ linking_resolved }
 {}

@@ -3,4 +3,4 @@
 
 mod laws;
 
-pub use laws::resolved_programs_run_alike;
+pub use laws::{resolved_programs_run_alike, small_programs_are_resolved};
