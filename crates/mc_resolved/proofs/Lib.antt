@@ -1,3 +1,4 @@
+mod Blocks
 mod Holding
 mod Knowing
 mod Computing

@@ -2,5 +2,10 @@
 #![tactic(auto)]
 
 mod laws;
+mod program;
 
 pub use laws::{resolved_programs_run_alike, small_programs_are_resolved};
+pub use program::{
+    Action, Argument, AssertShape, AssumeShape, Call, Condition, Expression, FieldAt, ForHead,
+    ForStart, Function, Initial, LeftValue, Local, Resolved, RightSide, Simple, Statement,
+};
