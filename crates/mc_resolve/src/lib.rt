@@ -1,0 +1,6 @@
+//! The names of a program are put away: variables, fields, structs, functions and predicates become numbers.
+#![tactic(auto)]
+
+mod expression;
+mod fields;
+mod sight;
