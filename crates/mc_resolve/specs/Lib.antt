@@ -1,2 +1,3 @@
 pub mod Sights
 pub mod Builds
+pub mod Conditions

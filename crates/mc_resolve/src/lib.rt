@@ -1,6 +1,7 @@
 //! The names of a program are put away: variables, fields, structs, functions and predicates become numbers.
 #![tactic(auto)]
 
+mod condition;
 mod expression;
 mod fields;
 mod sight;
