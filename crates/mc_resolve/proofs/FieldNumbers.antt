@@ -14,7 +14,7 @@ use Rattle.mc_types.specs.declared.types.VariableType.{VariableType}
 use Rattle.mc_meaning.specs.Values.{struct_behind, field_number}
 use Rattle.mc_resolve.specs.Sights.{declared_names, field_names}
 
-prefix_map : {X Y : Type 0} (p : Y → Bool) (f : X → Y) (xs : List X) → prefix_len p (map f xs) ≡ prefix_len (λ x. p (f x)) xs
+pub prefix_map : {X Y : Type 0} (p : Y → Bool) (f : X → Y) (xs : List X) → prefix_len p (map f xs) ≡ prefix_len (λ x. p (f x)) xs
 prefix_map p f [] = refl
 prefix_map p f (x ∷ xs) = ap (λ n. cond (p (f x)) (1 + n) 0) (prefix_map p f xs)
 
@@ -25,7 +25,7 @@ one_base : (t : Tables) (base : Base) (ds : List Declarator) → map (λ d. d.na
 one_base t base [] = refl
 one_base t base (d ∷ ds) = ap (λ ns. d.name.text ∷ ns) (one_base t base ds)
 
-names_in : (t : Tables) (fields : List FieldTree) → flat_map (λ field. map (λ d. d.name.text) field.declarators) fields ≡ map (λ v. v.name) (flat_map (variables_of t) fields)
+pub names_in : (t : Tables) (fields : List FieldTree) → flat_map (λ field. map (λ d. d.name.text) field.declarators) fields ≡ map (λ v. v.name) (flat_map (variables_of t) fields)
 names_in t [] = refl
 names_in t (field ∷ fields) =
     ap₂ (λ (a b : List (List ℕ)). a ++ b) (one_base t field.base field.declarators) (names_in t fields)

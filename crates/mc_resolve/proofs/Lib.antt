@@ -1,2 +1,3 @@
 mod Seeing
 mod FieldNumbers
+mod FunctionNumbers

@@ -3,7 +3,7 @@ use Rattle.std.specs.Prelude.{◌≡◌, ℕ, List, [], ◌∷◌, map, flat_map
 use Rattle.mc_ast.specs.Trees.{StructTree}
 use Rattle.mc_types.specs.Tables.{Tables, Variable}
 use Rattle.mc_types.specs.Held.{tables_held, variable_held}
-use Rattle.mc_resolved.specs.Resolving.{Naming, number_in}
+use Rattle.mc_resolved.specs.Resolving.{Naming, number_in, defined_functions}
 use Rattle.mc_resolve.specs.declared.sight.Sight.{Sight}
 use Rattle.mc_resolve.specs.declared.sight.Visible.{Visible}
 
@@ -32,7 +32,12 @@ declared_names s = flat_map (λ field. map (λ d. d.name.text) field.declarators
 abbrev pub field_names : Tables → List (List (List ℕ))
 field_names t = map declared_names t.structs
 
--- the fields are known by their names, and each variable that is visible has its number
+-- the names of the functions that are defined
+abbrev pub defined_names : Tables → List (List ℕ)
+defined_names t = map (λ f. f.name.text) (defined_functions t)
+
+-- fields and functions are known by their names, and each variable that is visible has its number
 pub record IsNumbered (sight : Sight) : Type 0 where
   pub fields : sight.fields.now.structs.items ≡ field_names (tables_held sight.tables.now)
+  pub functions : sight.functions.now.names ≡ defined_names (tables_held sight.tables.now)
   pub numbers : AreNumbered (locals_at sight) (reverse sight.visible.now)

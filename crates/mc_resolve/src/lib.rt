@@ -4,4 +4,7 @@
 mod condition;
 mod expression;
 mod fields;
+mod functions;
+mod right;
+mod shapes;
 mod sight;

@@ -4,6 +4,7 @@ ghost use Rattle.std.specs.Option.{option_copied};
 ghost use Rattle.mc_ast.specs.Names.{is_same};
 
 use crate::fields::FieldNames;
+use crate::functions::FunctionNames;
 use mc_ast::{LeftValue as NamedLeft, Name};
 use mc_defs::Def;
 use mc_base::StructId;
@@ -24,6 +25,7 @@ pub struct Visible<'a> {
 pub struct Sight<'s, 'a> {
     pub tables: &'s NameTables<'a>,
     pub fields: &'s FieldNames<'a>,
+    pub functions: &'s FunctionNames<'a>,
     pub locals: &'s [Named<'a>],
     pub visible: &'s [Visible<'a>],
     pub defs: &'s [Def],
@@ -53,8 +55,9 @@ impl<'s, 'a> Sight<'s, 'a> {
     ghost use Rattle.mc_resolve.specs.Sights.{IsNumbered, naming_at, visible_at};
     ghost use Rattle.std.specs.Prelude.{IfOk, [], ◌∷◌, map};
     ghost use Rattle.mc_ast.specs.Views.{left_of as named_left};
+    ghost use Rattle.mc_meaning.specs.Steps.{field_count};
     ghost use Rattle.mc_meaning.specs.Values.{struct_behind, field_number};
-    ghost use Rattle.mc_resolved.specs.Resolving.{resolved_fields, resolved_left, resolved_variable};
+    ghost use Rattle.mc_resolved.specs.Resolving.{function_number, resolved_fields, resolved_left, resolved_variable};
     ghost use Rattle.mc_resolved.specs.Views.{field_of, left_of};
     ghost use Rattle.mc_types.specs.Faults.{behind_fields, variable_type};
     ghost use Rattle.mc_types.specs.Held.{tables_held};
@@ -132,5 +135,21 @@ impl<'s, 'a> Sight<'s, 'a> {
             variable: self.variable(&left.name),
             fields,
         })
+    }
+
+    /// The number of the function that a call of this name calls.
+    pub fn function(&self, name: &Text) -> usize
+        requires { IsNumbered self.now }
+        ensures { result ≡ function_number (tables_held self.now.tables.now) name.now }
+    {
+        self.functions.number(name)
+    }
+
+    /// How many fields a struct has.
+    pub fn field_count(&self, shape: StructId) -> usize
+        requires { IsNumbered self.now }
+        ensures { result ≡ field_count (tables_held self.now.tables.now) shape.0 }
+    {
+        self.fields.count(shape.0 as usize)
     }
 }

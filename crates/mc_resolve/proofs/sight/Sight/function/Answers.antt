@@ -1,0 +1,7 @@
+use Rattle.std.proofs.Common.{◌∙◌}
+use Rattle.mc_types.specs.Held.{tables_held}
+use Rattle.mc_resolve.proofs.FunctionNumbers.{function_number_of}
+use Rattle.mc_resolve.proofs.sight.Sight.function.Goals as goal
+
+pub returns : goal.returns
+returns c = rw c.number.ensures (function_number_of (tables_held c.args.self.now.tables.now) c.args.self.now.functions.now.names c.args.name.now c.requires.functions)
