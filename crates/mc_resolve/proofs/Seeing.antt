@@ -1,12 +1,11 @@
 -- The variable that a name means, as the code finds it.
-use Rattle.std.proofs.Common.{◌≡◌, ℕ, Bool, true, false, cond, List, [], ◌∷◌, Option, Some, None, map, length, refl, sym, ap, ◌∙◌, arith}
+use Rattle.std.proofs.Common.{◌≡◌, ℕ, Bool, true, false, cond, List, [], ◌∷◌, Option, Some, None, length, refl, sym, ap, ◌∙◌, arith}
 use Rattle.std.specs.Prelude.{find, option_map, unwrap_or}
 use Rattle.std.specs.Option.{option_map_or}
 use Rattle.mc_ast.specs.declared.trees.Name.{Name}
 use Rattle.mc_ast.specs.Names.{is_same}
 use Rattle.mc_types.specs.Tables.{Variable}
 use Rattle.mc_types.specs.Held.{variable_held}
-use Rattle.mc_types.specs.declared.types.VariableType.{VariableType}
 use Rattle.mc_types.specs.declared.types.VariableType.TheVariants.{Anything}
 use Rattle.mc_types.specs.Faults.{variable_type}
 use Rattle.mc_meaning.specs.Values.{variable_of}

@@ -18,10 +18,7 @@ ghost use Rattle.mc_ast.specs.Views.{struct_of};
 ghost use Rattle.mc_resolve.specs.Sights.{declared_names, field_names};
 
 /// Adds the names of these declarators.
-fn push_names<'a>(
-    names: &mut Names<'a>,
-    declarators: &'a [Declarator],
-) -> Result<(), AllocError>
+fn push_names<'a>(names: &mut Names<'a>, declarators: &'a [Declarator]) -> Result<(), AllocError>
     ensures { OnOk result (names.new ≡ names.old ++ map (λ d. d.name.text) declarators.now) }
 {
     for declarator in declarators {

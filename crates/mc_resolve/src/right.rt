@@ -104,11 +104,7 @@ fn simple_place(simple: &tree::Simple) -> Place
 }
 
 /// What a simple statement does.
-fn resolve_action(
-    alloc: Global,
-    sight: Sight,
-    simple: &tree::Simple,
-) -> Result<Action, AllocError>
+fn resolve_action(alloc: Global, sight: Sight, simple: &tree::Simple) -> Result<Action, AllocError>
     requires { IsNumbered sight }
     ensures { IfOk result (λ made. action_of made ≡ resolved_action (naming_at sight.entry) (visible_at sight.entry) (named_simple simple.now)) }
 {

@@ -1,15 +1,12 @@
 -- Expressions have the same values, and assignments change the same.
-use Rattle.std.proofs.Common.{◌≡◌, ◌<◌, ◌≢◌, ℕ, ℤ, ◌+ℤ◌, ◌-ℤ◌, ◌*ℤ◌, pos, Bool, true, false, cond, List, [], ◌∷◌, Option, Some, None, length, is_some, refl, sym, ap, subst, ◌∙◌, arith, get_or, slice_get, unwrap_or, le_refl}
+use Rattle.std.proofs.Common.{◌≡◌, ◌≢◌, ℕ, ℤ, ◌+ℤ◌, ◌-ℤ◌, ◌*ℤ◌, Bool, true, false, cond, List, [], ◌∷◌, Option, Some, None, length, is_some, refl, sym, ap, subst, ◌∙◌, arith, slice_get, unwrap_or}
 use Rattle.std.specs.Prelude.{find, if◌then◌else◌, ◌==◌}
-use Rattle.std.specs.FinMap as map
 use Rattle.std.specs.Option.{option_map_or}
 use Rattle.std.proofs.lemmas.List.{get_or-set_other, length-set}
 use Rattle.std.proofs.lemmas.Option.{slice_get_past, unwrap_or-slice_get}
 use Rattle.mc_base.specs.declared.plain.FaultKind.{FaultKind}
-use Rattle.mc_base.specs.declared.plain.FaultKind.TheVariants.{Null, Freed, Uninit}
-use Rattle.mc_base.specs.declared.plain.Place.{Place}
 use Rattle.mc_heap.specs.Heap.{Block, Heap, region_of}
-use Rattle.mc_heap.specs.Access.{block_field, field_at, with_field}
+use Rattle.mc_heap.specs.Access.{block_field}
 use Rattle.mc_heap.specs.Choices.{Choice}
 use Rattle.mc_defs.specs.declared.rules.Def.{Def}
 use Rattle.mc_flow.specs.Values.{address, wrapped}
@@ -23,9 +20,9 @@ use Rattle.mc_meaning.specs.Configs as named
 use Rattle.mc_meaning.specs.Values as named_values
 use Rattle.mc_meaning.specs.Values.{Found, faulty, found, after_found, Evaluated, fault_of, value_of, evaluated, right_operand, AfterLeft, variable_of, struct_behind, field_number}
 use Rattle.mc_meaning.specs.Steps.{where_is}
-use Rattle.mc_resolved.specs.Programs.{FieldAt, Left, Expr}
+use Rattle.mc_resolved.specs.Programs.{FieldAt}
 use Rattle.mc_resolved.specs.Configs.{Values, held, with_variable}
-use Rattle.mc_resolved.specs.Values.{loaded, behind_value, left_value, Evaluates, Changed, fault_in, changed, written, put, set_variable, behind_base, assigned_behind, assigned, computed, combined}
+use Rattle.mc_resolved.specs.Values.{behind_value, left_value, Evaluates, Changed, fault_in, changed, written, put, set_variable, behind_base, assigned_behind, assigned, combined}
 use Rattle.mc_resolved.specs.Resolving.{number_in, resolved_variable, resolved_fields, resolved_left, resolved_expression}
 use Rattle.mc_resolved.specs.Running.{IsKnown, AreKnown, Agree, naming}
 use Rattle.mc_resolved.proofs.Holding.{set_agree}

@@ -1,9 +1,7 @@
 -- Variables hold the same by their places and by their numbers.
-use Rattle.std.proofs.Common.{◌≡◌, ◌<◌, ◌≢◌, ℕ, ℤ, Bool, true, false, not, ◌&&◌, ◌||◌, cond, List, [], ◌∷◌, Option, Some, None, map, length, refl, sym, ap, ap₂, subst, ◌∙◌, arith, get_or, eqb-true, eq-eqb}
-use Rattle.std.specs.List.{position_or_len, list_any}
+use Rattle.std.proofs.Common.{◌≡◌, ◌<◌, ◌≢◌, ℕ, ℤ, Bool, true, false, ◌&&◌, List, [], ◌∷◌, Option, None, length, refl, sym, ap, ap₂, subst, ◌∙◌, arith, get_or, eqb-true, eq-eqb}
 use Rattle.std.proofs.lemmas.List.{get_or-set_same, get_or-set_other, length-set}
 use Rattle.std.proofs.lemmas.List.Sums.{passes_at_first}
-use Rattle.std.proofs.lemmas.Option.{slice_get_past}
 use Rattle.mc_base.specs.declared.plain.Place.{Place}
 use Rattle.mc_types.specs.Tables.{Variable}
 use Rattle.mc_types.specs.declared.types.VariableType.TheVariants.{Int}

@@ -1,5 +1,5 @@
 -- Variables that are visible have numbers.
-use Rattle.std.proofs.Common.{◌≡◌, ◌<◌, ℕ, Bool, true, false, not, cond, List, [], ◌∷◌, ◌++◌, Option, Some, None, map, reverse, length, refl, sym, ap, subst, ◌∙◌, arith}
+use Rattle.std.proofs.Common.{List, [], ◌∷◌, ◌++◌, map, reverse, sym, subst, arith}
 use Rattle.std.proofs.lemmas.Grind.{reverse_onto}
 use Rattle.mc_base.specs.declared.plain.Place.{Place}
 use Rattle.mc_ast.specs.declared.trees.Base.{Base}
@@ -8,7 +8,7 @@ use Rattle.mc_types.specs.Tables.{Tables, Variable, variable_of as declared_vari
 use Rattle.mc_types.specs.Scopes.{Scope, visible, inside, declare, behind, behind_items, behind_declaration, behind_start}
 use Rattle.mc_meaning.specs.Configs.{is_place}
 use Rattle.mc_meaning.specs.Moves.{block_variables, head_variables}
-use Rattle.mc_resolved.specs.Resolving.{declaration_variables, start_variables, statement_variables, statements_variables, number_in}
+use Rattle.mc_resolved.specs.Resolving.{start_variables, statement_variables, statements_variables}
 use Rattle.mc_resolved.specs.Running.{IsKnown, AreKnown}
 use Rattle.mc_resolved.proofs.Holding.{place_self, same_or_not}
 

@@ -1,5 +1,5 @@
 -- What belongs to the next step is the same for a program and its resolved program.
-use Rattle.std.proofs.Common.{◌≡◌, ◌<◌, ℕ, zero, suc, ℤ, ◌+◌, List, [], ◌∷◌, ◌++◌, Option, Some, None, refl, sym, ap, subst, ◌∙◌, arith}
+use Rattle.std.proofs.Common.{◌≡◌, ◌<◌, ℕ, zero, suc, ℤ, ◌+◌, List, [], ◌∷◌, Option, Some, None, refl, sym, ap, subst, ◌∙◌, arith}
 use Rattle.std.specs.Prelude.{option_map}
 use Rattle.mc_base.specs.declared.plain.Place.{Place}
 use Rattle.mc_defs.specs.declared.rules.Def.{Def}
@@ -10,10 +10,10 @@ use Rattle.mc_types.specs.Scopes.{Scope, visible, inside, behind, behind_start}
 use Rattle.mc_meaning.specs.Configs as named
 use Rattle.mc_meaning.specs.Moves as named_moves
 use Rattle.mc_meaning.specs.Moves.{block_variables, head_variables, condition_place}
-use Rattle.mc_resolved.specs.Configs.{Values, Target, perform, again, test, Task, Tasks, done, task, Branch}
-use Rattle.mc_resolved.specs.Moves.{in_a_row, started, finished, turn, tested, behind_loop, at_turn, given, declared_all, moved, Arrives, here, there}
-use Rattle.mc_resolved.specs.Resolving.{Naming, start_variables, statement_variables, statements_variables, resolved_condition, resolved_simple, resolved_items, resolved_start, resolved_statement, resolved_statements}
-use Rattle.mc_resolved.specs.Running.{AreKnown, Agree, naming, SameTarget, same_nowhere, same_stored, same_returned, SameTasks, same_done, same_task, ends_call, SameTask, performs, declares, finishes, again_while, again_do, again_for, tests, goes, ends_block, ends_loop, ends_turn, takes, SameBranch, same_tasks, same_fault, same_stop}
+use Rattle.mc_resolved.specs.Configs.{Values, Target, perform, again, test, Tasks, done, task, Branch}
+use Rattle.mc_resolved.specs.Moves.{in_a_row, started, tested, behind_loop, at_turn, given, declared_all, moved, Arrives, here, there}
+use Rattle.mc_resolved.specs.Resolving.{start_variables, statement_variables, statements_variables, resolved_condition, resolved_simple, resolved_items, resolved_start, resolved_statement, resolved_statements}
+use Rattle.mc_resolved.specs.Running.{AreKnown, Agree, naming, SameTarget, same_nowhere, same_stored, same_returned, SameTasks, same_done, same_task, ends_call, performs, declares, finishes, again_while, again_do, again_for, tests, goes, ends_block, ends_loop, ends_turn, takes, SameBranch, same_tasks, same_fault, same_stop}
 use Rattle.mc_resolved.proofs.Holding.{without_agree}
 use Rattle.mc_resolved.proofs.Knowing.{known_left, known_right, start_known, head_known, behind_known, block_known}
 

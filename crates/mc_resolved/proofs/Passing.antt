@@ -1,8 +1,7 @@
 -- A function begins with the same values, and the function that is called is the same.
-use Rattle.std.proofs.Common.{◌≡◌, ◌<◌, ℕ, zero, suc, ℤ, ◌+◌, Bool, true, false, not, ◌&&◌, cond, List, [], ◌∷◌, ◌++◌, Option, Some, None, map, length, refl, sym, ap, subst, ◌∙◌, arith, get_or, slice_get}
+use Rattle.std.proofs.Common.{◌≡◌, ◌<◌, ℕ, zero, suc, ℤ, ◌+◌, Bool, true, false, not, ◌&&◌, cond, List, [], ◌∷◌, ◌++◌, Option, Some, None, map, length, refl, sym, ap, subst, ◌∙◌, arith, slice_get}
 use Rattle.std.specs.Prelude.{find, filter, option_map, reverse}
 use Rattle.std.specs.Option.{option_map_or}
-use Rattle.std.specs.List.{position_or_len}
 use Rattle.std.proofs.lemmas.List.Folds.{find_at}
 use Rattle.mc_base.specs.declared.plain.Place.{Place}
 use Rattle.mc_defs.specs.declared.rules.Def.{Def}
@@ -14,7 +13,6 @@ use Rattle.mc_meaning.specs.Configs as named
 use Rattle.mc_meaning.specs.Configs.{is_place}
 use Rattle.mc_meaning.specs.Moves as named_moves
 use Rattle.mc_meaning.specs.Steps as named_steps
-use Rattle.mc_resolved.specs.Programs.{Local, Function}
 use Rattle.mc_resolved.specs.Configs.{Values, held, Tasks}
 use Rattle.mc_resolved.specs.Moves.{in_a_row}
 use Rattle.mc_resolved.specs.Steps.{passed}

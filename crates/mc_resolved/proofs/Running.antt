@@ -1,19 +1,17 @@
 -- A program and its resolved program run alike.
-use Rattle.std.proofs.Common.{◌≡◌, ℕ, zero, suc, ℤ, pos, ◌-ℤ◌, ◌&&◌, Bool, true, false, cond, List, [], ◌∷◌, Option, Some, None, map, refl, sym, ap, ap₂, subst, ◌∙◌, arith, inl, inr, eq-eqb, slice_get, length}
-use Rattle.std.specs.Prelude.{◌↔◌, if◌then◌else◌, option_map}
-use Rattle.std.specs.FinMap as map
+use Rattle.std.proofs.Common.{◌≡◌, ℕ, zero, suc, ℤ, pos, Bool, true, false, cond, List, [], ◌∷◌, Option, Some, None, map, refl, sym, ap, ap₂, subst, ◌∙◌, arith, inl, inr, eq-eqb, length}
+use Rattle.std.specs.Prelude.{option_map}
 use Rattle.std.specs.Option.{option_map_or}
-use Rattle.mc_base.specs.declared.ids.PredId.{PredId}
 use Rattle.mc_base.specs.declared.plain.FaultKind.{FaultKind}
-use Rattle.mc_base.specs.declared.plain.FaultKind.TheVariants.{Uninit, Shape, NotEmpty}
+use Rattle.mc_base.specs.declared.plain.FaultKind.TheVariants.{Shape, NotEmpty}
 use Rattle.mc_base.specs.declared.plain.Place.{Place}
-use Rattle.mc_base.specs.Runs.{Final, Outcome, next, last, ended, stopped, fault, Reaches}
+use Rattle.mc_base.specs.Runs.{Final, next, last, fault, Reaches}
 use Rattle.mc_heap.specs.Heap.{Heap, region_of}
-use Rattle.mc_heap.specs.Adding.{AreFree, part_of, with_blocks}
+use Rattle.mc_heap.specs.Adding.{with_blocks}
 use Rattle.mc_heap.specs.Choices.{Choice, input as choose_input, malloc as choose_malloc, shape as choose_shape}
 use Rattle.mc_heap.specs.Parts.{IsEmpty}
 use Rattle.mc_defs.specs.declared.rules.Def.{Def}
-use Rattle.mc_defs.specs.Meaning.{Sat, HoldsSomewhere}
+use Rattle.mc_defs.specs.Meaning.{HoldsSomewhere}
 use Rattle.mc_flow.specs.Values.{all_there}
 use Rattle.mc_ast.specs.declared.trees.Argument.{Argument as ArgumentTree}
 use Rattle.mc_ast.specs.declared.trees.Argument.TheVariants as Argument
@@ -27,20 +25,18 @@ use Rattle.mc_types.specs.Tables.{Tables, Variable, variable_of as declared_vari
 use Rattle.mc_types.specs.Scopes.{Scope, visible, declare}
 use Rattle.mc_types.specs.Faults.{first_place}
 use Rattle.mc_meaning.specs.Configs as named
-use Rattle.mc_meaning.specs.Values as named_values
 use Rattle.mc_meaning.specs.Moves as named_moves
 use Rattle.mc_meaning.specs.Steps as named_steps
 use Rattle.mc_meaning.specs.Steps.{simple_place, predicate_of, compares}
-use Rattle.mc_resolved.specs.Programs.{Left, Initial, Function}
-use Rattle.mc_resolved.specs.Configs.{Values, with_variable, Target, Tasks, task, Branch, Config, Result}
-use Rattle.mc_resolved.specs.Moves.{Arrives}
+use Rattle.mc_resolved.specs.Programs.{Left, Initial}
+use Rattle.mc_resolved.specs.Configs.{Values, with_variable, Target, Tasks, Branch, Config, Result}
 use Rattle.mc_resolved.specs.Steps as steps
 use Rattle.mc_resolved.specs.Resolving.{number_in, function_variables, resolved_variable, resolved_left, resolved_condition, resolved_right, resolved_initial, resolved_items, resolved_argument, resolved_statement, resolved_function, resolved_program}
 use Rattle.mc_resolved.specs.Running.{IsKnown, AreKnown, Agree, naming, SameTarget, same_nowhere, same_stored, same_returned, SameTasks, same_done, same_task, ends_call, tests, performs, declares, finishes, again_while, again_do, again_for, goes, ends_block, ends_loop, ends_turn, takes, SameBranch, same_tasks, same_fault as same_failing, same_stop, Match, SameResult, both_go, both_end, program, StepAlike, RunAlike}
 use Rattle.mc_resolved.proofs.Holding.{set_agree}
 use Rattle.mc_resolved.proofs.Knowing.{declared_known}
 use Rattle.mc_resolved.proofs.Computing.{held_alike, set_alike, assigned_alike}
-use Rattle.mc_resolved.proofs.Moving.{Arrived, arrive_forth, arrive_back}
+use Rattle.mc_resolved.proofs.Moving.{arrive_forth, arrive_back}
 use Rattle.mc_resolved.proofs.Passing.{started_agree, function_same, called_same}
 use Rattle.mc_resolved.proofs.Stepping.{BothWays, equal_both, never_both, Around, naming_in, there, here, Both, Same, going, after_same, with_value, returned_same, gone_back_same, allocates_both, freed_same, passes_both, assigns_both, performs_both}
 

@@ -1,50 +1,32 @@
 -- Each step of a program is one of its resolved program, and the other way round.
-use Rattle.std.proofs.Common.{◌≡◌, ℕ, zero, suc, ℤ, pos, ◌+ℤ◌, ◌-ℤ◌, Bool, true, false, List, [], ◌∷◌, Option, Some, None, map, refl, sym, ap, subst, ◌∙◌, arith, inl, inr, slice_get}
-use Rattle.std.specs.Prelude.{◌==◌, if◌then◌else◌, option_map}
+use Rattle.std.proofs.Common.{◌≡◌, ℕ, zero, suc, ℤ, pos, ◌+ℤ◌, ◌-ℤ◌, List, [], ◌∷◌, Option, Some, None, map, refl, sym, subst, arith}
+use Rattle.std.specs.Prelude.{◌==◌, option_map}
 use Rattle.std.specs.FinMap as map
-use Rattle.mc_base.specs.declared.ids.PredId.{PredId}
-use Rattle.mc_base.specs.declared.plain.FaultKind.{FaultKind}
-use Rattle.mc_base.specs.declared.plain.FaultKind.TheVariants.{Uninit, BadFree, Shape, NotEmpty}
 use Rattle.mc_base.specs.declared.plain.Place.{Place}
-use Rattle.mc_base.specs.Runs.{Final, Outcome, next, last, ended, stopped, fault}
+use Rattle.mc_base.specs.Runs.{next}
 use Rattle.mc_heap.specs.Heap.{Block, Heap, region_of}
 use Rattle.mc_heap.specs.Access.{fresh_block}
-use Rattle.mc_heap.specs.Adding.{AreFree, part_of, with_blocks}
 use Rattle.mc_heap.specs.Choices.{Choice, input as choose_input, malloc as choose_malloc, shape as choose_shape}
-use Rattle.mc_heap.specs.Parts.{IsEmpty}
 use Rattle.mc_defs.specs.declared.rules.Def.{Def}
-use Rattle.mc_defs.specs.Meaning.{Sat, HoldsSomewhere}
 use Rattle.mc_flow.specs.Values.{address, all_there}
-use Rattle.mc_ast.specs.declared.trees.Argument.{Argument as ArgumentTree}
-use Rattle.mc_ast.specs.declared.trees.Argument.TheVariants as Argument
-use Rattle.mc_ast.specs.declared.trees.Base.{Base}
-use Rattle.mc_ast.specs.declared.trees.Comparison.{Comparison}
-use Rattle.mc_ast.specs.declared.trees.Comparison.TheVariants.{Unequal}
 use Rattle.mc_ast.specs.declared.trees.Malloc.{Malloc}
-use Rattle.mc_ast.specs.declared.trees.Name.{Name}
 use Rattle.mc_ast.specs.Trees as tree
-use Rattle.mc_types.specs.Tables.{Tables, Variable, variable_of as declared_variable, parameters_of, called_function}
-use Rattle.mc_types.specs.Scopes.{Scope, visible, declare}
-use Rattle.mc_types.specs.Faults.{first_place}
+use Rattle.mc_types.specs.Tables.{Tables, Variable, parameters_of, called_function}
 use Rattle.mc_meaning.specs.Configs as named
 use Rattle.mc_meaning.specs.Values as named_values
 use Rattle.mc_meaning.specs.Values.{Evaluated, fault_of, value_of}
-use Rattle.mc_meaning.specs.Moves as named_moves
 use Rattle.mc_meaning.specs.Steps as named_steps
 use Rattle.mc_meaning.specs.Steps.{where_is, Arguments, no_arguments, arguments, AfterFirst, put_before, simple_place, predicate_of, field_count, compares}
-use Rattle.mc_resolved.specs.Programs.{Left, Expr, number, Right, Initial, Function}
-use Rattle.mc_resolved.specs.Configs.{Values, held, with_variable, Target, returned, stored, nowhere, Tasks, task, done, Branch, Config, Result}
+use Rattle.mc_resolved.specs.Programs.{number}
+use Rattle.mc_resolved.specs.Configs.{Values, Target, Tasks, Result}
 use Rattle.mc_resolved.specs.Values as numbered_values
 use Rattle.mc_resolved.specs.Values.{Evaluates, Changed}
-use Rattle.mc_resolved.specs.Moves.{moved, given, Arrives}
 use Rattle.mc_resolved.specs.Steps as steps
 use Rattle.mc_resolved.specs.Steps.{Here}
-use Rattle.mc_resolved.specs.Resolving.{Naming, statements_variables, body_statements, function_variables, number_in, function_number, resolved_variable, resolved_left, resolved_expression, resolved_condition, resolved_call, allocated_struct, resolved_right, resolved_action, resolved_simple, resolved_items, resolved_argument, resolved_statement, resolved_function, resolved_program}
-use Rattle.mc_resolved.specs.Running.{IsKnown, AreKnown, Agree, naming, SameTarget, same_nowhere, same_stored, same_returned, SameTasks, same_done, same_task, ends_call, SameTask, performs, declares, finishes, again_while, again_do, again_for, tests, goes, ends_block, ends_loop, ends_turn, takes, SameBranch, same_tasks, same_fault as same_failing, same_stop, Match, SameResult, both_go, both_end, program}
-use Rattle.mc_resolved.proofs.Holding.{set_agree}
-use Rattle.mc_resolved.proofs.Knowing.{declared_known}
-use Rattle.mc_resolved.proofs.Computing.{held_alike, value_forth, value_back, SameChange, same_fault, same_change, chosen, set_alike, assigned_alike, combined_alike}
-use Rattle.mc_resolved.proofs.Moving.{given_same, Arrived, arrive_forth, arrive_back}
+use Rattle.mc_resolved.specs.Resolving.{Naming, statements_variables, body_statements, function_variables, resolved_left, resolved_expression, resolved_call, allocated_struct, resolved_right, resolved_action, resolved_function, resolved_program}
+use Rattle.mc_resolved.specs.Running.{AreKnown, Agree, naming, SameTarget, same_nowhere, same_stored, SameTasks, same_done, same_task, ends_call, performs, declares, finishes, again_while, again_do, again_for, tests, goes, ends_block, ends_loop, ends_turn, takes, SameResult, both_go, both_end}
+use Rattle.mc_resolved.proofs.Computing.{value_forth, value_back, SameChange, same_fault, same_change, chosen, assigned_alike, combined_alike}
+use Rattle.mc_resolved.proofs.Moving.{given_same}
 use Rattle.mc_resolved.proofs.Passing.{passed_agree, function_same, called_same}
 
 -- each outcome of the one has one of the other that is the same

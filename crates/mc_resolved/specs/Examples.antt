@@ -1,10 +1,10 @@
 -- Small programs, and what is left of them when their names are put away.
-use Rattle.std.specs.Prelude.{ℕ, List, [], ◌∷◌, Option, Some, None, codes}
+use Rattle.std.specs.Prelude.{ℕ, List, [], ◌∷◌, Some, None, codes}
 use Rattle.mc_base.specs.declared.plain.Kind.TheVariants.{Int as int_kind, Ptr as pointer_kind}
 use Rattle.mc_ast.specs.Trees as tree
 use Rattle.mc_types.specs.Tables.{tables_of}
-use Rattle.mc_meaning.specs.Examples.{at, x_word, p_word, int_is, var, num, variable as named_variable, behind, calls_f, allocates, node_is, unit_of, turning}
-use Rattle.mc_resolved.specs.Programs.{FieldAt, Left, Expr, number, value, plain, expression, result_of, allocation, assign, call, Simple, Initial, nothing, declares, Stmt, declaration, block, simple, while_loop, for_loop, break_loop, returns, Stmts, no_more, then, Local, Function, Program}
+use Rattle.mc_meaning.specs.Examples.{at, x_word, p_word, int_is, var, num, behind, calls_f, allocates, node_is, unit_of}
+use Rattle.mc_resolved.specs.Programs.{Left, number, value, plain, expression, allocation, assign, call, nothing, declares, declaration, block, simple, while_loop, for_loop, break_loop, returns, Stmts, no_more, then, Local, Function, Program}
 use Rattle.mc_resolved.specs.Resolving.{resolved_program}
 
 -- the resolved program of these statements in `main`, behind a struct of two fields and a function `f`

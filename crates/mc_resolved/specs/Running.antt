@@ -1,12 +1,12 @@
 -- What a run of a program and a run of the resolved program have in common.
-use Rattle.std.specs.Prelude.{◌≡◌, ◌<◌, ◌↔◌, ℕ, ℤ, List, [], ◌∷◌, ◌++◌, Option, Some, None, length, map, option_map, slice_get}
+use Rattle.std.specs.Prelude.{◌≡◌, ◌<◌, ◌↔◌, ℕ, ℤ, List, [], ◌∷◌, Option, Some, None, length, map, option_map, slice_get}
 use Rattle.mc_base.specs.declared.plain.Place.{Place}
-use Rattle.mc_base.specs.Runs.{Final, Outcome, next, last, Reaches}
+use Rattle.mc_base.specs.Runs.{Final, next, last, Reaches}
 use Rattle.mc_heap.specs.Choices.{Choice}
 use Rattle.mc_defs.specs.declared.rules.Def.{Def}
 use Rattle.mc_ast.specs.declared.trees.Base.{Base}
 use Rattle.mc_ast.specs.Trees as tree
-use Rattle.mc_types.specs.Tables.{Tables, Variable, variable_of as declared_variable, called_function}
+use Rattle.mc_types.specs.Tables.{Tables, Variable, variable_of as declared_variable}
 use Rattle.mc_types.specs.Scopes.{Scope, visible, behind, behind_start}
 use Rattle.mc_meaning.specs.Configs as named
 use Rattle.mc_meaning.specs.Steps as named_steps

@@ -18,7 +18,7 @@ use Rattle.mc_flow.specs.Values.{address, all_there}
 use Rattle.mc_ast.specs.declared.trees.Comparison.{Comparison}
 use Rattle.mc_ast.specs.declared.trees.Comparison.TheVariants.{Unequal}
 use Rattle.mc_meaning.specs.Values.{Evaluated, fault_of, value_of}
-use Rattle.mc_meaning.specs.Steps.{Arguments, no_arguments, arguments, put_before, AfterFirst, compares}
+use Rattle.mc_meaning.specs.Steps.{Arguments, no_arguments, arguments, AfterFirst, compares}
 use Rattle.mc_resolved.specs.Programs.{Left, Expr, Cond, plain, compare, negation, both, either, Call, Right, expression, result_of, allocation, Action, assign, add, subtract, call, Initial, Argument, variable, constant, Stmt, declaration, block, empty, simple, free, assert, assume, assume_shape, assert_shape, assert_empty, if_only, if_else, while_loop, do_loop, for_loop, break_loop, continue_loop, returns, Local, Function, Program}
 use Rattle.mc_resolved.specs.Configs.{Values, held, with_variable, Target, nowhere, stored, returned, perform, again, test, always, end_block, end_loop, end_turn, end_call, take_result, Tasks, done, task, Branch, go_on, fails, stops, Config, Result}
 use Rattle.mc_resolved.specs.Values.{Evaluates, Changed, fault_in, changed, set_variable, assigned, combined}

@@ -1,4 +1,4 @@
-use Rattle.std.proofs.Common.{◌≡◌, ℕ, refl, ap}
+use Rattle.std.proofs.Common.{ℕ, ap}
 use Rattle.mc_types.specs.Held.{tables_held}
 use Rattle.mc_meaning.specs.Values.{struct_behind}
 use Rattle.mc_resolved.specs.Programs.{FieldAt}

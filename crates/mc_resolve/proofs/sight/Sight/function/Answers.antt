@@ -1,4 +1,3 @@
-use Rattle.std.proofs.Common.{◌∙◌}
 use Rattle.mc_types.specs.Held.{tables_held}
 use Rattle.mc_resolve.proofs.FunctionNumbers.{function_number_of}
 use Rattle.mc_resolve.proofs.sight.Sight.function.Goals as goal
