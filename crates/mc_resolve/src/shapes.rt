@@ -9,13 +9,14 @@ use mc_ast as tree;
 use mc_resolved::Argument;
 use std::alloc::{AllocError, Global};
 
-/// A number, and the same below zero.
+/// A number.
 fn constant(number: u32) -> i64
     ensures { result ≡ pos number }
 {
     i64::from(number)
 }
 
+/// A number below zero.
 fn below_zero(number: u32) -> i64
     ensures { result ≡ pos 0 -ℤ pos number }
 {
