@@ -22,6 +22,3 @@ pub use trees::{
     LeftValue, Malloc, Name, Parameter, Parameters, Returned, RightSide, Simple, Size, Statement,
     Struct, Typedef, Unit,
 };
-
-#[cfg(test)]
-mod tests;

@@ -14,8 +14,6 @@ mod line;
 mod parts;
 mod pieces;
 mod read;
-#[cfg(test)]
-mod tests;
 mod write;
 
 pub use fault::LineFault;

@@ -22,6 +22,3 @@ pub use symbols::{Symbol, classify, number};
 pub use tree::{
     Block, Bound, Content, DefText, Head, Item, Number, Parameter, Relation, RuleText, Sum,
 };
-
-#[cfg(test)]
-mod tests;

@@ -48,6 +48,15 @@ impl Defs {
         }
     }
 
+    /// These definitions, which are known to fit these structs.
+    pub fn fitting(structs: &Structs, list: Items<Def>) -> Defs
+        requires { DefsFit structs.now.list list }
+        ensures { result ≡ list }
+    {
+        let _known = structs;
+        Defs { list }
+    }
+
     /// Whether they fit these structs.
     pub fn fit(&self, structs: &Structs) -> bool
         ensures { IsTrue result ↔ DefsFit structs.now.list self.now }

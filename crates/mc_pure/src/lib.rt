@@ -15,8 +15,6 @@ mod known;
 mod nodes;
 mod rows;
 mod steps;
-#[cfg(test)]
-mod tests;
 mod whole;
 
 pub use ask::Term;

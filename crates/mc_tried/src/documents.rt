@@ -1,4 +1,4 @@
-use crate::{
+use mc_cert::{
     LineFault, bytes_of, first_line, line_is_spelled_once, line_of, spelled_lines_are_read,
 };
 use std::alloc::Global;

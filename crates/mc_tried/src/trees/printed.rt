@@ -1,6 +1,6 @@
 // A prototype with a parameter, printed.
 use super::{HERE, token};
-use crate::{
+use mc_ast::{
     Base, Declarator, Function, Item, Parameter, Parameters, Returned, Unit, name_at, print_unit,
 };
 use mc_text::TokenKind;

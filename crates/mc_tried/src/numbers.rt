@@ -1,6 +1,6 @@
-use super::*;
 use Atom::{Eq, In, Ne};
 use mc_base::{Atom, Kind, NoMemory, NodeId};
+use mc_pure::{Pure, Term};
 use std::alloc::Global;
 use std::test::Fail;
 

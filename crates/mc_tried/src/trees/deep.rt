@@ -1,6 +1,6 @@
 // Trees as deep as these would not be dropped by a recursion on a small stack.
 use super::HERE;
-use crate::{Condition, Expression, Statement};
+use mc_ast::{Condition, Expression, Statement};
 use std::alloc::{AllocError, Global};
 use std::test::Fail;
 
