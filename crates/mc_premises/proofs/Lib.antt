@@ -1,0 +1,4 @@
+pub mod Numbered
+pub mod Tests
+pub mod ListLemmas
+pub mod Named

@@ -1,0 +1,5 @@
+pub mod Premises
+pub mod Lists
+pub mod Known
+pub mod Named
+pub mod Laws

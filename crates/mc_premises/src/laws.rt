@@ -1,0 +1,15 @@
+// What tests tell, and what ids name. Each law is what a function with no body ensures.
+ghost use Rattle.mc_premises.specs.Laws.{PicksAreNamed, FalseIsTold, EqualIsTold, AllEqualIsTold, KindIsTold};
+
+/// Edges are picked by ids exactly where the ids are distinct and name them, and all other edges are left.
+pub fn picks_are_named()
+    ensures { PicksAreNamed }
+{}
+
+/// A test that tells what is derived tells what rules ask of a state.
+pub fn tests_tell()
+    ensures is_false { FalseIsTold }
+    ensures equal { EqualIsTold }
+    ensures all_equal { AllEqualIsTold }
+    ensures kind { KindIsTold }
+{}
