@@ -12,8 +12,8 @@ use Rattle.mc_defs.specs.declared.rules.Def.{Def}
 use Rattle.mc_flow.specs.declared.graph.Flow.{Flow}
 use Rattle.mc_flow.specs.Steps.{Config, start}
 use Rattle.mc_flow.specs.Valid.{IsValid}
-use Rattle.mc_state.specs.declared.line.Line.{Line}
-use Rattle.mc_state.specs.declared.line.Line.TheVariants.{C1}
+use Rattle.mc_cert.specs.declared.line.Line.{Line}
+use Rattle.mc_cert.specs.declared.line.Line.TheVariants.{C1}
 use Rattle.mc_state.specs.State.{unknown}
 use Rattle.mc_state.specs.Fits.{IsBounded}
 use Rattle.mc_state.specs.Stands.{Stands}

@@ -6,8 +6,8 @@ use Rattle.mc_base.specs.Nodes.{null}
 use Rattle.mc_defs.specs.Examples.{defs}
 use Rattle.mc_pure.specs.Laws.{TrueIsNotFalse}
 use Rattle.mc_state.specs.declared.line.Form.TheVariants.{Certificate}
-use Rattle.mc_state.specs.declared.line.Line.{Line}
-use Rattle.mc_state.specs.declared.line.Line.TheVariants.{Header, Cut, S1, L13}
+use Rattle.mc_cert.specs.declared.line.Line.{Line}
+use Rattle.mc_cert.specs.declared.line.Line.TheVariants.{Header, Cut, S1, L13}
 use Rattle.mc_state.specs.declared.line.Version.TheVariants.{One}
 use Rattle.mc_state.specs.RawStates.{state_of}
 use Rattle.mc_state.specs.State.{unknown}

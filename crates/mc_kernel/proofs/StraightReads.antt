@@ -10,8 +10,8 @@ use Rattle.mc_pure.specs.Laws.{BlockAtNull}
 use Rattle.mc_state.specs.State.{State}
 use Rattle.mc_state.specs.Laws.{NewNodesAreThere}
 use Rattle.mc_state.specs.declared.line.Form.TheVariants.{Certificate}
-use Rattle.mc_state.specs.declared.line.Line.{Line}
-use Rattle.mc_state.specs.declared.line.Line.TheVariants as line
+use Rattle.mc_cert.specs.declared.line.Line.{Line}
+use Rattle.mc_cert.specs.declared.line.Line.TheVariants as line
 use Rattle.mc_state.specs.declared.line.Version.TheVariants.{One}
 use Rattle.mc_state.specs.declared.straight_line.StraightLine.{StraightLine}
 use Rattle.mc_state.specs.declared.straight_line.StraightLine.TheVariants.{Header, S1, S2, S3, S8, S9, S10, S11, S12, S13, S17, L12, End}

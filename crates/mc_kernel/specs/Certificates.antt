@@ -12,8 +12,8 @@ use Rattle.mc_flow.specs.declared.graph.Flow.{Flow}
 use Rattle.mc_flow.specs.Steps.{Config, Step, start, IsSafeFlow}
 use Rattle.mc_flow.specs.Valid.{IsValid}
 use Rattle.mc_state.specs.declared.line.Form.TheVariants.{Certificate, Chain}
-use Rattle.mc_state.specs.declared.line.Line.{Line}
-use Rattle.mc_state.specs.declared.line.Line.TheVariants.{Header, Cut, Head, End}
+use Rattle.mc_cert.specs.declared.line.Line.{Line}
+use Rattle.mc_cert.specs.declared.line.Line.TheVariants.{Header, Cut, Head, End}
 use Rattle.mc_state.specs.declared.line.Version.TheVariants.{One}
 use Rattle.mc_state.specs.declared.raw_state.RawState.{RawState}
 use Rattle.mc_state.specs.Fits.{IsBounded}

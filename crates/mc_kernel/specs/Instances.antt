@@ -8,14 +8,15 @@ use Rattle.mc_flow.specs.declared.graph.Flow.{Flow}
 use Rattle.mc_flow.specs.declared.instr.Instr.{Instr}
 use Rattle.mc_flow.specs.declared.instr.Instr.TheVariants as instr
 use Rattle.mc_state.specs.declared.goal.Goal.{Goal}
-use Rattle.mc_state.specs.declared.line.Line.{Line}
-use Rattle.mc_state.specs.declared.line.Line.TheVariants.{Header, Cut, Head, Pass, End, S1, S2, S3, S4, S5, S6, S7}
-use Rattle.mc_state.specs.declared.line.Line.TheVariants.{S8, S9, S10, S11, S12, S13, S14, S15, S16, S17, S18, L1}
-use Rattle.mc_state.specs.declared.line.Line.TheVariants.{L2, L3, L4, L5, L6, L7, L8, L9, L10, L11, L12, L13, L14}
-use Rattle.mc_state.specs.declared.line.Line.TheVariants.{C1, C2, C3}
+use Rattle.mc_cert.specs.declared.line.Line.{Line}
+use Rattle.mc_cert.specs.declared.line.Line.TheVariants.{Header, Cut, Head, Pass, End, S1, S2, S3, S4, S5, S6, S7}
+use Rattle.mc_cert.specs.declared.line.Line.TheVariants.{S8, S9, S10, S11, S12, S13, S14, S15, S16, S17, S18, L1}
+use Rattle.mc_cert.specs.declared.line.Line.TheVariants.{L2, L3, L4, L5, L6, L7, L8, L9, L10, L11, L12, L13, L14, L15}
+use Rattle.mc_cert.specs.declared.line.Line.TheVariants.{C1, C2, C3}
 use Rattle.mc_state.specs.State.{State, var_node}
 use Rattle.mc_state.specs.Facts.{IsFalse}
 use Rattle.mc_unfold.specs.Unfolded.{UnfoldsInd, UnfoldsSeg}
+use Rattle.mc_back.specs.Unfolded.{UnfoldsBack}
 use Rattle.mc_fold.specs.Folded.{FoldsInd, FoldsSeg, ClosesSeg, JoinsSegs, MakesEmptySeg}
 use Rattle.mc_fold.specs.Changed.{NamesSpare, MergesNodes, DropsEdge, ForgetsNode}
 use Rattle.mc_fold.specs.Goals.{MeetsGoal}
@@ -136,6 +137,7 @@ IsInstance flow defs g (L11 node) b next = GoalNamesNot node b.goal × ByLogic (
 IsInstance flow defs g L12 b next = EndsFalse b next
 IsInstance flow defs g (L13 j images edges) b next = JumpsTo g j images edges b next
 IsInstance flow defs g (L14 edge) b next = EndsSide edge b next
+IsInstance flow defs g (L15 edge) b next = ByUnfolding (UnfoldsBack defs (accessed flow b) edge) b next
 IsInstance flow defs g C1 b next = IsStuck flow defs g b next
 IsInstance flow defs g (Header version form) b next = ⊥
 IsInstance flow defs g (Cut p) b next = ⊥

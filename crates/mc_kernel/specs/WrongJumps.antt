@@ -17,8 +17,8 @@ use Rattle.mc_pure.specs.Examples.{node}
 use Rattle.mc_pure.specs.Pure.{HasKind}
 use Rattle.mc_pure.specs.Derived.{LiesIn}
 use Rattle.mc_state.specs.declared.line.Form.TheVariants.{Certificate}
-use Rattle.mc_state.specs.declared.line.Line.{Line}
-use Rattle.mc_state.specs.declared.line.Line.TheVariants.{Header, Cut, Head, End, S1, S2, S3, S4, S13, S17, L13}
+use Rattle.mc_cert.specs.declared.line.Line.{Line}
+use Rattle.mc_cert.specs.declared.line.Line.TheVariants.{Header, Cut, Head, End, S1, S2, S3, S4, S13, S17, L13}
 use Rattle.mc_state.specs.declared.line.Version.TheVariants.{One}
 use Rattle.mc_state.specs.State.{State, pure_of}
 use Rattle.mc_state.specs.Facts.{IsFalse, Derives}

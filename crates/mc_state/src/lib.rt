@@ -23,7 +23,7 @@ pub use laws::{
     nodes_are_there, nothing_is_allocated, numbers_stay_bounded, renaming_is_sound,
     variables_change,
 };
-pub use line::{Form, JoinStep, Line, Side, Version};
+pub use line::{Form, JoinStep, Side, Version};
 pub use mc_graph::Edge;
 pub use raw_state::{NodeKind, RawState};
 pub use rule::{LogicFault, LogicRule};
