@@ -1,6 +1,10 @@
 pub mod Examples
+pub mod Instructions
+pub mod JudgedLaws
+pub mod Judges
 pub mod Laws
 pub mod Operands
 pub mod Steps
+pub mod Sums
 pub mod Unmet
 pub mod WrongRules
