@@ -45,7 +45,7 @@ by_gap P a b c d e f (NotEmpty flag) = f flag
 
 -- ---- what is taken is known
 
-known_first : (s : State) (os : List Operand) (x : VarId) → AreKnown s os → IsFirstUnknown s os x → ⊥
+pub known_first : (s : State) (os : List Operand) (x : VarId) → AreKnown s os → IsFirstUnknown s os x → ⊥
 known_first s [] x k f = absurd f
 known_first s (Var y ∷ os) x k f = elim f [
   | inl e ↦ let clash : None ≡ Some k.0.0 = sym e.0 ∙ k.0.1 in cc
@@ -86,7 +86,7 @@ not_unmet flow defs p s gap code at noshape u known others =
     let same : u.code ≡ code = cc in
     gap_not defs s code known others gap noshape (subst (λ (c : Instr). IsGap defs c s gap) same u.lacks)
 
-same_node : (o : Option NodeId) (a b : NodeId) → o ≡ Some a → o ≡ Some b → a ≡ b
+pub same_node : (o : Option NodeId) (a b : NodeId) → o ≡ Some a → o ≡ Some b → a ≡ b
 same_node o a b e h = let both : Some a ≡ Some b = sym e ∙ h in cc
 
 module _ (law : BlocksAtOneNode) (flow : Flow) (defs : List Def) (p : PointId) (s : State) (next : List Next) where

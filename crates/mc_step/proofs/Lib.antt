@@ -1,5 +1,6 @@
 pub mod Blocks
 pub mod Bounded
+pub mod Causes
 pub mod ExampleFlow
 pub mod ExampleGaps
 pub mod ExampleRanges
@@ -7,7 +8,12 @@ pub mod ExampleRuns
 pub mod ExampleStates
 pub mod ExampleSteps
 pub mod Fields
+pub mod Forms
 pub mod Gaps
+pub mod Judged
+pub mod JudgedBlocks
+pub mod JudgedMoves
+pub mod JudgedSums
 pub mod Lists
 pub mod LowerLaws
 pub mod Moving
@@ -15,6 +21,7 @@ pub mod Numbers
 pub mod OneBlock
 pub mod Operands
 pub mod Parts
+pub mod Products
 pub mod Refuted
 pub mod Shapes
 pub mod Sound
