@@ -311,7 +311,7 @@ module _ (law : BlocksAtOneNode) (know : Test) (flow : Flow) (defs : List Def) (
       }
 
   -- a block lies in this state, and it is freed
-  Frees : PointId → NodeId → StructId → State → Type 0
+  abbrev Frees : PointId → NodeId → StructId → State → Type 0
   Frees q n shape t = (block : HasBlock t n shape) × (next ≡ moved_to q (with_freed t block.id (Block block.at shape block.fields)) ∷ [])
 
   pub free_to : S12Is flow p s next → freeing know (code_at flow p) s ≡ Ok next

@@ -9,7 +9,8 @@ use Rattle.mc_flow.specs.declared.graph.Flow.{Flow}
 use Rattle.mc_flow.specs.declared.instr.Operand.{Operand}
 use Rattle.mc_graph.specs.Graph.{Edges}
 use Rattle.mc_premises.specs.Known.{Test, Tells, is_false}
-use Rattle.mc_premises.proofs.Numbered.{need_ok, have_ok}
+use Rattle.mc_premises.specs.Premises.{Judged, need}
+use Rattle.mc_premises.proofs.Numbered.{need_ok, need_yes, have_ok}
 use Rattle.mc_premises.proofs.Tests.{not_false, is_sound}
 use Rattle.mc_state.specs.State.{State, with_var, with_atom, next_node}
 use Rattle.mc_step.specs.declared.next.Next.{Next}
@@ -240,6 +241,6 @@ module _ (know : Test) (flow : Flow) (p : PointId) (s : State) (tells : Tells kn
   empty_to i =
       let here : empty_of (code_at flow p) ≡ Some i.q = ap empty_of i.at in
       let sound : not (is_false know) ≡ true = is_sound know s tells i.consistent in
-      let whole : s.whole ≡ true = i.whole in
       let none : has_none s.graph.edges ≡ true = ap has_none i.none in
-      rw here (rw sound (rw whole (rw none (ok_to _ next i.gives))))
+      let given : Judged (List Next) = Ok (moved_to i.q s ∷ []) in
+      rw here (rw sound (need_yes 3 s.whole (need 4 (has_none s.graph.edges) given) i.whole ∙ need_yes 4 (has_none s.graph.edges) given none ∙ ok_to _ next i.gives))
