@@ -17,6 +17,7 @@ use Rattle.mc_step.specs.Laws as step
 use Rattle.mc_step.specs.Sums.{Ranges}
 use Rattle.mc_step.proofs.JudgedMoves.{skip_from, skip_to, copy_from, copy_to, undef_from, undef_to, input_from, input_to, malloc_from, malloc_to, equal_from, equal_to, assume_from, assume_to, assert_from, assert_to, end_from, end_to, empty_from, empty_to}
 use Rattle.mc_step.proofs.JudgedBlocks.{load_from, load_to, store_from, store_to, null_from, null_to, free_from, free_to}
+use Rattle.mc_step.proofs.LowerLaws.{MadeLaws}
 use Rattle.mc_step.proofs.JudgedSums.{add_from, add_to, sub_from, sub_to, mul_from, mul_to, at_most_from, at_most_to}
 
 rule_of : (flow : Flow) (p : PointId) (s : State) (next : List Next) → IsStep flow p s next → (rule : InstrRule) × IsStepBy rule flow p s next
@@ -62,22 +63,22 @@ step_of flow p s next rule.S18 i = step.S18 i
 pub steps_have_rules : StepsHaveRules
 steps_have_rules flow p s next = (rule_of flow p s next, λ i. step_of flow p s next i.0 i.1)
 
-module _ (law : BlocksAtOneNode) where
+module _ (law : BlocksAtOneNode) (laws : MadeLaws) where
   from : (know : Test) (range : Ranges) (flow : Flow) (defs : List Def) (r : InstrRule) (p : PointId) (s : State) (next : List Next) → AreGiven know range flow defs p s → stepping know range flow r p s ≡ Ok next → IsStepBy r flow p s next
   from know range flow defs rule.S1 p s next g e = skip_from know flow p s g.tells next e
   from know range flow defs rule.S2 p s next g e = copy_from know flow p s g.tells next e
   from know range flow defs rule.S3 p s next g e = undef_from know flow p s g.tells next e
   from know range flow defs rule.S4 p s next g e = input_from know flow p s g.tells next e
-  from know range flow defs rule.S5 p s next g e = add_from know range flow p s g.tells g.ranges next e
-  from know range flow defs rule.S6 p s next g e = sub_from know range flow p s g.tells g.ranges next e
-  from know range flow defs rule.S7 p s next g e = mul_from know range flow p s g.tells g.ranges next e
+  from know range flow defs rule.S5 p s next g e = add_from laws know range flow defs p s g.valid g.made g.tells g.ranges next e
+  from know range flow defs rule.S6 p s next g e = sub_from laws know range flow defs p s g.valid g.made g.tells g.ranges next e
+  from know range flow defs rule.S7 p s next g e = mul_from laws know range flow defs p s g.valid g.made g.tells g.ranges next e
   from know range flow defs rule.S8 p s next g e = load_from law know flow defs p s g.valid g.made g.tells next e
   from know range flow defs rule.S9 p s next g e = store_from law know flow defs p s g.valid g.made g.tells next e
   from know range flow defs rule.S10 p s next g e = malloc_from know flow p s g.tells next e
   from know range flow defs rule.S11 p s next g e = null_from law know flow defs p s g.valid g.made g.tells next e
   from know range flow defs rule.S12 p s next g e = free_from law know flow defs p s g.valid g.made g.tells next e
   from know range flow defs rule.S13 p s next g e = equal_from know flow p s g.tells next e
-  from know range flow defs rule.S14 p s next g e = at_most_from know range flow p s g.tells g.ranges next e
+  from know range flow defs rule.S14 p s next g e = at_most_from laws know range flow defs p s g.valid g.made g.tells g.ranges next e
   from know range flow defs rule.S15 p s next g e = assume_from know flow p s g.tells next e
   from know range flow defs rule.S16 p s next g e = assert_from know flow p s g.tells next e
   from know range flow defs rule.S17 p s next g e = end_from know flow p s g.tells next e
@@ -88,16 +89,16 @@ module _ (law : BlocksAtOneNode) where
   to know range flow defs rule.S2 p s next g i = copy_to know flow p s g.tells next i
   to know range flow defs rule.S3 p s next g i = undef_to know flow p s g.tells next i
   to know range flow defs rule.S4 p s next g i = input_to know flow p s g.tells next i
-  to know range flow defs rule.S5 p s next g i = add_to know range flow p s g.tells g.ranges next i
-  to know range flow defs rule.S6 p s next g i = sub_to know range flow p s g.tells g.ranges next i
-  to know range flow defs rule.S7 p s next g i = mul_to know range flow p s g.tells g.ranges next i
+  to know range flow defs rule.S5 p s next g i = add_to laws know range flow defs p s g.valid g.made g.tells g.ranges next i
+  to know range flow defs rule.S6 p s next g i = sub_to laws know range flow defs p s g.valid g.made g.tells g.ranges next i
+  to know range flow defs rule.S7 p s next g i = mul_to laws know range flow defs p s g.valid g.made g.tells g.ranges next i
   to know range flow defs rule.S8 p s next g i = load_to law know flow defs p s g.valid g.made g.tells next i
   to know range flow defs rule.S9 p s next g i = store_to law know flow defs p s g.valid g.made g.tells next i
   to know range flow defs rule.S10 p s next g i = malloc_to know flow p s g.tells next i
   to know range flow defs rule.S11 p s next g i = null_to law know flow defs p s g.valid g.made g.tells next i
   to know range flow defs rule.S12 p s next g i = free_to law know flow defs p s g.valid g.made g.tells next i
   to know range flow defs rule.S13 p s next g i = equal_to know flow p s g.tells next i
-  to know range flow defs rule.S14 p s next g i = at_most_to know range flow p s g.tells g.ranges next i
+  to know range flow defs rule.S14 p s next g i = at_most_to laws know range flow defs p s g.valid g.made g.tells g.ranges next i
   to know range flow defs rule.S15 p s next g i = assume_to know flow p s g.tells next i
   to know range flow defs rule.S16 p s next g i = assert_to know flow p s g.tells next i
   to know range flow defs rule.S17 p s next g i = end_to know flow p s g.tells next i

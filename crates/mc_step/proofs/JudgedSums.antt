@@ -8,9 +8,12 @@ use Rattle.mc_base.specs.declared.ids.VarId.{VarId}
 use Rattle.mc_base.specs.declared.plain.Kind.TheVariants.{Int}
 use Rattle.mc_base.specs.declared.plain.Atom.{Atom}
 use Rattle.mc_base.specs.declared.plain.Atom.TheVariants.{In}
+use Rattle.mc_defs.specs.declared.rules.Def.{Def}
 use Rattle.mc_flow.specs.declared.graph.Flow.{Flow}
+use Rattle.mc_flow.specs.declared.instr.Instr.{Instr}
 use Rattle.mc_flow.specs.declared.instr.Instr.TheVariants as instr
 use Rattle.mc_flow.specs.declared.instr.Operand.{Operand}
+use Rattle.mc_flow.specs.Valid.{IsValid, IsOperand}
 use Rattle.mc_flow.specs.Values.{wrapped}
 use Rattle.mc_premises.specs.Known.{Test, Tells, is_false}
 use Rattle.mc_premises.specs.Premises.{Judged}
@@ -22,16 +25,21 @@ use Rattle.mc_ranges.specs.declared.Range.{Range}
 use Rattle.mc_ranges.specs.Ends.{IsBetween}
 use Rattle.mc_ranges.specs.Range.{IsOutcome, IsLeastIntRange}
 use Rattle.mc_state.specs.Facts.{IsFalse}
+use Rattle.mc_state.specs.Fits.{IsWellMade}
 use Rattle.mc_state.specs.State.{State, pure_of, with_var, with_nodes, with_atoms, next_node}
 use Rattle.mc_step.specs.declared.next.Next.{Next}
 use Rattle.mc_step.specs.Instructions.{ResultParts, add_of, sub_of, mul_of, test_le_of}
 use Rattle.mc_step.specs.Judges.{computing, adding, subtracting, multiplying, testing_at_most}
 use Rattle.mc_step.specs.Operands.{code_at, operand_node, with_operand}
 use Rattle.mc_step.specs.Steps.{moved_to, is_single, in_range, range_atoms, sum_offsets, difference_offsets, no_offsets, Computes, S5Is, S6Is, S7Is, S14Is}
-use Rattle.mc_step.specs.Sums.{Ends, Ranges, are_ints, int_atoms, Operation, sum, difference, product, result_atoms, with_result, at_most_atoms, above_atoms, AreInts, HasInts, HaveInts, HaveRanges}
+use Rattle.mc_step.specs.Sums.{Ends, Ranges, are_ints, int_atoms, Operation, sum, difference, product, result_atoms, with_result, at_most_atoms, above_atoms, AreInts, IsLeast, AreLeast, ranged, HaveRanges}
 use Rattle.mc_step.proofs.Forms.{ok_is, ok_to, add_is, sub_is, mul_is, test_le_is}
 use Rattle.mc_step.proofs.Products.{low_product, high_product, products_between}
+use Rattle.mc_step.proofs.LeastRanges.{least_range_is_one, least_range_is_of_ints}
+use Rattle.mc_step.proofs.LowerLaws.{MadeLaws}
+use Rattle.mc_step.proofs.Moving.{fits_at}
 use Rattle.mc_step.proofs.Tests.{le_of}
+use Rattle.mc_step.proofs.WellMade.{two_made}
 
 -- the ends of a range, and the range of ends that are ints
 abbrev ends_of : Range → Ends
@@ -40,19 +48,8 @@ ends_of r = record { lo = r.lo; hi = r.hi }
 abbrev range_of : (r : Ends) → AreInts r → Range
 range_of r i = let low = i.0 in let mid = i.1 in let high = i.2 in record { lo = r.lo; hi = r.hi; low_end = (omega (arith, ints), omega (arith, ints)); high_end = (omega (arith, ints), omega (arith, ints)) }
 
--- a least range is one
-one_range : (p : Pure) (n : NodeId) (lo hi m k : ℤ) → HasRange p n lo hi → HasRange p n m k → (lo ≡ m) × (hi ≡ k)
-one_range p n lo hi m k h g =
-    let a = h.least m k g.follows in
-    let b = g.least lo hi h.follows in
-    let low = a.0 in
-    let high = a.1 in
-    let back = b.0 in
-    let forth = b.1 in
-    (omega (arith, ints), omega (arith, ints))
-
 same_ends : (p : Pure) (n : NodeId) (range : Range) (r : Ends) → HasRange p n range.lo range.hi → HasRange p n r.lo r.hi → ends_of range ≡ r
-same_ends p n range r h g = let both = one_range p n range.lo range.hi r.lo r.hi h g in ap₂ (λ a b. record { lo = a; hi = b }) both.0 both.1
+same_ends p n range r h g = let both = least_range_is_one p n range.lo range.hi r.lo r.hi h g in ap₂ (λ a b. record { lo = a; hi = b }) both.0 both.1
 
 above_true : (a b : ℤ) → a ≤ℤ b → int_le a b ≡ true
 above_true a b h = grind (arith, ints)
@@ -152,6 +149,28 @@ module _ (In' : ℤ → Type 0) (r : Ends) (spans : Spans In' r) where
       let over : r.hi ≤ℤ pos 2147483647 = omega (arith, ints) in
       let both : are_ints r ≡ true = ap₂ (λ a b. a && b) (above_true (negsuc 2147483647) r.lo under) (above_true r.hi (pos 2147483647) over) in
       ap (λ b. if b then In n r.lo r.hi ∷ [] else []) both ∙ ap₂ (λ a b. In n a b ∷ []) (sym lo) (sym hi)
+
+-- ---- ranges of operands
+
+-- a node's range is the least, and one of ints
+abbrev HasInts : Ranges → State → NodeId → Type 0
+HasInts range s n = AreInts (range s n) × IsLeast range s n
+
+-- the ranges of two operands are
+abbrev HaveInts : Ranges → Operand → Operand → State → Type 0
+HaveInts range o o' s =
+    (a b : NodeId) → operand_node s o ≡ Some a → operand_node (with_operand s o) o' ≡ Some b
+    → HasInts range (with_operand (with_operand s o) o') a × HasInts range (with_operand (with_operand s o) o') b
+
+-- where the operands are of kind Int
+ints_of : (laws : MadeLaws) (range : Ranges) (flow : Flow) (defs : List Def) (s : State) (o o' : Operand) → IsWellMade defs flow.vars flow.structs.list s → IsOperand flow.vars Int o → IsOperand flow.vars Int o' → AreLeast range o o' s → HaveInts range o o' s
+ints_of laws range flow defs s o o' made fits fits' least a b left right =
+    let before = with_operand (with_operand s o) o' in
+    let two = two_made laws defs flow.vars flow.structs.list s Int o o' a b made fits fits' left right in
+    let are = least a b left right in (
+      (least_range_is_of_ints (pure_of before) a (range before a) two.left are.0, are.0),
+      (least_range_is_of_ints (pure_of before) b (range before b) two.right are.1, are.1),
+    )
 
 -- ---- operations
 
@@ -265,13 +284,17 @@ module _ (op : Operation) (offsets : NodeId → NodeId → NodeId → Range → 
         ∙ ap (λ l. moved_to i.q (with_atoms (with_var (with_nodes before (Int ∷ [])) i.x (Some n)) l) ∷ []) atoms
         ∙ ap₂ made ls rs))))
 
-module _ (know : Test) (range : Ranges) (flow : Flow) (p : PointId) (s : State) (tells : Tells know s) (ranges : HaveRanges range flow p s) (next : List Next) where
+module _ (laws : MadeLaws) (know : Test) (range : Ranges) (flow : Flow) (defs : List Def) (p : PointId) (s : State) (valid : IsValid flow defs) (well : IsWellMade defs flow.vars flow.structs.list s) (tells : Tells know s) (ranges : HaveRanges range flow p s) (next : List Next) where
+  -- the operands of an instruction of two numbers
+  given : (code : Instr) (o o' : Operand) → code_at flow p ≡ Some code → ranged code ≡ Some (o, o') → IsOperand flow.vars Int o → IsOperand flow.vars Int o' → HaveInts range o o' s
+  given code o o' at is fits fits' = ints_of laws range flow defs s o o' well fits fits' (ranges code o o' at is)
+
   pub add_from : adding know range (code_at flow p) s ≡ Ok next → S5Is flow p s next
   add_from e =
       let one = have_ok 1 (add_of (code_at flow p)) _ next e in
       let i = one.0 in
       let at = add_is (code_at flow p) i one.1 in
-      let made = from sum sum_offsets (λ n a b left right. refl) sums_span know range s tells next i (ranges (instr.Add i.x i.o i.o' i.q) i.o i.o' at refl) one.2 in
+      let made = from sum sum_offsets (λ n a b left right. refl) sums_span know range s tells next i (let fits = fits_at flow defs p (instr.Add i.x i.o i.o' i.q) valid at in given (instr.Add i.x i.o i.o' i.q) i.o i.o' at refl fits.1 fits.2) one.2 in
       record { x = i.x; o = i.o; o' = i.o'; q = i.q; at = at; consistent = made.0; computes = made.1 }
 
   pub add_to : S5Is flow p s next → adding know range (code_at flow p) s ≡ Ok next
@@ -279,14 +302,14 @@ module _ (know : Test) (range : Ranges) (flow : Flow) (p : PointId) (s : State) 
       let parts : ResultParts = record { x = i.x; o = i.o; o' = i.o'; q = i.q } in
       let here : add_of (code_at flow p) ≡ Some parts = ap add_of i.at in
       ap (λ o. computing sum know range o s) here
-      ∙ to sum sum_offsets (λ n a b left right. refl) sums_span know range s tells next parts (ranges (instr.Add i.x i.o i.o' i.q) i.o i.o' i.at refl) i.consistent i.computes
+      ∙ to sum sum_offsets (λ n a b left right. refl) sums_span know range s tells next parts (let fits = fits_at flow defs p (instr.Add i.x i.o i.o' i.q) valid i.at in given (instr.Add i.x i.o i.o' i.q) i.o i.o' i.at refl fits.1 fits.2) i.consistent i.computes
 
   pub sub_from : subtracting know range (code_at flow p) s ≡ Ok next → S6Is flow p s next
   sub_from e =
       let one = have_ok 1 (sub_of (code_at flow p)) _ next e in
       let i = one.0 in
       let at = sub_is (code_at flow p) i one.1 in
-      let made = from difference difference_offsets (λ n a b left right. refl) differences_span know range s tells next i (ranges (instr.Sub i.x i.o i.o' i.q) i.o i.o' at refl) one.2 in
+      let made = from difference difference_offsets (λ n a b left right. refl) differences_span know range s tells next i (let fits = fits_at flow defs p (instr.Sub i.x i.o i.o' i.q) valid at in given (instr.Sub i.x i.o i.o' i.q) i.o i.o' at refl fits.1 fits.2) one.2 in
       record { x = i.x; o = i.o; o' = i.o'; q = i.q; at = at; consistent = made.0; computes = made.1 }
 
   pub sub_to : S6Is flow p s next → subtracting know range (code_at flow p) s ≡ Ok next
@@ -294,14 +317,14 @@ module _ (know : Test) (range : Ranges) (flow : Flow) (p : PointId) (s : State) 
       let parts : ResultParts = record { x = i.x; o = i.o; o' = i.o'; q = i.q } in
       let here : sub_of (code_at flow p) ≡ Some parts = ap sub_of i.at in
       ap (λ o. computing difference know range o s) here
-      ∙ to difference difference_offsets (λ n a b left right. refl) differences_span know range s tells next parts (ranges (instr.Sub i.x i.o i.o' i.q) i.o i.o' i.at refl) i.consistent i.computes
+      ∙ to difference difference_offsets (λ n a b left right. refl) differences_span know range s tells next parts (let fits = fits_at flow defs p (instr.Sub i.x i.o i.o' i.q) valid i.at in given (instr.Sub i.x i.o i.o' i.q) i.o i.o' i.at refl fits.1 fits.2) i.consistent i.computes
 
   pub mul_from : multiplying know range (code_at flow p) s ≡ Ok next → S7Is flow p s next
   mul_from e =
       let one = have_ok 1 (mul_of (code_at flow p)) _ next e in
       let i = one.0 in
       let at = mul_is (code_at flow p) i one.1 in
-      let made = from product no_offsets (λ n a b left right. refl) products_span know range s tells next i (ranges (instr.Mul i.x i.o i.o' i.q) i.o i.o' at refl) one.2 in
+      let made = from product no_offsets (λ n a b left right. refl) products_span know range s tells next i (let fits = fits_at flow defs p (instr.Mul i.x i.o i.o' i.q) valid at in given (instr.Mul i.x i.o i.o' i.q) i.o i.o' at refl fits.1 fits.2) one.2 in
       record { x = i.x; o = i.o; o' = i.o'; q = i.q; at = at; consistent = made.0; computes = made.1 }
 
   pub mul_to : S7Is flow p s next → multiplying know range (code_at flow p) s ≡ Ok next
@@ -309,7 +332,7 @@ module _ (know : Test) (range : Ranges) (flow : Flow) (p : PointId) (s : State) 
       let parts : ResultParts = record { x = i.x; o = i.o; o' = i.o'; q = i.q } in
       let here : mul_of (code_at flow p) ≡ Some parts = ap mul_of i.at in
       ap (λ o. computing product know range o s) here
-      ∙ to product no_offsets (λ n a b left right. refl) products_span know range s tells next parts (ranges (instr.Mul i.x i.o i.o' i.q) i.o i.o' i.at refl) i.consistent i.computes
+      ∙ to product no_offsets (λ n a b left right. refl) products_span know range s tells next parts (let fits = fits_at flow defs p (instr.Mul i.x i.o i.o' i.q) valid i.at in given (instr.Mul i.x i.o i.o' i.q) i.o i.o' i.at refl fits.1 fits.2) i.consistent i.computes
 
   pub at_most_from : testing_at_most know range (code_at flow p) s ≡ Ok next → S14Is flow p s next
   at_most_from e =
@@ -322,7 +345,8 @@ module _ (know : Test) (range : Ranges) (flow : Flow) (p : PointId) (s : State) 
       let four = have_ok 4 (operand_node (with_operand s i.o) i.o') _ next three.2 in
       let b = four.0 in
       let before = with_operand (with_operand s i.o) i.o' in
-      let have_ints = ranges (instr.TestLe i.o i.o' i.t i.f) i.o i.o' at refl a b three.1 four.1 in
+      let fits = fits_at flow defs p (instr.TestLe i.o i.o' i.t i.f) valid at in
+      let have_ints = given (instr.TestLe i.o i.o' i.t i.f) i.o i.o' at refl fits.0 fits.1 a b three.1 four.1 in
       record {
         o = i.o;
         o' = i.o';
@@ -350,7 +374,8 @@ module _ (know : Test) (range : Ranges) (flow : Flow) (p : PointId) (s : State) 
       let left_is : operand_node s i.o ≡ Some i.a = i.left_known in
       let right_is : operand_node (with_operand s i.o) i.o' ≡ Some i.b = i.right_known in
       let before = with_operand (with_operand s i.o) i.o' in
-      let have_ints = ranges (instr.TestLe i.o i.o' i.t i.f) i.o i.o' i.at refl i.a i.b i.left_known i.right_known in
+      let fits = fits_at flow defs p (instr.TestLe i.o i.o' i.t i.f) valid i.at in
+      let have_ints = given (instr.TestLe i.o i.o' i.t i.f) i.o i.o' i.at refl fits.0 fits.1 i.a i.b i.left_known i.right_known in
       let l = range before i.a in
       let r = range before i.b in
       let left_range = subst (λ (t : State). HasRange (pure_of t) i.a i.left.lo i.left.hi) i.operands i.left_range in

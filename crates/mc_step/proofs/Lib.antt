@@ -3,6 +3,7 @@ pub mod Bounded
 pub mod Causes
 pub mod ExampleFlow
 pub mod ExampleGaps
+pub mod ExampleJudged
 pub mod ExampleRanges
 pub mod ExampleRuns
 pub mod ExampleStates
@@ -10,10 +11,12 @@ pub mod ExampleSteps
 pub mod Fields
 pub mod Forms
 pub mod Gaps
+pub mod Grown
 pub mod Judged
 pub mod JudgedBlocks
 pub mod JudgedMoves
 pub mod JudgedSums
+pub mod LeastRanges
 pub mod Lists
 pub mod LowerLaws
 pub mod Moving
@@ -25,5 +28,7 @@ pub mod Products
 pub mod Refuted
 pub mod Shapes
 pub mod Sound
+pub mod StepsMade
 pub mod Tests
+pub mod WellMade
 pub mod Wrapping

@@ -1,5 +1,6 @@
 pub mod Examples
 pub mod Instructions
+pub mod JudgedExamples
 pub mod JudgedLaws
 pub mod Judges
 pub mod Laws

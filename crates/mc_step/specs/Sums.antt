@@ -116,15 +116,15 @@ above_atoms a b left right =
 abbrev pub AreInts : Ends → Type 0
 AreInts r = (negsuc 2147483647 ≤ℤ r.lo) × (r.lo ≤ℤ r.hi) × (r.hi ≤ℤ pos 2147483647)
 
--- a node's range is the least, and one of ints
-abbrev pub HasInts : Ranges → State → NodeId → Type 0
-HasInts range s n = AreInts (range s n) × HasRange (pure_of s) n (range s n).lo (range s n).hi
+-- the range that is given for a node is its least
+abbrev pub IsLeast : Ranges → State → NodeId → Type 0
+IsLeast range s n = HasRange (pure_of s) n (range s n).lo (range s n).hi
 
--- the ranges of two operands are, in the state with their nodes
-abbrev pub HaveInts : Ranges → Operand → Operand → State → Type 0
-HaveInts range o o' s =
+-- the ranges that are given for two operands are, in the state with their nodes
+abbrev pub AreLeast : Ranges → Operand → Operand → State → Type 0
+AreLeast range o o' s =
     (a b : NodeId) → operand_node s o ≡ Some a → operand_node (with_operand s o) o' ≡ Some b
-    → HasInts range (with_operand (with_operand s o) o') a × HasInts range (with_operand (with_operand s o) o') b
+    → IsLeast range (with_operand (with_operand s o) o') a × IsLeast range (with_operand (with_operand s o) o') b
 
 -- the operands whose ranges an instruction asks for
 abbrev pub ranged : Instr → Option (Operand × Operand)
@@ -134,7 +134,7 @@ ranged (Mul x o o' q) = Some (o, o')
 ranged (TestLe o o' t f) = Some (o, o')
 ranged other = None
 
--- the ranges that the instruction at the point asks for are right
+-- the ranges that the instruction at the point asks for are the least
 abbrev pub HaveRanges : Ranges → Flow → PointId → State → Type 0
 HaveRanges range flow p s =
-    (code : Instr) (o o' : Operand) → code_at flow p ≡ Some code → ranged code ≡ Some (o, o') → HaveInts range o o' s
+    (code : Instr) (o o' : Operand) → code_at flow p ≡ Some code → ranged code ≡ Some (o, o') → AreLeast range o o' s
