@@ -5,13 +5,13 @@ use Rattle.mc_base.specs.declared.ids.PointId.{PointId}
 use Rattle.mc_defs.specs.declared.rules.Def.{Def}
 use Rattle.mc_flow.specs.declared.graph.Flow.{Flow}
 use Rattle.mc_premises.specs.Known.{Test}
-use Rattle.mc_premises.proofs.Numbered.{judged_once, judged_unmet, given_or_unmet}
+use Rattle.mc_premises.proofs.Numbered.{judged_unmet, given_or_unmet}
 use Rattle.mc_pure.specs.Laws.{BlocksAtOneNode}
 use Rattle.mc_state.specs.State.{State}
 use Rattle.mc_step.specs.declared.next.Next.{Next}
 use Rattle.mc_step.specs.Judges.{InstrRule, stepping}
 use Rattle.mc_step.specs.Judges as rule
-use Rattle.mc_step.specs.JudgedLaws.{IsStepBy, StepsHaveRules, AreGiven, StepsAreJudged, StepsAreOne, StepsAreDecided}
+use Rattle.mc_step.specs.JudgedLaws.{IsStepBy, StepsHaveRules, AreGiven, StepsAreJudged, StepsAreDecided}
 use Rattle.mc_step.specs.Laws.{IsStep}
 use Rattle.mc_step.specs.Laws as step
 use Rattle.mc_step.specs.Sums.{Ranges}
@@ -106,10 +106,6 @@ module _ (law : BlocksAtOneNode) (laws : MadeLaws) where
 
   pub steps_are_judged : StepsAreJudged
   steps_are_judged know range flow defs r p s g next = (from know range flow defs r p s next g, to know range flow defs r p s next g)
-
-  pub steps_are_one : StepsAreOne
-  steps_are_one know range flow defs r p s next other g i j =
-      judged_once (stepping know range flow r p s) (IsStepBy r flow p s) (steps_are_judged know range flow defs r p s g) next other i j
 
   pub steps_are_decided : StepsAreDecided
   steps_are_decided know range flow defs r p s g =

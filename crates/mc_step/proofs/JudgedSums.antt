@@ -35,20 +35,20 @@ use Rattle.mc_step.specs.Steps.{moved_to, is_single, in_range, range_atoms, sum_
 use Rattle.mc_step.specs.Sums.{Ends, Ranges, are_ints, int_atoms, Operation, sum, difference, product, result_atoms, with_result, at_most_atoms, above_atoms, AreInts, IsLeast, AreLeast, ranged, HaveRanges}
 use Rattle.mc_step.proofs.Forms.{ok_is, ok_to, add_is, sub_is, mul_is, test_le_is}
 use Rattle.mc_step.proofs.Products.{low_product, high_product, products_between}
-use Rattle.mc_step.proofs.LeastRanges.{least_range_is_one, least_range_is_of_ints}
+use Rattle.mc_step.proofs.LeastRanges.{least_range_is_one, least_range_has_number, least_range_is_of_ints}
 use Rattle.mc_step.proofs.LowerLaws.{MadeLaws}
 use Rattle.mc_step.proofs.Moving.{fits_at}
 use Rattle.mc_step.proofs.Tests.{le_of}
 use Rattle.mc_step.proofs.WellMade.{two_made}
 
 -- the ends of a range, and the range of ends that are ints
-abbrev ends_of : Range → Ends
+abbrev pub ends_of : Range → Ends
 ends_of r = record { lo = r.lo; hi = r.hi }
 
 abbrev range_of : (r : Ends) → AreInts r → Range
 range_of r i = let low = i.0 in let mid = i.1 in let high = i.2 in record { lo = r.lo; hi = r.hi; low_end = (omega (arith, ints), omega (arith, ints)); high_end = (omega (arith, ints), omega (arith, ints)) }
 
-same_ends : (p : Pure) (n : NodeId) (range : Range) (r : Ends) → HasRange p n range.lo range.hi → HasRange p n r.lo r.hi → ends_of range ≡ r
+pub same_ends : (p : Pure) (n : NodeId) (range : Range) (r : Ends) → HasRange p n range.lo range.hi → HasRange p n r.lo r.hi → ends_of range ≡ r
 same_ends p n range r h g = let both = least_range_is_one p n range.lo range.hi r.lo r.hi h g in ap₂ (λ a b. record { lo = a; hi = b }) both.0 both.1
 
 above_true : (a b : ℤ) → a ≤ℤ b → int_le a b ≡ true
@@ -175,10 +175,10 @@ ints_of laws range flow defs s o o' made fits fits' least a b left right =
 -- ---- operations
 
 -- the ends of an operation's results span its results
-abbrev SpansResults : Operation → Type 0
+abbrev pub SpansResults : Operation → Type 0
 SpansResults op = (left right : Range) → left.lo ≤ℤ left.hi → right.lo ≤ℤ right.hi → Spans (IsOutcome op.apply left right) (op.ends (ends_of left) (ends_of right))
 
-sums_span : SpansResults sum
+pub sums_span : SpansResults sum
 sums_span left right p q =
     record {
       low = (left.lo, right.lo, (omega (arith, ints), p), (omega (arith, ints), q), refl);
@@ -194,7 +194,7 @@ sums_span left right p q =
           (omega (arith, ints), omega (arith, ints));
     }
 
-differences_span : SpansResults difference
+pub differences_span : SpansResults difference
 differences_span left right p q =
     record {
       low = (left.lo, right.hi, (omega (arith, ints), p), (q, omega (arith, ints)), refl);
@@ -210,11 +210,11 @@ differences_span left right p q =
           (omega (arith, ints), omega (arith, ints));
     }
 
-products_span : SpansResults product
+pub products_span : SpansResults product
 products_span left right p q = record { low = low_product left right p q; high = high_product left right p q; between = products_between left right }
 
 -- offsets of ranges as the rules write them
-abbrev IsOffsets : Operation → (NodeId → NodeId → NodeId → Range → Range → List Atom) → Type 0
+abbrev pub IsOffsets : Operation → (NodeId → NodeId → NodeId → Range → Range → List Atom) → Type 0
 IsOffsets op offsets = (n a b : NodeId) (left right : Range) → offsets n a b left right ≡ op.offsets n a b (ends_of left) (ends_of right)
 
 module _ (op : Operation) (offsets : NodeId → NodeId → NodeId → Range → Range → List Atom) (same : IsOffsets op offsets) where
@@ -224,6 +224,20 @@ module _ (op : Operation) (offsets : NodeId → NodeId → NodeId → Range → 
   all_atoms n a b left right results e =
       ap₂ (λ xs ys. xs ++ ys)
       (ap (λ l. if is_single left && is_single right then In n (wrapped (op.apply left.lo right.lo)) (wrapped (op.apply left.lo right.lo)) ∷ [] else l) (sym e)) (same n a b left right)
+
+  -- what an instance gives, by the ends of its ranges
+  pub computed_is : SpansResults op → (x : VarId) (o o' : Operand) (q : PointId) (s : State) (next : List Next) (m : Computes op.apply offsets x o o' q s next)
+      → next ≡ moved_to q (with_result op x m.a m.b (ends_of m.left) (ends_of m.right) (with_operand (with_operand s o) o')) ∷ []
+  computed_is spans x o o' q s next m =
+      let before = with_operand (with_operand s o) o' in
+      let left_mid = least_range_has_number (pure_of before) m.a m.left.lo m.left.hi m.left_range in
+      let right_mid = least_range_has_number (pure_of before) m.b m.right.lo m.right.hi m.right_range in
+      let new = λ (t : State). moved_to q (with_atoms (with_var (with_nodes t (Int ∷ [])) x (Some (next_node t)))
+          (range_atoms op.apply (next_node t) m.left m.right m.results ++ offsets (next_node t) m.a m.b m.left m.right)) ∷ [] in
+      let n = next_node before in
+      let written = least_atoms (IsOutcome op.apply m.left m.right) (op.ends (ends_of m.left) (ends_of m.right)) (spans m.left m.right left_mid right_mid) n m.results m.results_range in
+      m.gives ∙ ap new m.operands
+      ∙ ap (λ l. moved_to q (with_atoms (with_var (with_nodes before (Int ∷ [])) x (Some n)) l) ∷ []) (all_atoms n m.a m.b m.left m.right m.results written)
 
   module _ (spans : SpansResults op) (know : Test) (range : Ranges) (s : State) (tells : Tells know s) (next : List Next) where
     from : (i : ResultParts) → HaveInts range i.o i.o' s → computing op know range (Some i) s ≡ Ok next → (IsFalse s → ⊥) × Computes op.apply offsets i.x i.o i.o' i.q s next
@@ -271,18 +285,8 @@ module _ (op : Operation) (offsets : NodeId → NodeId → NodeId → Range → 
         let r = range before m.b in
         let ls : ends_of m.left ≡ l = same_ends (pure_of before) m.a m.left l m.left_range ranges.0.1 in
         let rs : ends_of m.right ≡ r = same_ends (pure_of before) m.b m.right r m.right_range ranges.1.1 in
-        let left_mid : m.left.lo ≤ℤ m.left.hi = let mid = ranges.0.0.1 in let lo : m.left.lo ≡ l.lo = ap (λ (e : Ends). e.lo) ls in let hi : m.left.hi ≡ l.hi = ap (λ (e : Ends). e.hi) ls in omega (arith, ints) in
-        let right_mid : m.right.lo ≤ℤ m.right.hi = let mid = ranges.1.0.1 in let lo : m.right.lo ≡ r.lo = ap (λ (e : Ends). e.lo) rs in let hi : m.right.hi ≡ r.hi = ap (λ (e : Ends). e.hi) rs in omega (arith, ints) in
-        let new = λ (t : State). moved_to i.q (with_atoms (with_var (with_nodes t (Int ∷ [])) i.x (Some (next_node t)))
-            (range_atoms op.apply (next_node t) m.left m.right m.results ++ offsets (next_node t) m.a m.b m.left m.right)) ∷ [] in
-        let n = next_node before in
-        let written = least_atoms (IsOutcome op.apply m.left m.right) (op.ends (ends_of m.left) (ends_of m.right)) (spans m.left m.right left_mid right_mid) n m.results m.results_range in
-        let atoms = all_atoms n m.a m.b m.left m.right m.results written in
         let made = λ (l r : Ends). moved_to i.q (with_result op i.x m.a m.b l r before) ∷ [] in
-        rw sound (rw left_is (rw right_is (ok_to _ next
-        (m.gives ∙ ap new m.operands
-        ∙ ap (λ l. moved_to i.q (with_atoms (with_var (with_nodes before (Int ∷ [])) i.x (Some n)) l) ∷ []) atoms
-        ∙ ap₂ made ls rs))))
+        rw sound (rw left_is (rw right_is (ok_to _ next (computed_is spans i.x i.o i.o' i.q s next m ∙ ap₂ made ls rs))))
 
 module _ (laws : MadeLaws) (know : Test) (range : Ranges) (flow : Flow) (defs : List Def) (p : PointId) (s : State) (valid : IsValid flow defs) (well : IsWellMade defs flow.vars flow.structs.list s) (tells : Tells know s) (ranges : HaveRanges range flow p s) (next : List Next) where
   -- the operands of an instruction of two numbers

@@ -21,6 +21,7 @@ pub mod Lists
 pub mod LowerLaws
 pub mod Moving
 pub mod Numbers
+pub mod Once
 pub mod OneBlock
 pub mod Operands
 pub mod Parts

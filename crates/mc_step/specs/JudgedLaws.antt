@@ -68,8 +68,8 @@ StepsAreJudged =
 -- a rule has one list of successors
 abbrev pub StepsAreOne : Type 0
 StepsAreOne =
-    (know : Test) (range : Ranges) (flow : Flow) (defs : List Def) (rule : InstrRule) (p : PointId) (s : State) (next other : List Next)
-    → AreGiven know range flow defs p s → IsStepBy rule flow p s next → IsStepBy rule flow p s other → next ≡ other
+    (flow : Flow) (defs : List Def) (rule : InstrRule) (p : PointId) (s : State) (next other : List Next)
+    → IsValid flow defs → IsStepBy rule flow p s next → IsStepBy rule flow p s other → next ≡ other
 
 -- either it has an instance, or a premise is the first unmet one and it has none
 abbrev pub StepsAreDecided : Type 0

@@ -1,5 +1,6 @@
 use Rattle.mc_step.proofs.Judged as proof
 use Rattle.mc_step.proofs.LowerLaws.{MadeLaws}
+use Rattle.mc_step.proofs.Once as once
 use Rattle.mc_step.proofs.judged_laws.steps_are_judged.Goals as goal
 
 pub returns : goal.returns
@@ -18,4 +19,4 @@ returns c =
       };
       kinds = c.nodes_are_there.ensures.kinds;
     } in
-    record { judged = proof.steps_are_judged law laws; once = proof.steps_are_one law laws; decided = proof.steps_are_decided law laws }
+    record { judged = proof.steps_are_judged law laws; once = once.steps_are_one law; decided = proof.steps_are_decided law laws }
