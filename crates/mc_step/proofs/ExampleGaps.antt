@@ -10,11 +10,13 @@ use Rattle.mc_step.specs.Examples as ex
 use Rattle.mc_step.proofs.ExampleSteps.{here, one_cell_sound, no_cell_sound, not_whole_sound}
 
 -- where there are no edges there is no block
-lacks : LacksBlock ex.no_cell (node 1) cell_id
-lacks = (
-  λ (b : HasBlock ex.no_cell (node 1) cell_id). let clash = b.there in cc,
-  λ place id e there s equal. cc,
-)
+lacks : LacksBlock defs ex.no_cell (node 1) cell_id
+lacks =
+    record {
+      block = λ (b : HasBlock ex.no_cell (node 1) cell_id). let clash = b.there in cc;
+      start = λ place id e there s equal. cc;
+      back = λ place id at stop args ends pred i other there is at_end equal. cc;
+    }
 
 module _ (law : NoneStandsForFalse) where
   pub uninit : IsUnmet ex.flow defs (ex.at 19) ex.one_cell (Uninit ex.z)

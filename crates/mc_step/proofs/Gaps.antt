@@ -45,7 +45,7 @@ by_gap P a b c d e f (NotEmpty flag) = f flag
 
 -- ---- what is taken is known
 
-known_first : (s : State) (os : List Operand) (x : VarId) → AreKnown s os → IsFirstUnknown s os x → ⊥
+pub known_first : (s : State) (os : List Operand) (x : VarId) → AreKnown s os → IsFirstUnknown s os x → ⊥
 known_first s [] x k f = absurd f
 known_first s (Var y ∷ os) x k f = elim f [
   | inl e ↦ let clash : None ≡ Some k.0.0 = sym e.0 ∙ k.0.1 in cc
@@ -86,14 +86,14 @@ not_unmet flow defs p s gap code at noshape u known others =
     let same : u.code ≡ code = cc in
     gap_not defs s code known others gap noshape (subst (λ (c : Instr). IsGap defs c s gap) same u.lacks)
 
-same_node : (o : Option NodeId) (a b : NodeId) → o ≡ Some a → o ≡ Some b → a ≡ b
+pub same_node : (o : Option NodeId) (a b : NodeId) → o ≡ Some a → o ≡ Some b → a ≡ b
 same_node o a b e h = let both : Some a ≡ Some b = sym e ∙ h in cc
 
 module _ (law : BlocksAtOneNode) (flow : Flow) (defs : List Def) (p : PointId) (s : State) (next : List Next) where
   load_lacks : (i : S8Is flow p s next) (gap : Gap) → LacksNothing defs s (instr.Load i.x i.y i.shape i.f i.q) gap
   load_lacks i =
       by_gap (LacksNothing defs s (instr.Load i.x i.y i.shape i.f i.q)) (λ x noshape l. l)
-      (λ n noshape l. l.1.0 (subst (λ (m : NodeId). HasBlock s m i.shape) (same_node (var_node s i.y) i.n n i.known l.0) i.block))
+      (λ n noshape l. l.1.block (subst (λ (m : NodeId). HasBlock s m i.shape) (same_node (var_node s i.y) i.n n i.known l.0) i.block))
       (λ noshape l. l) (λ pred n noshape l. l)
       (λ n f noshape l.
       let same : n ≡ i.n = same_node (var_node s i.y) n i.n l.0 i.known in
@@ -107,7 +107,7 @@ module _ (law : BlocksAtOneNode) (flow : Flow) (defs : List Def) (p : PointId) (
   store_lacks : (i : S9Is flow p s next) (gap : Gap) → LacksNothing defs s (instr.Store i.y i.shape i.f i.from i.q) gap
   store_lacks i =
       by_gap (LacksNothing defs s (instr.Store i.y i.shape i.f i.from i.q)) (λ x noshape l. l)
-      (λ n noshape l. l.1.0 (subst (λ (m : NodeId). HasBlock s m i.shape) (same_node (var_node s i.y) i.n n i.known l.0) i.block))
+      (λ n noshape l. l.1.block (subst (λ (m : NodeId). HasBlock s m i.shape) (same_node (var_node s i.y) i.n n i.known l.0) i.block))
       (λ noshape l. l) (λ pred n noshape l. l) (λ n f noshape l. l) (λ flag noshape l. l)
 
   null_lacks : (i : S11Is flow p s next) (gap : Gap) → LacksNothing defs s (instr.Free i.from i.q) gap
@@ -120,7 +120,7 @@ module _ (law : BlocksAtOneNode) (flow : Flow) (defs : List Def) (p : PointId) (
   free_lacks i =
       by_gap (LacksNothing defs s (instr.Free i.from i.q)) (λ x noshape l. l)
       (λ n noshape l.
-      (l.2 i.shape).0
+      (l.2 i.shape).block
       (subst (λ (m : NodeId). HasBlock (with_operand s i.from) m i.shape) (same_node (operand_node s i.from) i.n n i.known l.0) (subst (λ (t : State). HasBlock t i.n i.shape) i.operand i.block)))
       (λ noshape l. l) (λ pred n noshape l. l) (λ n f noshape l. l) (λ flag noshape l. l)
 

@@ -1,7 +1,7 @@
 -- What the laws of steps rest on.
 use Rattle.mc_heap.specs.PartLaws.{SplitCommutes, SplitDropsEmpty, SplitAddsEmpty, InsertChanges, RemoveChanges, InsertKeepsAddresses, RemoveKeepsAddresses, CellIsRead, CellIsAdded, CellIsReplaced, CellIsRemoved}
 use Rattle.mc_heap.specs.Adding.{BlocksAreAdded, BlocksKeepAddresses}
-use Rattle.mc_state.specs.Laws.{DerivedIsTrue, NodesAreAdded, NodesHaveValues, AtomsAreAdded, VarIsSet, VarIsForgotten, VarIsKnown, EdgesAreTaken, EdgesArePut, EdgeIsReplaced, VarStaysBounded, NodesStayBounded, NewNodesAreThere, AtomsStayBounded, EdgesStayBounded, FewerEdgesStayBounded, ReplacedStaysBounded, NodesAreBelow, ValuesAgree, WholeWithoutEdges}
+use Rattle.mc_state.specs.Laws.{DerivedIsTrue, NodesAreAdded, NodesHaveValues, AtomsAreAdded, VarIsSet, VarIsForgotten, VarIsKnown, EdgesAreTaken, EdgesArePut, EdgeIsReplaced, VarStaysBounded, NodesStayBounded, NewNodesAreThere, AtomsStayBounded, EdgesStayBounded, FewerEdgesStayBounded, ReplacedStaysBounded, NodesAreBelow, NewNodesHaveKinds, ValuesAgree, WholeWithoutEdges}
 
 -- how numbers stay in their bounds
 pub record BoundLaws : Type 0 where
@@ -13,6 +13,11 @@ pub record BoundLaws : Type 0 where
   pub replaced : ReplacedStaysBounded
   pub new : NewNodesAreThere
   pub below : NodesAreBelow
+
+-- how states stay well made
+pub record MadeLaws : Type 0 where
+  pub bounds : BoundLaws
+  pub kinds : NewNodesHaveKinds
 
 -- how what stands for a state stands for a changed one
 pub record StateLaws : Type 0 where

@@ -6,6 +6,7 @@ use Rattle.mc_base.specs.declared.ids.NodeId.{NodeId}
 use Rattle.mc_base.specs.declared.ids.StructId.{StructId}
 use Rattle.mc_graph.specs.declared.edge.Edge.{Edge}
 use Rattle.mc_graph.specs.declared.edge.Edge.TheVariants.{Block, Ind, Seg}
+use Rattle.mc_graph.specs.Edges.{fields_of}
 use Rattle.mc_graph.specs.Graph.{Edges, edge_with, block_starts}
 use Rattle.mc_pure.specs.Derived.{turned, chained}
 use Rattle.mc_pure.specs.Laws.{BlocksAtOneNode}
@@ -78,16 +79,22 @@ both_equal s n a b sound left right = elim left [
   ]
 ]
 
--- two blocks of a struct at a node have the same fields
-pub one_block : BlocksAtOneNode → (s : State) (n : NodeId) (shape : StructId) (x y : HasBlock s n shape) → (IsFalse s → ⊥) → x.fields ≡ y.fields
-one_block law s n shape x y sound = at (x.id.0 == y.id.0) refl
+-- two blocks at a node are one edge
+pub same_id : BlocksAtOneNode → (s : State) (n : NodeId) (shape own : StructId) (x : HasBlock s n shape) (y : HasBlock s n own) → (IsFalse s → ⊥) → x.id ≡ y.id
+same_id law s n shape own x y sound = at (x.id.0 == y.id.0) refl
   where
-    at : (same : Bool) → (x.id.0 == y.id.0) ≡ same → x.fields ≡ y.fields
-    at true e =
-        let ids : x.id ≡ y.id = ap (λ (m : ℕ). record { 0 = m }) (eqb-true x.id.0 y.id.0 e) in
-        let edges : Some (Block x.at shape x.fields) ≡ Some (Block y.at shape y.fields) = sym x.there ∙ ap (edge_with s.graph.edges) ids ∙ y.there in
-        cc
+    at : (same : Bool) → (x.id.0 == y.id.0) ≡ same → x.id ≡ y.id
+    at true e = ap (λ (m : ℕ). record { 0 = m }) (eqb-true x.id.0 y.id.0 e)
     at false e =
         let ne : x.id.0 ≢ y.id.0 = λ same. let clash : true ≡ false = sym (eq-eqb x.id.0 y.id.0 same) ∙ e in cc in
-        let p = blocks_apart s.graph.edges x.id y.id x.at y.at shape shape x.fields y.fields ne x.there y.there in
+        let p = blocks_apart s.graph.edges x.id y.id x.at y.at shape own x.fields y.fields ne x.there y.there in
         absurd (sound (law (pure_of s) p.0 p.1 x.at y.at p.2 p.3 p.4 (both_equal s n x.at y.at sound x.equal y.equal)))
+
+pub same_edge : BlocksAtOneNode → (s : State) (n : NodeId) (shape own : StructId) (x : HasBlock s n shape) (y : HasBlock s n own) → (IsFalse s → ⊥) → Block x.at shape x.fields ≡ Block y.at own y.fields
+same_edge law s n shape own x y sound =
+    let edges : Some (Block x.at shape x.fields) ≡ Some (Block y.at own y.fields) = sym x.there ∙ ap (edge_with s.graph.edges) (same_id law s n shape own x y sound) ∙ y.there in
+    cc
+
+-- two blocks of a struct at a node have the same fields
+pub one_block : BlocksAtOneNode → (s : State) (n : NodeId) (shape : StructId) (x y : HasBlock s n shape) → (IsFalse s → ⊥) → x.fields ≡ y.fields
+one_block law s n shape x y sound = ap fields_of (same_edge law s n shape shape x y sound)

@@ -1,6 +1,11 @@
 pub mod Examples
+pub mod Instructions
+pub mod JudgedExamples
+pub mod JudgedLaws
+pub mod Judges
 pub mod Laws
 pub mod Operands
 pub mod Steps
+pub mod Sums
 pub mod Unmet
 pub mod WrongRules

@@ -17,6 +17,7 @@ use Rattle.mc_graph.specs.declared.edge.Edge.{Edge}
 use Rattle.mc_graph.specs.declared.edge.Edge.TheVariants.{Block, Ind, Seg}
 use Rattle.mc_graph.specs.Edges.{start_of}
 use Rattle.mc_graph.specs.Graph.{Edges}
+use Rattle.mc_premises.specs.Back.{IsBackPosition}
 use Rattle.mc_state.specs.State.{State, var_node}
 use Rattle.mc_state.specs.Facts.{IsFalse, AreEqual}
 use Rattle.mc_state.specs.Terms.{plain}
@@ -69,22 +70,31 @@ abbrev pub NoSummaryAt : State → NodeId → Type 0
 NoSummaryAt s n =
     (place : ℕ) (id : EdgeId) (e : Edge) → slice_get s.graph.edges place ≡ Some (id, e) → IsSummary e → AreEqual s n (start_of e) → ⊥
 
+-- no Seg has at a back position of its predicate an end argument that is equal, by which it may be unfolded
+abbrev pub NoBackAt : List Def → State → NodeId → Type 0
+NoBackAt defs s n =
+    (place : ℕ) (id : EdgeId) (at «end» : NodeId) (args ends : List NodeId) (pred : PredId) (i : ℕ) (other : NodeId)
+    → slice_get s.graph.edges place ≡ Some (id, Seg at args pred «end» ends)
+    → IsBackPosition defs pred i → slice_get ends i ≡ Some other → AreEqual s n other → ⊥
+
 -- no block of the struct lies at the node, nor may one be unfolded there
-abbrev pub LacksBlock : State → NodeId → StructId → Type 0
-LacksBlock s n shape = (HasBlock s n shape → ⊥) × NoSummaryAt s n
+pub record LacksBlock (defs : List Def) (s : State) (n : NodeId) (shape : StructId) : Type 0 where
+  pub block : HasBlock s n shape → ⊥
+  pub start : NoSummaryAt s n
+  pub back : NoBackAt defs s n
 
 -- the base is known, and no block of the struct lies there
-abbrev pub LacksAccess : State → VarId → StructId → NodeId → Type 0
-LacksAccess s y shape n = (var_node s y ≡ Some n) × LacksBlock s n shape
+abbrev pub LacksAccess : List Def → State → VarId → StructId → NodeId → Type 0
+LacksAccess defs s y shape n = (var_node s y ≡ Some n) × LacksBlock defs s n shape
 
 -- a field of the block at the base is not known
 abbrev pub LacksField : State → VarId → StructId → ℕ → NodeId → ℕ → Type 0
 LacksField s y shape f n g = (var_node s y ≡ Some n) × (g ≡ f) × ((block : HasBlock s n shape) × (slice_get block.fields f ≡ Some None))
 
 -- what is freed is known, is not null, and no block lies there
-abbrev pub LacksFreed : State → Operand → NodeId → Type 0
-LacksFreed s o n =
-    (operand_node s o ≡ Some n) × (AreEqual (with_operand s o) n null → ⊥) × ((shape : StructId) → LacksBlock (with_operand s o) n shape)
+abbrev pub LacksFreed : List Def → State → Operand → NodeId → Type 0
+LacksFreed defs s o n =
+    (operand_node s o ≡ Some n) × (AreEqual (with_operand s o) n null → ⊥) × ((shape : StructId) → LacksBlock defs (with_operand s o) n shape)
 
 -- no edges make the predicate at the operand
 abbrev pub LacksShape : List Def → State → PredId → Operand → List Operand → PredId → NodeId → Type 0
@@ -103,9 +113,9 @@ LacksEmptiness s flag =
 -- what an instruction lacks where all that it takes is known
 abbrev pub Lacks : List Def → Instr → State → Gap → Type 0
 Lacks defs code s (Uninit x) = ⊥
-Lacks defs (Load x y shape f q) s (NoBlock n) = LacksAccess s y shape n
-Lacks defs (Store y shape f o q) s (NoBlock n) = LacksAccess s y shape n
-Lacks defs (Free o q) s (NoBlock n) = LacksFreed s o n
+Lacks defs (Load x y shape f q) s (NoBlock n) = LacksAccess defs s y shape n
+Lacks defs (Store y shape f o q) s (NoBlock n) = LacksAccess defs s y shape n
+Lacks defs (Free o q) s (NoBlock n) = LacksFreed defs s o n
 Lacks defs (Load x y shape f q) s (UninitField n g) = LacksField s y shape f n g
 Lacks defs (AssertShape pred o os q) s (NoShape own n) = LacksShape defs s pred o os own n
 Lacks defs Fail s Reached = Unit {0}
