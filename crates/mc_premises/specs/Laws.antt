@@ -2,7 +2,9 @@
 use Rattle.std.specs.Prelude.{◌≡◌, ◌↔◌, ℕ, List, true}
 use Rattle.mc_base.specs.declared.ids.EdgeId.{EdgeId}
 use Rattle.mc_base.specs.declared.ids.NodeId.{NodeId}
+use Rattle.mc_base.specs.declared.ids.PredId.{PredId}
 use Rattle.mc_base.specs.declared.plain.Kind.{Kind}
+use Rattle.mc_defs.specs.declared.rules.Def.{Def}
 use Rattle.mc_graph.specs.declared.edge.Edge.{Edge}
 use Rattle.mc_graph.specs.Graph.{Edges, Picks, IdsAscend}
 use Rattle.mc_pure.specs.Pure.{Kinds, HasKind}
@@ -10,6 +12,7 @@ use Rattle.mc_state.specs.State.{State}
 use Rattle.mc_state.specs.Facts.{IsFalse, AreEqual, AreAllEqual}
 use Rattle.mc_premises.specs.Known.{Test, Tells, is_false, equal, all_equal, has_kind}
 use Rattle.mc_premises.specs.Named.{others, are_distinct, Looked}
+use Rattle.mc_premises.specs.Back.{IsBackPosition, is_back}
 
 -- edges picked by ids are those that distinct ids name, and all others are left
 abbrev pub PicksAreNamed : Type 0
@@ -32,3 +35,7 @@ AllEqualIsTold = (know : Test) (s : State) (xs ys : List NodeId) → Tells know 
 -- the kind of a node is a test
 abbrev pub KindIsTold : Type 0
 KindIsTold = (kinds : Kinds) (kind : Kind) (n : NodeId) → (has_kind kinds kind n ≡ true) ↔ HasKind kinds kind n
+
+-- whether a position is a back position is a test
+abbrev pub BackIsTold : Type 0
+BackIsTold = (defs : List Def) (pred : PredId) (i : ℕ) → (is_back defs pred i ≡ true) ↔ IsBackPosition defs pred i

@@ -2,4 +2,5 @@ pub mod Premises
 pub mod Lists
 pub mod Known
 pub mod Named
+pub mod Back
 pub mod Laws

@@ -1,5 +1,5 @@
 // What tests tell, and what ids name. Each law is what a function with no body ensures.
-ghost use Rattle.mc_premises.specs.Laws.{PicksAreNamed, FalseIsTold, EqualIsTold, AllEqualIsTold, KindIsTold};
+ghost use Rattle.mc_premises.specs.Laws.{PicksAreNamed, FalseIsTold, EqualIsTold, AllEqualIsTold, KindIsTold, BackIsTold};
 
 /// Edges are picked by ids exactly where the ids are distinct and name them, and all other edges are left.
 pub fn picks_are_named()
@@ -12,4 +12,9 @@ pub fn tests_tell()
     ensures equal { EqualIsTold }
     ensures all_equal { AllEqualIsTold }
     ensures kind { KindIsTold }
+{}
+
+/// Whether a position is a back position of a predicate is a test.
+pub fn back_is_told()
+    ensures { BackIsTold }
 {}

@@ -6,4 +6,4 @@
 
 mod laws;
 
-pub use laws::{picks_are_named, tests_tell};
+pub use laws::{back_is_told, picks_are_named, tests_tell};
