@@ -1,5 +1,5 @@
 -- Back positions as a test.
-use Rattle.std.proofs.Common.{◌≡◌, ◌<◌, ℕ, List, Bool, true, false, ◌&&◌, Option, Some, None, length, refl, ap, ◌∙◌, eqb-true, eq-eqb, arith}
+use Rattle.std.proofs.Common.{◌≡◌, ◌<◌, ℕ, List, Bool, true, false, ◌&&◌, Option, Some, None, length, refl, sym, ap, ◌∙◌, eqb-true, eq-eqb, arith}
 use Rattle.std.specs.Prelude.{◌==◌, nat_lt, slice_get, if◌then◌else◌}
 use Rattle.std.specs.List.{list_all, AllByRecursion}
 use Rattle.mc_base.specs.declared.ids.PredId.{PredId}
@@ -12,7 +12,7 @@ use Rattle.mc_premises.specs.Laws.{BackIsTold}
 use Rattle.mc_premises.proofs.Tests.{and_both, and_yes, each_from, each_to}
 
 -- a call has `this` there, if it is one of the predicate
-IsBackCall : PredId → ℕ → Call → Type 0
+abbrev IsBackCall : PredId → ℕ → Call → Type 0
 IsBackCall pred i call = call.pred ≡ pred → slice_get call.args i ≡ Some 0
 
 zero_there : (o : Option ℕ) → on_some (λ name. name == 0) o ≡ true → o ≡ Some 0
@@ -21,7 +21,7 @@ zero_there (Some name) e = ap (λ n. Some n) (eqb-true name 0 e)
 
 call_from : (pred : PredId) (i : ℕ) (call : Call) → is_back_call pred i call ≡ true → IsBackCall pred i call
 call_from pred i call e own =
-    zero_there (slice_get call.args i) (ap (λ b. if b then on_some (λ name. name == 0) (slice_get call.args i) else true) (eq-eqb call.pred.0 pred.0 (ap (λ (p : PredId). p.0) own)) ∙ e)
+    zero_there (slice_get call.args i) (sym (ap (λ b. if b then on_some (λ name. name == 0) (slice_get call.args i) else true) (eq-eqb call.pred.0 pred.0 (ap (λ (p : PredId). p.0) own))) ∙ e)
 
 call_to : (pred : PredId) (i : ℕ) (call : Call) → IsBackCall pred i call → is_back_call pred i call ≡ true
 call_to pred i call back = at (call.pred.0 == pred.0) refl
@@ -30,15 +30,21 @@ call_to pred i call back = at (call.pred.0 == pred.0) refl
     at true same = ap (on_some (λ name. name == 0)) (back (ap (λ n. record { 0 = n }) (eqb-true call.pred.0 pred.0 same)))
     at false same = refl
 
+lt_from : (a b : ℕ) → nat_lt a b ≡ true → a < b
+lt_from a b e = grind arith
+
+lt_to : (a b : ℕ) → a < b → nat_lt a b ≡ true
+lt_to a b h = grind arith
+
 module _ (pred : PredId) (i : ℕ) where
   def_from : (def : Def) → is_back_of pred i def ≡ true → (i < length def.params) × AllByRecursion (λ (rule : Rule). AllByRecursion (IsBackCall pred i) rule.calls) def.rules
   def_from def e =
       let both = and_both (nat_lt i (length def.params)) (list_all (λ (rule : Rule). list_all (is_back_call pred i) rule.calls) def.rules) e in
-      (omega both.0, each_from _ _ (λ (rule : Rule) own. each_from (is_back_call pred i) (IsBackCall pred i) (call_from pred i) rule.calls own) def.rules both.1)
+      (lt_from i (length def.params) both.0, each_from _ _ (λ (rule : Rule) own. each_from (is_back_call pred i) (IsBackCall pred i) (call_from pred i) rule.calls own) def.rules both.1)
 
   def_to : (def : Def) → i < length def.params → AllByRecursion (λ (rule : Rule). AllByRecursion (IsBackCall pred i) rule.calls) def.rules → is_back_of pred i def ≡ true
   def_to def inside all =
-      and_yes (nat_lt i (length def.params)) (list_all (λ (rule : Rule). list_all (is_back_call pred i) rule.calls) def.rules) (omega inside)
+      and_yes (nat_lt i (length def.params)) (list_all (λ (rule : Rule). list_all (is_back_call pred i) rule.calls) def.rules) (lt_to i (length def.params) inside)
         (each_to _ _ (λ (rule : Rule) own. each_to (is_back_call pred i) (IsBackCall pred i) (call_to pred i) rule.calls own) def.rules all)
 
   back_from : (defs : List Def) (o : Option Def) → slice_get defs pred.0 ≡ o → on_some (is_back_of pred i) o ≡ true → IsBackPosition defs pred i
