@@ -12,6 +12,7 @@ use Rattle.mc_base.specs.declared.plain.Kind.TheVariants.{Ptr}
 use Rattle.mc_base.specs.declared.plain.VarInfo.{VarInfo}
 use Rattle.mc_base.specs.Atoms.{nodes_of_atom}
 use Rattle.mc_defs.specs.declared.rules.Def.{Def}
+use Rattle.mc_defs.specs.declared.shapes.FieldInfo.{FieldInfo}
 use Rattle.mc_defs.specs.declared.shapes.StructInfo.{StructInfo}
 use Rattle.mc_graph.specs.declared.edge.Edge.{Edge}
 use Rattle.mc_graph.specs.declared.edge.Edge.TheVariants.{Block, Ind, Seg}
@@ -57,7 +58,7 @@ module _ (small big : Kinds) (more : (kind : Kind) (n : NodeId) → HasKind smal
   defs_more defs (Seg at args pred stop ends) f = (more Ptr at f.0, args_more defs pred args f.1, more Ptr stop f.2, args_more defs pred ends f.3)
 
   structs_more : (structs : List StructInfo) (e : Edge) → EdgeFitsStructs structs small e → EdgeFitsStructs structs big e
-  structs_more structs (Block at shape fields) f = (f.0, f.1, all_may_more _ fields f.2)
+  structs_more structs (Block at shape fields) f = (f.0, f.1, all_may_more (map (λ (field : FieldInfo). field.kind) f.0.fields) fields f.2)
   structs_more structs (Ind at pred args) f = tt
   structs_more structs (Seg at args pred stop ends) f = tt
 
@@ -77,7 +78,7 @@ module _ (kinds : Kinds) where
   may_nodes (k ∷ ks) (Some n ∷ ns) h = ((k, h.0), may_nodes ks ns h.1)
 
   edge_nodes : (defs : List Def) (structs : List StructInfo) (e : Edge) → EdgeFits defs structs kinds e → AreNodes kinds (nodes_of e)
-  edge_nodes defs structs (Block at shape fields) f = ((Ptr, f.0.0), may_nodes _ fields f.1.2)
+  edge_nodes defs structs (Block at shape fields) f = ((Ptr, f.0.0), may_nodes (map (λ (field : FieldInfo). field.kind) f.1.0.fields) fields f.1.2)
   edge_nodes defs structs (Ind at pred args) f = ((Ptr, f.0.0), have_nodes f.0.1.0.params args f.0.1.2)
   edge_nodes defs structs (Seg at args pred stop ends) f =
       ((Ptr, f.0.0), all_append (IsNode kinds) args (stop ∷ ends) (have_nodes f.0.1.0.params args f.0.1.2) ((Ptr, f.0.2), have_nodes f.0.3.0.params ends f.0.3.2))
@@ -111,7 +112,7 @@ nodes_kept stay have_kinds defs vars structs s kinds w =
       atoms = all_map (IsWellFormed s.kinds) (IsWellFormed big) (formed_more s.kinds big more) s.atoms w.atoms;
       fits_defs = all_map (λ (x : EdgeId × Edge). EdgeFitsDefs defs s.kinds x.1) (λ (x : EdgeId × Edge). EdgeFitsDefs defs big x.1) (λ x f. defs_more s.kinds big more defs x.1 f) s.graph.edges w.fits_defs;
       fits_program = record {
-        vars_fit = all_may_more s.kinds big more _ s.env w.fits_program.vars_fit;
+        vars_fit = all_may_more s.kinds big more (map (λ (x : VarInfo). x.kind) vars) s.env w.fits_program.vars_fit;
         blocks_fit = all_map (λ (x : EdgeId × Edge). EdgeFitsStructs structs s.kinds x.1) (λ (x : EdgeId × Edge). EdgeFitsStructs structs big x.1) (λ x f. structs_more s.kinds big more structs x.1 f) s.graph.edges w.fits_program.blocks_fit;
       };
     }

@@ -50,8 +50,8 @@ offset_fits Int add f = let lo = f.0 in let hi = f.1 in (omega (arith, ints), om
 offset_fits Ptr add f = subst IsOffset (sym f) small_offset
 
 bounds_fit : (lo hi : ℤ) → BoundsFit lo hi → IsBound lo × IsBound hi
-bounds_fit lo hi (inl b) = let low = b.0 in let high = b.1 in ((omega (arith, ints), omega (arith, ints)), (omega (arith, ints), omega (arith, ints)))
-bounds_fit lo hi (inr b) = let low = b.0 in let high = b.1 in ((omega (arith, ints), omega (arith, ints)), (omega (arith, ints), omega (arith, ints)))
+bounds_fit lo hi (inl b) = let low = b.0 in let least = b.1.0 in let most = b.1.1 in ((omega (arith, ints), omega (arith, ints)), (omega (arith, ints), omega (arith, ints)))
+bounds_fit lo hi (inr b) = let least = b.0.0 in let most = b.0.1 in let high = b.1 in ((omega (arith, ints), omega (arith, ints)), (omega (arith, ints), omega (arith, ints)))
 
 known_grows : (known : ℕ) (a : DefAtom) → known ≤ known_after known a
 known_grows known (Eq left base add true) = omega arith
@@ -60,7 +60,7 @@ known_grows known (Ne left base add) = omega arith
 known_grows known (In left lo hi) = omega arith
 
 names_enough : (names : List Kind) (known : ℕ) (atoms : List DefAtom) → AtomsFit names known atoms → known ≤ length names
-names_enough names known [] f = omega arith
+names_enough names known [] f = let all : known ≡ length names = f in omega arith
 names_enough names known (a ∷ atoms) f =
     let rest = names_enough names (known_after known a) atoms f.1 in
     let more = known_grows known a in
