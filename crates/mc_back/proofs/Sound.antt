@@ -134,8 +134,8 @@ module _ (laws : BackLaws) (defs : List Def) (s : State) (bounded : IsBounded s)
   less : IsBounded rest
   less = laws.fewer_bounded s (edge ∷ []) (Seg at args pred stop ends ∷ []) (without s.graph.edges edge) picked bounded
 
-  abbrev next : List State
-  next = back_successors s edge at args pred stop ends def.rules
+  abbrev successors : List State
+  successors = back_successors s edge at args pred stop ends def.rules
 
   abbrev opened : Rule → List State
   opened rule = map (unfolded_back s edge at args pred stop ends rule) (own_places pred 0 rule.calls)
@@ -214,7 +214,7 @@ module _ (laws : BackLaws) (defs : List Def) (s : State) (bounded : IsBounded s)
           all_append (IsTrueAtom w) (map (atom_of ns) by.rule.atoms) (call_is_end ns stop ends (slice_get by.rule.calls place)) own
           (subst (λ o. AllByRecursion (IsTrueAtom w) (call_is_end ns stop ends o)) (sym ending.2) met)
 
-      body_stands : StandsForSome defs s.next v values region next
+      body_stands : StandsForSome defs s.next v values region successors
       body_stands =
           let same : by.def ≡ def = cc (by.defined, defined) in
           let listed = laws.listed pred by.rule.calls place ending.0 ending.2 ending.3.0 in
@@ -230,7 +230,7 @@ module _ (laws : BackLaws) (defs : List Def) (s : State) (bounded : IsBounded s)
             laws.atoms defs w values region (with_edges (with_nodes rest by.rule.names) (body_behind at args pred ns by.rule place)) (atoms_behind ns stop ends by.rule place) atoms_true full,
           )
 
-  back_sound : IsSound defs s next
+  back_sound : IsSound defs s successors
   back_sound v values region addresses st =
       let taken = laws.taken defs v values region s (edge ∷ []) (Seg at args pred stop ends ∷ []) (without s.graph.edges edge) picked st in
       let seg : meaning.Seg defs pred (v at.0) (map (at_node v) args) (v stop.0) (map (at_node v) ends) taken.0 = alone laws (EdgeMeets defs v) (Seg at args pred stop ends) taken.0 taken.3 in
@@ -290,7 +290,7 @@ module _ (laws : BackLaws) (defs : List Def) (s : State) (bounded : IsBounded s)
   any_place [] = tt
   any_place (place ∷ places) = (tt, any_place places)
 
-  back_bounded : AllByRecursion IsBounded next
+  back_bounded : AllByRecursion IsBounded successors
   back_bounded = (
     laws.atoms_bounded rest (equal_atoms (at ∷ args) (stop ∷ ends)) less (laws.equal_there s.kinds (at ∷ args) (stop ∷ ends) start_there end_there),
     all_pieces IsBounded opened def.rules (λ i rule e. all_images IsBounded (λ (place : ℕ). Unit {0}) (unfolded_back s edge at args pred stop ends rule) (λ place t. unfolded_bounded rule place) (own_places pred 0 rule.calls) (any_place (own_places pred 0 rule.calls))),
