@@ -1,8 +1,13 @@
 pub mod Determined
 pub mod ExampleStates
+pub mod FirstUnmet
+pub mod Judging
+pub mod Keeping
 pub mod Lists
+pub mod MadeWell
 pub mod Names
 pub mod Openings
 pub mod Places
+pub mod RulesMade
 pub mod Unfolds
 pub mod WrongSegments

@@ -83,7 +83,7 @@ unfold_ind laws defs accessed edge s next bounded i =
 
 -- ---- a Seg
 
-equal_true : (v : Valuation) (as' bs : List NodeId) → map (at_node v) as' ≡ map (at_node v) bs → AllByRecursion (IsTrueAtom v) (equal_atoms as' bs)
+pub equal_true : (v : Valuation) (as' bs : List NodeId) → map (at_node v) as' ≡ map (at_node v) bs → AllByRecursion (IsTrueAtom v) (equal_atoms as' bs)
 equal_true v [] bs e = tt
 equal_true v (a ∷ as') [] e = tt
 equal_true v (a ∷ as') (b ∷ bs) e =
@@ -91,7 +91,7 @@ equal_true v (a ∷ as') (b ∷ bs) e =
     let rest : map (at_node v) as' ≡ map (at_node v) bs = cc in
     (omega (arith, ints), equal_true v as' bs rest)
 
-equal_there : (kinds : Kinds) (as' bs : List NodeId) → AreNodes kinds as' → AreNodes kinds bs → AllByRecursion (λ a. AreNodes kinds (nodes_of_atom a)) (equal_atoms as' bs)
+pub equal_there : (kinds : Kinds) (as' bs : List NodeId) → AreNodes kinds as' → AreNodes kinds bs → AllByRecursion (λ a. AreNodes kinds (nodes_of_atom a)) (equal_atoms as' bs)
 equal_there kinds [] bs a b = tt
 equal_there kinds (x ∷ as') [] a b = tt
 equal_there kinds (x ∷ as') (y ∷ bs) a b = ((a.0, (b.0, tt)), equal_there kinds as' bs a.1 b.1)

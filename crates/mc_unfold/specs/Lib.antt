@@ -1,4 +1,9 @@
 pub mod Examples
+pub mod JudgedLaws
+pub mod Judges
 pub mod Laws
+pub mod PremiseExamples
+pub mod RuleLaws
 pub mod Unfolded
+pub mod WellMade
 pub mod WrongRules

@@ -1,13 +1,16 @@
 // States that meet the premises of the laws, and rules for which the laws fail.
-ghost use Rattle.std.specs.Prelude.{Some, [], ◌∷◌};
+ghost use Rattle.std.specs.Prelude.{◌≡◌, Some, None, Err, [], ◌∷◌};
 ghost use Rattle.mc_heap.specs.Heap.{IsAtAddresses};
 ghost use Rattle.mc_defs.specs.Examples.{defs, blocks, two_cells, first_cell};
+ghost use Rattle.mc_premises.specs.Known.{Test, Tells};
 ghost use Rattle.mc_pure.specs.Examples.{node};
 ghost use Rattle.mc_state.specs.CoverExamples.{at_seven};
 ghost use Rattle.mc_state.specs.Fits.{IsBounded};
 ghost use Rattle.mc_state.specs.Stands.{StandsBy};
 ghost use Rattle.mc_unfold.specs.Unfolded.{UnfoldsInd, UnfoldsSeg};
 ghost use Rattle.mc_unfold.specs.Examples.{edge, one_list, no_cell, cell_then_list, one_segment, no_segment, cell_then_segment, first_two};
+ghost use Rattle.mc_unfold.specs.Judges.{unfolding_ind, unfolding_seg};
+ghost use Rattle.mc_unfold.specs.PremiseExamples.{false_list, false_segment};
 ghost use Rattle.mc_unfold.specs.WrongRules.{IsSoundRule, NeverEmpty, FirstCallOnly};
 
 use mc_defs::{example_predicates, example_premises, example_segments, predicates_are_bodies};
@@ -50,6 +53,23 @@ pub fn wrong_segments()
     predicates_are_bodies();
     example_segments();
     example_premises();
+    body_premises();
+    derived_is_true();
+}
+
+/// Of a false state premise 2 is unmet; of an edge that is not there, or is of another form, premise 3;
+/// of an edge that starts neither at null nor at the accessed node premise 4.
+pub fn first_unmet()
+    ensures ind_false { (know : Test) → Tells know false_list → unfolding_ind know defs (Some (node 1)) (edge 0) false_list ≡ Err 2 }
+    ensures ind_absent { (know : Test) → Tells know one_list → unfolding_ind know defs (Some (node 1)) (edge 1) one_list ≡ Err 3 }
+    ensures ind_of_seg { (know : Test) → Tells know one_segment → unfolding_ind know defs (Some (node 1)) (edge 0) one_segment ≡ Err 3 }
+    ensures ind_not_accessed { (know : Test) → Tells know one_list → unfolding_ind know defs None (edge 0) one_list ≡ Err 4 }
+    ensures seg_false { (know : Test) → Tells know false_segment → unfolding_seg know defs (Some (node 1)) (edge 0) false_segment ≡ Err 2 }
+    ensures seg_of_ind { (know : Test) → Tells know one_list → unfolding_seg know defs (Some (node 1)) (edge 0) one_list ≡ Err 3 }
+    ensures seg_elsewhere { (know : Test) → Tells know one_segment → unfolding_seg know defs (Some (node 2)) (edge 0) one_segment ≡ Err 4 }
+{
+    example_of_ind();
+    example_of_seg();
     body_premises();
     derived_is_true();
 }

@@ -1,0 +1,6 @@
+pub mod Ends
+pub mod ExampleStates
+pub mod Judging
+pub mod Lists
+pub mod MadeWell
+pub mod Sound
