@@ -1,5 +1,5 @@
 -- Naming, merging, dropping and forgetting are judged by their instances.
-use Rattle.std.proofs.Common.{◌≡◌, ◌⊎◌, inl, inr, ℕ, zero, suc, ℤ, ◌-ℤ◌, pos, List, [], ◌∷◌, ◌&&◌, ◌||◌, not, Bool, true, false, Contains, slice_get, Option, Some, None, is_some, refl, sym, ◌∙◌, ap, eqb-true, eq-eqb}
+use Rattle.std.proofs.Common.{◌≡◌, ◌⊎◌, inl, inr, ℕ, zero, suc, ℤ, ◌-ℤ◌, pos, List, [], ◌∷◌, ◌&&◌, ◌||◌, not, Bool, true, false, Contains, slice_get, Option, Some, None, is_some, refl, sym, ◌∙◌, ap, subst, eqb-true, eq-eqb}
 use Rattle.std.specs.Prelude.{◌==◌, Ok, if◌then◌else◌}
 use Rattle.std.specs.List.{AllByRecursion, list_all, list_any}
 use Rattle.mc_base.specs.declared.ids.EdgeId.{EdgeId}
@@ -89,8 +89,8 @@ one_kind_by kinds a b Ptr p q =
 -- ---- naming
 
 module _ (know : Test) (node : NodeId) (add : ℤ) (kind : Kind) (s : State) (tells : Tells know s) where
-  lies : Atom
-  lies = In node (low_of kind -ℤ add) (high_of kind -ℤ add)
+  abbrev range : Atom
+  range = In node (low_of kind -ℤ add) (high_of kind -ℤ add)
 
   spare_from : (next : List State) → naming_spare know node add kind s ≡ Ok next → NamesSpare node add kind s next
   spare_from next e =
@@ -102,7 +102,7 @@ module _ (know : Test) (node : NodeId) (add : ℤ) (kind : Kind) (s : State) (te
       record {
         consistent = not_false know s tells two.0;
         there = there_from s.kinds node three.0;
-        lies = (tells lies).0 both.0;
+        lies = (tells range).0 both.0;
         one_kind = has_kind_from s.kinds kind node both.1;
         gives = sym is;
       }
@@ -112,7 +112,7 @@ module _ (know : Test) (node : NodeId) (add : ℤ) (kind : Kind) (s : State) (te
       let consistent : not (is_false know) ≡ true = is_sound know s tells i.consistent in
       let there : is_there s.kinds node ≡ true = there_to s.kinds node i.there in
       let fits : (lies_in know kind node add && has_kind s.kinds kind node) ≡ true =
-      and_yes (lies_in know kind node add) (has_kind s.kinds kind node) ((tells lies).1 i.lies) (has_kind_to s.kinds kind node i.one_kind) in
+      and_yes (lies_in know kind node add) (has_kind s.kinds kind node) ((tells range).1 i.lies) (has_kind_to s.kinds kind node i.one_kind) in
       let gives : ◌≡◌ {A = Judged (List State)} (Ok (with_atoms (with_nodes s (kind ∷ [])) (Eq (next_node s) node add ∷ []) ∷ [])) (Ok next) = ap (λ n. Ok n) (sym i.gives) in
       rw consistent (rw there (rw fits gives))
 
@@ -160,7 +160,7 @@ module _ (know : Test) (keep gone : NodeId) (s : State) (tells : Tells know s) w
 -- ---- dropping
 
 module _ (know : Test) (edge : EdgeId) (s : State) (tells : Tells know s) where
-  after_drop : State
+  abbrev after_drop : State
   after_drop = record (with_only_edges s (without s.graph.edges edge)) { whole = false }
 
   drop_from : IsBounded s → (next : List State) → dropping_edge know edge s ≡ Ok next → DropsEdge edge s next
@@ -194,9 +194,7 @@ listed_from : (n : NodeId) (ns : List NodeId) → is_listed n ns ≡ true → Am
 listed_from n ns e =
     let m = any_from (λ m. m.0 == n.0) ns e in
     let same : m.0 ≡ n = same_from m.0 n m.2 in
-    moved m.0 same m.1 where
-      moved : (k : NodeId) → k ≡ n → Among k ns → Among n ns
-      moved k same a = rw (sym same) a
+    subst (λ k. Among k ns) same m.1
 
 unlisted_from : (n : NodeId) (ns : List NodeId) → not (is_listed n ns) ≡ true → Among n ns → ⊥
 unlisted_from n ns e a = let wrong : not true ≡ true = ap not (sym (listed_to n ns a)) ∙ e in cc wrong

@@ -31,7 +31,7 @@ use Rattle.mc_fold.proofs.Ordered.{among_none}
 
 -- what follows names nodes that are there
 module _ (p : Pure) (bases : (f : Atom) → Base p f → AreNodes p.kinds (nodes_of_atom f)) where
-  named : (f : Atom) → Follows p f → AreNodes p.kinds (nodes_of_atom f)
+  pub named : (f : Atom) → Follows p f → AreNodes p.kinds (nodes_of_atom f)
   named f (base b) = bases f b
   named _ (itself n) = (n, (n, tt))
   named _ (turned h) = let t = named _ h in (t.1.0, (t.0, tt))

@@ -244,7 +244,7 @@ module _ {Open : Type 0} (know : Test) (defs : List Def) (pred : PredId) (rule :
       (n.left_is, first_of_parts names m.this m.args m.others m.front, args_of_parts (length m.def.params) names m.this m.args m.others m.front m.count)
 
 module _ (know : Test) (defs : List Def) (pred : PredId) (rule : ℕ) (names : List NodeId) (block : Option EdgeId) (ids : List EdgeId) (s : State) (tells : Tells know s) where
-  ind_of_match : Def × Unit {0} → List State
+  abbrev ind_of_match : Def × Unit {0} → List State
   ind_of_match m = with_fold s (named_ids block ids) (Ind (node_of names 0) pred (arguments m.0 names)) ∷ []
 
   ind_from : (next : List State) → folding_ind know defs pred rule names block ids s ≡ Ok next → FoldsInd defs pred rule names block ids s next
@@ -290,14 +290,14 @@ own_to pred o call e is =
     ap (own_call pred) e ∙ ap (λ b. if b then Some call else None) test
 
 module _ (know : Test) (defs : List Def) (pred : PredId) (rule : ℕ) (names : List NodeId) (block : EdgeId) (ids : List EdgeId) (call : ℕ) (s : State) (tells : Tells know s) where
-  seg_of_match : Def × Call → List State
+  abbrev seg_of_match : Def × Call → List State
   seg_of_match m =
       with_fold s (named_ids (Some block) ids) (Seg (node_of names 0) (arguments m.0 names) pred (node_of names m.1.at) (map (node_of names) m.1.args)) ∷ []
 
-  open_of : Rule → Option Call
+  abbrev open_of : Rule → Option Call
   open_of by = own_call pred (slice_get by.calls call)
 
-  other_calls : Rule → List Call
+  abbrev other_calls : Rule → List Call
   other_calls by = remove by.calls call
 
   seg_from : (next : List State) → folding_seg know defs pred rule names block ids call s ≡ Ok next → FoldsSeg defs pred rule names block ids call s next

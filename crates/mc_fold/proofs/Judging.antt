@@ -1,5 +1,5 @@
 -- Segments and goals are judged by their instances.
-use Rattle.std.proofs.Common.{◌≡◌, ℕ, List, [], ◌∷◌, Bool, true, false, Option, Some, None, refl, ap, sym, ◌∙◌, eqb-true, eq-eqb}
+use Rattle.std.proofs.Common.{◌≡◌, ℕ, List, [], ◌∷◌, Bool, true, false, Option, Some, None, refl, ap, sym, subst, ◌∙◌, eqb-true, eq-eqb}
 use Rattle.std.specs.Prelude.{◌==◌, ◌&&◌, not, Ok, slice_get, if◌then◌else◌}
 use Rattle.mc_base.specs.declared.ids.EdgeId.{EdgeId}
 use Rattle.mc_base.specs.declared.ids.NodeId.{NodeId}
@@ -200,7 +200,7 @@ module _ (know : Test) (defs : List Def) (pred : PredId) (at : NodeId) (args : L
       let def : Def = i.args_are.0 in
       let defined : slice_get defs pred.0 ≡ Some def = i.args_are.1 in
       let one : def ≡ i.ends_are.0 = cc (defined, i.ends_are.1) in
-      let ends_are : HaveKinds s.kinds def.params ends = rw one i.ends_are.2 in
+      let ends_are : HaveKinds s.kinds def.params ends = subst (λ (d : Def). HaveKinds s.kinds d.params ends) (sym one) i.ends_are.2 in
       let first : (has_kind s.kinds Ptr at && all_both (has_kind s.kinds) def.params args) ≡ true =
       and_yes (has_kind s.kinds Ptr at) (all_both (has_kind s.kinds) def.params args) (has_kind_to s.kinds Ptr at i.at_is) (kinds_to s.kinds def.params args i.args_are.2) in
       let last : (has_kind s.kinds Ptr stop && all_both (has_kind s.kinds) def.params ends) ≡ true =

@@ -2,13 +2,15 @@ pub mod ChangeJudging
 pub mod Determined
 pub mod ExampleFolds
 pub mod ExampleForgets
+pub mod ExampleGap
 pub mod ExampleNames
 pub mod ExampleRules
+pub mod ExampleWritten
 pub mod FoldJudging
 pub mod Judging
 pub mod KindsAgree
 pub mod Lists
-pub mod Made
+pub mod MadeEdges
 pub mod MadeForgotten
 pub mod MadeNodes
 pub mod Matching
@@ -18,6 +20,7 @@ pub mod Naming
 pub mod Ordered
 pub mod Parts
 pub mod Reaching
+pub mod Refusing
 pub mod Segments
 pub mod SmallHeaps
 pub mod Standing

@@ -69,17 +69,21 @@ module _ (q : Pure) (consistent : IsFalse q → ⊥) where
   not_empty : (n : NodeId) (lo hi : ℤ) → Follows q (In n lo hi) → lo ≤ℤ hi
   not_empty n lo hi h = not_below lo hi (λ less. consistent (pure.empty less h))
 
+  -- a range is least where none is shorter
+  is_least : (size : ℕ) (n : NodeId) (lo hi : ℤ) → AtMost lo hi (suc size) → Follows q (In n lo hi) → ((m k : ℤ) → AtMost m k size → Follows q (In n m k) → ⊥) → HasRange q n lo hi
+  is_least size n lo hi short h none =
+      record {
+        follows = h;
+        least = λ m k g. (
+          not_below m lo (λ less. none (int_max lo m) (int_min hi k) (omega (arith, ints, clamps)) (pure.met h g)),
+          not_below hi k (λ less. none (int_max lo m) (int_min hi k) (omega (arith, ints, clamps)) (pure.met h g)),
+        );
+      }
+
   -- there is a least range: none that is not least can be the last
   least_range : (size : ℕ) (n : NodeId) (lo hi : ℤ) → AtMost lo hi size → Follows q (In n lo hi) → ((m k : ℤ) → HasRange q n m k → ⊥) → ⊥
   least_range zero n lo hi short h none = let some = not_empty n lo hi h in omega (arith, ints)
-  least_range (suc size) n lo hi short h none =
-      none lo hi (record { follows = h; least = λ m k g. (low m k g, high m k g) })
-    where
-      low : (m k : ℤ) → Follows q (In n m k) → m ≤ℤ lo
-      low m k g = not_below m lo (λ less. least_range size n (int_max lo m) (int_min hi k) (omega (arith, ints, clamps)) (pure.met h g) none)
-
-      high : (m k : ℤ) → Follows q (In n m k) → hi ≤ℤ k
-      high m k g = not_below hi k (λ less. least_range size n (int_max lo m) (int_min hi k) (omega (arith, ints, clamps)) (pure.met h g) none)
+  least_range (suc size) n lo hi short h none = none lo hi (is_least size n lo hi short h (λ m k s g. least_range size n m k s g none))
 
   some_range : (n : NodeId) (lo hi : ℤ) → Follows q (In n lo hi) → ((m k : ℤ) → HasRange q n m k → ⊥) → ⊥
   some_range n lo hi h none = let size = length_of lo hi in least_range size.0 n lo hi size.1 h none
@@ -113,48 +117,38 @@ module _ (q : Pure) (consistent : IsFalse q → ⊥) where
         at true is = null_plain n lo hi (ap (λ (k : ℕ). record { 0 = k }) (eqb-true n.0 0 is)) r
         at false is =
             let not_null : n ≡ null → ⊥ = λ same. differs_test is same in
-            by_lt_z (low_of kind) lo (λ less. written not_null (inl less)) (
-              λ low. by_lt_z hi (high_of kind) (λ less. written not_null (inr less)) (λ high. pure.widened (in_kind plain n kind (inr e)) low high),
-            ) where
+            by_lt_z (low_of kind) lo (λ less. written not_null (inl less))
+            (λ low. by_lt_z hi (high_of kind) (λ less. written not_null (inr less)) (λ high. pure.widened (in_kind plain n kind (inr e)) low high)) where
               differs_test : (n.0 == 0) ≡ false → n ≡ null → ⊥
               differs_test is same = let wrong : (n.0 == 0) ≡ true = eq-eqb n.0 0 (ap (λ (m : NodeId). m.0) same) in cc (wrong, is)
 
     -- what ranges part, the listed ranges part
     not_parted : (a b : NodeId) (i j : Kind) (c : ℤ) → HasKind q.kinds i a → HasKind q.kinds j b → (Follows plain (Ne a b c) → ⊥) → Parted q a b c → ⊥
     not_parted a b i j c has_a has_b none r =
-        some_range a r.lo r.hi r.left (
-          λ l h x. some_range b r.m r.k r.right (
-            λ m k y.
-                let left = x.least r.lo r.hi r.left in
-                let right = y.least r.m r.k r.right in
-                let left_low = left.0 in
-                let left_high = left.1 in
-                let right_low = right.0 in
-                let right_high = right.1 in
-                none (
-                  pure.disjoint (in_plain a i l h has_a x) (in_plain b j m k has_b y) (
-                    elim r.apart [
-                      | inl less ↦ inl (omega (arith, ints))
-                      | inr less ↦ inr (omega (arith, ints))
-                    ],
-                  ),
-                ),
-          ),
-        )
+        some_range a r.lo r.hi r.left (λ l h x. some_range b r.m r.k r.right (λ m k y. none (parts l h m k x y)))
+      where
+        parts : (l h m k : ℤ) → HasRange q a l h → HasRange q b m k → Follows plain (Ne a b c)
+        parts l h m k x y =
+            let left = x.least r.lo r.hi r.left in
+            let right = y.least r.m r.k r.right in
+            let left_low = left.0 in
+            let left_high = left.1 in
+            let right_low = right.0 in
+            let right_high = right.1 in
+            let apart : (h <ℤ (m +ℤ c)) ⊎ ((k +ℤ c) <ℤ l) = elim r.apart [
+              | inl less ↦ inl (omega (arith, ints))
+              | inr less ↦ inr (omega (arith, ints))
+            ] in
+            pure.disjoint (in_plain a i l h has_a x) (in_plain b j m k has_b y) apart
 
     -- so the number of a disequality that does not follow from them is an offset
     difference_offset : (a b : NodeId) (i j : Kind) (c : ℤ) → HasKind q.kinds i a → HasKind q.kinds j b → (Follows plain (Ne a b c) → ⊥) → IsOffset c
     difference_offset a b i j c has_a has_b none =
         let left = in_kind q a i has_a in
         let right = in_kind q b j has_b in
-        offset_between i j c (
-          not_below (low_of j +ℤ c) (high_of i) (
-            λ less. not_parted a b i j c has_a has_b none (record { lo = low_of i; hi = high_of i; m = low_of j; k = high_of j; left = left; right = right; apart = inl less }),
-          ),
-          not_below (low_of i) (high_of j +ℤ c) (
-            λ less. not_parted a b i j c has_a has_b none (record { lo = low_of i; hi = high_of i; m = low_of j; k = high_of j; left = left; right = right; apart = inr less }),
-          ),
-        )
+        let never : (high_of i <ℤ (low_of j +ℤ c)) ⊎ ((high_of j +ℤ c) <ℤ low_of i) → ⊥ =
+        λ apart. not_parted a b i j c has_a has_b none (record { lo = low_of i; hi = high_of i; m = low_of j; k = high_of j; left = left; right = right; apart = apart }) in
+        offset_between i j c (not_below (low_of j +ℤ c) (high_of i) (λ less. never (inl less)), not_below (low_of i) (high_of j +ℤ c) (λ less. never (inr less)))
 
 -- ---- the atoms that are written
 
@@ -275,10 +269,8 @@ module _ (defs : List Def) (vars : List VarInfo) (structs : List StructInfo) (no
         let zero_is = least_number j x.1 (number_after j (unnamed (Ne i j c) x.3 j (inr (inl refl))) num) in
         (x.0.0.0, x.0.0.1, inl zero_is)
     difference_kind i j c x (inr (inr (inr r))) =
-        absurd (
-          not_parted after sound ranges equalities listed i j x.0.0.0 x.1.0.0 c x.0.0.1 x.1.0.1 x.4
-          (parted_after i j c (unnamed (Ne i j c) x.3 i (inl refl)) (unnamed (Ne i j c) x.3 j (inr (inl refl))) r),
-        )
+        let parted = parted_after i j c (unnamed (Ne i j c) x.3 i (inl refl)) (unnamed (Ne i j c) x.3 j (inr (inl refl))) r in
+        absurd (not_parted after sound ranges equalities listed i j x.0.0.0 x.1.0.0 c x.0.0.1 x.1.0.1 x.4 parted)
 
     difference_well : (a : Atom) → IsDifference after (plainly after (ranges ++ equalities)) a → IsWellFormed t.kinds a
     difference_well (Eq a b c) x = absurd x

@@ -80,7 +80,7 @@ module _ (kinds others : Kinds) (more : (kind : Kind) (n : NodeId) → HasKind k
   well_more (Ne a b c) w = ((w.0.0, more w.0.0 a w.0.1, more w.0.0 b w.0.2), w.1)
   well_more (In a lo hi) w = ((w.0.0, more w.0.0 a w.0.1), w.1, w.2)
 
-  any_node : NodeId → Type 0
+  abbrev any_node : NodeId → Type 0
   any_node n = Unit {0}
 
   any_more : (kind : Kind) (n : NodeId) → any_node n → HasKind kinds kind n → HasKind others kind n

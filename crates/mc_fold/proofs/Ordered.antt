@@ -21,7 +21,7 @@ module _ {X : Type 0} where
   pub among_there : (x : X) (xs : List X) (y : X) → Contains xs y → Contains (x ∷ xs) y
   among_there x xs y c = let less = c.1 in (suc c.0, omega arith, c.2)
 
-  pub among_none : (y : X) → Contains {X} [] y → ⊥
+  pub among_none : (y : X) → Contains {X = X} [] y → ⊥
   among_none y c = let less = c.1 in omega arith
 
 -- ---- the order of atoms
@@ -110,11 +110,11 @@ one_list [] (y ∷ ys) o p to back = absurd (among_none y (back y (among_here y 
 one_list (x ∷ xs) [] o p to back = absurd (among_none x (to x (among_here x xs)))
 one_list (x ∷ xs) (y ∷ ys) o p to back =
     let same : x ≡ y = first_same x y xs ys o p (to x (among_here x xs)) (back y (among_here y ys)) in
-    ap₂ (λ z zs. z ∷ zs) same (
-      one_list xs ys (order_rest x xs o) (order_rest y ys p)
-      (λ z c. rest_same x y xs ys same o z c (to z (among_there x xs z c)))
-      (λ z d. rest_same y x ys xs (sym same) p z d (back z (among_there y ys z d))),
-    )
+    let rest =
+    one_list xs ys (order_rest x xs o) (order_rest y ys p)
+    (λ z c. rest_same x y xs ys same o z c (to z (among_there x xs z c)))
+    (λ z d. rest_same y x ys xs (sym same) p z d (back z (among_there y ys z d))) in
+    ap₂ (λ z zs. z ∷ zs) same rest
 
 -- two lists of what two properties say are one, where the properties say the same
 pub same_listed : (P Q : Atom → Type 0) → ((f : Atom) → P f → Q f) → ((f : Atom) → Q f → P f) → (xs ys : List Atom) → AreListed P xs → AreListed Q ys → xs ≡ ys

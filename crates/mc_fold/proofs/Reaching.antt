@@ -75,11 +75,11 @@ module _ {X : Type 0} where
   module _ (test : X → Bool) where
     pub any_from : (xs : List X) → list_any test xs ≡ true → (x : X) × Among x xs × (test x ≡ true)
     any_from [] e = absurd (cc e)
-    any_from (y ∷ ys) e = at (test y) refl e
+    any_from (y ∷ ys) e = at (test y) refl (any_from ys) e
       where
-        at : (b : Bool) → test y ≡ b → (b || list_any test ys) ≡ true → (x : X) × Among x (y ∷ ys) × (test x ≡ true)
-        at true is e = (y, inl refl, is)
-        at false is e = let rest = any_from ys e in (rest.0, inr rest.1, rest.2)
+        at : (b : Bool) → test y ≡ b → (list_any test ys ≡ true → (x : X) × Among x ys × (test x ≡ true)) → (b || list_any test ys) ≡ true → (x : X) × Among x (y ∷ ys) × (test x ≡ true)
+        at true is rest e = (y, inl refl, is)
+        at false is rest e = let found = rest e in (found.0, inr found.1, found.2)
 
     pub any_to : (xs : List X) (x : X) → Among x xs → test x ≡ true → list_any test xs ≡ true
     any_to [] x a e = absurd a
@@ -173,43 +173,44 @@ module _ (know : Test) where
   abbrev IsClosed : Edges → List NodeId → Type 0
   IsClosed es ns = (e : EdgeId × Edge) → Among e es → starts_at know ns e ≡ true → (n : NodeId) → Among n (nodes_of e.1) → Among n ns
 
+  module _ (rounds : ℕ) (es : Edges) (ns : List NodeId) (less : length es ≤ suc rounds) (next : length (idle ns es) ≤ rounds → IsClosed (idle ns es) (reached_in know rounds (idle ns es) (ns ++ theirs (live ns es)))) where
+    -- where no edge starts at one of the nodes
+    none_live : live ns es ≡ [] → (x : EdgeId × Edge) → Among x es → starts_at know ns x ≡ false
+    none_live is x c = test (starts_at know ns x) refl
+      where
+        test : (t : Bool) → starts_at know ns x ≡ t → t ≡ false
+        test false e = refl
+        test true e = let wrong : Among x [] = subst (Among x) is (filtered_to (starts_at know ns) es x c e) in absurd wrong
+
+    -- where some edge does
+    fewer : (x : EdgeId × Edge) (xs : Edges) → live ns es ≡ x ∷ xs → length (idle ns es) ≤ rounds
+    fewer x xs is =
+        let all = counts (starts_at know ns) es in
+        let some : length (live ns es) ≡ suc (length xs) = ap length is in
+        omega arith
+
+    one_more : (e : EdgeId × Edge) → Among e es → starts_at know (reached_in know (suc rounds) es ns) e ≡ true → (n : NodeId) → Among n (nodes_of e.1) → length (idle ns es) ≤ rounds → (t : Bool) → starts_at know ns e ≡ t → Among n (reached_in know (suc rounds) es ns)
+    one_more e a starts n b short true is =
+        grows rounds (idle ns es) (ns ++ theirs (live ns es)) n (among_right ns (theirs (live ns es)) n (flat_to (λ (x : EdgeId × Edge). nodes_of x.1) (live ns es) e n (filtered_to (starts_at know ns) es e a is) b))
+    one_more e a starts n b short false is = next short e (filtered_to (λ x. not (starts_at know ns x)) es e a (ap not is)) starts n b
+
+    closes_more : IsClosed es (reached_in know (suc rounds) es ns)
+    closes_more e a starts n b = at (live ns es) refl
+      where
+        at : (l : Edges) → live ns es ≡ l → Among n (reached_in know (suc rounds) es ns)
+        at [] is =
+            let same : reached_in know (suc rounds) es ns ≡ ns = settled (suc rounds) es ns (none_live is) in
+            let wrong : starts_at know ns e ≡ true = subst (λ ms. starts_at know ms e ≡ true) same starts in
+            absurd (cc (wrong, none_live is e a))
+        at (x ∷ xs) is = one_more e a starts n b (fewer x xs is) (starts_at know ns e) refl
+
   -- with as many rounds as edges, that is so
   closes : (rounds : ℕ) (es : Edges) (ns : List NodeId) → length es ≤ rounds → IsClosed es (reached_in know rounds es ns)
   closes zero [] ns less e a starts n b = absurd a
   closes zero (x ∷ es) ns less e a starts n b = absurd (too_many less) where
     too_many : length (x ∷ es) ≤ 0 → ⊥
     too_many less = omega arith
-  closes (suc rounds) es ns less e a starts n b = at (live ns es) refl
-    where
-      after : List NodeId
-      after = reached_in know (suc rounds) es ns
-
-      -- no edge starts there
-      idle_all : live ns es ≡ [] → (x : EdgeId × Edge) → Among x es → starts_at know ns x ≡ false
-      idle_all is x c = test (starts_at know ns x) refl
-        where
-          test : (t : Bool) → starts_at know ns x ≡ t → t ≡ false
-          test false e = refl
-          test true e = let wrong : Among x [] = subst (Among x) is (filtered_to (starts_at know ns) es x c e) in absurd wrong
-
-      -- some edge does
-      fewer : (x : EdgeId × Edge) (xs : Edges) → live ns es ≡ x ∷ xs → length (idle ns es) ≤ rounds
-      fewer x xs is =
-          let all = counts (starts_at know ns) es in
-          let some : length (live ns es) ≡ suc (length xs) = ap length is in
-          omega arith
-
-      further : (l : ℕ) → length (idle ns es) ≤ rounds → (t : Bool) → starts_at know ns e ≡ t → Among n after
-      further l less true is = grows rounds (idle ns es) (ns ++ theirs (live ns es)) n (among_right ns (theirs (live ns es)) n (flat_to (λ (x : EdgeId × Edge). nodes_of x.1) (live ns es) e n (filtered_to (starts_at know ns) es e a is) b))
-      further l less false is =
-          closes rounds (idle ns es) (ns ++ theirs (live ns es)) less e (filtered_to (λ x. not (starts_at know ns x)) es e a (ap not is)) starts n b
-
-      at : (l : Edges) → live ns es ≡ l → Among n after
-      at [] is =
-          let same : after ≡ ns = settled (suc rounds) es ns (idle_all is) in
-          let wrong : starts_at know ns e ≡ true = subst (λ ms. starts_at know ms e ≡ true) same starts in
-          absurd (cc (wrong, idle_all is e a))
-      at (x ∷ xs) is = further 0 (fewer x xs is) (starts_at know ns e) refl
+  closes (suc rounds) es ns less e a starts n b = closes_more rounds es ns less (closes rounds (idle ns es) (ns ++ theirs (live ns es))) e a starts n b
 
   module _ (s : State) (tells : Tells know s) where
     -- what is listed is reached

@@ -1,4 +1,4 @@
-use Rattle.mc_fold.proofs.Made.{fold_ind_made, fold_seg_made}
+use Rattle.mc_fold.proofs.MadeEdges.{fold_ind_made, fold_seg_made}
 use Rattle.mc_fold.proofs.made.folding_makes_well.Goals as goal
 
 pub returns : goal.returns

@@ -1,4 +1,4 @@
-use Rattle.mc_fold.proofs.Made.{drop_made}
+use Rattle.mc_fold.proofs.MadeEdges.{drop_made}
 use Rattle.mc_fold.proofs.MadeForgotten.{forget_made}
 use Rattle.mc_fold.proofs.MadeNodes.{spare_made, merge_made}
 use Rattle.mc_fold.proofs.made.naming_makes_well.Goals as goal

@@ -1,4 +1,4 @@
-use Rattle.mc_fold.proofs.Made.{close_seg_made, join_segs_made, empty_seg_made}
+use Rattle.mc_fold.proofs.MadeEdges.{close_seg_made, join_segs_made, empty_seg_made}
 use Rattle.mc_fold.proofs.made.segments_make_well.Goals as goal
 
 pub returns : goal.returns
