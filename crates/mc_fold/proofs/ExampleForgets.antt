@@ -1,5 +1,5 @@
 -- A pointer that nothing names is forgotten.
-use Rattle.std.proofs.Common.{◌≡◌, ◌<◌, ℕ, zero, suc, ℤ, pos, negsuc, List, [], ◌∷◌, length, get_or, Some, refl, sym, ap, ◌∙◌, subst, inl, inr, arith}
+use Rattle.std.proofs.Common.{◌≡◌, ◌<◌, ℕ, zero, suc, ℤ, pos, negsuc, List, [], ◌∷◌, length, get_or, Some, refl, sym, ap, ◌∙◌, subst, inl, inr, arith, ◌<ℤ◌}
 use Rattle.std.specs.List.{AllByRecursion}
 use Rattle.std.specs.Prelude.{Contains}
 use Rattle.std.proofs.lemmas.Int.{ints}
@@ -12,6 +12,7 @@ use Rattle.mc_base.specs.Atoms.{IsTrueAtom, nodes_of_atom}
 use Rattle.mc_base.specs.Nodes.{null}
 use Rattle.mc_heap.specs.Heap.{IsAtAddresses}
 use Rattle.mc_defs.specs.Examples.{defs, blocks}
+use Rattle.mc_pure.specs.Canonical.{AreListed, IsRangeAtom, IsClassAtom, IsDifference, plainly}
 use Rattle.mc_pure.specs.Derived.{Follows, base, itself, turned, chained, shifted, met, widened, fixed, differs, differs_along, raised, lowered, disjoint}
 use Rattle.mc_pure.specs.Examples.{node}
 use Rattle.mc_pure.specs.Laws.{FollowsFromMore}
@@ -24,11 +25,13 @@ use Rattle.mc_state.specs.Stands.{StandsBy}
 use Rattle.mc_state.specs.State.{pure_of}
 use Rattle.mc_fold.specs.Changed.{alone, ForgetsNode}
 use Rattle.mc_fold.specs.Examples.{valued, pointer, no_pointer}
+use Rattle.mc_fold.specs.Written.{IsGap, IsFullListOf}
 use Rattle.mc_fold.proofs.Names.{listed}
+use Rattle.mc_fold.proofs.Ordered.{among_none}
 
 -- what follows names nodes that are there
 module _ (p : Pure) (bases : (f : Atom) → Base p f → AreNodes p.kinds (nodes_of_atom f)) where
-  named : (f : Atom) → Follows p f → AreNodes p.kinds (nodes_of_atom f)
+  pub named : (f : Atom) → Follows p f → AreNodes p.kinds (nodes_of_atom f)
   named f (base b) = bases f b
   named _ (itself n) = (n, (n, tt))
   named _ (turned h) = let t = named _ h in (t.1.0, (t.0, tt))
@@ -109,6 +112,66 @@ of_null (Eq a b c) e = rw (e.0, e.1.0) (null_equal c)
 of_null (Ne a b c) e = rw (e.0, e.1.0) (null_apart c)
 of_null (In a lo hi) e = rw e.0 (λ t. widened (base known.zero) t.0 t.1)
 
+-- ---- nothing is written of no node
+
+nothing_listed : (P : Atom → Type 0) → ((f : Atom) → P f → ⊥) → AreListed P []
+nothing_listed P none = record { order = tt; exact = λ f. (λ c. absurd (among_none f c), λ p. absurd (none f p)) }
+
+only_null : (n : NodeId) → IsNode [] n → n ≡ null
+only_null n there = elim there.1 [
+  | inl e ↦ e
+  | inr e ↦ absurd (cc e)
+]
+
+no_range : (f : Atom) → IsRangeAtom (alone no_pointer) f → ⊥
+no_range (Eq a b c) r = r
+no_range (Ne a b c) r = r
+no_range (In n lo hi) r = let none = r.2 in cc none
+
+no_class : (f : Atom) → IsClassAtom (alone no_pointer) f → ⊥
+no_class (Eq a b c) r = r.1 (only_null b r.2.0)
+no_class (Ne a b c) r = r
+no_class (In n lo hi) r = r
+
+no_difference : (f : Atom) → IsDifference (alone no_pointer) (plainly (alone no_pointer) []) f → ⊥
+no_difference (Eq a b c) r = r
+no_difference (In n lo hi) r = r
+no_difference (Ne i j c) r =
+    let first : i.0 ≡ 0 = ap (λ (n : NodeId). n.0) (only_null i r.0.0) in
+    let less = r.2 in
+    below less first where
+      below : j.0 < i.0 → i.0 ≡ 0 → ⊥
+      below less first = omega arith
+
+null_gap : (c : ℤ) → pos 0 <ℤ c → Follows (plainly (alone no_pointer) []) (Ne null null c)
+null_gap c less = disjoint (base known.zero) (base known.zero) (inl (omega (arith, ints)))
+
+no_gap : (f : Atom) → IsGap (alone no_pointer) (plainly (alone no_pointer) []) f → ⊥
+no_gap (Eq a b c) r = r
+no_gap (In n lo hi) r = r
+no_gap (Ne i j c) r =
+    let first : i ≡ null = only_null i r.0.0 in
+    let second : j ≡ null = sym r.1 ∙ first in
+    r.4 (rw (first, second) (null_gap c r.2))
+
+pub nothing_written : IsFullListOf (alone no_pointer) []
+nothing_written =
+    record {
+      list = [];
+      gaps = [];
+      together = refl;
+      canonical = record {
+        ranges = [];
+        equalities = [];
+        differences = [];
+        together = refl;
+        ranges_listed = nothing_listed (IsRangeAtom (alone no_pointer)) no_range;
+        equalities_listed = nothing_listed (IsClassAtom (alone no_pointer)) no_class;
+        differences_listed = nothing_listed (IsDifference (alone no_pointer) (plainly (alone no_pointer) [])) no_difference;
+      };
+      gaps_listed = nothing_listed (IsGap (alone no_pointer) (plainly (alone no_pointer) [])) no_gap;
+    }
+
 module _ (truth : DerivedIsTrue) (not_false : NoneStandsForFalse) (grows : FollowsFromMore) (addresses : IsAtAddresses (blocks [])) (st : StandsBy defs (valued []) [] (blocks []) pointer) where
   derived_back : (f : Atom) → Derives pointer f → (Contains (nodes_of_atom f) (node 1) → ⊥) → Follows (alone no_pointer) f
   derived_back f d none = elim d [
@@ -138,6 +201,7 @@ module _ (truth : DerivedIsTrue) (not_false : NoneStandsForFalse) (grows : Follo
             ),
             λ both. derived_back f both.0 both.1,
           );
+          listed = nothing_written;
         };
         gives = refl;
       }

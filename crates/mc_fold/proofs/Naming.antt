@@ -19,7 +19,7 @@ use Rattle.mc_state.specs.Fits.{AreNodes, IsBounded}
 use Rattle.mc_state.specs.Laws.{DerivedIsTrue, EqualNodesAreOne, NodesAreAdded, NodesHaveValues, AtomsAreAdded, AtomsAreDropped, EdgesAreDropped, NodeIsDropped, StandsMerged, NodesStayBounded, NewNodesAreThere, AtomsStayBounded, FewerEdgesStayBounded, MergedStaysBounded, DroppedStaysBounded}
 use Rattle.mc_state.specs.Stands.{StandsBy, extended}
 use Rattle.mc_state.specs.State.{State, next_node, with_nodes, with_atoms, with_only_edges}
-use Rattle.mc_fold.specs.Changed.{Forgets}
+use Rattle.mc_fold.specs.Changed.{Forgets, left_over}
 use Rattle.mc_fold.specs.Laws.{IsLawful, LawOfSpare, LawOfMerge, LawOfDrop, LawOfForget}
 use Rattle.mc_fold.proofs.Lists.{all_places}
 use Rattle.mc_fold.proofs.Names.{node_below}
@@ -90,11 +90,8 @@ drop_edge laws defs edge s next bounded i =
     ) in
     rw i.gives lawful
 
--- the state with other atoms and without a node
-abbrev left_over : State → NodeId → List Atom → State
-left_over s n atoms = record s { kinds = kinds_without s.kinds n; atoms = atoms }
-
-after_is : (s t : State) (n : NodeId) → Forgets n s t → t ≡ left_over s n t.atoms
+-- the state after is determined by its atoms
+pub after_is : (s t : State) (n : NodeId) → Forgets n s t → t ≡ left_over s n t.atoms
 after_is s t n f =
     ap (λ e. record { env = e; kinds = t.kinds; graph = t.graph; atoms = t.atoms; next = t.next; whole = t.whole }) f.env
     ∙ ap (λ k. record { env = s.env; kinds = k; graph = t.graph; atoms = t.atoms; next = t.next; whole = t.whole }) f.kinds

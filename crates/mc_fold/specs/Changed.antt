@@ -16,6 +16,7 @@ use Rattle.mc_pure.specs.Derived.{Follows, LiesIn}
 use Rattle.mc_state.specs.State.{State, pure_of, next_node, with_nodes, with_atoms, with_only_edges}
 use Rattle.mc_state.specs.Facts.{IsFalse, Derives, AreEqual, IsReached, IsUnnamed, CanMerge, kinds_without, merged}
 use Rattle.mc_state.specs.Fits.{AreNodes}
+use Rattle.mc_fold.specs.Written.{IsFullListOf}
 
 -- L8: a new node of a kind is another node and a number more; it lies in the kind's range, and is of the node's kind, or the node is 0
 pub record NamesSpare (node : NodeId) (add : ℤ) (kind : Kind) (s : State) (next : List State) : Type 0 where
@@ -44,7 +45,12 @@ pub record DropsEdge (edge : EdgeId) (s : State) (next : List State) : Type 0 wh
 abbrev pub alone : State → Pure
 alone t = record { kinds = t.kinds; written = t.atoms; starts = [] }
 
--- the state without a node: the atoms that are written now derive, with the kinds alone, exactly those that were derived and do not name it
+-- the state without a node, and with other atoms
+abbrev pub left_over : State → NodeId → List Atom → State
+left_over s n atoms = record s { kinds = kinds_without s.kinds n; atoms = atoms }
+
+-- the state without a node: the atoms that are written now derive, with the kinds alone, exactly those that were derived
+-- and do not name it, and they are the canonical list of what they derive, with the disequalities inside one class
 pub record Forgets (node : NodeId) (s t : State) : Type 0 where
   pub env : t.env ≡ s.env
   pub graph : t.graph ≡ s.graph
@@ -53,6 +59,7 @@ pub record Forgets (node : NodeId) (s t : State) : Type 0 where
   pub kinds : t.kinds ≡ kinds_without s.kinds node
   pub named : AllByRecursion (λ f. AreNodes t.kinds (nodes_of_atom f)) t.atoms
   pub derived : (f : Atom) → Follows (alone t) f ↔ (Derives s f × (Contains (nodes_of_atom f) node → ⊥))
+  pub listed : IsFullListOf (alone t) t.atoms
 
 -- L11: a node that stands in no variable and in no edge is forgotten
 pub record ForgetsNode (node : NodeId) (s : State) (next : List State) : Type 0 where
@@ -63,3 +70,8 @@ pub record ForgetsNode (node : NodeId) (s : State) (next : List State) : Type 0 
   pub after : State
   pub forgets : Forgets node s after
   pub gives : next ≡ after ∷ []
+
+-- the atoms are those that are written where the node is forgotten, if it may be
+abbrev pub IsListWithout : NodeId → State → List Atom → Type 0
+IsListWithout node s atoms =
+    (IsFalse s → ⊥) → IsNode s.kinds node → (node ≡ null → ⊥) → IsUnnamed node s → Forgets node s (left_over s node atoms)

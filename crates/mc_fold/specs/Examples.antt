@@ -1,11 +1,11 @@
 -- States whose edges are folded and whose nodes are named, merged and forgotten, and what they become.
-use Rattle.std.specs.Prelude.{ℕ, ℤ, pos, true, false, Some, List, [], ◌∷◌, get_or}
+use Rattle.std.specs.Prelude.{ℕ, ℤ, pos, true, false, Some, None, List, [], ◌∷◌, get_or}
 use Rattle.mc_base.specs.declared.ids.EdgeId.{EdgeId}
-use Rattle.mc_base.specs.declared.plain.Atom.TheVariants.{Eq, In}
+use Rattle.mc_base.specs.declared.plain.Atom.TheVariants.{Eq, Ne, In}
 use Rattle.mc_base.specs.declared.plain.Kind.TheVariants.{Int, Ptr}
 use Rattle.mc_base.specs.Nodes.{Valuation, null}
 use Rattle.mc_heap.specs.Heap.{Block}
-use Rattle.mc_defs.specs.Examples.{fork_id, list_id, lenlist_id, tree_id, fork_with}
+use Rattle.mc_defs.specs.Examples.{cell_id, fork_id, list_id, lenlist_id, tree_id, fork_with}
 use Rattle.mc_graph.specs.declared.edge.Edge.TheVariants.{Block as Fork, Ind, Seg}
 use Rattle.mc_graph.specs.Graph.{Edges}
 use Rattle.mc_pure.specs.Examples.{node}
@@ -155,3 +155,55 @@ length_closed =
 -- the second of two forks
 abbrev pub second_fork : List (ℕ × Block)
 second_fork = (9, fork_with (pos 0) (pos 0)) ∷ []
+
+-- ---- what is refused
+
+-- a segment, and a list at another node than its end
+abbrev pub list_apart : State
+list_apart = state_of ((node 1, Ptr) ∷ (node 2, Ptr) ∷ (node 3, Ptr) ∷ []) (Seg (node 1) [] list_id (node 2) [] ∷ Ind (node 3) list_id [] ∷ []) []
+
+-- a list that a variable points to
+abbrev pub pointed_list : State
+pointed_list = record lost_list { env = Some (node 1) ∷ [] }
+
+-- the goal of a list at node 0
+abbrev pub null_goal : Goal
+null_goal = record { pred = list_id; at = null; args = [] }
+
+-- the goal of a tree at node 1
+abbrev pub tree_goal : Goal
+tree_goal = record { pred = tree_id; at = node 1; args = [] }
+
+-- ---- what is written where a node is forgotten
+
+-- a pointer at which a block starts, and another pointer
+abbrev pub block_beside : State
+block_beside = state_of ((node 1, Ptr) ∷ (node 2, Ptr) ∷ []) (Fork (node 1) cell_id (None ∷ None ∷ []) ∷ []) []
+
+-- the first alone: that it is an address is written
+abbrev pub block_left : State
+block_left =
+    record {
+      env = [];
+      kinds = (node 1, Ptr) ∷ [];
+      graph = record { edges = entry 0 (Fork (node 1) cell_id (None ∷ None ∷ [])) ∷ []; next = 1 };
+      atoms = In (node 1) (pos 1) (pos 4611686018427387903) ∷ [];
+      next = 3;
+      whole = true;
+    }
+
+-- two numbers that are equal, of which the second is not the first and five more
+abbrev pub gap_beside : State
+gap_beside = state_of ((node 1, Int) ∷ (node 2, Int) ∷ []) [] (Eq (node 2) (node 1) (pos 0) ∷ Ne (node 2) (node 1) (pos 5) ∷ [])
+
+-- the first alone, which is not itself and five more
+abbrev pub gap_left : State
+gap_left =
+    record {
+      env = [];
+      kinds = (node 1, Int) ∷ [];
+      graph = record { edges = []; next = 0 };
+      atoms = Ne (node 1) (node 1) (pos 5) ∷ [];
+      next = 3;
+      whole = true;
+    }

@@ -10,7 +10,6 @@ use Rattle.mc_heap.specs.Heap.{Region, IsAtAddresses}
 use Rattle.mc_defs.specs.declared.rules.Def.{Def}
 use Rattle.mc_state.specs.declared.goal.Goal.{Goal}
 use Rattle.mc_state.specs.State.{State}
-use Rattle.mc_state.specs.Facts.{AreSame}
 use Rattle.mc_state.specs.Fits.{IsBounded}
 use Rattle.mc_state.specs.Stands.{StandsBy}
 use Rattle.mc_state.specs.Rules.{IsSound, GoalHolds}
@@ -113,7 +112,6 @@ MergeIsDetermined = (keep gone : NodeId) (s : State) (next other : List State) �
 abbrev pub DropIsDetermined : Type 0
 DropIsDetermined = (edge : EdgeId) (s : State) (next other : List State) → DropsEdge edge s next → DropsEdge edge s other → next ≡ other
 
--- what is written after a node is forgotten is free: two successors are the same state
+-- L11 gives one list of successors at most
 abbrev pub ForgetIsDetermined : Type 0
-ForgetIsDetermined =
-    (node : NodeId) (s : State) (next other : List State) (i : ForgetsNode node s next) (j : ForgetsNode node s other) → AreSame i.after j.after
+ForgetIsDetermined = (node : NodeId) (s : State) (next other : List State) → ForgetsNode node s next → ForgetsNode node s other → next ≡ other

@@ -1,6 +1,11 @@
+pub mod ChangeJudges
 pub mod Changed
 pub mod Examples
 pub mod Folded
 pub mod Goals
+pub mod JudgedLaws
+pub mod Judges
 pub mod Laws
+pub mod MadeLaws
+pub mod Written
 pub mod WrongRules

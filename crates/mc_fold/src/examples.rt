@@ -15,6 +15,7 @@ ghost use Rattle.mc_fold.specs.Examples.{edge, valued, cell_folded, cell_as_segm
 ghost use Rattle.mc_fold.specs.Examples.{segment_closed, two_segments, segments_joined, pointer, with_segment};
 ghost use Rattle.mc_fold.specs.Examples.{small_number, with_spare, named_twice, named_once, lost_list, list_dropped};
 ghost use Rattle.mc_fold.specs.Examples.{no_pointer, list_goal, shared_tree, other_length};
+ghost use Rattle.mc_fold.specs.Examples.{block_beside, block_left, gap_beside, gap_left};
 
 use mc_defs::{example_predicates, example_premises, example_segments};
 use mc_heap::{changes_are_local, heaps_change_one_address, parts_regroup};
@@ -147,4 +148,14 @@ pub fn example_of_other_length()
     example_predicates();
     body_premises();
     derived_is_true();
+}
+
+/// A pointer beside a block is forgotten, and that the block starts at an address is written; and a
+/// number that equals another, whose disequality with it becomes one of the other with itself.
+pub fn examples_of_forgetting()
+    ensures block { ForgetsNode (node 2) block_beside (block_left ∷ []) }
+    ensures gap { ForgetsNode (node 2) gap_beside (gap_left ∷ []) }
+{
+    mc_pure::derived_is_true();
+    mc_pure::derived_grows();
 }

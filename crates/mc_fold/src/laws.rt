@@ -80,13 +80,10 @@ pub fn folding_is_determined()
     ensures empty { EmptySegIsDetermined }
 {}
 
-/// Naming, merging and dropping give one list of successors at most, and the states that forgetting
-/// a node may give are the same.
+/// Naming, merging, dropping and forgetting give one list of successors at most.
 pub fn naming_is_determined()
     ensures spare { SpareIsDetermined }
     ensures merge { MergeIsDetermined }
     ensures drop_edge { DropIsDetermined }
     ensures forget { ForgetIsDetermined }
-{
-    mc_pure::derived_grows();
-}
+{}

@@ -1,12 +1,6 @@
 use Rattle.mc_fold.proofs.Determined.{spare_determined, merge_determined, drop_determined}
-use Rattle.mc_fold.proofs.Forgetting.{forget_determined}
+use Rattle.mc_fold.proofs.WrittenOnce.{forget_determined}
 use Rattle.mc_fold.proofs.laws.naming_is_determined.Goals as goal
 
 pub returns : goal.returns
-returns c =
-    record {
-      spare = spare_determined;
-      merge = merge_determined;
-      drop_edge = drop_determined;
-      forget = forget_determined c.derived_grows.ensures.atoms c.derived_grows.ensures.false_stays;
-    }
+returns c = record { spare = spare_determined; merge = merge_determined; drop_edge = drop_determined; forget = forget_determined }

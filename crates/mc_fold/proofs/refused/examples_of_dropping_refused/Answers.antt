@@ -1,0 +1,17 @@
+use Rattle.mc_fold.proofs.Refusing.{drop_absent, drop_reached, forget_null, forget_absent, forget_start, meet_tree, meet_absent, meet_null}
+use Rattle.mc_fold.proofs.refused.examples_of_dropping_refused.Goals as goal
+
+pub returns : goal.returns
+returns c =
+    let truth = c.derived_is_true.ensures.derived in
+    let sound = c.derived_is_true.ensures.not_false in
+    record {
+      absent = drop_absent truth sound;
+      reached = drop_reached truth sound;
+      forgotten_null = forget_null truth sound;
+      no_node = forget_absent truth sound;
+      start = forget_start truth sound;
+      tree = meet_tree truth sound;
+      no_edge = meet_absent truth sound;
+      elsewhere = meet_null truth sound;
+    }
