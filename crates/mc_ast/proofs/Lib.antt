@@ -1,9 +1,2 @@
 pub mod Tables
 pub mod Blocks
-mod Agree
-mod UniqueExpressions
-mod UniqueConditions
-mod UniqueSimples
-mod UniqueStatements
-pub mod UniqueUnits
-pub mod Parts

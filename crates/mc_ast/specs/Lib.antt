@@ -5,5 +5,3 @@ pub mod Classes
 pub mod Grammar
 pub mod Readers
 pub mod Weights
-pub mod Words
-pub mod Printing

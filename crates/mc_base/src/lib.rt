@@ -4,8 +4,6 @@
 mod ids;
 mod items;
 mod plain;
-#[cfg(test)]
-mod tests;
 
 pub use ids::{EdgeId, NodeId, PointId, PredId, StructId, VarId};
 pub use items::{Args, Items};

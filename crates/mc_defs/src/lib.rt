@@ -18,6 +18,3 @@ pub use laws::{
 };
 pub use rules::{Call, Def, DefAtom, Rule};
 pub use shapes::{FieldInfo, StructInfo, Structs};
-
-#[cfg(test)]
-mod tests;

@@ -7,8 +7,6 @@ mod equal;
 mod forget;
 mod groups;
 mod rename;
-#[cfg(test)]
-mod tests;
 
 pub use classes::{Class, Gap, Join, Link};
 pub use equal::{Equal, NoMemory, derived_is_true};

@@ -167,28 +167,3 @@ impl Heap {
         self.blocks.len() as u64
     }
 }
-
-#[cfg(test)]
-mod tests {
-    use super::*;
-    use std::test::Fail;
-
-    #[test]
-    fn a_block_comes_and_goes(rt: HostRuntime) -> Result<(), Fail> {
-        let mut heap = Heap::new(rt.alloc());
-        assert_eq!(rt; heap.len(), 0);
-        assert!(rt; heap.add(4611686018427387903, 7, 2)?);
-        assert!(rt; !heap.add(4611686018427387903, 8, 3)?);
-        assert_eq!(rt; heap.len(), 1);
-        assert!(rt; heap.write(4611686018427387903, 7, 1, -5));
-        assert!(rt; !heap.write(4611686018427387903, 7, 2, 5));
-        assert_eq!(rt; heap.read(4611686018427387903, 7, 0), Read::Undefined);
-        assert_eq!(rt; heap.read(4611686018427387903, 7, 1), Read::Value(-5));
-        assert_eq!(rt; heap.read(4611686018427387903, 8, 1), Read::Absent);
-        assert_eq!(rt; heap.read(1, 7, 0), Read::Absent);
-        assert!(rt; heap.remove(4611686018427387903));
-        assert!(rt; !heap.remove(4611686018427387903));
-        assert_eq!(rt; heap.len(), 0);
-        Ok(())
-    }
-}

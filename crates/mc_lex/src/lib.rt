@@ -9,6 +9,3 @@ mod spot;
 
 pub use fault::LexFault;
 pub use lexer::{MAX_BYTES, lex, readings_are_unique};
-
-#[cfg(test)]
-mod tests;

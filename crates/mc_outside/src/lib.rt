@@ -10,8 +10,6 @@ mod outside;
 mod streams;
 mod sure_files;
 mod sure_sink;
-#[cfg(test)]
-mod tests;
 
 pub use host::{HostFiles, HostSink};
 pub use mem_files::MemFiles;

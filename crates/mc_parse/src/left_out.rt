@@ -1,12 +1,11 @@
 // Parts of C that the language leaves out.
 ghost use Rattle.mc_ast.specs.Classes.{IsClass};
-ghost use Rattle.mc_ast.specs.Names.{is_in, is_same};
+ghost use Rattle.mc_ast.specs.Names.{is_in};
 ghost use Rattle.mc_parse.specs.Faults.{EndsWithName, HasNoEnd, IsInnerCall, IsInnerPointer, IsLeftOut, IsOuterVariable, IsOutside, DeclaresBehind, left_out};
-ghost use Rattle.std.specs.List.{list_any};
 ghost use Rattle.std.specs.Prelude.{◌≡◌, IfOk, MatchBool};
 
 use crate::prefix::{can_begin, can_stand, mark_at, name_like};
-use mc_ast::{Class, classify};
+use mc_ast::{Class, classify, is_one_of};
 use mc_text::Token;
 use std::alloc::{AllocError, Global};
 
@@ -47,12 +46,6 @@ fn is_left_out_everywhere(text: &[u8]) -> bool
     ensures { result ≡ is_in left_out text.now }
 {
     is_one_of(text, &LEFT_OUT)
-}
-
-fn is_one_of(word: &[u8], words: &[&[u8]]) -> bool
-    ensures { result ≡ list_any (λ known. is_same word.now known.now) words.now }
-{
-    words.iter().any(|known| word == *known)
 }
 
 fn ends_with_name(before: &[Token]) -> bool

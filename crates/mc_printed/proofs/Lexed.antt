@@ -16,7 +16,7 @@ use Rattle.mc_lex.specs.Bytes.{is_letter, is_digit, is_word}
 use Rattle.mc_text.specs.Numbers.{Spells, as_zero, as_decimal, max_number}
 use Rattle.mc_lex.specs.Pieces.{IsPiece, name, number, mark, first, word_len}
 use Rattle.mc_lex.specs.Readings.{Reading, Reads, at_end, at_fault, past_gap, past_token, token_at, onto}
-use Rattle.mc_ast.specs.Words.{Words}
+use Rattle.mc_spelling.specs.Words.{Words}
 use Rattle.mc_printed.specs.Printable.{IsPrintable, ArePrintable, name_word, number_word, mark_word, none_printable, one_printable}
 use Rattle.mc_printed.proofs.Spelled.{IsWordOf, of_name, of_mark, of_number, AreWordsOf, no_words, some_words}
 

@@ -14,7 +14,7 @@ use Rattle.mc_lex.specs.Pieces.{IsPiece, end, separator, name, number, mark, fir
 use Rattle.mc_lex.specs.Readings.{Reads, at_end, past_gap, past_token, token_at}
 use Rattle.mc_ast.specs.Names.{is_same, is_in}
 use Rattle.mc_ast.specs.Classes.{grammar_marks}
-use Rattle.mc_ast.specs.Words.{Words, text_of, gap, line_ends}
+use Rattle.mc_spelling.specs.Words.{Words, text_of, gap, line_ends}
 use Rattle.mc_printed.specs.Printable.{IsPrintable, ArePrintable, Carries, name_word, number_word, mark_word, none_printable, one_printable, carries_none, carries_one}
 
 both_are : (b c : Bool) → (b && c) ≡ true → (b ≡ true) × (c ≡ true)

@@ -16,7 +16,7 @@ use Rattle.mc_ast.specs.Names.{Tokens, is_same, is_in}
 use Rattle.mc_ast.specs.Classes.{grammar_marks}
 use Rattle.mc_ast.specs.Grammar.{IsUnit}
 use Rattle.mc_ast.specs.Trees.{UnitTree}
-use Rattle.mc_ast.specs.Words.{Words, text_of, unit_words}
+use Rattle.mc_spelling.specs.Words.{Words, text_of, unit_words}
 use Rattle.mc_printed.specs.Printable.{IsPrintable, ArePrintable, Carries, name_word, number_word, mark_word, carries_none, carries_one}
 use Rattle.mc_printed.specs.Aside.{unit_aside, IsSameAside}
 use Rattle.mc_printed.specs.Texts.{IsReadAs, printed}

@@ -16,7 +16,7 @@ use Rattle.mc_ast.specs.declared.trees.Parameter.{Parameter}
 use Rattle.mc_ast.specs.Trees.{Left, Expr, number, null, input, value, minus, parens, times, plus, difference, Cond, plain, compare, negation, enclosed, both, either, CallTree, Right, expression, result_of, allocation}
 use Rattle.mc_ast.specs.Trees.{InitialTree, DeclarationTree, SimpleTree, assign, add, subtract, increment, decrement, increment_first, decrement_first, call, Start, nothing, declares, performs, Head, Stmt, declaration, block, empty, simple, free, assert, assume, assume_shape, assert_shape, assert_empty, if_only, if_else, while_loop, do_loop, for_loop, break_loop, continue_loop, returns, Stmts, no_more, then, stmts_of, FieldTree, StructTree, AliasedTree, of_base, of_struct, TypedefTree, ParametersTree, unnamed, void, listed, BodyTree, FunctionTree, ItemTree, structure, typedef, function, UnitTree}
 use Rattle.mc_ast.specs.Names.{mark_of}
-use Rattle.mc_ast.specs.Words.{Words, field_words, left_words, expression_words, condition_words, more_words, listed_words, all_words, maybe_words, call_words, base_words, star_words, declarator_words, cast_words, size_words, malloc_words, right_words, value_words, initial_words, declaration_words, simple_words, argument_words, start_words, head_words, statement_words, statements_words, field_list_words, struct_words, aliased_words, typedef_words, static_words, returned_words, parameter_words, parameters_words, body_words, function_words, item_words, unit_words}
+use Rattle.mc_spelling.specs.Words.{Words, field_words, left_words, expression_words, condition_words, more_words, listed_words, all_words, maybe_words, call_words, base_words, star_words, declarator_words, cast_words, size_words, malloc_words, right_words, value_words, initial_words, declaration_words, simple_words, argument_words, start_words, head_words, statement_words, statements_words, field_list_words, struct_words, aliased_words, typedef_words, static_words, returned_words, parameter_words, parameters_words, body_words, function_words, item_words, unit_words}
 use Rattle.mc_printed.specs.Aside.{name_aside, left_aside, expression_aside, condition_aside, call_aside, base_aside, star_aside, declarator_aside, cast_aside, size_aside, malloc_aside, right_aside, initial_aside, declaration_aside, simple_aside, argument_aside, start_aside, head_aside, statement_aside, statements_aside, field_aside, struct_aside, aliased_aside, typedef_aside, returned_aside, parameter_aside, parameters_aside, body_aside, function_aside, item_aside, unit_aside}
 use Rattle.mc_printed.proofs.AlikeStatements.{same_statements}
 

@@ -7,7 +7,7 @@ use Rattle.mc_text.specs.declared.token.Token.{Token}
 use Rattle.mc_text.specs.declared.token.TokenKind.TheVariants as TokenKind
 use Rattle.mc_ast.specs.Names.{Tokens, IsMark, IsWord, IsName, IsNumber, is_in}
 use Rattle.mc_ast.specs.Classes.{grammar_marks}
-use Rattle.mc_ast.specs.Words.{Words}
+use Rattle.mc_spelling.specs.Words.{Words}
 
 -- the word is printed for the token
 pub data IsWordOf (token : Token) (word : List ℕ) : Type 0 where

@@ -7,7 +7,7 @@ use Rattle.mc_ast.specs.declared.trees.Comparison.TheVariants.{Equal, Unequal, B
 use Rattle.mc_ast.specs.Trees.{Left, Expr, Cond}
 use Rattle.mc_ast.specs.Names.{Tokens, name_of, mark_of, is_in}
 use Rattle.mc_ast.specs.Classes.{grammar_marks}
-use Rattle.mc_ast.specs.Words.{Words, field_words, left_words, expression_words, condition_words}
+use Rattle.mc_spelling.specs.Words.{Words, field_words, left_words, expression_words, condition_words}
 use Rattle.mc_ast.specs.Grammar.{Fields, none, more, IsLeft, named as named_left, IsUnary, negative, numeral, null_word, input_call, variable, in_parens, Factors, no_factor, factor, IsTerm, product, Terms, no_term, added, taken, IsSum, sum_of}
 use Rattle.mc_ast.specs.Grammar.{IsBang, bang_bang, bang_variable, bang_input, bang_parens, IsOne, plain_one, comparison, negated, condition_parens, Boths, no_both, one_more, IsBoth, all_of, Eithers, no_either, or_else, IsCondition, any_of}
 use Rattle.mc_printed.proofs.Spelled.{AreWordsOf, marked, worded, named, numbered, Chained, chain}

@@ -10,7 +10,7 @@ use Rattle.mc_ast.specs.declared.trees.Size.{Size}
 use Rattle.mc_ast.specs.declared.trees.Argument.{Argument}
 use Rattle.mc_ast.specs.Trees.{Expr, CallTree, Right, InitialTree, DeclarationTree, SimpleTree}
 use Rattle.mc_ast.specs.Names.{Tokens}
-use Rattle.mc_ast.specs.Words.{Words, expression_words, more_words, listed_words, maybe_words, call_words, base_words, star_words, declarator_words, cast_words, size_words, right_words, initial_words, declaration_words, simple_words, argument_words}
+use Rattle.mc_spelling.specs.Words.{Words, expression_words, more_words, listed_words, maybe_words, call_words, base_words, star_words, declarator_words, cast_words, size_words, right_words, initial_words, declaration_words, simple_words, argument_words}
 use Rattle.mc_ast.specs.Grammar.{MoreExpressions, last, next, IsCall, without, with_some, IsBase, int, tagged, alias, IsStar, star, no_star, IsDeclarator, declarator, IsCast, no_cast, cast, IsSize, of_type, of_parens, of_value, IsRight, sum, called, allocated, IsInitial, bare, with_value, MoreInitials, last_initial, next_initial, IsDeclaration, declared, IsSimple, assigned, adding, subtracting, incremented, decremented, incremented_first, decremented_first, performed, IsArgument, name_argument, null_argument, number_argument, negative_argument, MoreArguments, last_argument, next_argument}
 use Rattle.mc_printed.proofs.Spelled.{AreWordsOf, marked, worded, named, numbered, Grown, grown, grown_by, from_one}
 use Rattle.mc_printed.proofs.SpelledExpressions.{left_spelled, sum_spelled}

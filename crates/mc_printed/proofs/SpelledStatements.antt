@@ -4,7 +4,7 @@ use Rattle.std.specs.Prelude.{codes}
 use Rattle.std.proofs.lemmas.List.{append-nil}
 use Rattle.mc_ast.specs.Trees.{Cond, SimpleTree, Start, Head, Stmt, stmts_of}
 use Rattle.mc_ast.specs.Names.{Tokens}
-use Rattle.mc_ast.specs.Words.{Words, condition_words, simple_words, argument_words, more_words, maybe_words, start_words, head_words, statement_words, statements_words}
+use Rattle.mc_spelling.specs.Words.{Words, condition_words, simple_words, argument_words, more_words, maybe_words, start_words, head_words, statement_words, statements_words}
 use Rattle.mc_ast.specs.Grammar.{IsStart, starts_empty, starts_declaring, starts_performing, IsMaybeCondition, no_condition, condition, IsMaybeSimple, no_simple, some_simple, IsHead, head}
 use Rattle.mc_ast.specs.Grammar.{IsStatement, declares_statement, block_statement, empty_statement, simple_statement, free_statement, assert_statement, assume_statement, assume_shape_statement, assert_shape_statement, assert_empty_statement, if_statement, if_else_statement, while_statement, do_statement, for_statement, break_statement, continue_statement, return_statement, return_value, MoreStatements, no_statement, next_statement}
 use Rattle.mc_printed.proofs.Spelled.{AreWordsOf, marked, worded, named, Grown, grown, grown_by, from_none}

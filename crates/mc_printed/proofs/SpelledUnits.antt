@@ -8,7 +8,7 @@ use Rattle.mc_ast.specs.declared.trees.Returned.{Returned}
 use Rattle.mc_ast.specs.declared.trees.Parameter.{Parameter}
 use Rattle.mc_ast.specs.Trees.{FieldTree, StructTree, AliasedTree, TypedefTree, ParametersTree, BodyTree, FunctionTree, ItemTree, UnitTree, stmts_of}
 use Rattle.mc_ast.specs.Names.{Tokens}
-use Rattle.mc_ast.specs.Words.{Words, more_words, listed_words, all_words, declarator_words, statements_words, field_list_words, struct_words, aliased_words, typedef_words, static_words, returned_words, parameter_words, parameters_words, body_words, function_words, item_words, unit_words}
+use Rattle.mc_spelling.specs.Words.{Words, more_words, listed_words, all_words, declarator_words, statements_words, field_list_words, struct_words, aliased_words, typedef_words, static_words, returned_words, parameter_words, parameters_words, body_words, function_words, item_words, unit_words}
 use Rattle.mc_ast.specs.Grammar.{MoreDeclarators, last_declarator, next_declarator, IsDeclarators, declarators, IsField, field, MoreFields, no_field, next_field, IsStruct, struct, IsAliased, base_aliased, struct_aliased, IsTypedef, introduces, IsReturned, gives_nothing, gives_value, IsParameter, parameter, MoreParameters, last_parameter, next_parameter, IsParameters, no_parameters, void_parameters, some_parameters, IsStatic, static_place, not_static, IsBody, prototype, body, IsFunction, defined, IsItem, struct_item, typedef_item, function_item, MoreItems, no_item, next_item, IsUnit}
 use Rattle.mc_printed.proofs.Spelled.{AreWordsOf, no_words, marked, worded, named, Grown, grown, grown_by, from_one, from_none}
 use Rattle.mc_printed.proofs.SpelledSimples.{base_spelled, star_spelled, declarator_spelled}

@@ -8,7 +8,7 @@ use Rattle.mc_text.specs.Numbers.{Spells, max_number}
 use Rattle.mc_lex.specs.Pieces.{first}
 use Rattle.mc_ast.specs.Names.{is_in}
 use Rattle.mc_ast.specs.Classes.{grammar_marks}
-use Rattle.mc_ast.specs.Words.{Words}
+use Rattle.mc_spelling.specs.Words.{Words}
 
 -- a word is one token, of this kind: letters and digits behind a letter, a number, or a mark of the grammar
 pub data IsPrintable : List ℕ → TokenKind → Type 0 where

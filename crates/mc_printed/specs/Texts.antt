@@ -4,7 +4,7 @@ use Rattle.mc_text.specs.declared.token.Token.{Token}
 use Rattle.mc_lex.specs.Readings.{Lexes}
 use Rattle.mc_ast.specs.Grammar.{IsUnit}
 use Rattle.mc_ast.specs.Trees.{UnitTree}
-use Rattle.mc_ast.specs.Words.{text_of, unit_words}
+use Rattle.mc_spelling.specs.Words.{text_of, unit_words}
 
 -- the text is read as this program: its tokens spell it
 pub record IsReadAs (text : List ℕ) (unit : UnitTree) : Type 0 where

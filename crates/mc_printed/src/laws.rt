@@ -1,6 +1,6 @@
 // Laws of printed programs.
 ghost use Rattle.mc_ast.specs.Trees.{UnitTree};
-ghost use Rattle.mc_ast.specs.Words.{Words, text_of};
+ghost use Rattle.mc_spelling.specs.Words.{Words, text_of};
 ghost use Rattle.mc_lex.specs.Readings.{Lexes};
 ghost use Rattle.mc_printed.specs.Aside.{IsSameAside};
 ghost use Rattle.mc_printed.specs.Examples.{prototype_of};
@@ -9,8 +9,8 @@ ghost use Rattle.mc_printed.specs.Texts.{IsReadAs, printed};
 ghost use Rattle.std.specs.Prelude.{◌≡◌, ◌++◌, ℕ, List, [], ◌∷◌, ◌↔◌, Ok, codes};
 ghost use Rattle.mc_text.specs.declared.token.Token.{Token};
 
-use mc_ast::trees_are_unique;
 use mc_lex::readings_are_unique;
+use mc_spelling::trees_are_unique;
 
 /// The text of words, each of which is one token, is read as tokens with these words.
 pub fn printed_words_are_read()

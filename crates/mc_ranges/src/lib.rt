@@ -7,8 +7,6 @@ ghost use Rattle.mc_ranges.specs.Ends.{IsEnd, IsInt};
 ghost use Rattle.mc_ranges.specs.Thresholds.{WidensUp, WidensDown};
 
 mod ends;
-#[cfg(test)]
-mod tests;
 
 use ends::{GREATEST_INT, LEAST_INT, product, widened_down, widened_up};
 

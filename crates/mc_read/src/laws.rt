@@ -6,9 +6,9 @@ ghost use Rattle.mc_read.specs.Refusals.{IsRefused};
 ghost use Rattle.mc_read.specs.declared.cause.Refusal.{Refusal as Told};
 ghost use Rattle.std.specs.Prelude.{◌≡◌, List, ℕ};
 
-use mc_ast::trees_are_unique;
 use mc_lex::readings_are_unique;
 use mc_places::declared_places_ascend;
+use mc_spelling::trees_are_unique;
 use mc_types::first_fault_is_told_once;
 
 /// A text is read as one tree at most.

@@ -53,6 +53,3 @@ impl<T: Drop> Stack<T> {
         Ok(())
     }
 }
-
-#[cfg(test)]
-mod tests;

@@ -1,4 +1,4 @@
-//! Tests of what no contract says, for crates whose proof is long: with a test of its own a crate is proved twice.
+//! Tests of what no contract says, for all crates below the top ones: with a test of its own a crate is proved twice.
 #![tactic(auto)]
 
 #[cfg(test)]
@@ -6,6 +6,22 @@ mod definitions;
 #[cfg(test)]
 mod documents;
 #[cfg(test)]
+mod equalities;
+#[cfg(test)]
+mod heaps;
+#[cfg(test)]
+mod instances;
+#[cfg(test)]
+mod lists;
+#[cfg(test)]
 mod numbers;
+#[cfg(test)]
+mod outside;
+#[cfg(test)]
+mod ranges;
+#[cfg(test)]
+mod stacks;
+#[cfg(test)]
+mod tokens;
 #[cfg(test)]
 mod trees;

@@ -1,8 +1,7 @@
 // A prototype with a parameter, printed.
 use super::{HERE, token};
-use mc_ast::{
-    Base, Declarator, Function, Item, Parameter, Parameters, Returned, Unit, name_at, print_unit,
-};
+use mc_ast::{Base, Declarator, Function, Item, Parameter, Parameters, Returned, Unit, name_at};
+use mc_spelling::print_unit;
 use mc_text::TokenKind;
 use std::alloc::{AllocError, Global};
 use std::test::Fail;

@@ -1,5 +1,5 @@
 use Rattle.std.proofs.Common.{refl}
-use Rattle.mc_ast.specs.Words.{text_of}
+use Rattle.mc_spelling.specs.Words.{text_of}
 use Rattle.mc_printed.proofs.laws.small_programs_are_printed.Goals as goal
 
 pub returns-clause-text : goal.returns-clause-text
