@@ -2,6 +2,7 @@
 use Rattle.mc_heap.specs.PartLaws.{EmptyHeapIsEmpty}
 use Rattle.mc_state.specs.Laws.{NoneStandsForFalse, UnknownStands, UnknownIsBounded}
 use Rattle.mc_unfold.specs.Laws.{LawOfInd, LawOfSeg}
+use Rattle.mc_back.specs.Laws.{LawOfBack}
 use Rattle.mc_fold.specs.Laws.{LawOfFoldInd, LawOfFoldSeg, LawOfCloseSeg, LawOfJoinSegs, LawOfEmptySeg, LawOfSpare, LawOfMerge, LawOfDrop, LawOfForget, LawOfGoal}
 use Rattle.mc_step.specs.Laws.{StepsAreSound, StepsStayBounded}
 use Rattle.mc_kernel.specs.JumpLaws.{JumpsAreSound}
@@ -15,6 +16,7 @@ pub record CalculusLaws : Type 0 where
   pub bounded : StepsStayBounded
   pub unfold_ind : LawOfInd
   pub unfold_seg : LawOfSeg
+  pub unfold_back : LawOfBack
   pub fold_ind : LawOfFoldInd
   pub fold_seg : LawOfFoldSeg
   pub close : LawOfCloseSeg

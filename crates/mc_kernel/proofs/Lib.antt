@@ -26,3 +26,5 @@ pub mod StraightSound
 pub mod StraightStates
 pub mod StraightSteps
 pub mod Visits
+pub mod JumpsJudged
+pub mod LinesJudged

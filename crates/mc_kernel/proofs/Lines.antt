@@ -14,13 +14,14 @@ use Rattle.mc_defs.specs.Instances.{node_of}
 use Rattle.mc_flow.specs.declared.graph.Flow.{Flow}
 use Rattle.mc_flow.specs.Valid.{IsValid}
 use Rattle.mc_cert.specs.declared.line.Line.{Line}
-use Rattle.mc_cert.specs.declared.line.Line.TheVariants.{S1, S2, S3, S4, S5, S6, S7, S8, S9, S10, S11, S12, S13, S14, S15, S16, S17, S18, L1, L2, L3, L4, L5, L6, L7, L8, L9, L10, L11, L12, L13, L14, C1}
+use Rattle.mc_cert.specs.declared.line.Line.TheVariants.{S1, S2, S3, S4, S5, S6, S7, S8, S9, S10, S11, S12, S13, S14, S15, S16, S17, S18, L1, L2, L3, L4, L5, L6, L7, L8, L9, L10, L11, L12, L13, L14, L15, C1}
 use Rattle.mc_graph.specs.declared.edge.Edge.TheVariants.{Ind, Seg}
 use Rattle.mc_graph.specs.Graph.{without}
 use Rattle.mc_state.specs.State.{State, next_node, with_nodes, with_atoms, with_edges, with_only_edges}
 use Rattle.mc_state.specs.Fits.{IsBounded}
 use Rattle.mc_state.specs.Rules.{IsSound}
 use Rattle.mc_unfold.specs.Unfolded.{UnfoldsInd, UnfoldsSeg, unfolded, unfolded_at, own_places}
+use Rattle.mc_back.specs.Unfolded.{UnfoldsBack, unfolded_back}
 use Rattle.mc_fold.specs.Folded.{folded}
 use Rattle.mc_step.specs.declared.next.Next.{Next}
 use Rattle.mc_step.specs.Steps.{S1Is, S2Is, S3Is, S4Is, S5Is, S6Is, S7Is, S8Is, S9Is, S10Is, S11Is, S12Is, S13Is, S14Is, S15Is, S16Is, S17Is, S18Is}
@@ -52,6 +53,14 @@ seg_grows defs start edge s states i =
       omega arith,
       each_of_flat_map (λ (t : State). s.next ≤ t.next) (λ (rule : Rule). map (unfolded_at s edge i.at i.args i.stop i.ends rule) (own_places i.pred 0 rule.calls))
           (λ rule. each_of_map (λ (t : State). s.next ≤ t.next) (unfolded_at s edge i.at i.args i.stop i.ends rule) (λ place. omega arith) (own_places i.pred 0 rule.calls)) i.def.rules,
+    )
+
+back_grows : (defs : List Def) (start : Option NodeId) (edge : EdgeId) (s : State) (states : List State) → UnfoldsBack defs start edge s states → Grows s states
+back_grows defs start edge s states i =
+    subst (Grows s) (sym i.gives) (
+      omega arith,
+      each_of_flat_map (λ (t : State). s.next ≤ t.next) (λ (rule : Rule). map (unfolded_back s edge i.at i.args i.pred i.stop i.ends rule) (own_places i.pred 0 rule.calls))
+          (λ rule. each_of_map (λ (t : State). s.next ≤ t.next) (unfolded_back s edge i.at i.args i.pred i.stop i.ends rule) (λ place. omega arith) (own_places i.pred 0 rule.calls)) i.back.def.rules,
     )
 
 module _ (flow : Flow) (defs : List Def) (g : Setting) (all : List Path) (laws : CalculusLaws) (valid : IsValid flow defs) where
@@ -96,6 +105,8 @@ module _ (flow : Flow) (defs : List Def) (g : Setting) (all : List Path) (laws :
       let u = i.1 in logical b b.closing u.0 succs fine u.2 (laws.unfold_ind defs (accessed flow b) edge b.state u.0 fine.0 u.1) (ind_grows defs (accessed flow b) edge b.state u.0 u.1)
   sound (L2 edge) b succs later fine stuck i =
       let u = i.1 in logical b b.closing u.0 succs fine u.2 (laws.unfold_seg defs (accessed flow b) edge b.state u.0 fine.0 u.1) (seg_grows defs (accessed flow b) edge b.state u.0 u.1)
+  sound (L15 edge) b succs later fine stuck i =
+      let u = i.1 in logical b b.closing u.0 succs fine u.2 (laws.unfold_back defs (accessed flow b) edge b.state u.0 fine.0 u.1) (back_grows defs (accessed flow b) edge b.state u.0 u.1)
   sound (L3 pred rule names block edges) b succs later fine stuck i =
       let r = i.1 in logical b (closes b) i.0 succs fine i.2 (laws.fold_ind defs pred rule names block edges b.state i.0 fine.0 r) (one_grows b.state (folded b.state r.body.left (Ind r.body.this pred r.body.args)) i.0 (omega arith) r.gives)
   sound (L4 pred rule names block edges call) b succs later fine stuck i =

@@ -9,3 +9,6 @@ pub mod Straight
 pub mod JumpLaws
 pub mod Examples
 pub mod WrongJumps
+pub mod Judges
+pub mod JudgedLaws
+pub mod Readings

@@ -2,6 +2,7 @@
 ghost use Rattle.mc_kernel.specs.Certificates.{CertificateIsSafe, LastPassFindsFaults};
 ghost use Rattle.mc_kernel.specs.JumpLaws.{JumpsAreSound};
 
+use mc_back::back_is_sound;
 use mc_fold::{folding_is_sound, goals_are_met, naming_is_sound, segments_are_closed};
 use mc_heap::heaps_change_one_address;
 use mc_state::{derived_is_true, edges_come_and_go, nothing_is_allocated, numbers_stay_bounded};
@@ -28,6 +29,7 @@ pub fn certificates_are_safe()
     steps_are_sound();
     steps_stay_bounded();
     unfolding_is_sound();
+    back_is_sound();
     folding_is_sound();
     segments_are_closed();
     naming_is_sound();
@@ -46,6 +48,7 @@ pub fn last_pass_finds_faults()
     steps_are_sound();
     steps_stay_bounded();
     unfolding_is_sound();
+    back_is_sound();
     folding_is_sound();
     segments_are_closed();
     naming_is_sound();

@@ -12,6 +12,7 @@ ghost use Rattle.mc_kernel.specs.Rules.{Instance, IsCertificate};
 
 mod branch;
 mod examples;
+mod judged;
 mod laws;
 mod proof;
 mod rules;
@@ -20,6 +21,7 @@ mod wrong_jumps;
 
 pub use branch::Branch;
 pub use examples::{example_of_jump, failing_is_stuck, list_is_certified, loop_is_certified};
+pub use judged::lines_are_judged;
 pub use laws::{certificates_are_safe, jumps_are_sound, last_pass_finds_faults};
 pub use proof::{ApplyFault, Complete, Proof};
 pub use straight::straight_is_valid;

@@ -13,6 +13,7 @@ returns c =
       bounded = c.steps_stay_bounded.ensures;
       unfold_ind = c.unfolding_is_sound.ensures.ind;
       unfold_seg = c.unfolding_is_sound.ensures.seg;
+      unfold_back = c.back_is_sound.ensures;
       fold_ind = c.folding_is_sound.ensures.ind;
       fold_seg = c.folding_is_sound.ensures.seg;
       close = c.segments_are_closed.ensures.close;
