@@ -13,7 +13,7 @@ use Rattle.mc_fold.specs.Judges.{folding_ind, folding_seg, closing_seg, joining_
 use Rattle.mc_fold.specs.ChangeJudges.{naming_spare, merging_nodes, dropping_edge, forgetting_node}
 use Rattle.mc_fold.specs.Folded.{FoldsInd, FoldsSeg, ClosesSeg, JoinsSegs, MakesEmptySeg}
 use Rattle.mc_fold.specs.Changed.{NamesSpare, MergesNodes, DropsEdge, ForgetsNode}
-use Rattle.mc_unfold.specs.JudgedLaws as unfold
+use Rattle.mc_unfold.specs.JudgedLaws as opening
 use Rattle.mc_unfold.specs.Judges.{unfolding_ind, unfolding_seg}
 use Rattle.mc_unfold.specs.Unfolded.{UnfoldsInd, UnfoldsSeg}
 use Rattle.mc_back.specs.Laws as back
@@ -41,8 +41,8 @@ use Rattle.mc_kernel.proofs.Lists.{contains_here, contains_later, contains_none}
 -- the ties of all rules
 pub record Ties : Type 0 where
   pub steps : step.StepsAreJudged
-  pub ind : unfold.IndIsJudged
-  pub seg : unfold.SegIsJudged
+  pub ind : opening.IndIsJudged
+  pub seg : opening.SegIsJudged
   pub back : back.BackIsJudged
   pub fold_ind : fold.FoldIndIsJudged
   pub fold_seg : fold.FoldSegIsJudged
@@ -62,19 +62,22 @@ abbrev Says : Bool → Type 0 → Type 0
 Says test P = (test ≡ true) ↔ P
 
 tie_need : {A : Type 0} (k : ℕ) (test : Bool) (P : Type 0) (j : Judged A) (I : A → Type 0) → Says test P → IsJudged j I → IsJudged (need k test j) (λ a. P × I a)
-tie_need k test P j I says tie a =
-    (λ e. let both = need_ok k test j a e in (says.0 both.0, (tie a).0 both.1),
-    λ i. need_yes k test j (says.1 i.0) ∙ (tie a).1 i.1)
+tie_need k test P j I says tie a = (
+  λ e. let both = need_ok k test j a e in (says.0 both.0, (tie a).0 both.1),
+  λ i. need_yes k test j (says.1 i.0) ∙ (tie a).1 i.1,
+)
 
 tie_then : {A B : Type 0} (f : A → B) (j : Judged A) (I : A → Type 0) → IsJudged j I → IsJudged (then_give f j) (λ b. (a : A) × I a × (b ≡ f a))
-tie_then f j I tie b =
-    (λ e. let given = then_ok f j b e in (given.0, ((tie given.0).0 given.1, given.2)),
-    λ i. ap (then_give f) ((tie i.0).1 i.1.0) ∙ ap (λ b. Ok b) (sym i.1.1))
+tie_then f j I tie b = (
+  λ e. let given = then_ok f j b e in (given.0, ((tie given.0).0 given.1, given.2)),
+  λ i. ap (then_give f) ((tie i.0).1 i.1.0) ∙ ap (λ b. Ok b) (sym i.1.1),
+)
 
 tie_and : {A : Type 0} (k : ℕ) (test : Bool) (P : Type 0) (j : Judged A) (I : A → Type 0) → Says test P → IsJudged j I → IsJudged (and_need k test j) (λ a. P × I a)
-tie_and k test P (Ok x) I says tie a =
-    (λ e. let both = need_ok k test (Ok x) a e in (says.0 both.0, (tie a).0 both.1),
-    λ i. need_yes k test (Ok x) (says.1 i.0) ∙ (tie a).1 i.1)
+tie_and k test P (Ok x) I says tie a = (
+  λ e. let both = need_ok k test (Ok x) a e in (says.0 both.0, (tie a).0 both.1),
+  λ i. need_yes k test (Ok x) (says.1 i.0) ∙ (tie a).1 i.1,
+)
 tie_and k test P (Err x) I says tie a = (λ e. absurd (cc e), λ i. absurd (cc ((tie a).1 i.1)))
 
 -- the same judge of instances that are said in another way
@@ -112,9 +115,9 @@ contains_case cuts p q (suc i, less, e) = inr (i, omega arith, e)
 cut_to : (cuts : List PointId) (p : PointId) → Contains cuts p → is_cut cuts p ≡ true
 cut_to [] p c = absurd (contains_none p c)
 cut_to (q ∷ cuts) p c = elim (contains_case cuts p q c) [
-    | inl e ↦ let same : (q.0 == p.0) ≡ true = eq-eqb q.0 p.0 (ap (λ (r : PointId). r.0) e) in ap (λ (here : Bool). here || is_cut cuts p) same
-    | inr rest ↦ more (q.0 == p.0) (cut_to cuts p rest)
-  ]
+  | inl e ↦ let same : (q.0 == p.0) ≡ true = eq-eqb q.0 p.0 (ap (λ (r : PointId). r.0) e) in ap (λ (here : Bool). here || is_cut cuts p) same
+  | inr rest ↦ more (q.0 == p.0) (cut_to cuts p rest)
+]
   where
     more : (here : Bool) → is_cut cuts p ≡ true → (here || is_cut cuts p) ≡ true
     more true e = refl
@@ -136,25 +139,25 @@ or_right false b e = e
 
 step_says : (g : Setting) (b : Path) → Says (may_step g b) (MayStep g b)
 step_says g b = (
-    λ e.
-        let last = and_both (is_plain b && not b.closing) (not (is_cut g.cuts b.point) || not b.moved) e in
-        let front = and_both (is_plain b) (not b.closing) last.0 in
-        record {
-          plain = (plain_says b).0 front.0;
-          open_still = (no_yes b.closing).0 front.1;
-          before_cut = elim (or_from (not (is_cut g.cuts b.point)) (not b.moved) last.1) [
-            | inl n ↦ inl (λ c. clash (is_cut g.cuts b.point) n (cut_to g.cuts b.point c))
-            | inr n ↦ inr ((no_yes b.moved).0 n)
-          ];
-        },
-    λ m.
-        and_yes (is_plain b && not b.closing) (not (is_cut g.cuts b.point) || not b.moved)
-        (and_yes (is_plain b) (not b.closing) ((plain_says b).1 m.plain) ((no_yes b.closing).1 m.open_still))
-        (elim m.before_cut [
-          | inl n ↦ or_left (not (is_cut g.cuts b.point)) (not b.moved) (not_yes (is_cut g.cuts b.point) (λ e. n (cut_from g.cuts b.point e)))
-          | inr n ↦ or_right (not (is_cut g.cuts b.point)) (not b.moved) ((no_yes b.moved).1 n)
-        ]),
-  )
+  λ e.
+      let last = and_both (is_plain b && not b.closing) (not (is_cut g.cuts b.point) || not b.moved) e in
+      let front = and_both (is_plain b) (not b.closing) last.0 in
+      record {
+        plain = (plain_says b).0 front.0;
+        open_still = (no_yes b.closing).0 front.1;
+        before_cut = elim (or_from (not (is_cut g.cuts b.point)) (not b.moved) last.1) [
+          | inl n ↦ inl (λ c. clash (is_cut g.cuts b.point) n (cut_to g.cuts b.point c))
+          | inr n ↦ inr ((no_yes b.moved).0 n)
+        ];
+      },
+  λ m.
+      and_yes (is_plain b && not b.closing) (not (is_cut g.cuts b.point) || not b.moved)
+      (and_yes (is_plain b) (not b.closing) ((plain_says b).1 m.plain) ((no_yes b.closing).1 m.open_still))
+      (elim m.before_cut [
+        | inl n ↦ or_left (not (is_cut g.cuts b.point)) (not b.moved) (not_yes (is_cut g.cuts b.point) (λ e. n (cut_from g.cuts b.point e)))
+        | inr n ↦ or_right (not (is_cut g.cuts b.point)) (not b.moved) ((no_yes b.moved).1 n)
+      ]),
+)
   where
     clash : (x : Bool) → not x ≡ true → x ≡ true → ⊥
     clash true n e = cc n
@@ -162,14 +165,14 @@ step_says g b = (
 
 cut_place_says : (g : Setting) (b : Path) → Says (may_cut g b) (MayCut g b)
 cut_place_says g b = (
-    λ e.
-        let last = and_both (is_plain b && is_cut g.cuts b.point) b.moved e in
-        let front = and_both (is_plain b) (is_cut g.cuts b.point) last.0 in
-        record { plain = (plain_says b).0 front.0; at_cut = cut_from g.cuts b.point front.1; has_moved = last.1 },
-    λ m.
-        and_yes (is_plain b && is_cut g.cuts b.point) b.moved
-        (and_yes (is_plain b) (is_cut g.cuts b.point) ((plain_says b).1 m.plain) (cut_to g.cuts b.point m.at_cut)) m.has_moved,
-  )
+  λ e.
+      let last = and_both (is_plain b && is_cut g.cuts b.point) b.moved e in
+      let front = and_both (is_plain b) (is_cut g.cuts b.point) last.0 in
+      record { plain = (plain_says b).0 front.0; at_cut = cut_from g.cuts b.point front.1; has_moved = last.1 },
+  λ m.
+      and_yes (is_plain b && is_cut g.cuts b.point) b.moved
+      (and_yes (is_plain b) (is_cut g.cuts b.point) ((plain_says b).1 m.plain) (cut_to g.cuts b.point m.at_cut)) m.has_moved,
+)
 
 chain_says : (form : Form) → Says (is_chain form) (form ≡ Chain)
 chain_says Certificate = (λ e. absurd (cc e), λ e. absurd (cc e))
@@ -192,16 +195,16 @@ node_case ns n m (suc i, less, e) = inr (i, omega arith, e)
 node_among_to : (n : NodeId) (ns : List NodeId) → Contains ns n → is_one_of n ns ≡ true
 node_among_to n [] c = absurd (contains_none n c)
 node_among_to n (m ∷ ns) c = elim (node_case ns n m c) [
-    | inl e ↦ or_left (m.0 == n.0) (is_one_of n ns) (eq-eqb m.0 n.0 (ap (λ (r : NodeId). r.0) e))
-    | inr rest ↦ or_right (m.0 == n.0) (is_one_of n ns) (node_among_to n ns rest)
-  ]
+  | inl e ↦ or_left (m.0 == n.0) (is_one_of n ns) (eq-eqb m.0 n.0 (ap (λ (r : NodeId). r.0) e))
+  | inr rest ↦ or_right (m.0 == n.0) (is_one_of n ns) (node_among_to n ns rest)
+]
 
 free_says : (n : NodeId) (o : Option Goal) → Says (goal_is_free n o) (GoalNamesNot n o)
 free_says n None = (λ e. tt, λ e. refl)
 free_says n (Some goal) = (
-    λ e. λ c. clash (is_one_of n (goal.at ∷ goal.args)) e (node_among_to n (goal.at ∷ goal.args) c),
-    λ none. not_yes (is_one_of n (goal.at ∷ goal.args)) (λ e. none (node_among_from n (goal.at ∷ goal.args) e)),
-  )
+  λ e. λ c. clash (is_one_of n (goal.at ∷ goal.args)) e (node_among_to n (goal.at ∷ goal.args) c),
+  λ none. not_yes (is_one_of n (goal.at ∷ goal.args)) (λ e. none (node_among_from n (goal.at ∷ goal.args) e)),
+)
   where
     clash : (x : Bool) → not x ≡ true → x ≡ true → ⊥
     clash true n e = cc n
@@ -232,51 +235,51 @@ module _ (ties : Ties) (k : Knowledge) (flow : Flow) (defs : List Def) (g : Sett
 
   ended_false : IsJudged (ending_false know b) (EndsFalse b)
   ended_false next = (
-      λ e.
-          let one = need_ok 1 (not b.closing) _ next e in
-          let two = need_ok 2 (is_false know) _ next one.1 in
-          ((no_yes b.closing).0 one.0, (false_says.0 two.0, cc two.1)),
-      λ i.
-          need_yes 1 (not b.closing) (need 2 (is_false know) (Ok [])) ((no_yes b.closing).1 i.0)
-          ∙ need_yes 2 (is_false know) (Ok []) (false_says.1 i.1.0) ∙ ap (λ n. Ok n) (sym i.1.1),
-    )
+    λ e.
+        let one = need_ok 1 (not b.closing) _ next e in
+        let two = need_ok 2 (is_false know) _ next one.1 in
+        ((no_yes b.closing).0 one.0, (false_says.0 two.0, cc two.1)),
+    λ i.
+        need_yes 1 (not b.closing) (need 2 (is_false know) (Ok [])) ((no_yes b.closing).1 i.0)
+        ∙ need_yes 2 (is_false know) (Ok []) (false_says.1 i.1.0) ∙ ap (λ n. Ok n) (sym i.1.1),
+  )
 
   met : (edge : _) → IsJudged (have 1 b.goal (λ goal. then_give ends (meeting_goal know goal edge b.state))) (EndsSide edge b)
   met edge next = (
-      λ e.
-          let one = have_ok 1 b.goal _ next e in
-          let given = then_ok ends (meeting_goal know one.0 edge b.state) next one.2 in
-          record { goal = one.0; side = one.1; meets = (ties.goal know one.0 edge b.state tells given.0).0 given.1; gives = given.2 },
-      λ i.
-          have_yes 1 b.goal (λ goal. then_give ends (meeting_goal know goal edge b.state)) i.goal i.side
-          ∙ ap (then_give ends) ((ties.goal know i.goal edge b.state tells tt).1 i.meets) ∙ ap (λ n. Ok n) (sym i.gives),
-    )
+    λ e.
+        let one = have_ok 1 b.goal _ next e in
+        let given = then_ok ends (meeting_goal know one.0 edge b.state) next one.2 in
+        record { goal = one.0; side = one.1; meets = (ties.goal know one.0 edge b.state tells given.0).0 given.1; gives = given.2 },
+    λ i.
+        have_yes 1 b.goal (λ goal. then_give ends (meeting_goal know goal edge b.state)) i.goal i.side
+        ∙ ap (then_give ends) ((ties.goal know i.goal edge b.state tells tt).1 i.meets) ∙ ap (λ n. Ok n) (sym i.gives),
+  )
 
   stuck_says : Says (may_stick g b) (IsChain g × IsPlain b × (b.closing ≡ false))
   stuck_says = (
-      λ e.
-          let last = and_both (is_chain g.form && is_plain b) (not b.closing) e in
-          let front = and_both (is_chain g.form) (is_plain b) last.0 in
-          ((chain_says g.form).0 front.0, (plain_says b).0 front.1, (no_yes b.closing).0 last.1),
-      λ i.
-          and_yes (is_chain g.form && is_plain b) (not b.closing)
-          (and_yes (is_chain g.form) (is_plain b) ((chain_says g.form).1 i.0) ((plain_says b).1 i.1)) ((no_yes b.closing).1 i.2),
-    )
+    λ e.
+        let last = and_both (is_chain g.form && is_plain b) (not b.closing) e in
+        let front = and_both (is_chain g.form) (is_plain b) last.0 in
+        ((chain_says g.form).0 front.0, (plain_says b).0 front.1, (no_yes b.closing).0 last.1),
+    λ i.
+        and_yes (is_chain g.form && is_plain b) (not b.closing)
+        (and_yes (is_chain g.form) (is_plain b) ((chain_says g.form).1 i.0) ((plain_says b).1 i.1)) ((no_yes b.closing).1 i.2),
+  )
 
   stuck : IsJudged (stuck_at k g b) (IsStuck flow defs g b)
   stuck next = (
-      λ e.
-          let one = need_ok 1 (may_stick g b) _ next e in
-          let two = need_ok 2 (not (is_false know)) _ next one.1 in
-          let three = have_ok 3 (k.gap b.point b.state) _ next two.1 in
-          let place = stuck_says.0 one.0 in
-          record { chain = place.0; plain = place.1; open_still = place.2; gap = three.0; unmet = (asked.gap three.0).0 three.1; gives = cc three.2 },
-      λ i.
-          let there : may_stick g b ≡ true = stuck_says.1 (i.chain, i.plain, i.open_still) in
-          let fine : not (is_false know) ≡ true = is_sound know b.state tells i.unmet.consistent in
-          let gap : k.gap b.point b.state ≡ Some i.gap = (asked.gap i.gap).1 i.unmet in
-          rw there (rw fine (rw gap (ap (λ n. Ok n) (sym i.gives)))),
-    )
+    λ e.
+        let one = need_ok 1 (may_stick g b) _ next e in
+        let two = need_ok 2 (not (is_false know)) _ next one.1 in
+        let three = have_ok 3 (k.gap b.point b.state) _ next two.1 in
+        let place = stuck_says.0 one.0 in
+        record { chain = place.0; plain = place.1; open_still = place.2; gap = three.0; unmet = (asked.gap three.0).0 three.1; gives = cc three.2 },
+    λ i.
+        let there : may_stick g b ≡ true = stuck_says.1 (i.chain, i.plain, i.open_still) in
+        let fine : not (is_false know) ≡ true = is_sound know b.state tells i.unmet.consistent in
+        let gap : k.gap b.point b.state ≡ Some i.gap = (asked.gap i.gap).1 i.unmet in
+        rw there (rw fine (rw gap (ap (λ n. Ok n) (sym i.gives)))),
+  )
 
   jumped : (j : ℕ) (images : List NodeId) (edges : _) → IsJudged (need 1 (may_cut g b) (jumping_to know (states_at b.point g.heads) j images edges b.state)) (JumpsTo g j images edges b)
   jumped j images edges =
@@ -382,6 +385,6 @@ unmet_is_no_line ties k flow defs g l b premise next asked e i =
 
 pub lines_decided : Ties → LinesAreDecided
 lines_decided ties k flow defs g l b asked = elim (given_or_unmet (judged_line k flow defs g l b)) [
-    | inl given ↦ inl (given.0, (lines_judged ties k flow defs g l b asked given.0).0 given.1)
-    | inr unmet ↦ inr unmet
-  ]
+  | inl given ↦ inl (given.0, (lines_judged ties k flow defs g l b asked given.0).0 given.1)
+  | inr unmet ↦ inr unmet
+]
