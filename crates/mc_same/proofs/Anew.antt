@@ -38,7 +38,7 @@ place_none place low (k ∷ kinds) high n a less =
     place_later k kinds place n differ ∙ place_none (suc place) (suc k.0.0) kinds high n a.2 (omega arith)
 
 -- a node is there or it is none of them
-data Placed (place : ℕ) (kinds : Kinds) (n : ℕ) : Type 0 where
+pub data Placed (place : ℕ) (kinds : Kinds) (n : ℕ) : Type 0 where
   is_placed : place ≤ place_from place kinds n → place_from place kinds n < place + length kinds → Placed place kinds n
 
 placed_later : (place n : ℕ) (k : NodeId × Kind) (kinds : Kinds) → k.0.0 ≢ n → Placed (suc place) kinds n → Placed place (k ∷ kinds) n
@@ -51,49 +51,44 @@ kind_rest k kinds n kind e is =
     let other : (k.0.0 == n.0) ≡ false = ne_eqb k.0.0 n.0 e in
     ap (λ (b : Bool). if b then Some k.1 else kind_of kinds n) (sym other) ∙ is
 
-decide_same : (a b : ℕ) → (a ≡ b → ⊥) → a ≢ b
-decide_same a b h = h
-
 -- a node that is there has a place
 pub placed : (place : ℕ) (kinds : Kinds) (n : NodeId) (kind : Kind) → kind_of kinds n ≡ Some kind → Placed place kinds n.0
 placed place [] n kind e = absurd (cc e)
-placed place (k ∷ kinds) n kind e = at (k.0.0 == n.0) refl
+placed place (k ∷ kinds) n kind e = at (λ f. placed (suc place) kinds n kind f) (k.0.0 == n.0) refl
   where
-    at : (b : Bool) → (k.0.0 == n.0) ≡ b → Placed place (k ∷ kinds) n.0
-    at true is =
+    at : (kind_of kinds n ≡ Some kind → Placed (suc place) kinds n.0) → (b : Bool) → (k.0.0 == n.0) ≡ b → Placed place (k ∷ kinds) n.0
+    at rest true is =
         let same = place_here k kinds place n.0 (eqb-true k.0.0 n.0 is) in
         is_placed (omega arith) (omega arith)
-    at false is =
+    at rest false is =
         let differ : k.0.0 ≢ n.0 = λ q. (let yes' : (k.0.0 == n.0) ≡ true = eq-eqb k.0.0 n.0 q in cc (yes', is)) in
-        placed_later place n.0 k kinds differ (placed (suc place) kinds n kind (kind_rest k kinds n kind differ e))
+        placed_later place n.0 k kinds differ (rest (kind_rest k kinds n kind differ e))
 
 -- two nodes that are there have one place where they are one
 pub one_place : (place : ℕ) (kinds : Kinds) (m n : NodeId) (kind other : Kind) → kind_of kinds m ≡ Some kind → kind_of kinds n ≡ Some other → place_from place kinds m.0 ≡ place_from place kinds n.0 → m.0 ≡ n.0
 one_place place [] m n kind other e f same = absurd (cc e)
-one_place place (k ∷ kinds) m n kind other e f same = at (k.0.0 == m.0) (k.0.0 == n.0) refl refl
+one_place place (k ∷ kinds) m n kind other e f same = at (λ d p q. one_place (suc place) kinds m n kind other d p q) (k.0.0 == m.0) (k.0.0 == n.0) refl refl
   where
-    at : (b c : Bool) → (k.0.0 == m.0) ≡ b → (k.0.0 == n.0) ≡ c → m.0 ≡ n.0
-    at true true is also = sym (eqb-true k.0.0 m.0 is) ∙ eqb-true k.0.0 n.0 also
-    at true false is also =
-        let differ : k.0.0 ≢ n.0 = λ q. (let yes' : (k.0.0 == n.0) ≡ true = eq-eqb k.0.0 n.0 q in cc (yes', also)) in
-        let here = place_here k kinds place m.0 (eqb-true k.0.0 m.0 is) in
-        let there = place_later k kinds place n.0 differ in
-        far (placed (suc place) kinds n other (kind_rest k kinds n other differ f)) here there
-      where
-        far : Placed (suc place) kinds n.0 → place_from place (k ∷ kinds) m.0 ≡ place → place_from place (k ∷ kinds) n.0 ≡ place_from (suc place) kinds n.0 → m.0 ≡ n.0
-        far (is_placed low high) here there = let e2 = same in absurd (omega arith)
-    at false true is also =
-        let differ : k.0.0 ≢ m.0 = λ q. (let yes' : (k.0.0 == m.0) ≡ true = eq-eqb k.0.0 m.0 q in cc (yes', is)) in
-        let here = place_here k kinds place n.0 (eqb-true k.0.0 n.0 also) in
-        let there = place_later k kinds place m.0 differ in
-        far (placed (suc place) kinds m kind (kind_rest k kinds m kind differ e)) here there
-      where
-        far : Placed (suc place) kinds m.0 → place_from place (k ∷ kinds) n.0 ≡ place → place_from place (k ∷ kinds) m.0 ≡ place_from (suc place) kinds m.0 → m.0 ≡ n.0
-        far (is_placed low high) here there = let e2 = same in absurd (omega arith)
-    at false false is also =
-        let differ : k.0.0 ≢ m.0 = λ q. (let yes' : (k.0.0 == m.0) ≡ true = eq-eqb k.0.0 m.0 q in cc (yes', is)) in
-        let differs : k.0.0 ≢ n.0 = λ q. (let yes' : (k.0.0 == n.0) ≡ true = eq-eqb k.0.0 n.0 q in cc (yes', also)) in
-        one_place (suc place) kinds m n kind other (kind_rest k kinds m kind differ e) (kind_rest k kinds n other differs f)
+    far : (j : ℕ) → Placed (suc place) kinds j → place ≡ place_from (suc place) kinds j → ⊥
+    far j (is_placed low high) e2 = omega arith
+
+    apart : (j : NodeId) → (k.0.0 == j.0) ≡ false → k.0.0 ≢ j.0
+    apart j is = λ q. (let yes' : (k.0.0 == j.0) ≡ true = eq-eqb k.0.0 j.0 q in cc (yes', is))
+
+    at : (kind_of kinds m ≡ Some kind → kind_of kinds n ≡ Some other → place_from (suc place) kinds m.0 ≡ place_from (suc place) kinds n.0 → m.0 ≡ n.0) → (b c : Bool) → (k.0.0 == m.0) ≡ b → (k.0.0 == n.0) ≡ c → m.0 ≡ n.0
+    at rest true true is also = sym (eqb-true k.0.0 m.0 is) ∙ eqb-true k.0.0 n.0 also
+    at rest true false is also =
+        let differ = apart n also in
+        absurd (far n.0 (placed (suc place) kinds n other (kind_rest k kinds n other differ f))
+        (sym (place_here k kinds place m.0 (eqb-true k.0.0 m.0 is)) ∙ same ∙ place_later k kinds place n.0 differ))
+    at rest false true is also =
+        let differ = apart m is in
+        absurd (far m.0 (placed (suc place) kinds m kind (kind_rest k kinds m kind differ e))
+        (sym (place_here k kinds place n.0 (eqb-true k.0.0 n.0 also)) ∙ sym same ∙ place_later k kinds place m.0 differ))
+    at rest false false is also =
+        let differ = apart m is in
+        let differs = apart n also in
+        rest (kind_rest k kinds m kind differ e) (kind_rest k kinds n other differs f)
         (sym (place_later k kinds place m.0 differ) ∙ same ∙ place_later k kinds place n.0 differs)
 
 -- each node of a list has the next place
@@ -126,27 +121,27 @@ places_ascend f place high (k ∷ kinds) a less =
     let is = a.0 in
     let low : place < suc (f k.0.0) = omega arith in
     let below : f k.0.0 < high = omega arith in
-    (low, (below, subst (λ (n : ℕ). NodesAscend n (moved_kinds f kinds) high) (ap suc (sym is)) (places_ascend f (suc place) high kinds a.1 (omega arith))))
+    (low, below, subst (λ (n : ℕ). NodesAscend n (moved_kinds f kinds) high) (ap suc (sym is)) (places_ascend f (suc place) high kinds a.1 (omega arith)))
 
 -- the image of a node that is there is there
 image_there : (f : ℕ → ℕ) (kinds : Kinds) (n : NodeId) (kind : Kind) → kind_of kinds n ≡ Some kind → (other : Kind) × (kind_of (moved_kinds f kinds) (moved f n) ≡ Some other)
 image_there f [] n kind e = absurd (cc e)
-image_there f (k ∷ kinds) n kind e = at (k.0.0 == n.0) refl
+image_there f (k ∷ kinds) n kind e = at (λ g. image_there f kinds n kind g) (k.0.0 == n.0) refl
   where
     behind : (kind_of kinds n ≡ Some kind → (other : Kind) × (kind_of (moved_kinds f kinds) (moved f n) ≡ Some other)) → k.0.0 ≢ n.0 → (c : Bool) → (other : Kind) × ((if c then Some k.1 else kind_of (moved_kinds f kinds) (moved f n)) ≡ Some other)
     behind rest differ true = (k.1, refl)
     behind rest differ false = rest (kind_rest k kinds n kind differ e)
 
-    at : (b : Bool) → (k.0.0 == n.0) ≡ b → (other : Kind) × (kind_of (moved_kinds f (k ∷ kinds)) (moved f n) ≡ Some other)
-    at true is =
+    at : (kind_of kinds n ≡ Some kind → (other : Kind) × (kind_of (moved_kinds f kinds) (moved f n) ≡ Some other)) → (b : Bool) → (k.0.0 == n.0) ≡ b → (other : Kind) × (kind_of (moved_kinds f (k ∷ kinds)) (moved f n) ≡ Some other)
+    at rest true is =
         let one : (f k.0.0 == f n.0) ≡ true = eq-eqb (f k.0.0) (f n.0) (ap f (eqb-true k.0.0 n.0 is)) in
         (k.1, ap (λ (b : Bool). if b then Some k.1 else kind_of (moved_kinds f kinds) (moved f n)) one)
-    at false is =
+    at rest false is =
         let differ : k.0.0 ≢ n.0 = λ q. (let yes' : (k.0.0 == n.0) ≡ true = eq-eqb k.0.0 n.0 q in cc (yes', is)) in
-        behind (λ e. image_there f kinds n kind e) differ (f k.0.0 == f n.0)
+        behind rest differ (f k.0.0 == f n.0)
 
 -- ---- the whole state
-numbered_node : ℕ → NodeId
+abbrev numbered_node : ℕ → NodeId
 numbered_node n = record { 0 = n }
 
 module _ (s : State) (bounded : IsBounded s) where
@@ -180,12 +175,12 @@ module _ (s : State) (bounded : IsBounded s) where
   kinds_ascend : NodesAscend 1 (moved_kinds (place_in s) s.kinds) (suc (length s.kinds))
   kinds_ascend = places_ascend (place_in s) 1 (suc (length s.kinds)) s.kinds (all_placed 1 1 s.kinds s.next bounded.kinds) (omega arith)
 
-edges_of : Edges → List Edge
+abbrev edges_of : Edges → List Edge
 edges_of es = map (λ (e : EdgeId × Edge). e.1) es
 
 ids_numbered : (n high : ℕ) (es : List Edge) → n + length es ≤ high → IdsAscend n (numbered n es) high
 ids_numbered n high [] less = tt
-ids_numbered n high (e ∷ es) less = (omega arith, (omega arith, ids_numbered (suc n) high es (omega arith)))
+ids_numbered n high (e ∷ es) less = (omega arith, omega arith, ids_numbered (suc n) high es (omega arith))
 
 each_numbered : (P : Edge → Type 0) (n : ℕ) (es : Edges) → AllByRecursion (λ (e : EdgeId × Edge). P e.1) es → AllByRecursion (λ (e : EdgeId × Edge). P e.1) (numbered n (edges_of es))
 each_numbered P n [] a = tt
@@ -215,7 +210,7 @@ anew_is_bounded law s b =
 -- the parts of edges do not depend on their ids
 parts_numbered : (defs : List Def) (v : Valuation) (n : ℕ) (es : Edges) (region : Region) → EdgesMeet defs v es region → EdgesMeet defs v (numbered n (edges_of es)) region
 parts_numbered defs v n [] region star = star
-parts_numbered defs v n (e ∷ es) region star = (star.0, (star.1.0, (star.1.1.0, (star.1.1.1.0, parts_numbered defs v (suc n) es star.1.0 star.1.1.1.1))))
+parts_numbered defs v n (e ∷ es) region star = (star.0, star.1, star.2, star.3, parts_numbered defs v (suc n) es star.1 star.4)
 
 pub anew_stands : StandsRenamed → AnewStands
 anew_stands law defs values region s b stands =

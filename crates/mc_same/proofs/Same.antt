@@ -19,7 +19,7 @@ use Rattle.mc_state.specs.Fits.{AreNodes}
 use Rattle.mc_same.specs.Same.{IsRenaming, AreSameUnder}
 use Rattle.mc_same.specs.Laws.{SameAsItself, SameIsTurned, SameIsPassedOn}
 
-numbered_node : ℕ → NodeId
+abbrev numbered_node : ℕ → NodeId
 numbered_node n = record { 0 = n }
 
 all_left : (P : NodeId → Type 0) (xs ys : List NodeId) → AllByRecursion P (xs ++ ys) → AllByRecursion P xs × AllByRecursion P ys
@@ -135,7 +135,7 @@ module _ (f g : ℕ → ℕ) where
   twice_edge (Ind at pred args) = ap (λ (l : List NodeId). Ind (moved g (moved f at)) pred l) (twice_nodes args)
   twice_edge (Seg at args pred stop ends) = ap₂ (λ (l : List NodeId) (m : List NodeId). Seg (moved g (moved f at)) l pred (moved g (moved f stop)) m) (twice_nodes args) (twice_nodes ends)
 
-  twice_edges : (es : Edges) → map (λ (e : EdgeId × Edge). (e.0, moved_edge (λ n. g (f n)) e.1)) es ≡ map (λ (e : EdgeId × Edge). (e.0, moved_edge g e.1)) (map (λ (e : EdgeId × Edge). (e.0, moved_edge f e.1)) es)
+  twice_edges : (es : Edges) → map {A = EdgeId × Edge} {B = EdgeId × Edge} (λ (e : EdgeId × Edge). (e.0, moved_edge (λ n. g (f n)) e.1)) es ≡ map {A = EdgeId × Edge} {B = EdgeId × Edge} (λ (e : EdgeId × Edge). (e.0, moved_edge g e.1)) (map {A = EdgeId × Edge} {B = EdgeId × Edge} (λ (e : EdgeId × Edge). (e.0, moved_edge f e.1)) es)
   twice_edges [] = refl
   twice_edges (e ∷ es) = ap₂ (λ (x : Edge) (l : Edges). (e.0, x) ∷ l) (twice_edge e.1) (twice_edges es)
 
