@@ -139,7 +139,7 @@ fields_there flow s n shape f kind block fits field =
     let info = e.0 in
     let known : slice_get flow.structs.list shape.0 ≡ Some info = e.1 in
     let inside : option_map (λ f. f.kind) (slice_get info.fields f) ≡ Some kind =
-        sym (ap (option_and_then (λ (info : StructInfo). option_map (λ f. f.kind) (slice_get info.fields f))) known) ∙ field in
+    sym (ap (option_and_then (λ (info : StructInfo). option_map (λ f. f.kind) (slice_get info.fields f))) known) ∙ field in
     let there = map_there (λ f. f.kind) info.fields f kind inside in
     let long = same_length s.kinds (map (λ f. f.kind) info.fields) block.fields e.2 in
     omega arith

@@ -207,7 +207,7 @@ module _ (know : Test) (flow : Flow) (p : PointId) (s : State) (tells : Tells kn
       let node : operand_node s i.o ≡ Some i.n = i.known in
       let args : operand_nodes (with_operand s i.o) i.os ≡ Some i.args = nodes_to i.os (with_operand s i.o) i.args i.args_known in
       let side : i.side ≡ side_branch p i.pred i.n i.args (with_operands (with_operand s i.o) i.os) =
-          i.side_is ∙ ap (λ goal. record { point = p; goal = Some goal; state = with_operands (with_operand s i.o) i.os }) i.goal_is in
+      i.side_is ∙ ap (λ goal. record { point = p; goal = Some goal; state = with_operands (with_operand s i.o) i.os }) i.goal_is in
       rw here (rw sound (rw node (rw args (ok_to _ next (i.gives ∙ ap (λ (n : Next). n ∷ moved_to i.q s ∷ []) side)))))
 
   pub end_from : ending know (code_at flow p) s ≡ Ok next → S17Is flow p s next

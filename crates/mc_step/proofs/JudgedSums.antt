@@ -233,7 +233,7 @@ module _ (op : Operation) (offsets : NodeId → NodeId → NodeId → Range → 
       let left_mid = least_range_has_number (pure_of before) m.a m.left.lo m.left.hi m.left_range in
       let right_mid = least_range_has_number (pure_of before) m.b m.right.lo m.right.hi m.right_range in
       let new = λ (t : State). moved_to q (with_atoms (with_var (with_nodes t (Int ∷ [])) x (Some (next_node t)))
-          (range_atoms op.apply (next_node t) m.left m.right m.results ++ offsets (next_node t) m.a m.b m.left m.right)) ∷ [] in
+      (range_atoms op.apply (next_node t) m.left m.right m.results ++ offsets (next_node t) m.a m.b m.left m.right)) ∷ [] in
       let n = next_node before in
       let written = least_atoms (IsOutcome op.apply m.left m.right) (op.ends (ends_of m.left) (ends_of m.right)) (spans m.left m.right left_mid right_mid) n m.results m.results_range in
       m.gives ∙ ap new m.operands

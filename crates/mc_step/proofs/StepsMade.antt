@@ -237,7 +237,7 @@ module _ (laws : MadeLaws) (flow : Flow) (defs : List Def) (valid : IsValid flow
       let there : AreNodes t.kinds (nodes_of new) = (more.0, known_set (IsNode t.kinds) b.fields i.f i.m (kind, operand.has) more.1) in
       let fits_defs : EdgeFitsDefs defs t.kinds new = (operand.grows Ptr b.at old.0, λ p r d rule there is block. length_set b.fields i.f (Some i.m) ∙ old.1 p r d rule there is block) in
       let fits_structs : EdgeFitsStructs structs t.kinds new =
-          (own.0, own.1, kind_set t.kinds ks b.fields i.f kind (Some i.m) (all_may_grow s.kinds t.kinds operand.grows ks b.fields own.2) (kind_of_field i.shape i.f kind own.0 own.1 fits.2) operand.has) in
+      (own.0, own.1, kind_set t.kinds ks b.fields i.f kind (Some i.m) (all_may_grow s.kinds t.kinds operand.grows ks b.fields own.2) (kind_of_field i.shape i.f kind own.0 own.1 fits.2) operand.has) in
       one_made next i.q (with_replaced i.before b.id new) i.gives
       (subst (λ (u : State). Made (with_replaced u b.id new)) (sym i.operand) (replaced_made laws defs flow.vars structs t b.id new operand.made there fits_defs fits_structs))
 
@@ -333,7 +333,7 @@ module _ (laws : MadeLaws) (flow : Flow) (defs : List Def) (valid : IsValid flow
       let new = new_kind laws defs flow.vars structs i.before Ptr made in
       let grown = have_grows i.before.kinds t.kinds (new_grows laws defs flow.vars structs i.before Ptr made) d.params i.args args in
       let put = edge_made laws defs flow.vars structs t (edge.Ind n i.pred i.args) (nodes_made laws defs flow.vars structs i.before (Ptr ∷ []) made)
-          ((Ptr, new), have_nodes t.kinds d.params i.args grown) (new, (d, fits.1.defined, grown)) tt in
+      ((Ptr, new), have_nodes t.kinds d.params i.args grown) (new, (d, fits.1.defined, grown)) tt in
       one_made next i.q (with_var (with_shape i.pred i.args i.before) i.x (Some n)) i.gives
       (set_made laws defs flow.vars structs (with_shape i.pred i.args i.before) i.x Ptr n put fits.0 new)
 

@@ -99,7 +99,7 @@ result_atoms op n left right =
 abbrev pub with_result : Operation → VarId → NodeId → NodeId → Ends → Ends → State → State
 with_result op x a b left right s =
     with_atoms (with_var (with_nodes s (Int ∷ [])) x (Some (next_node s)))
-      (result_atoms op (next_node s) left right ++ op.offsets (next_node s) a b left right)
+    (result_atoms op (next_node s) left right ++ op.offsets (next_node s) a b left right)
 
 -- the left number is at most the right one, where they lie in these ranges
 abbrev pub at_most_atoms : NodeId → NodeId → Ends → Ends → List Atom
