@@ -1,6 +1,6 @@
 -- Premises that are unmet at the states of the small flow graph.
-use Rattle.std.proofs.Common.{◌≡◌, [], ◌∷◌, Bool, true, false, Some, refl, ap, sym, ◌∙◌, subst, arith, inl, inr, ℤ, pos, ◌+ℤ◌}
-use Rattle.std.specs.Prelude.{not, Err}
+use Rattle.std.proofs.Common.{◌≡◌, [], ◌∷◌, Bool, true, false, Some, refl, arith, inl, inr, pos, ◌+ℤ◌}
+use Rattle.std.specs.Prelude.{not}
 use Rattle.std.specs.Int.{int_wrap}
 use Rattle.std.proofs.lemmas.Int.{ints}
 use Rattle.mc_base.specs.declared.plain.Atom.TheVariants.{Eq, In}

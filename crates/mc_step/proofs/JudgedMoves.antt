@@ -1,10 +1,9 @@
 -- The rules of moves, tests for equality, shapes and ends are judged by their instances.
-use Rattle.std.proofs.Common.{◌≡◌, List, [], ◌∷◌, Bool, true, false, Option, Some, None, refl, ap, ap₂, ◌∙◌, pos}
+use Rattle.std.proofs.Common.{◌≡◌, List, [], ◌∷◌, true, Option, Some, None, refl, ap, ap₂, ◌∙◌, pos}
 use Rattle.std.specs.Prelude.{not, Ok}
 use Rattle.mc_base.specs.declared.ids.NodeId.{NodeId}
 use Rattle.mc_base.specs.declared.ids.PointId.{PointId}
 use Rattle.mc_base.specs.declared.plain.Atom.TheVariants.{Eq, Ne}
-use Rattle.mc_base.specs.Nodes.{null}
 use Rattle.mc_flow.specs.declared.graph.Flow.{Flow}
 use Rattle.mc_flow.specs.declared.instr.Operand.{Operand}
 use Rattle.mc_graph.specs.Graph.{Edges}

@@ -1,5 +1,5 @@
 -- The rules of sums, differences, products and comparisons are judged by their instances.
-use Rattle.std.proofs.Common.{◌≡◌, ◌++◌, List, [], ◌∷◌, Bool, true, false, Option, Some, None, refl, ap, ap₂, sym, ◌∙◌, subst, arith, ℤ, pos, negsuc, ◌+ℤ◌, ◌-ℤ◌, ◌*ℤ◌, ◌≤ℤ◌}
+use Rattle.std.proofs.Common.{◌≡◌, ◌++◌, List, [], ◌∷◌, Bool, true, false, Option, Some, None, refl, ap, ap₂, sym, ◌∙◌, subst, arith, ℤ, pos, negsuc, ◌+ℤ◌, ◌-ℤ◌, ◌≤ℤ◌}
 use Rattle.std.specs.Prelude.{◌&&◌, not, Ok, int_le, if◌then◌else◌}
 use Rattle.std.proofs.lemmas.Int.{ints}
 use Rattle.mc_base.specs.declared.ids.NodeId.{NodeId}
@@ -16,7 +16,6 @@ use Rattle.mc_flow.specs.declared.instr.Operand.{Operand}
 use Rattle.mc_flow.specs.Valid.{IsValid, IsOperand}
 use Rattle.mc_flow.specs.Values.{wrapped}
 use Rattle.mc_premises.specs.Known.{Test, Tells, is_false}
-use Rattle.mc_premises.specs.Premises.{Judged}
 use Rattle.mc_premises.proofs.Numbered.{need_ok, have_ok}
 use Rattle.mc_premises.proofs.Tests.{not_false, is_sound}
 use Rattle.mc_pure.specs.Pure.{Pure}

@@ -1,5 +1,5 @@
 -- A rule of instructions has one list of successors.
-use Rattle.std.proofs.Common.{◌≡◌, List, [], ◌∷◌, Option, Some, None, slice_get, refl, ap, ap₂, sym, ◌∙◌, subst, pos}
+use Rattle.std.proofs.Common.{◌≡◌, List, [], ◌∷◌, Option, Some, slice_get, refl, ap, ap₂, sym, ◌∙◌, subst, pos}
 use Rattle.mc_base.specs.declared.ids.EdgeId.{EdgeId}
 use Rattle.mc_base.specs.declared.ids.NodeId.{NodeId}
 use Rattle.mc_base.specs.declared.ids.PointId.{PointId}
@@ -10,7 +10,6 @@ use Rattle.mc_base.specs.declared.plain.Atom.TheVariants.{Eq, Ne}
 use Rattle.mc_base.specs.Nodes.{null}
 use Rattle.mc_defs.specs.declared.rules.Def.{Def}
 use Rattle.mc_flow.specs.declared.graph.Flow.{Flow}
-use Rattle.mc_flow.specs.declared.instr.Instr.{Instr}
 use Rattle.mc_flow.specs.declared.instr.Instr.TheVariants as instr
 use Rattle.mc_flow.specs.declared.instr.Operand.{Operand}
 use Rattle.mc_flow.specs.Steps.{field_count}
@@ -25,10 +24,10 @@ use Rattle.mc_state.specs.State.{State, pure_of, var_node, with_var, without_var
 use Rattle.mc_state.specs.Facts.{IsFalse, AreEqual}
 use Rattle.mc_step.specs.declared.next.Next.{Next}
 use Rattle.mc_step.specs.Instructions.{CopyParts, ResultParts, LoadParts, StoreParts, MallocParts, TestParts, AssumeParts, AssertParts, skip_of, copy_of, undef_of, input_of, add_of, sub_of, mul_of, load_of, store_of, malloc_of, free_of, test_eq_of, test_le_of, assume_of, assert_of, empty_of}
-use Rattle.mc_step.specs.JudgedLaws.{IsStepBy, StepsAreOne}
+use Rattle.mc_step.specs.JudgedLaws.{StepsAreOne}
 use Rattle.mc_step.specs.Judges.{InstrRule, with_replaced, with_freed, with_shape, side_branch}
 use Rattle.mc_step.specs.Judges as rule
-use Rattle.mc_step.specs.Operands.{code_at, operand_node, with_operand, with_operands, AreNodesOf, HasBlock}
+use Rattle.mc_step.specs.Operands.{code_at, operand_node, with_operand, with_operands, HasBlock}
 use Rattle.mc_step.specs.Steps.{moved_to, sum_offsets, difference_offsets, no_offsets, Computes, S1Is, S2Is, S3Is, S4Is, S5Is, S6Is, S7Is, S8Is, S9Is, S10Is, S11Is, S12Is, S13Is, S14Is, S15Is, S16Is, S18Is}
 use Rattle.mc_step.specs.Sums.{Ends, Operation, sum, difference, product, with_result, at_most_atoms, above_atoms}
 use Rattle.mc_step.proofs.Gaps.{same_node}

@@ -1,5 +1,5 @@
 -- How states stay well made.
-use Rattle.std.proofs.Common.{◌≡◌, ◌≤◌, ℕ, suc, List, [], ◌∷◌, ◌++◌, length, map, Bool, true, false, Option, Some, None, slice_get, slice_set, refl, ap, sym, ◌∙◌, subst, inl, inr, arith, ℤ, pos, negsuc, ◌≤ℤ◌}
+use Rattle.std.proofs.Common.{◌≡◌, List, [], ◌∷◌, map, Bool, true, false, Some, None, refl, sym, subst, inl, arith, ℤ, pos}
 use Rattle.std.specs.Prelude.{if◌then◌else◌}
 use Rattle.std.specs.List.{AllByRecursion}
 use Rattle.std.specs.Ordering.{int_eq}
@@ -24,13 +24,13 @@ use Rattle.mc_flow.specs.Valid.{IsVar, IsOperand, ArgsFit}
 use Rattle.mc_graph.specs.declared.edge.Edge.{Edge}
 use Rattle.mc_graph.specs.Edges.{nodes_of}
 use Rattle.mc_graph.specs.Graph.{edge_with, without, numbered}
-use Rattle.mc_pure.specs.Pure.{HasKind, IsNode, IsWellFormed}
+use Rattle.mc_pure.specs.Pure.{HasKind, IsWellFormed}
 use Rattle.mc_state.specs.State.{State, next_node, with_var, without_vars, with_nodes, with_atoms, with_edges, with_only_edges, with_number}
 use Rattle.mc_state.specs.Fits.{AreNodes, HaveKinds, EdgeFitsDefs, EdgeFitsStructs, IsWellMade}
 use Rattle.mc_step.specs.Judges.{with_replaced}
 use Rattle.mc_step.specs.Operands.{operand_node, with_operand, with_operands, AreNodesOf}
-use Rattle.mc_step.proofs.Grown.{Grows, atom_grows, have_grows, defs_grow, structs_grow, all_may_grow, known_kind, kind_set, unknown_set, get_slice, map_slice, all_without, all_replaced, atom_there}
-use Rattle.mc_step.proofs.Lists.{all_append, all_map, edge_at}
+use Rattle.mc_step.proofs.Grown.{Grows, atom_grows, defs_grow, structs_grow, all_may_grow, known_kind, kind_set, unknown_set, get_slice, map_slice, all_without, all_replaced, atom_there}
+use Rattle.mc_step.proofs.Lists.{all_append, all_map}
 use Rattle.mc_step.proofs.LowerLaws.{MadeLaws}
 
 module _ (laws : MadeLaws) (defs : List Def) (vars : List VarInfo) (structs : List StructInfo) where

@@ -1,5 +1,5 @@
 -- What rules of instructions give at a state, or the first premise that is unmet.
-use Rattle.std.specs.Prelude.{◌&&◌, not, ℕ, Bool, true, false, List, [], ◌∷◌, pos, Option, Some, None, Ok, map, slice_get}
+use Rattle.std.specs.Prelude.{◌&&◌, not, ℕ, Bool, true, false, List, [], ◌∷◌, pos, Option, Some, None, Ok, slice_get}
 use Rattle.std.specs.List.{find}
 use Rattle.mc_base.specs.declared.ids.EdgeId.{EdgeId}
 use Rattle.mc_base.specs.declared.ids.NodeId.{NodeId}
