@@ -1,12 +1,12 @@
 -- Back positions as a test.
-use Rattle.std.proofs.Common.{◌≡◌, ◌<◌, ℕ, List, Bool, true, false, ◌&&◌, Option, Some, None, length, refl, sym, ap, ◌∙◌, eqb-true, eq-eqb, arith}
+use Rattle.std.proofs.Common.{◌≡◌, ◌<◌, ℕ, List, Bool, true, false, Option, Some, None, length, refl, sym, ap, ◌∙◌, eqb-true, eq-eqb, arith}
 use Rattle.std.specs.Prelude.{◌==◌, nat_lt, slice_get, if◌then◌else◌}
 use Rattle.std.specs.List.{list_all, AllByRecursion}
 use Rattle.mc_base.specs.declared.ids.PredId.{PredId}
 use Rattle.mc_defs.specs.declared.rules.Call.{Call}
 use Rattle.mc_defs.specs.declared.rules.Def.{Def}
 use Rattle.mc_defs.specs.declared.rules.Rule.{Rule}
-use Rattle.mc_premises.specs.Back.{is_back_call, IsBackPosition, is_back_of, is_back}
+use Rattle.mc_premises.specs.Back.{is_back_call, IsBackPosition, is_back_of}
 use Rattle.mc_premises.specs.Lists.{on_some}
 use Rattle.mc_premises.specs.Laws.{BackIsTold}
 use Rattle.mc_premises.proofs.Tests.{and_both, and_yes, each_from, each_to}
