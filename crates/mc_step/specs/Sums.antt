@@ -70,7 +70,7 @@ difference =
       offsets = λ n a b left right. shift_atoms n a left right (neg_ℤ right.lo);
     }
 
--- the least and the greatest of four numbers
+-- the least of four numbers
 abbrev pub least_of : ℤ → ℤ → ℤ → ℤ → ℤ
 least_of a b c d = int_min (int_min a b) (int_min c d)
 
@@ -78,7 +78,7 @@ least_of a b c d = int_min (int_min a b) (int_min c d)
 abbrev pub greatest_of : ℤ → ℤ → ℤ → ℤ → ℤ
 greatest_of a b c d = int_max (int_max a b) (int_max c d)
 
--- products
+-- products: an operand and a number more is none of them
 abbrev pub product : Operation
 product =
     record {
@@ -93,7 +93,9 @@ product =
 -- the result of two single numbers is their wrapped result; another lies in the range of results, where that lies in `int`
 abbrev pub result_atoms : Operation → NodeId → Ends → Ends → List Atom
 result_atoms op n left right =
-    if is_one left && is_one right then In n (wrapped (op.apply left.lo right.lo)) (wrapped (op.apply left.lo right.lo)) ∷ [] else int_atoms n (op.ends left right)
+    if is_one left && is_one right
+    then In n (wrapped (op.apply left.lo right.lo)) (wrapped (op.apply left.lo right.lo)) ∷ []
+    else int_atoms n (op.ends left right)
 
 -- the variable at a new node, which is the result
 abbrev pub with_result : Operation → VarId → NodeId → NodeId → Ends → Ends → State → State
