@@ -33,6 +33,11 @@ use Rattle.mc_step.proofs.Grown.{Grows, atom_grows, defs_grow, structs_grow, all
 use Rattle.mc_step.proofs.Lists.{all_append, all_map}
 use Rattle.mc_step.proofs.LowerLaws.{MadeLaws}
 
+-- a constant other than 0 is an `int`
+pub int_const : (vars : List VarInfo) (kind : Kind) (c : ℤ) → IsOperand vars kind (Const c) → int_eq c (pos 0) ≡ false → (kind ≡ Int) × InKind Int c
+int_const vars Int c fits e = (refl, fits)
+int_const vars Ptr c fits e = let zero : int_eq c (pos 0) ≡ true = (Decides-int_eq c (pos 0)).1 fits in absurd (cc (zero, e))
+
 module _ (laws : MadeLaws) (defs : List Def) (vars : List VarInfo) (structs : List StructInfo) where
   -- the state is well made
   abbrev pub Made : State → Type 0
@@ -134,16 +139,11 @@ module _ (laws : MadeLaws) (defs : List Def) (vars : List VarInfo) (structs : Li
   var_kind s x kind n m is known =
       known_kind s.kinds (map (λ x. x.kind) vars) s.env x.0 kind n m.fits_program.vars_fit (map_slice (λ (x : VarInfo). x.kind) vars x.0 kind is) (get_slice s.env x.0 n known)
 
-  -- a constant other than 0 is an `int`
-  int_const : (kind : Kind) (c : ℤ) → IsOperand vars kind (Const c) → int_eq c (pos 0) ≡ false → (kind ≡ Int) × InKind Int c
-  int_const Int c fits e = (refl, fits)
-  int_const Ptr c fits e = let zero : int_eq c (pos 0) ≡ true = (Decides-int_eq c (pos 0)).1 fits in absurd (cc (zero, e))
-
   const_made : (s : State) (kind : Kind) (c : ℤ) (zero : Bool) → IsOperand vars kind (Const c) → int_eq c (pos 0) ≡ zero → Made s
       → OperandMade s kind (if◌then◌else◌ {A = NodeId} zero null (next_node s)) (if◌then◌else◌ {A = State} zero s (with_number s c))
   const_made s kind c true fits e m = record { made = m; has = inl refl; grows = λ k n h. h }
   const_made s kind c false fits e m =
-      let is = int_const kind c fits e in
+      let is = int_const vars kind c fits e in
       let low = is.1.0 in
       let high = is.1.1 in
       let t = with_nodes s (Int ∷ []) in
