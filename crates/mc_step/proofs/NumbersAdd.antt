@@ -1,12 +1,9 @@
 -- A new node that is a number tells nothing of the other nodes.
-use Rattle.std.proofs.Common.{◌≡◌, ◌≢◌, ◌⊎◌, ◌<◌, ◌≤◌, ℕ, zero, suc, List, [], ◌∷◌, ◌++◌, Bool, true, false, Option, Some, None, slice_get, eq-eqb, refl, ap, ap₂, sym, ◌∙◌, subst, inl, inr, arith, ℤ, pos, negsuc, neg_ℤ, ◌+ℤ◌, ◌-ℤ◌, ◌≤ℤ◌, ◌<ℤ◌}
+use Rattle.std.proofs.Common.{◌≡◌, ◌⊎◌, ◌<◌, ℕ, zero, suc, List, [], ◌∷◌, ◌++◌, Bool, true, false, Some, None, slice_get, eq-eqb, refl, ap, ap₂, sym, ◌∙◌, subst, inl, inr, arith, ℤ, pos, negsuc, neg_ℤ, ◌+ℤ◌, ◌-ℤ◌, ◌≤ℤ◌, ◌<ℤ◌}
 use Rattle.std.specs.Prelude.{◌==◌, if◌then◌else◌}
 use Rattle.std.specs.Int.{int_max, int_min}
 use Rattle.std.specs.List.{AllByRecursion}
-use Rattle.std.specs.Ordering.{int_eq}
-use Rattle.std.proofs.lemmas.Bool.Decides.{Decides-int_eq}
 use Rattle.std.proofs.lemmas.Int.{ints, clamps}
-use Rattle.mc_base.specs.declared.ids.EdgeId.{EdgeId}
 use Rattle.mc_base.specs.declared.ids.NodeId.{NodeId}
 use Rattle.mc_base.specs.declared.plain.Atom.{Atom}
 use Rattle.mc_base.specs.declared.plain.Atom.TheVariants.{Eq, Ne, In}
@@ -15,10 +12,7 @@ use Rattle.mc_base.specs.declared.plain.Kind.TheVariants.{Int, Ptr}
 use Rattle.mc_base.specs.Atoms.{nodes_of_atom}
 use Rattle.mc_base.specs.Kinds.{InKind}
 use Rattle.mc_base.specs.Nodes.{null}
-use Rattle.mc_graph.specs.declared.edge.Edge.{Edge}
-use Rattle.mc_graph.specs.declared.edge.Edge.TheVariants as edge
-use Rattle.mc_graph.specs.Edges.{nodes_of}
-use Rattle.mc_graph.specs.Graph.{Edges, block_starts}
+use Rattle.mc_graph.specs.Graph.{block_starts}
 use Rattle.mc_pure.specs.Derived.{Follows, IsFalse, base, itself, turned, chained, shifted, met, widened, fixed, differs, differs_along, raised, lowered, disjoint, empty, apart, more}
 use Rattle.mc_pure.specs.Pure.{Pure, Kinds, IsNode, HasKind, Base, kind_of}
 use Rattle.mc_pure.specs.Pure as pure
@@ -218,10 +212,13 @@ module _ (s : State) (c : ℤ) (bounded : IsBounded s) (below : (m : NodeId) →
 
       there : (b : Bool) → new a ≡ b → IsNode s.kinds (if b then null else a)
       there true e = (Ptr, inl refl)
-      there false e = (is.0, elim is.1 [
-        | inl same ↦ inl same
-        | inr kind ↦ inr (other_kind s.kinds (next_node s, Int) a is.0 (turn a.0 s.next e) kind)
-      ])
+      there false e = (
+        is.0,
+        elim is.1 [
+          | inl same ↦ inl same
+          | inr kind ↦ inr (other_kind s.kinds (next_node s, Int) a is.0 (turn a.0 s.next e) kind)
+        ],
+      )
 
   -- what follows follows of those nodes before
   follows_as : (f : Atom) → Follows (pure_of (with_number s c)) f → Follows p (as_atom f)

@@ -1,5 +1,5 @@
 -- The nodes of operands tell nothing of the nodes before.
-use Rattle.std.proofs.Common.{◌≡◌, ◌≤◌, List, [], ◌∷◌, Bool, true, false, refl, inl, inr, arith, ℤ, pos}
+use Rattle.std.proofs.Common.{◌≡◌, List, [], ◌∷◌, Bool, true, false, Some, refl, subst, inl, inr, ℤ, pos}
 use Rattle.std.specs.Prelude.{if◌then◌else◌}
 use Rattle.std.specs.Ordering.{int_eq}
 use Rattle.mc_base.specs.declared.ids.NodeId.{NodeId}
@@ -9,19 +9,25 @@ use Rattle.mc_base.specs.declared.plain.Kind.{Kind}
 use Rattle.mc_base.specs.declared.plain.Kind.TheVariants.{Int}
 use Rattle.mc_base.specs.declared.plain.VarInfo.{VarInfo}
 use Rattle.mc_base.specs.Atoms.{nodes_of_atom}
+use Rattle.mc_defs.specs.declared.rules.Def.{Def}
+use Rattle.mc_flow.specs.declared.graph.Flow.{Flow}
+use Rattle.mc_flow.specs.declared.instr.Instr.{Instr}
+use Rattle.mc_flow.specs.declared.instr.Instr.TheVariants as instr
 use Rattle.mc_flow.specs.declared.instr.Operand.{Operand}
 use Rattle.mc_flow.specs.declared.instr.Operand.TheVariants.{Var, Const}
-use Rattle.mc_flow.specs.Valid.{IsOperand, ArgsFit}
+use Rattle.mc_flow.specs.Valid.{IsOperand, ArgsFit, FitsKinds}
 use Rattle.mc_pure.specs.Pure.{IsNode}
 use Rattle.mc_state.specs.Facts.{IsFalse, Derives}
 use Rattle.mc_state.specs.Fits.{AreNodes, IsBounded}
 use Rattle.mc_state.specs.State.{State, next_node, with_nodes, with_number}
-use Rattle.mc_step.specs.JudgedLaws.{OperandsKeepSound, OperandsTellNothing}
+use Rattle.mc_step.specs.JudgedLaws.{OperandsKeepSound, OperandsTellNothing, RangesSuffice}
 use Rattle.mc_step.specs.Operands.{with_operand, with_operands}
+use Rattle.mc_step.specs.Sums.{ranged}
 use Rattle.mc_step.proofs.Lists.{all_map}
-use Rattle.mc_step.proofs.LowerLaws.{BoundLaws}
+use Rattle.mc_step.proofs.LowerLaws.{BoundLaws, MadeLaws}
+use Rattle.mc_step.proofs.Moving.{fits_at}
 use Rattle.mc_step.proofs.NumbersAdd.{false_before, followed_before}
-use Rattle.mc_step.proofs.WellMade.{int_const}
+use Rattle.mc_step.proofs.WellMade.{int_const, two_made}
 
 module _ (laws : BoundLaws) (vars : List VarInfo) where
   -- what comes of one operand
@@ -69,3 +75,24 @@ operands_keep_sound laws vars os kinds s b fits h = (many_add laws vars os kinds
 
 pub operands_tell_nothing : BoundLaws → OperandsTellNothing
 operands_tell_nothing laws vars os kinds s f b fits there h = (many_add laws vars os kinds s b fits).told f there h
+
+both_fit : (vars : List VarInfo) (a b o o' : Operand) → ◌≡◌ {A = Operand × Operand} (a, b) (o, o') → IsOperand vars Int a × IsOperand vars Int b → IsOperand vars Int o × IsOperand vars Int o'
+both_fit vars a b o o' e fits = subst (λ (g : Operand × Operand). IsOperand vars Int g.0 × IsOperand vars Int g.1) e fits
+
+-- the operands of an instruction that asks for ranges are ints
+ranged_fits : (flow : Flow) (defs : List Def) (code : Instr) (o o' : Operand) → ranged code ≡ Some (o, o') → FitsKinds flow.vars flow.structs defs code → IsOperand flow.vars Int o × IsOperand flow.vars Int o'
+ranged_fits flow defs (instr.Add x a b q) o o' e fits = both_fit flow.vars a b o o' (cc e) (fits.1, fits.2)
+ranged_fits flow defs (instr.Sub x a b q) o o' e fits = both_fit flow.vars a b o o' (cc e) (fits.1, fits.2)
+ranged_fits flow defs (instr.Mul x a b q) o o' e fits = both_fit flow.vars a b o o' (cc e) (fits.1, fits.2)
+ranged_fits flow defs (instr.TestLe a b t f) o o' e fits = both_fit flow.vars a b o o' (cc e) (fits.0, fits.1)
+ranged_fits flow defs code o o' e fits = absurd (cc e)
+
+pub ranges_suffice : MadeLaws → RangesSuffice
+ranges_suffice laws range flow defs p s valid made tells code o o' at is consistent a b left right =
+    let fits = ranged_fits flow defs code o o' is (fits_at flow defs p code valid at) in
+    let two = two_made laws defs flow.vars flow.structs.list s Int o o' a b made fits.0 fits.1 left right in
+    let before = with_operand (with_operand s o) o' in
+    let sound : IsFalse before → ⊥ = λ h. consistent (operands_keep_sound laws.bounds flow.vars (o ∷ o' ∷ []) (Int ∷ Int ∷ []) s made.bounded (fits.0, (fits.1, tt)) h) in (
+      tells before a two.made.bounded sound (Int, two.left),
+      tells before b two.made.bounded sound (Int, two.right),
+    )

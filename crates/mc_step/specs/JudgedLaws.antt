@@ -27,7 +27,7 @@ use Rattle.mc_step.specs.Judges.{InstrRule, S1, S2, S3, S4, S5, S6, S7, S8, S9, 
 use Rattle.mc_step.specs.Laws.{IsStep}
 use Rattle.mc_step.specs.Operands.{with_operands, HasBlock}
 use Rattle.mc_step.specs.Steps.{S1Is, S2Is, S3Is, S4Is, S5Is, S6Is, S7Is, S8Is, S9Is, S10Is, S11Is, S12Is, S13Is, S14Is, S15Is, S16Is, S17Is, S18Is}
-use Rattle.mc_step.specs.Sums.{Ends, Ranges, AreInts, HaveRanges}
+use Rattle.mc_step.specs.Sums.{Ends, Ranges, AreInts, HaveRanges, TellLeast}
 use Rattle.mc_step.specs.Unmet.{IsUnmet}
 
 -- the instances of a rule
@@ -123,6 +123,12 @@ abbrev pub OperandsTellNothing : Type 0
 OperandsTellNothing =
     (vars : List VarInfo) (os : List Operand) (kinds : List Kind) (s : State) (f : Atom)
     → IsBounded s → OperandsFit vars os kinds → AreNodes s.kinds (nodes_of_atom f) → Derives (with_operands s os) f → Derives s f
+
+-- so ranges that are the least at states that are not false are the ones that instructions ask for
+abbrev pub RangesSuffice : Type 0
+RangesSuffice =
+    (range : Ranges) (flow : Flow) (defs : List Def) (p : PointId) (s : State)
+    → IsValid flow defs → IsWellMade defs flow.vars flow.structs.list s → TellLeast range → HaveRanges range flow p s
 
 -- ---- well-made states
 

@@ -14,6 +14,9 @@ use Rattle.mc_flow.specs.declared.instr.Instr.{Instr}
 use Rattle.mc_flow.specs.declared.instr.Instr.TheVariants.{Add, Sub, Mul, TestLe}
 use Rattle.mc_flow.specs.Values.{wrapped}
 use Rattle.mc_pure.specs.Derived.{HasRange}
+use Rattle.mc_pure.specs.Pure.{IsNode}
+use Rattle.mc_state.specs.Facts.{IsFalse}
+use Rattle.mc_state.specs.Fits.{IsBounded}
 use Rattle.mc_state.specs.State.{State, pure_of, with_var, with_nodes, with_atoms, next_node}
 use Rattle.mc_step.specs.Operands.{code_at, operand_node, with_operand}
 
@@ -136,7 +139,11 @@ ranged (Mul x o o' q) = Some (o, o')
 ranged (TestLe o o' t f) = Some (o, o')
 ranged other = None
 
--- the ranges that the instruction at the point asks for are the least
+-- where the state is not false, the ranges that the instruction at the point asks for are the least
 abbrev pub HaveRanges : Ranges → Flow → PointId → State → Type 0
 HaveRanges range flow p s =
-    (code : Instr) (o o' : Operand) → code_at flow p ≡ Some code → ranged code ≡ Some (o, o') → AreLeast range o o' s
+    (code : Instr) (o o' : Operand) → code_at flow p ≡ Some code → ranged code ≡ Some (o, o') → (IsFalse s → ⊥) → AreLeast range o o' s
+
+-- the ranges that are given are the least wherever a state is not false and its numbers are in their bounds
+abbrev pub TellLeast : Ranges → Type 0
+TellLeast range = (s : State) (n : NodeId) → IsBounded s → (IsFalse s → ⊥) → IsNode s.kinds n → IsLeast range s n

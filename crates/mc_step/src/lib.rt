@@ -15,8 +15,8 @@ pub use judged_examples::{
     example_comparisons, example_given, example_results, example_unmet_blocks, example_unmet_moves,
 };
 pub use judged_laws::{
-    causes_are_one, fields_are_there, least_ranges_are_known, operands_tell_nothing, steps_are_judged,
-    steps_are_well_made, steps_have_rules,
+    causes_are_one, fields_are_there, least_ranges_are_known, operands_tell_nothing,
+    steps_are_judged, steps_are_well_made, steps_have_rules,
 };
 pub use laws::{steps_are_sound, steps_stay_bounded, unmet_has_no_step};
 pub use next::Next;
