@@ -1,11 +1,10 @@
 -- The rule that unfolds a segment from its end is judged by its instances, and gives one list of successors.
-use Rattle.std.proofs.Common.{◌≡◌, ◌⊎◌, ◌+◌, ℕ, zero, suc, List, [], ◌∷◌, Bool, true, false, ◌&&◌, Option, Some, None, slice_get, refl, ap, sym, ◌∙◌, subst, inl, inr, arith}
+use Rattle.std.proofs.Common.{◌≡◌, ◌⊎◌, ◌+◌, ℕ, zero, suc, List, [], ◌∷◌, Bool, true, false, ◌&&◌, Option, Some, None, slice_get, refl, ap, sym, ◌∙◌, inl, inr, arith}
 use Rattle.std.specs.Prelude.{◌||◌, not, Ok}
 use Rattle.mc_base.specs.declared.ids.EdgeId.{EdgeId}
 use Rattle.mc_base.specs.declared.ids.NodeId.{NodeId}
 use Rattle.mc_base.specs.declared.ids.PredId.{PredId}
 use Rattle.mc_defs.specs.declared.rules.Def.{Def}
-use Rattle.mc_defs.specs.declared.rules.Rule.{Rule}
 use Rattle.mc_graph.specs.declared.edge.Edge.{Edge}
 use Rattle.mc_graph.specs.declared.edge.Edge.TheVariants.{Block, Ind, Seg}
 use Rattle.mc_graph.specs.Graph.{edge_with}
@@ -17,7 +16,6 @@ use Rattle.mc_premises.specs.Named.{SegParts, seg_of}
 use Rattle.mc_premises.specs.Premises.{Judged}
 use Rattle.mc_premises.proofs.Numbered.{need_ok, have_ok}
 use Rattle.mc_premises.proofs.Tests.{and_both, and_yes, not_false, is_sound, equal_from, equal_to}
-use Rattle.mc_state.specs.Facts.{AreEqual}
 use Rattle.mc_state.specs.State.{State}
 use Rattle.mc_unfold.specs.Judges.{rules_in, rules_of}
 use Rattle.mc_back.specs.Judges.{ends_back_at, is_reached_back, unfolding_back}
