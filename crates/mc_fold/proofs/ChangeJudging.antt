@@ -52,6 +52,11 @@ there_by kinds n kind (inr e) = at (n.0 == 0)
 there_to : (kinds : Kinds) (n : NodeId) → IsNode kinds n → is_there kinds n ≡ true
 there_to kinds n there = there_by kinds n there.0 there.1
 
+-- a test does not both hold and fail
+never : (b : Bool) → not b ≡ true → b ≡ true → ⊥
+never true e is = cc e
+never false e is = cc is
+
 -- nodes with one number are one
 same_from : (a b : NodeId) → (a.0 == b.0) ≡ true → a ≡ b
 same_from a b e = ap (λ k. record { 0 = k }) (eqb-true a.0 b.0 e)
@@ -60,7 +65,7 @@ same_to : (a b : NodeId) → a ≡ b → (a.0 == b.0) ≡ true
 same_to a b e = eq-eqb a.0 b.0 (ap (λ (n : NodeId). n.0) e)
 
 differ_from : (a b : NodeId) → not (a.0 == b.0) ≡ true → a ≡ b → ⊥
-differ_from a b e same = let wrong : not true ≡ true = ap not (sym (same_to a b same)) ∙ e in cc wrong
+differ_from a b e same = never (a.0 == b.0) e (same_to a b same)
 
 pub differ_to : (a b : NodeId) → (a ≡ b → ⊥) → not (a.0 == b.0) ≡ true
 differ_to a b differ = not_yes (a.0 == b.0) (λ e. differ (same_from a b e))
@@ -173,7 +178,7 @@ module _ (know : Test) (edge : EdgeId) (s : State) (tells : Tells know s) where
         consistent = not_false know s tells two.0;
         e = three.0;
         there = three.1;
-        unreached = λ r. let wrong : not true ≡ true = ap not (sym (reached_to know s tells bounded (start_of three.0) r)) ∙ four.0 in cc wrong;
+        unreached = λ r. never (is_reached know s (start_of three.0)) four.0 (reached_to know s tells bounded (start_of three.0) r);
         gives = sym is;
       }
 
@@ -197,7 +202,7 @@ listed_from n ns e =
     subst (λ k. Among k ns) same m.1
 
 unlisted_from : (n : NodeId) (ns : List NodeId) → not (is_listed n ns) ≡ true → Among n ns → ⊥
-unlisted_from n ns e a = let wrong : not true ≡ true = ap not (sym (listed_to n ns a)) ∙ e in cc wrong
+unlisted_from n ns e a = never (is_listed n ns) e (listed_to n ns a)
 
 unlisted_to : (n : NodeId) (ns : List NodeId) → (Among n ns → ⊥) → not (is_listed n ns) ≡ true
 unlisted_to n ns none = not_yes (is_listed n ns) (λ e. none (listed_from n ns e))

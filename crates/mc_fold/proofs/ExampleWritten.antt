@@ -123,7 +123,7 @@ module _ (truth : DerivedIsTrue) (false_not : TrueIsNotFalse) (grows : FollowsFr
       subst (λ (x : NodeId × Kind). Follows (alone block_left) (moved_atom (two_to 0) (kind_atom x.0 x.1))) both (base (known.kind 0 refl))
   block_bases _ (known.kind {n} {k} (suc zero) e) =
       let both : (node 2, Ptr) ≡ (n, k) = cc e in
-      subst (λ (x : NodeId × Kind). Follows (alone block_left) (moved_atom (two_to 0) (kind_atom x.0 x.1))) both (widened (base known.zero) (omega (arith, ints)) (omega (arith, ints)))
+      subst (λ (x : NodeId × Kind). Follows (alone block_left) (moved_atom (two_to 0) (kind_atom x.0 x.1))) both (widened {lo = pos 0} {hi = pos 0} {m = known.low_of Ptr} {k = known.high_of Ptr} (base known.zero) (omega (arith, ints)) (omega (arith, ints)))
   block_bases _ (known.kind (suc (suc place)) e) = absurd (cc e)
   block_bases _ (known.block {a} zero e) =
       let same : node 1 ≡ a = cc e in

@@ -126,8 +126,8 @@ kind_place (k ∷ kinds) n kind e = at (k.0.0 == n.0) refl (kind_place kinds n k
 
 -- a node lies in the range of its kind
 pub in_kind : (p : Pure) (n : NodeId) (kind : Kind) → HasKind p.kinds kind n → Follows p (In n (low_of kind) (high_of kind))
-in_kind p n Int (inl e) = rw e (pure.widened (pure.base known.zero) (omega (arith, ints)) (omega (arith, ints)))
-in_kind p n Ptr (inl e) = rw e (pure.widened (pure.base known.zero) (omega (arith, ints)) (omega (arith, ints)))
+in_kind p n Int (inl e) = rw e (pure.widened {lo = pos 0} {hi = pos 0} {m = low_of Int} {k = high_of Int} (pure.base known.zero) (omega (arith, ints)) (omega (arith, ints)))
+in_kind p n Ptr (inl e) = rw e (pure.widened {lo = pos 0} {hi = pos 0} {m = low_of Ptr} {k = high_of Ptr} (pure.base known.zero) (omega (arith, ints)) (omega (arith, ints)))
 in_kind p n kind (inr e) = let at = kind_place p.kinds n kind e in pure.base (known.kind at.0 at.1)
 
 -- what moves a number of a kind to one of the kind is an offset
