@@ -115,6 +115,9 @@ module _ (truth : DerivedIsTrue) (false_not : TrueIsNotFalse) (grows : FollowsFr
       numbers_fit (valued (pos 1 ∷ pos 0 ∷ [])) (pure_of block_beside) refl ((omega (arith, ints), omega (arith, ints)), ((omega (arith, ints), omega (arith, ints)), tt)) tt
       ((omega (arith, ints), omega (arith, ints)), tt) (omega arith)
 
+  null_pointer : Follows (alone block_left) (In null (known.low_of Ptr) (known.high_of Ptr))
+  null_pointer = widened {lo = pos 0} {hi = pos 0} (base known.zero) (omega (arith, ints)) (omega (arith, ints))
+
   block_bases : (f : Atom) → Base (pure_of block_beside) f → Follows (alone block_left) (moved_atom (two_to 0) f)
   block_bases f (known.written place e) = absurd (cc e)
   block_bases _ known.zero = base known.zero
@@ -123,7 +126,7 @@ module _ (truth : DerivedIsTrue) (false_not : TrueIsNotFalse) (grows : FollowsFr
       subst (λ (x : NodeId × Kind). Follows (alone block_left) (moved_atom (two_to 0) (kind_atom x.0 x.1))) both (base (known.kind 0 refl))
   block_bases _ (known.kind {n} {k} (suc zero) e) =
       let both : (node 2, Ptr) ≡ (n, k) = cc e in
-      subst (λ (x : NodeId × Kind). Follows (alone block_left) (moved_atom (two_to 0) (kind_atom x.0 x.1))) both (widened {lo = pos 0} {hi = pos 0} {m = known.low_of Ptr} {k = known.high_of Ptr} (base known.zero) (omega (arith, ints)) (omega (arith, ints)))
+      subst (λ (x : NodeId × Kind). Follows (alone block_left) (moved_atom (two_to 0) (kind_atom x.0 x.1))) both null_pointer
   block_bases _ (known.kind (suc (suc place)) e) = absurd (cc e)
   block_bases _ (known.block {a} zero e) =
       let same : node 1 ≡ a = cc e in

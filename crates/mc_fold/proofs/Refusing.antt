@@ -23,7 +23,7 @@ use Rattle.mc_state.specs.State.{State, pure_of}
 use Rattle.mc_premises.specs.Known.{Test, Tells, is_false, equal, has_kind}
 use Rattle.mc_premises.proofs.Tests.{is_sound, equal_to}
 use Rattle.mc_fold.specs.ChangeJudges.{is_there, naming_spare, merging_nodes, dropping_edge, forgetting_node}
-use Rattle.mc_fold.specs.Examples.{edge, valued, two_segments, pointer, small_number, named_twice, lost_list, other_length, list_apart, pointed_list, list_goal, null_goal, tree_goal}
+use Rattle.mc_fold.specs.Examples.{edge, valued, two_segments, pointer, small_number, named_twice, lost_list, other_length, list_apart, pointed_list, list_goal, null_goal, tree_goal, false_pointer}
 use Rattle.mc_fold.specs.Judges.{folding_ind, folding_seg, closing_seg, joining_segs, making_seg, meeting_goal}
 use Rattle.mc_fold.proofs.Reaching.{among_at, among_all}
 
@@ -39,7 +39,7 @@ place_below (y ∷ ys) zero x e = omega arith
 place_below (y ∷ ys) (suc i) x e = let rest = place_below ys i x e in omega arith
 
 -- of kinds, atoms and one block at most
-numbers_fit : (v : Valuation) (p : Pure) → v 0 ≡ pos 0 → AllByRecursion (λ k. InKind k.1 (v k.0.0)) p.kinds → AllByRecursion (IsTrueAtom v) p.written → AllByRecursion (λ a. IsTrueAtom v (address_atom a)) p.starts → length p.starts ≤ 1 → IsTrue v p
+pub numbers_fit : (v : Valuation) (p : Pure) → v 0 ≡ pos 0 → AllByRecursion (λ k. InKind k.1 (v k.0.0)) p.kinds → AllByRecursion (IsTrueAtom v) p.written → AllByRecursion (λ a. IsTrueAtom v (address_atom a)) p.starts → length p.starts ≤ 1 → IsTrue v p
 numbers_fit v p start kinds atoms starts few f (known.written place e) = among_all (IsTrueAtom v) p.written f atoms (among_at p.written place f e)
 numbers_fit v p start kinds atoms starts few _ known.zero = (omega (arith, ints, start), omega (arith, ints, start))
 numbers_fit v p start kinds atoms starts few _ (known.kind {n} {k} place e) = kind_true v n k (among_all (λ (x : NodeId × Kind). InKind x.1 (v x.0.0)) p.kinds (n, k) kinds (among_at p.kinds place (n, k) e))
@@ -58,6 +58,12 @@ and_false false = refl
 not_true : (b : Bool) → (b ≡ true → ⊥) → b ≡ false
 not_true true n = absurd (n refl)
 not_true false n = refl
+
+-- ---- a false state
+
+module _ (know : Test) (tells : Tells know false_pointer) where
+  pub stopped : not (is_false know) ≡ false
+  stopped = ap not ((tells (Ne null null (pos 0))).1 (inr (pure.apart (pure.base (known.written 0 refl)))))
 
 module _ (truth : DerivedIsTrue) (sound : TrueIsNotFalse) where
   module _ (s : State) (v : Valuation) (fits : IsTrue v (pure_of s)) (know : Test) (tells : Tells know s) where

@@ -1,6 +1,7 @@
 -- States whose edges are folded and whose nodes are named, merged and forgotten, and what they become.
 use Rattle.std.specs.Prelude.{ℕ, ℤ, pos, true, false, Some, None, List, [], ◌∷◌, get_or}
 use Rattle.mc_base.specs.declared.ids.EdgeId.{EdgeId}
+use Rattle.mc_base.specs.declared.ids.NodeId.{NodeId}
 use Rattle.mc_base.specs.declared.plain.Atom.TheVariants.{Eq, Ne, In}
 use Rattle.mc_base.specs.declared.plain.Kind.TheVariants.{Int, Ptr}
 use Rattle.mc_base.specs.Nodes.{Valuation, null}
@@ -165,6 +166,14 @@ list_apart = state_of ((node 1, Ptr) ∷ (node 2, Ptr) ∷ (node 3, Ptr) ∷ [])
 -- a list that a variable points to
 abbrev pub pointed_list : State
 pointed_list = record lost_list { env = Some (node 1) ∷ [] }
+
+-- a pointer that is not itself
+abbrev pub false_pointer : State
+false_pointer = state_of ((node 1, Ptr) ∷ []) [] (Ne (node 1) (node 1) (pos 0) ∷ [])
+
+-- the first three nodes
+abbrev pub first_three : List NodeId
+first_three = node 1 ∷ node 2 ∷ node 3 ∷ []
 
 -- the goal of a list at node 0
 abbrev pub null_goal : Goal

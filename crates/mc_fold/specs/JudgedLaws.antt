@@ -1,5 +1,5 @@
 -- The rules are judged by their instances.
-use Rattle.std.specs.Prelude.{◌≡◌, ◌↔◌, ℕ, ℤ, Ok, List, Option}
+use Rattle.std.specs.Prelude.{◌≡◌, ◌↔◌, ℕ, ℤ, Ok, Err, List, Option}
 use Rattle.mc_base.specs.declared.ids.EdgeId.{EdgeId}
 use Rattle.mc_base.specs.declared.ids.NodeId.{NodeId}
 use Rattle.mc_base.specs.declared.ids.PredId.{PredId}
@@ -9,13 +9,17 @@ use Rattle.mc_defs.specs.declared.rules.Def.{Def}
 use Rattle.mc_state.specs.declared.goal.Goal.{Goal}
 use Rattle.mc_state.specs.State.{State}
 use Rattle.mc_state.specs.Fits.{IsBounded}
-use Rattle.mc_premises.specs.Premises.{IsJudged}
+use Rattle.mc_premises.specs.Premises.{Judged, IsJudged}
 use Rattle.mc_premises.specs.Known.{Test, Tells}
 use Rattle.mc_fold.specs.Folded.{FoldsInd, FoldsSeg, ClosesSeg, JoinsSegs, MakesEmptySeg}
 use Rattle.mc_fold.specs.Changed.{NamesSpare, MergesNodes, DropsEdge, ForgetsNode, IsListWithout}
 use Rattle.mc_fold.specs.Goals.{MeetsGoal}
 use Rattle.mc_fold.specs.Judges.{folding_ind, folding_seg, closing_seg, joining_segs, making_seg, meeting_goal}
 use Rattle.mc_fold.specs.ChangeJudges.{naming_spare, merging_nodes, dropping_edge, forgetting_node}
+
+-- by whatever test tells what is derived in the state, premise k is the first that is unmet
+abbrev pub FailsAt : {A : Type 0} → State → (Test → State → Judged A) → ℕ → Type 0
+FailsAt s judge k = (know : Test) → Tells know s → judge know s ≡ Err k
 
 -- L3 is judged by its instances
 abbrev pub FoldIndIsJudged : Type 0

@@ -8,9 +8,9 @@ returns c =
     record {
       absent = drop_absent truth sound;
       reached = drop_reached truth sound;
-      forgotten_null = forget_null truth sound;
-      no_node = forget_absent truth sound;
-      start = forget_start truth sound;
+      forgotten_null = λ atoms know tells. forget_null truth sound know tells atoms;
+      no_node = λ atoms know tells. forget_absent truth sound know tells atoms;
+      start = λ atoms know tells. forget_start truth sound know tells atoms;
       tree = meet_tree truth sound;
       no_edge = meet_absent truth sound;
       elsewhere = meet_null truth sound;
