@@ -22,7 +22,7 @@ use Rattle.mc_premises.proofs.Numbered.{need_ok, have_ok}
 use Rattle.mc_premises.proofs.Tests.{and_both, and_yes, not_yes, not_no, not_false, is_sound, equal_from, equal_to, has_kind_from, has_kind_to, each_from, each_to}
 use Rattle.mc_fold.specs.Changed.{NamesSpare, MergesNodes, DropsEdge, ForgetsNode, IsListWithout, left_over}
 use Rattle.mc_fold.specs.ChangeJudges.{is_there, lies_in, naming_spare, may_merge, of_one_kind, merging_nodes, is_reached, dropping_edge, is_listed, is_unnamed, forgetting_node}
-use Rattle.mc_fold.specs.JudgedLaws.{SpareIsJudged, MergeIsJudged, DropIsJudged, ForgetIsJudged}
+use Rattle.mc_fold.specs.JudgedLaws.{SpareIsJudged, MergeIsJudged, ReachedIsTold, DropIsJudged, ForgetIsJudged}
 use Rattle.mc_fold.proofs.Reaching.{Among, among_from, among_to, among_at, place_of, any_from, any_to, reached_from, reached_to}
 use Rattle.mc_fold.proofs.WrittenOnce.{forget_one}
 
@@ -281,6 +281,9 @@ spare_judged know node add kind s tells next = (spare_from know node add kind s 
 
 pub merge_judged : MergeIsJudged
 merge_judged know keep gone s tells next = (merge_from know keep gone s tells next, merge_to know keep gone s tells next)
+
+pub reached_told : ReachedIsTold
+reached_told know s n bounded tells = (reached_from know s tells n, reached_to know s tells bounded n)
 
 pub drop_judged : DropIsJudged
 drop_judged know edge s bounded tells next = (drop_from know edge s tells bounded next, drop_to know edge s tells next)

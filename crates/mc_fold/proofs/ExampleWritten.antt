@@ -202,17 +202,17 @@ module _ (truth : DerivedIsTrue) (false_not : TrueIsNotFalse) (grows : FollowsFr
   range_block (In n lo hi) r = elim (one_node Ptr n (r.0, inr r.2)) [
     | inl e ↦ absurd (r.1 e)
     | inr e ↦ let follows : Follows (alone block_left) (In (node 1) lo hi) = subst (λ m. Follows (alone block_left) (In m lo hi)) e r.3.follows in
-      let outer = address_least lo hi follows in
-      let here : Follows (alone block_left) (In n (pos 1) (pos 4611686018427387903)) = subst (λ m. Follows (alone block_left) (In m (pos 1) (pos 4611686018427387903))) (sym e) address_written in
-      let inner = r.3.least (pos 1) (pos 4611686018427387903) here in
-      let a = outer.0 in
-      let b = outer.1 in
-      let c = inner.0 in
-      let d = inner.1 in
-      let low : pos 1 ≡ lo = omega (arith, ints) in
-      let high : pos 4611686018427387903 ≡ hi = omega (arith, ints) in
-      let same : In (node 1) (pos 1) (pos 4611686018427387903) ≡ In n lo hi = ap (λ m. In m (pos 1) (pos 4611686018427387903)) (sym e) ∙ ap₂ (λ x y. In n x y) low high in
-      among_to (In (node 1) (pos 1) (pos 4611686018427387903) ∷ []) (In n lo hi) (inl same)
+        let outer = address_least lo hi follows in
+        let here : Follows (alone block_left) (In n (pos 1) (pos 4611686018427387903)) = subst (λ m. Follows (alone block_left) (In m (pos 1) (pos 4611686018427387903))) (sym e) address_written in
+        let inner = r.3.least (pos 1) (pos 4611686018427387903) here in
+        let a = outer.0 in
+        let b = outer.1 in
+        let c = inner.0 in
+        let d = inner.1 in
+        let low : pos 1 ≡ lo = omega (arith, ints) in
+        let high : pos 4611686018427387903 ≡ hi = omega (arith, ints) in
+        let same : In (node 1) (pos 1) (pos 4611686018427387903) ≡ In n lo hi = ap (λ m. In m (pos 1) (pos 4611686018427387903)) (sym e) ∙ ap₂ (λ x y. In n x y) low high in
+        among_to (In (node 1) (pos 1) (pos 4611686018427387903) ∷ []) (In n lo hi) (inl same)
   ]
 
   block_class : (f : Atom) → IsClassAtom (alone block_left) f → ⊥
@@ -224,9 +224,9 @@ module _ (truth : DerivedIsTrue) (false_not : TrueIsNotFalse) (grows : FollowsFr
         | inl e ↦ r.1 e
         | inr e ↦ elim (one_node Ptr a there.0) [
           | inl x ↦ let h : Follows (alone block_left) (Eq null (node 1) c) = subst (λ m. Follows (alone block_left) (Eq m (node 1) c)) x (subst (λ m. Follows (alone block_left) (Eq a m c)) e r.3) in
-            let low : pos 0 ≡ pos 1 +ℤ c = truth (alone block_left) (valued (pos 1 ∷ [])) low_true (Eq null (node 1) c) (inl h) in
-            let high : pos 0 ≡ pos 4611686018427387903 +ℤ c = truth (alone block_left) (valued (pos 4611686018427387903 ∷ [])) high_true (Eq null (node 1) c) (inl h) in
-            omega (arith, ints)
+              let low : pos 0 ≡ pos 1 +ℤ c = truth (alone block_left) (valued (pos 1 ∷ [])) low_true (Eq null (node 1) c) (inl h) in
+              let high : pos 0 ≡ pos 4611686018427387903 +ℤ c = truth (alone block_left) (valued (pos 4611686018427387903 ∷ [])) high_true (Eq null (node 1) c) (inl h) in
+              omega (arith, ints)
           | inr x ↦ r.0 (x ∙ sym e)
         ]
       ]

@@ -248,10 +248,10 @@ merged_kind kinds keep gone can kind n has = at (n.0 == gone.0) refl
     keep_has e = elim can.kind.2 [
       | inl null_is ↦ absurd (can.not_null null_is)
       | inr own ↦ let one : can.kind.0 ≡ kind = cc (own, e) in
-        elim can.kind.1 [
-          | inl null_is ↦ inl null_is
-          | inr k ↦ inr (kept_kind kinds gone keep apart ∙ k ∙ ap (λ (x : Kind). Some x) one)
-        ]
+          elim can.kind.1 [
+            | inl null_is ↦ inl null_is
+            | inr k ↦ inr (kept_kind kinds gone keep apart ∙ k ∙ ap (λ (x : Kind). Some x) one)
+          ]
     ]
 
     at : (b : Bool) → (n.0 == gone.0) ≡ b → HasKind (kinds_without kinds gone) kind (record { 0 = if b then keep.0 else n.0 })
