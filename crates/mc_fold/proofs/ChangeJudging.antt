@@ -1,7 +1,7 @@
 -- Naming, merging, dropping and forgetting are judged by their instances.
-use Rattle.std.proofs.Common.{◌≡◌, ◌⊎◌, inl, inr, ℕ, zero, suc, ℤ, ◌-ℤ◌, pos, List, [], ◌∷◌, ◌&&◌, ◌||◌, not, Bool, true, false, Contains, slice_get, Option, Some, None, is_some, refl, sym, ◌∙◌, ap, subst, eqb-true, eq-eqb}
+use Rattle.std.proofs.Common.{◌≡◌, ◌⊎◌, inl, inr, ℕ, zero, suc, ℤ, ◌-ℤ◌, List, [], ◌∷◌, ◌&&◌, ◌||◌, not, Bool, true, false, slice_get, Option, Some, None, is_some, refl, sym, ◌∙◌, ap, subst, eqb-true, eq-eqb}
 use Rattle.std.specs.Prelude.{◌==◌, Ok, if◌then◌else◌}
-use Rattle.std.specs.List.{AllByRecursion, list_all, list_any}
+use Rattle.std.specs.List.{list_all}
 use Rattle.mc_base.specs.declared.ids.EdgeId.{EdgeId}
 use Rattle.mc_base.specs.declared.ids.NodeId.{NodeId}
 use Rattle.mc_base.specs.declared.plain.Kind.{Kind}
@@ -11,19 +11,19 @@ use Rattle.mc_base.specs.declared.plain.Atom.TheVariants.{Eq, In}
 use Rattle.mc_base.specs.Nodes.{null}
 use Rattle.mc_graph.specs.declared.edge.Edge.{Edge}
 use Rattle.mc_graph.specs.Edges.{start_of, nodes_of, known_nodes}
-use Rattle.mc_graph.specs.Graph.{Edges, edge_with, without}
+use Rattle.mc_graph.specs.Graph.{edge_with, without}
 use Rattle.mc_pure.specs.Pure.{Kinds, HasKind, IsNode, AreOfOneKind, kind_of, low_of, high_of}
 use Rattle.mc_state.specs.State.{State, next_node, with_nodes, with_atoms, with_only_edges}
-use Rattle.mc_state.specs.Facts.{CanMerge, IsUnnamed, merged}
+use Rattle.mc_state.specs.Facts.{IsUnnamed, merged}
 use Rattle.mc_state.specs.Fits.{IsBounded}
 use Rattle.mc_premises.specs.Premises.{Judged}
 use Rattle.mc_premises.specs.Known.{Test, Tells, is_false, equal, has_kind}
 use Rattle.mc_premises.proofs.Numbered.{need_ok, have_ok}
-use Rattle.mc_premises.proofs.Tests.{and_both, and_yes, not_yes, not_no, not_false, is_sound, equal_from, equal_to, has_kind_from, has_kind_to, each_from, each_to}
+use Rattle.mc_premises.proofs.Tests.{and_both, and_yes, not_yes, not_false, is_sound, equal_from, equal_to, has_kind_from, has_kind_to}
 use Rattle.mc_fold.specs.Changed.{NamesSpare, MergesNodes, DropsEdge, ForgetsNode, IsListWithout, left_over}
 use Rattle.mc_fold.specs.ChangeJudges.{is_there, lies_in, naming_spare, may_merge, of_one_kind, merging_nodes, is_reached, dropping_edge, is_listed, is_unnamed, forgetting_node}
 use Rattle.mc_fold.specs.JudgedLaws.{SpareIsJudged, MergeIsJudged, ReachedIsTold, DropIsJudged, ForgetIsJudged}
-use Rattle.mc_fold.proofs.Reaching.{Among, among_from, among_to, among_at, place_of, any_from, any_to, reached_from, reached_to}
+use Rattle.mc_fold.proofs.Reaching.{Among, among_from, among_to, among_at, any_from, any_to, reached_from, reached_to}
 use Rattle.mc_fold.proofs.WrittenOnce.{forget_one}
 
 -- ---- nodes

@@ -1,13 +1,12 @@
 -- What is written where a node is forgotten: that a block starts at an address, and a disequality of a node with itself.
-use Rattle.std.proofs.Common.{◌≡◌, ◌≢◌, ◌⊎◌, inl, inr, ◌<◌, ◌≤◌, ℕ, zero, suc, ℤ, ◌+ℤ◌, ◌-ℤ◌, neg_ℤ, ◌≤ℤ◌, ◌<ℤ◌, pos, negsuc, Bool, true, false, Option, Some, None, Contains, List, [], ◌∷◌, ◌++◌, slice_get, refl, sym, ◌∙◌, ap, ap₂, subst, arith, eqb-true}
-use Rattle.std.proofs.lemmas.Int.{ints, clamps, by_lt_z}
-use Rattle.std.specs.Prelude.{◌==◌, ◌↔◌, if◌then◌else◌}
-use Rattle.std.specs.List.{AllByRecursion}
+use Rattle.std.proofs.Common.{◌≡◌, ◌⊎◌, inl, inr, ℕ, zero, suc, ℤ, ◌+ℤ◌, ◌≤ℤ◌, pos, Bool, true, false, Option, Some, None, Contains, List, [], ◌∷◌, slice_get, refl, sym, ◌∙◌, ap, ap₂, subst, arith, eqb-true}
+use Rattle.std.proofs.lemmas.Int.{ints}
+use Rattle.std.specs.Prelude.{◌==◌, if◌then◌else◌}
 use Rattle.mc_base.specs.declared.ids.NodeId.{NodeId}
 use Rattle.mc_base.specs.declared.plain.Atom.{Atom}
 use Rattle.mc_base.specs.declared.plain.Atom.TheVariants.{Eq, Ne, In}
 use Rattle.mc_base.specs.declared.plain.Kind.{Kind}
-use Rattle.mc_base.specs.declared.plain.Kind.TheVariants.{Int, Ptr}
+use Rattle.mc_base.specs.declared.plain.Kind.TheVariants.{Ptr}
 use Rattle.mc_base.specs.Atoms.{moved_atom, nodes_of_atom}
 use Rattle.mc_base.specs.Nodes.{moved, null}
 use Rattle.mc_base.specs.declared.ids.EdgeId.{EdgeId}
@@ -16,21 +15,20 @@ use Rattle.mc_graph.specs.declared.edge.Edge.{Edge}
 use Rattle.mc_graph.specs.declared.edge.Edge.TheVariants.{Block}
 use Rattle.mc_graph.specs.Edges.{nodes_of}
 use Rattle.mc_state.specs.CoverExamples.{entry}
-use Rattle.mc_pure.specs.Canonical.{IsLeast, IsRangeAtom, IsClassAtom, IsDifference, plainly}
-use Rattle.mc_pure.specs.Derived.{Follows, IsFalse, HasRange, base, itself, turned, chained, shifted, met, widened, fixed, differs, differs_along, raised, lowered, disjoint}
+use Rattle.mc_pure.specs.Canonical.{IsRangeAtom, IsClassAtom, IsDifference, plainly}
+use Rattle.mc_pure.specs.Derived.{Follows, IsFalse, base, itself, turned, chained, shifted, met, widened, fixed, differs, differs_along, raised, lowered, disjoint}
 use Rattle.mc_pure.specs.Examples.{node}
 use Rattle.mc_pure.specs.Laws.{DerivedIsTrue, TrueIsNotFalse, FollowsFromMore, IsTrue}
 use Rattle.mc_pure.specs.Pure as known
 use Rattle.mc_pure.specs.Pure.{Pure, Kinds, Base, IsNode, kind_atom, kind_of}
-use Rattle.mc_state.specs.Facts.{Derives, instead}
-use Rattle.mc_state.specs.Facts as facts
+use Rattle.mc_state.specs.Facts.{instead}
 use Rattle.mc_state.specs.Fits.{AreNodes}
-use Rattle.mc_state.specs.State.{State, pure_of}
+use Rattle.mc_state.specs.State.{pure_of}
 use Rattle.mc_fold.specs.Changed.{alone, Forgets, ForgetsNode}
-use Rattle.mc_fold.specs.Examples.{valued, block_beside, block_left, gap_beside, gap_left}
+use Rattle.mc_fold.specs.Examples.{valued, block_beside, block_left}
 use Rattle.mc_fold.specs.Written.{IsGap, IsFullListOf}
 use Rattle.mc_fold.proofs.ExampleForgets.{named, nothing_listed}
-use Rattle.mc_fold.proofs.Ordered.{among_cases, among_here, among_none}
+use Rattle.mc_fold.proofs.Ordered.{among_cases, among_none}
 use Rattle.mc_fold.proofs.Reaching.{Among, among_to, among_from, among_all}
 use Rattle.mc_fold.proofs.Refusing.{numbers_fit}
 

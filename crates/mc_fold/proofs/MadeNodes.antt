@@ -1,5 +1,5 @@
 -- States with a node more or one for another fit where the states before do.
-use Rattle.std.proofs.Common.{◌≡◌, ◌⊎◌, inl, inr, ℕ, zero, suc, ℤ, ◌+ℤ◌, ◌-ℤ◌, ◌≤ℤ◌, ◌<ℤ◌, pos, negsuc, List, [], ◌∷◌, ◌++◌, Bool, true, false, Option, Some, None, length, map, option_map, slice_get, refl, sym, ◌∙◌, ap, subst, arith, eqb-true, eq-eqb}
+use Rattle.std.proofs.Common.{◌≡◌, inl, inr, ℕ, suc, ℤ, ◌-ℤ◌, ◌≤ℤ◌, ◌<ℤ◌, pos, List, [], ◌∷◌, Bool, true, false, Option, Some, None, length, map, option_map, slice_get, refl, sym, ◌∙◌, ap, subst, arith, eqb-true, eq-eqb}
 use Rattle.std.proofs.lemmas.Int.{ints}
 use Rattle.std.specs.Prelude.{◌==◌, if◌then◌else◌}
 use Rattle.std.specs.List.{AllByRecursion}
@@ -11,7 +11,7 @@ use Rattle.mc_base.specs.declared.plain.Kind.{Kind}
 use Rattle.mc_base.specs.declared.plain.Kind.TheVariants.{Int, Ptr}
 use Rattle.mc_base.specs.declared.plain.VarInfo.{VarInfo}
 use Rattle.mc_base.specs.Atoms.{moved_atom}
-use Rattle.mc_base.specs.Nodes.{moved, null}
+use Rattle.mc_base.specs.Nodes.{moved}
 use Rattle.mc_defs.specs.declared.rules.Def.{Def}
 use Rattle.mc_defs.specs.declared.shapes.StructInfo.{StructInfo}
 use Rattle.mc_graph.specs.declared.edge.Edge.{Edge}
@@ -22,9 +22,9 @@ use Rattle.mc_pure.specs.Derived as pure
 use Rattle.mc_pure.specs.Derived.{Follows, IsFalse}
 use Rattle.mc_pure.specs.Pure as known
 use Rattle.mc_pure.specs.Pure.{Kinds, Pure, HasKind, IsNode, IsOffset, IsWellFormed, kind_of, low_of, high_of}
-use Rattle.mc_state.specs.State.{State, next_node, pure_of, with_nodes, with_atoms}
-use Rattle.mc_state.specs.Facts.{CanMerge, instead, kinds_without, merged}
-use Rattle.mc_state.specs.Fits.{IsBounded, HaveKinds, MayHaveKinds, ArgsFit, EdgeFitsDefs, EdgeFitsStructs, FitsProgram, IsWellMade}
+use Rattle.mc_state.specs.State.{State, next_node, pure_of, with_nodes}
+use Rattle.mc_state.specs.Facts.{CanMerge, instead, kinds_without}
+use Rattle.mc_state.specs.Fits.{IsBounded, HaveKinds, MayHaveKinds, EdgeFitsDefs, EdgeFitsStructs, FitsProgram}
 use Rattle.mc_state.specs.Laws.{NewNodesHaveKinds}
 use Rattle.mc_fold.specs.Laws.{LawOfSpare, LawOfMerge}
 use Rattle.mc_fold.specs.MadeLaws.{SpareStaysMade, MergeStaysMade}
