@@ -22,7 +22,7 @@ use Rattle.mc_state.specs.State.{State, pure_of}
 use Rattle.mc_premises.specs.Known.{Test, Tells, is_false, equal, has_kind}
 use Rattle.mc_premises.proofs.Tests.{is_sound, equal_to}
 use Rattle.mc_fold.specs.ChangeJudges.{is_there, naming_spare, merging_nodes, dropping_edge, forgetting_node}
-use Rattle.mc_fold.specs.Examples.{edge, valued, two_segments, pointer, small_number, named_twice, lost_list, other_length, list_apart, pointed_list, list_goal, null_goal, tree_goal, false_pointer}
+use Rattle.mc_fold.specs.Examples.{edge, valued, two_segments, pointer, small_number, named_twice, lost_list, other_length, list_apart, pointed_list, list_goal, null_goal, tree_goal, false_pointer, cell_unknown, other_defs, pointed_node}
 use Rattle.mc_fold.specs.Judges.{folding_ind, folding_seg, closing_seg, joining_segs, making_seg, meeting_goal}
 use Rattle.mc_fold.proofs.Reaching.{among_at, among_all}
 
@@ -174,6 +174,13 @@ module _ (truth : DerivedIsTrue) (sound : TrueIsNotFalse) where
     unfolding is_there
     forget_absent atoms = rw (passes pointer (valued (pos 1 ∷ [])) pointer_fits know tells) refl
 
+  node_fits : IsTrue (valued (pos 1 ∷ [])) (pure_of pointed_node)
+  node_fits = numbers_fit (valued (pos 1 ∷ [])) (pure_of pointed_node) refl ((omega (arith, ints), omega (arith, ints)), tt) tt tt (omega arith)
+
+  pub forget_variable : (know : Test) → Tells know pointed_node → (atoms : List Atom) → forgetting_node know atoms (node 1) pointed_node ≡ Err 4
+  unfolding is_there
+  forget_variable know tells atoms = rw (passes pointed_node (valued (pos 1 ∷ [])) node_fits know tells) refl
+
   -- ---- a list
 
   lost_fits : IsTrue (valued (pos 7 ∷ [])) (pure_of lost_list)
@@ -280,6 +287,22 @@ module _ (truth : DerivedIsTrue) (sound : TrueIsNotFalse) where
     fold_elsewhere =
         let differ : know (Eq (node 3) (node 1) (pos 0)) ≡ false = unknown cell_and_list at_seven cell_fits know tells (Eq (node 3) (node 1) (pos 0)) (λ t. let wrong : pos 9 ≡ pos 7 = t in cc wrong) in
         rw (passes cell_and_list at_seven cell_fits know tells) (rw differ refl)
+
+    pub fold_other_call : folding_seg know other_defs lenlist_id 0 (node 1 ∷ node 2 ∷ node 3 ∷ []) (edge 0) [] 0 cell_and_list ≡ Err 4
+    fold_other_call = rw (passes cell_and_list at_seven cell_fits know tells) refl
+
+  unknown_fits : IsTrue at_seven (pure_of cell_unknown)
+  unknown_fits =
+      numbers_fit at_seven (pure_of cell_unknown) refl
+      ((omega (arith, ints), omega (arith, ints)), ((omega (arith, ints), omega (arith, ints)), ((omega (arith, ints), omega (arith, ints)), tt))) tt
+      ((omega (arith, ints), omega (arith, ints)), tt) (omega arith)
+
+  pub fold_unknown : (know : Test) → Tells know cell_unknown → folding_ind know defs list_id 1 (node 1 ∷ node 2 ∷ node 3 ∷ []) (Some (edge 0)) (edge 1 ∷ []) cell_unknown ≡ Err 5
+  unfolding has_kind
+  fold_unknown know tells =
+      let one = same cell_unknown at_seven unknown_fits know tells (node 1) (Ptr, inr refl) in
+      let two = same cell_unknown at_seven unknown_fits know tells (node 2) (Int, inr refl) in
+      rw (passes cell_unknown at_seven unknown_fits know tells) (rw one (rw two refl))
 
   fork_fits : IsTrue (valued (pos 7 ∷ pos 9 ∷ [])) (pure_of fork_and_tree)
   fork_fits =

@@ -8,6 +8,7 @@ ghost use Rattle.mc_pure.specs.Examples.{node};
 ghost use Rattle.mc_state.specs.CoverExamples.{cell_and_list, segment_and_list, fork_and_tree};
 ghost use Rattle.mc_fold.specs.Examples.{edge, two_segments, pointer, small_number, named_twice, lost_list};
 ghost use Rattle.mc_fold.specs.Examples.{other_length, list_apart, pointed_list, list_goal, null_goal, tree_goal, first_three, false_pointer};
+ghost use Rattle.mc_fold.specs.Examples.{cell_unknown, other_defs, pointed_node};
 ghost use Rattle.mc_fold.specs.JudgedLaws.{FailsAt};
 ghost use Rattle.mc_fold.specs.Judges.{folding_ind, folding_seg, closing_seg, joining_segs, making_seg, meeting_goal};
 ghost use Rattle.mc_fold.specs.ChangeJudges.{naming_spare, merging_nodes, dropping_edge, forgetting_node};
@@ -30,11 +31,13 @@ pub fn examples_of_forks_refused()
     mc_pure::derived_is_true();
 }
 
-/// A cell with no block named, with a pointer for a number, and at another node; and its nodes, which are of two kinds
-/// or not known to be equal.
+/// A cell with no block named, with a pointer for a number, with an unknown field, with a call of another predicate
+/// left open, and at another node; and its nodes, which are of two kinds or not known to be equal.
 pub fn examples_of_cells_refused()
     ensures no_block { FailsAt cell_and_list (λ know. folding_ind know defs list_id 1 first_three None (edge 1 ∷ [])) 4 }
     ensures kind { FailsAt cell_and_list (λ know. folding_ind know defs list_id 1 (node 1 ∷ node 1 ∷ node 3 ∷ []) (Some (edge 0)) (edge 1 ∷ [])) 4 }
+    ensures unknown { FailsAt cell_unknown (λ know. folding_ind know defs list_id 1 first_three (Some (edge 0)) (edge 1 ∷ [])) 5 }
+    ensures other_call { FailsAt cell_and_list (λ know. folding_seg know other_defs lenlist_id 0 first_three (edge 0) [] 0) 4 }
     ensures elsewhere { FailsAt cell_and_list (λ know. folding_ind know defs list_id 1 (node 3 ∷ node 2 ∷ node 3 ∷ []) (Some (edge 0)) (edge 1 ∷ [])) 5 }
     ensures two_kinds { FailsAt cell_and_list (λ know. merging_nodes know (node 1) (node 2)) 4 }
     ensures apart { FailsAt cell_and_list (λ know. merging_nodes know (node 1) (node 3)) 5 }
@@ -89,13 +92,14 @@ pub fn examples_of_naming_refused()
 }
 
 /// What is not dropped, forgotten or a goal met: no such edge, an edge that is reached; null, no node, and a node at which
-/// an edge starts; a list for a tree, and a list elsewhere.
+/// an edge starts or that a variable has; a list for a tree, and a list elsewhere.
 pub fn examples_of_dropping_refused()
     ensures absent { FailsAt lost_list (λ know. dropping_edge know (edge 1)) 3 }
     ensures reached { FailsAt pointed_list (λ know. dropping_edge know (edge 0)) 4 }
     ensures forgotten_null { (atoms : List Fact) → FailsAt pointer (λ know. forgetting_node know atoms null) 3 }
     ensures no_node { (atoms : List Fact) → FailsAt pointer (λ know. forgetting_node know atoms (node 2)) 3 }
     ensures start { (atoms : List Fact) → FailsAt lost_list (λ know. forgetting_node know atoms (node 1)) 4 }
+    ensures variable { (atoms : List Fact) → FailsAt pointed_node (λ know. forgetting_node know atoms (node 1)) 4 }
     ensures tree { FailsAt lost_list (λ know. meeting_goal know tree_goal (edge 0)) 3 }
     ensures no_edge { FailsAt lost_list (λ know. meeting_goal know list_goal (edge 1)) 3 }
     ensures elsewhere { FailsAt lost_list (λ know. meeting_goal know null_goal (edge 0)) 4 }
