@@ -1,0 +1,55 @@
+-- What is first is a cover, there is none only where none exists, and the guess is the one that there is.
+use Rattle.std.specs.Prelude.{◌≡◌, ◌↔◌, ℕ, List, [], Option, Some, None, slice_get}
+use Rattle.mc_base.specs.declared.ids.PredId.{PredId}
+use Rattle.mc_defs.specs.declared.rules.Def.{Def}
+use Rattle.mc_defs.specs.Conditions.{IsDefs}
+use Rattle.mc_graph.specs.declared.edge.Edge.{Edge}
+use Rattle.mc_graph.specs.Graph.{Edges, Picks, IdsAscend}
+use Rattle.mc_state.specs.declared.terms.Term.{Term}
+use Rattle.mc_state.specs.Covers.{Cover, SegCover}
+use Rattle.mc_state.specs.Guess.{Guess}
+use Rattle.mc_state.specs.State.{State}
+use Rattle.mc_premises.specs.Known.{Test, Tells}
+use Rattle.mc_cover.specs.First.{Taken, first_cover, first_seg_cover}
+use Rattle.mc_cover.specs.Goals.{Stop}
+use Rattle.mc_cover.specs.Guessed.{guess}
+
+-- the first cover is a cover
+abbrev pub FirstIsCover : Type 0
+FirstIsCover =
+    (know : Test) (defs : List Def) (s : State) (pred : PredId) (at : Term) (args : List Term) (es : Edges) (found : Taken)
+    → IsDefs defs → Tells know s → first_cover know defs pred at args es ≡ Some found → Cover defs s pred at args es found.left
+
+-- the first segment cover is a segment cover
+abbrev pub FirstIsSegCover : Type 0
+FirstIsSegCover =
+    (know : Test) (defs : List Def) (s : State) (pred : PredId) (at : Term) (args : List Term) («end» : Term) (ends : List Term) (es : Edges) (found : Taken)
+    → IsDefs defs → Tells know s → first_seg_cover know defs pred at args end ends es ≡ Some found
+    → SegCover defs s pred at args end ends es found.left
+
+-- where there is no first cover, there is no cover
+abbrev pub NoCoverIsMissed : Type 0
+NoCoverIsMissed =
+    (know : Test) (defs : List Def) (s : State) (pred : PredId) (at : Term) (args : List Term) (es : Edges) (high : ℕ) (left : Edges)
+    → IsDefs defs → Tells know s → IdsAscend 0 es high → first_cover know defs pred at args es ≡ None
+    → Cover defs s pred at args es left → ⊥
+
+-- where there is no first segment cover, there is no segment cover
+abbrev pub NoSegCoverIsMissed : Type 0
+NoSegCoverIsMissed =
+    (know : Test) (defs : List Def) (s : State) (pred : PredId) (at : Term) (args : List Term) («end» : Term) (ends : List Term) (es : Edges) (high : ℕ) (left : Edges)
+    → IsDefs defs → Tells know s → IdsAscend 0 es high → first_seg_cover know defs pred at args end ends es ≡ None
+    → SegCover defs s pred at args end ends es left → ⊥
+
+-- of a predicate that is defined there is one guess, and this is it
+abbrev pub GuessIsTheGuess : Type 0
+GuessIsTheGuess =
+    (know : Test) (defs : List Def) (s : State) (pred : PredId) (def : Def) (at : Term) (stop : Option Stop) (es : Edges) (high : ℕ) (guessed : List Term)
+    → IsDefs defs → Tells know s → IdsAscend 0 es high → slice_get defs pred.0 ≡ Some def
+    → Guess defs s pred at stop es guessed ↔ (guessed ≡ guess know defs pred at stop es)
+
+-- of a predicate that is not defined there is none
+abbrev pub NoGuessUndefined : Type 0
+NoGuessUndefined =
+    (defs : List Def) (s : State) (pred : PredId) (at : Term) (stop : Option Stop) (es : Edges) (guessed : List Term)
+    → slice_get defs pred.0 ≡ None → Guess defs s pred at stop es guessed → ⊥

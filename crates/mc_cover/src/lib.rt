@@ -1,0 +1,7 @@
+//! Covers: which edges make a predicate or a segment of it, the first of the ways to do so, and the guess of its
+//! arguments, as total functions over what is known.
+#![tactic(auto)]
+
+mod examples;
+
+pub use examples::{example_firsts, example_guesses, example_segments, no_firsts};
