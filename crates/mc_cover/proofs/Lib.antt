@@ -6,3 +6,7 @@ mod Left
 mod Sound
 mod Listed
 mod Complete
+mod Settled
+mod FirstEdge
+mod Rules
+mod Guessing

@@ -32,24 +32,24 @@ abbrev pub taken : List Mark → List EdgeId
 taken log = flat_map (λ m. option_to_list (edge_of m)) log
 
 -- edges that were taken, in the order of use, and those that are left
-pub record Taken : Type 0 where
+pub record Choice : Type 0 where
   pub used : List EdgeId
   pub left : Edges
 
 -- what marks take of edges
-abbrev pub taken_of : Edges → List Mark → Taken
-taken_of es log = record { used = taken log; left = others es (taken log) }
+abbrev pub choice_of : Edges → List Mark → Choice
+choice_of es log = record { used = taken log; left = others es (taken log) }
 
 -- the first way to meet a goal
-abbrev pub first_for : Setting → Goal → Option Taken
-first_for w g = option_map (taken_of w.edges) (first_try (space w) (limit w) g)
+abbrev pub first_for : Setting → Goal → Option Choice
+first_for w g = option_map (choice_of w.edges) (first_try (space w) (limit w) g)
 
 -- the first cover of a predicate at a term with arguments, from these edges
-abbrev pub first_cover : Test → List Def → PredId → Term → List Term → Edges → Option Taken
+abbrev pub first_cover : Test → List Def → PredId → Term → List Term → Edges → Option Choice
 first_cover know defs pred at args es =
     first_for (record { know = know; defs = defs; edges = es }) (record { pred = pred; at = at; args = args; stop = None })
 
 -- the first segment cover, from a term with arguments to another with others
-abbrev pub first_seg_cover : Test → List Def → PredId → Term → List Term → Term → List Term → Edges → Option Taken
+abbrev pub first_seg_cover : Test → List Def → PredId → Term → List Term → Term → List Term → Edges → Option Choice
 first_seg_cover know defs pred at args «end» ends es =
     first_for (record { know = know; defs = defs; edges = es }) (record { pred = pred; at = at; args = args; stop = Some (end, ends) })

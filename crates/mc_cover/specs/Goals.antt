@@ -27,7 +27,7 @@ pub record Goal : Type 0 where
 -- how a goal is met: nothing is taken, where the segment ends; this Ind; this Seg, and what is at its end; the rule of the
 -- predicate at a place, with this block where it has one; such a rule, whose call at another place goes on to the stop
 pub data Mark : Type 0 where
-  ends : Mark
+  at_end : Mark
   by_ind : EdgeId → Mark
   by_seg : EdgeId → Mark
   by_rule : ℕ → Option EdgeId → Mark

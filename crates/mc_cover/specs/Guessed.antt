@@ -1,5 +1,5 @@
 -- The guess of a predicate's arguments, as a function.
-use Rattle.std.specs.Prelude.{◌==◌, ◌&&◌, ℕ, zero, suc, List, [], ◌∷◌, Bool, true, false, Option, Some, None, length, map, replicate, option_map, slice_get, if◌then◌else◌}
+use Rattle.std.specs.Prelude.{◌==◌, ◌&&◌, ℕ, zero, suc, List, [], ◌∷◌, Bool, true, false, Option, Some, None, length, map, replicate, option_map, slice_get, unwrap_or, if◌then◌else◌}
 use Rattle.mc_base.specs.declared.ids.EdgeId.{EdgeId}
 use Rattle.mc_base.specs.declared.ids.NodeId.{NodeId}
 use Rattle.mc_base.specs.declared.ids.PredId.{PredId}
@@ -85,35 +85,32 @@ abbrev pub given_by_rule : Guesses → PredId → Def → Rule → Term → List
 given_by_rule M pred def rule at contents es =
     parameters_of (settled (after_calls M pred es rule.calls (begun rule (length def.params) at contents)) rule.atoms) 1 (length def.params)
 
--- by the first rule without a block, or zeros
-abbrev pub guess_empty : Guesses → PredId → Def → Term → Edges → Option Rule → List Term
-guess_empty M pred def at es None = replicate (length def.params) zero_term
-guess_empty M pred def at es (Some rule) = given_by_rule M pred def rule at [] es
+-- the arguments of the least Ind or Seg of the predicate there
+abbrev pub by_summary : Test → PredId → Term → Edges → Option (List Term)
+by_summary know pred at es = option_map (λ (found : EdgeId × List NodeId). map plain found.1) (first_edge (summary_of know pred at) es)
 
--- by the first rule whose block is there, or without
-abbrev pub guess_block : Guesses → PredId → Def → Term → Edges → Option BlockFor → List Term
-guess_block M pred def at es None = guess_empty M pred def at es (first_empty def.rules)
-guess_block M pred def at es (Some b) = given_by_rule M pred def b.rule at b.contents (without es b.id)
+-- what the first rule gives whose block is there
+abbrev pub by_block : Test → Guesses → PredId → Def → Term → Edges → Option (List Term)
+by_block know M pred def at es =
+    option_map (λ (b : BlockFor). given_by_rule M pred def b.rule at b.contents (without es b.id)) (first_block know at es def.rules)
 
--- by the least Ind or Seg of the predicate there, or by a rule
-abbrev pub guess_summary : Test → Guesses → PredId → Def → Term → Edges → Option (EdgeId × List NodeId) → List Term
-guess_summary know M pred def at es None = guess_block M pred def at es (first_block know at es def.rules)
-guess_summary know M pred def at es (Some summary) = map plain summary.1
+-- what the first rule without a block gives
+abbrev pub by_empty_rule : Guesses → PredId → Def → Term → Edges → Option (List Term)
+by_empty_rule M pred def at es = option_map (λ rule. given_by_rule M pred def rule at [] es) (first_empty def.rules)
 
 -- the stop's arguments, where it is reached
-abbrev pub stopped : Test → Term → Option Stop → Option (List Term)
-stopped know at None = None
-stopped know at (Some stop) = if equal_terms know at stop.0 then Some stop.1 else None
+abbrev pub by_stop : Test → Term → Option Stop → Option (List Term)
+by_stop know at None = None
+by_stop know at (Some stop) = if equal_terms know at stop.0 then Some stop.1 else None
 
--- the stop's arguments, or by an edge
-abbrev pub guess_stop : Test → Guesses → PredId → Def → Term → Edges → Option (List Term) → List Term
-guess_stop know M pred def at es None = guess_summary know M pred def at es (first_edge (summary_of know pred at) es)
-guess_stop know M pred def at es (Some ends) = ends
-
--- the guess of a predicate, or nothing where it is not defined
+-- the first of these that there is, or zeros; nothing where the predicate is not defined
 abbrev pub guess_of : Test → Option Stop → Guesses → PredId → Term → Edges → Option Def → List Term
 guess_of know stop M pred at es None = []
-guess_of know stop M pred at es (Some def) = guess_stop know M pred def at es (stopped know at stop)
+guess_of know stop M pred at es (Some def) =
+    unwrap_or (by_stop know at stop)
+    (unwrap_or (by_summary know pred at es)
+    (unwrap_or (by_block know M pred def at es)
+    (unwrap_or (by_empty_rule M pred def at es) (replicate (length def.params) zero_term))))
 
 -- at most so many guesses, one within the other
 abbrev pub guess_at : Test → List Def → Option Stop → ℕ → Guesses

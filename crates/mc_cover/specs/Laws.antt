@@ -10,20 +10,20 @@ use Rattle.mc_state.specs.Covers.{Cover, SegCover}
 use Rattle.mc_state.specs.Guess.{Guess}
 use Rattle.mc_state.specs.State.{State}
 use Rattle.mc_premises.specs.Known.{Test, Tells}
-use Rattle.mc_cover.specs.First.{Taken, first_cover, first_seg_cover}
+use Rattle.mc_cover.specs.First.{Choice, first_cover, first_seg_cover}
 use Rattle.mc_cover.specs.Goals.{Stop}
 use Rattle.mc_cover.specs.Guessed.{guess}
 
 -- the first cover is a cover
 abbrev pub FirstIsCover : Type 0
 FirstIsCover =
-    (know : Test) (defs : List Def) (s : State) (pred : PredId) (at : Term) (args : List Term) (es : Edges) (found : Taken)
+    (know : Test) (defs : List Def) (s : State) (pred : PredId) (at : Term) (args : List Term) (es : Edges) (found : Choice)
     → IsDefs defs → Tells know s → first_cover know defs pred at args es ≡ Some found → Cover defs s pred at args es found.left
 
 -- the first segment cover is a segment cover
 abbrev pub FirstIsSegCover : Type 0
 FirstIsSegCover =
-    (know : Test) (defs : List Def) (s : State) (pred : PredId) (at : Term) (args : List Term) («end» : Term) (ends : List Term) (es : Edges) (found : Taken)
+    (know : Test) (defs : List Def) (s : State) (pred : PredId) (at : Term) (args : List Term) («end» : Term) (ends : List Term) (es : Edges) (found : Choice)
     → IsDefs defs → Tells know s → first_seg_cover know defs pred at args end ends es ≡ Some found
     → SegCover defs s pred at args end ends es found.left
 

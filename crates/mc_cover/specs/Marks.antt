@@ -15,7 +15,7 @@ use Rattle.mc_state.specs.Terms.{plain, term_of}
 use Rattle.mc_premises.specs.Known.{Test}
 use Rattle.mc_premises.specs.Lists.{on_some}
 use Rattle.mc_search.specs.Search.{Space}
-use Rattle.mc_cover.specs.Goals.{Stop, Goal, Mark, ends, by_ind, by_seg, by_rule, by_call, Setting, is_ind, is_seg, behind_seg, contents_by}
+use Rattle.mc_cover.specs.Goals.{Stop, Goal, Mark, at_end, by_ind, by_seg, by_rule, by_call, Setting, is_ind, is_seg, behind_seg, contents_by}
 use Rattle.mc_cover.specs.Terms.{equal_terms, all_equal_terms, all_lie_in, atoms_known, with_fixed}
 
 -- the segment ends where it begins: the stop is equal, and the arguments lie in the ranges of their kinds
@@ -63,7 +63,7 @@ has_call pred call by = on_some (λ (c : Call). c.pred.0 == pred.0) (slice_get b
 
 -- whether a mark fits a goal, apart from what was taken before
 abbrev pub fits : Setting → Goal → Mark → Bool
-fits w g ends = ends_here w.know (def_at w g) g g.stop
+fits w g at_end = ends_here w.know (def_at w g) g g.stop
 fits w g (by_ind id) = not (is_some g.stop) && is_ind w.know g (edge_with w.edges id)
 fits w g (by_seg id) = is_seg w.know g (edge_with w.edges id)
 fits w g (by_rule place block) = not (is_some g.stop) && is_some (rule_at w g place block)
@@ -91,7 +91,7 @@ calls_of_rule_to stop call (Some by) = goals_to by.names stop call by.rule.calls
 
 -- what a mark leaves to be made
 abbrev pub calls_of : Setting → Goal → Mark → List Goal
-calls_of w g ends = []
+calls_of w g at_end = []
 calls_of w g (by_ind id) = []
 calls_of w g (by_seg id) = behind_seg g (edge_with w.edges id)
 calls_of w g (by_rule place block) = calls_of_rule (rule_at w g place block)
@@ -99,7 +99,7 @@ calls_of w g (by_call place block call) = calls_of_rule_to g.stop call (rule_at 
 
 -- the edge that a mark takes, if it takes one
 abbrev pub edge_of : Mark → Option EdgeId
-edge_of ends = None
+edge_of at_end = None
 edge_of (by_ind id) = Some id
 edge_of (by_seg id) = Some id
 edge_of (by_rule place block) = block
@@ -134,7 +134,7 @@ rules_of (Some def) = def.rules
 
 -- all marks in order: the end of a segment, each edge as an Ind, each as a Seg, and the rules of the predicate
 abbrev pub marks : Setting → Goal → List Mark
-marks w g = ends ∷ (map by_ind (ids_of w.edges) ++ (map by_seg (ids_of w.edges) ++ marks_of_rules (ids_of w.edges) 0 (rules_of (def_at w g))))
+marks w g = at_end ∷ (map by_ind (ids_of w.edges) ++ (map by_seg (ids_of w.edges) ++ marks_of_rules (ids_of w.edges) 0 (rules_of (def_at w g))))
 
 -- how goals are met; a search may end with any marks, since edges may be left
 abbrev pub space : Setting → Space Goal Mark

@@ -3,5 +3,7 @@
 #![tactic(auto)]
 
 mod examples;
+mod laws;
 
 pub use examples::{example_firsts, example_guesses, example_segments, no_firsts};
+pub use laws::{firsts_are_covers, guess_is_the_guess, none_is_missed};

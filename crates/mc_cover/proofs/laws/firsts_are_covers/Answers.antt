@@ -1,0 +1,5 @@
+use Rattle.mc_cover.proofs.Sound.{first_is_cover, first_is_seg_cover}
+use Rattle.mc_cover.proofs.laws.firsts_are_covers.Goals as goal
+
+pub returns : goal.returns
+returns c = record { cover = first_is_cover; segment = first_is_seg_cover }

@@ -1,0 +1,20 @@
+// What is first, and what is guessed. Each law is what a function with no body ensures.
+ghost use Rattle.mc_cover.specs.Laws.{FirstIsCover, FirstIsSegCover, NoCoverIsMissed, NoSegCoverIsMissed, GuessIsTheGuess, NoGuessUndefined};
+
+/// The first cover is a cover, and the first segment cover is one.
+pub fn firsts_are_covers()
+    ensures cover { FirstIsCover }
+    ensures segment { FirstIsSegCover }
+{}
+
+/// Where there is no first cover, there is no cover; so with segment covers.
+pub fn none_is_missed()
+    ensures cover { NoCoverIsMissed }
+    ensures segment { NoSegCoverIsMissed }
+{}
+
+/// Of a predicate that is defined there is one guess, which is the function's; of another there is none.
+pub fn guess_is_the_guess()
+    ensures is_it { GuessIsTheGuess }
+    ensures undefined { NoGuessUndefined }
+{}
