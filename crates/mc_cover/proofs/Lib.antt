@@ -5,6 +5,7 @@ mod Parts
 mod Left
 mod Sound
 mod Listed
+mod Picked
 mod Complete
 mod Settled
 mod FirstEdge

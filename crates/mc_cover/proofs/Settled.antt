@@ -113,7 +113,7 @@ settles_within (suc n) names atoms l =
     ]
 
 passes_more : (p q : ℕ) (names : Partial) (atoms : List DefAtom) → (n : ℕ) → n ≡ p + q → by_passes n names atoms ≡ by_passes q (by_passes p names atoms) atoms
-passes_more zero q names atoms n e = ap (λ n. by_passes n names atoms) e
+passes_more zero q names atoms n e = let same : n ≡ q = omega arith in ap (λ n. by_passes n names atoms) same
 passes_more (suc p) q names atoms zero e = absurd (omega arith)
 passes_more (suc p) q names atoms (suc n) e = passes_more p q (by_atoms names atoms) atoms n (omega arith)
 

@@ -82,7 +82,7 @@ module _ (w : Setting) (s : State) (tells : Tells w.know s) (fit : IsDefs w.defs
 
   -- what is behind a Seg
   seg_by : (k : ℕ) (g next : Goal) (o : Option Stop) (log : List Mark) (left : Edges) (id : EdgeId) (p : SegParts w.know g (edge_with w.edges id)) → is_free takes log (by_seg id) ≡ true
-      → next ≡ record { pred = g.pred; at = plain p.last; args = map plain p.lasts; stop = g.stop } → Made k next o (without (left_by w.edges log) id) left → Made (suc k) g o (left_by w.edges log) left
+      → next ≡ (record { pred = g.pred; at = plain p.last; args = map plain p.lasts; stop = g.stop }) → Made k next o (without (left_by w.edges log) id) left → Made (suc k) g o (left_by w.edges log) left
   seg_by k g next None log left id p free is m =
       let still = still_there w.edges log (by_seg id) id (Seg p.b p.args g.pred p.last p.lasts) refl free p.edge in
       let rest = subst (λ n. Made k n None (without (left_by w.edges log) id) left) is m in

@@ -4,6 +4,8 @@ use Rattle.std.specs.List.{list_any, flat_map}
 use Rattle.mc_base.specs.declared.ids.EdgeId.{EdgeId}
 use Rattle.mc_base.specs.declared.plain.Atom.{Atom}
 use Rattle.mc_base.specs.declared.plain.Atom.TheVariants.{Eq, Ne, In}
+use Rattle.mc_base.specs.declared.ids.NodeId.{NodeId}
+use Rattle.mc_base.specs.declared.plain.Kind.{Kind}
 use Rattle.mc_base.specs.declared.plain.Kind.TheVariants.{Ptr}
 use Rattle.mc_base.specs.Nodes.{null}
 use Rattle.mc_defs.specs.Examples.{list_id}
@@ -28,7 +30,7 @@ shows (In a lo hi) (In d m k) = a.0 == d.0 && (int_le m lo && int_le hi k)
 
 -- each node is itself and lies in its kind's range
 abbrev pub of_kinds : Kinds → List Atom
-of_kinds kinds = flat_map (λ k. Eq k.0 k.0 (pos 0) ∷ In k.0 (low_of k.1) (high_of k.1) ∷ []) kinds
+of_kinds kinds = flat_map (λ (k : NodeId × Kind). Eq k.0 k.0 (pos 0) ∷ In k.0 (low_of k.1) (high_of k.1) ∷ []) kinds
 
 -- what is known of nodes of these kinds, where these atoms are known as well
 abbrev pub knowing : Kinds → List Atom → Test

@@ -1,5 +1,5 @@
 -- What is first is a cover, there is none only where none exists, and the guess is the one that there is.
-use Rattle.std.specs.Prelude.{◌≡◌, ◌↔◌, ℕ, List, [], Option, Some, None, slice_get}
+use Rattle.std.specs.Prelude.{◌≡◌, ◌↔◌, ℕ, List, [], Option, Some, None, true, slice_get}
 use Rattle.mc_base.specs.declared.ids.PredId.{PredId}
 use Rattle.mc_defs.specs.declared.rules.Def.{Def}
 use Rattle.mc_defs.specs.Conditions.{IsDefs}
@@ -10,8 +10,9 @@ use Rattle.mc_state.specs.Covers.{Cover, SegCover}
 use Rattle.mc_state.specs.Guess.{Guess}
 use Rattle.mc_state.specs.State.{State}
 use Rattle.mc_premises.specs.Known.{Test, Tells}
-use Rattle.mc_cover.specs.First.{Choice, first_cover, first_seg_cover}
-use Rattle.mc_cover.specs.Goals.{Stop}
+use Rattle.mc_premises.specs.Named.{others, are_there, are_distinct}
+use Rattle.mc_cover.specs.First.{Choice, first_for, first_cover, first_seg_cover}
+use Rattle.mc_cover.specs.Goals.{Stop, Goal, Setting}
 use Rattle.mc_cover.specs.Guessed.{guess}
 
 -- the first cover is a cover
@@ -26,6 +27,12 @@ FirstIsSegCover =
     (know : Test) (defs : List Def) (s : State) (pred : PredId) (at : Term) (args : List Term) («end» : Term) (ends : List Term) (es : Edges) (found : Choice)
     → IsDefs defs → Tells know s → first_seg_cover know defs pred at args end ends es ≡ Some found
     → SegCover defs s pred at args end ends es found.left
+
+-- the edges of the first way to meet a goal are there, each once, and the others are left
+abbrev pub FirstTakesEdges : Type 0
+FirstTakesEdges =
+    (w : Setting) (g : Goal) (found : Choice)
+    → first_for w g ≡ Some found → (are_distinct found.used ≡ true) × (are_there w.edges found.used ≡ true) × (found.left ≡ others w.edges found.used)
 
 -- where there is no first cover, there is no cover
 abbrev pub NoCoverIsMissed : Type 0

@@ -1,10 +1,12 @@
 // What is first, and what is guessed. Each law is what a function with no body ensures.
-ghost use Rattle.mc_cover.specs.Laws.{FirstIsCover, FirstIsSegCover, NoCoverIsMissed, NoSegCoverIsMissed, GuessIsTheGuess, NoGuessUndefined};
+ghost use Rattle.mc_cover.specs.Laws.{FirstIsCover, FirstIsSegCover, FirstTakesEdges, NoCoverIsMissed, NoSegCoverIsMissed, GuessIsTheGuess, NoGuessUndefined};
 
-/// The first cover is a cover, and the first segment cover is one.
+/// The first cover is a cover, and the first segment cover is one; the edges that they use are
+/// there, each once.
 pub fn firsts_are_covers()
     ensures cover { FirstIsCover }
     ensures segment { FirstIsSegCover }
+    ensures edges { FirstTakesEdges }
 {}
 
 /// Where there is no first cover, there is no cover; so with segment covers.

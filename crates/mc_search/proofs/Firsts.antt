@@ -17,11 +17,14 @@ first_out (None ∷ xs) x e (inr h) = first_out xs x e h
 first_out (Some y ∷ xs) x e h = cc
 
 module _ {G M : Type 0} (w : Space G M) where
+  -- the marks of the first try lead from the goal
+  pub first_leads : (limit : ℕ) (g : G) (log : List M) → first_try w limit g ≡ Some log → Leads w limit (g ∷ []) [] log
+  first_leads limit g log e = leads_by_try w limit (g ∷ []) [] log (first_in (tries w limit (g ∷ []) []) log e)
+
   -- the first try meets the goal, and the search may end with it
   pub first_meets : (limit : ℕ) (g : G) (log : List M) → first_try w limit g ≡ Some log → IsMet w limit g [] log × (w.ends log ≡ true)
   first_meets limit g log e =
-      let l = leads_by_try w limit (g ∷ []) [] log (first_in (tries w limit (g ∷ []) []) log e) in
-      let m = met_by_leads w limit (g ∷ []) [] log l in
+      let m = met_by_leads w limit (g ∷ []) [] log (first_leads limit g log e) in
       (subst (λ after. IsMet w limit g [] after) (sym m.0.2) m.0.1, m.1)
 
   -- where no try meets the goal, no marks lead from it, where the limit leaves room for all that may be taken
