@@ -1,5 +1,5 @@
 -- The first edge of which something is known is the one with the least id.
-use Rattle.std.proofs.Common.{◌≡◌, ◌≤◌, ◌<◌, ◌⊎◌, inl, inr, ℕ, suc, Bool, true, false, Option, Some, None, List, [], ◌∷◌, length, refl, ap, sym, subst, ◌∙◌, arith, eqb-true, eq-eqb}
+use Rattle.std.proofs.Common.{◌≡◌, ◌≤◌, ◌<◌, ◌⊎◌, inl, inr, ℕ, zero, suc, Bool, true, false, Option, Some, None, List, [], ◌∷◌, length, refl, ap, sym, subst, ◌∙◌, arith, eqb-true, eq-eqb}
 use Rattle.std.specs.Prelude.{◌==◌, option_map, if◌then◌else◌}
 use Rattle.mc_base.specs.declared.ids.EdgeId.{EdgeId}
 use Rattle.mc_graph.specs.declared.edge.Edge.{Edge}
@@ -8,18 +8,15 @@ use Rattle.mc_premises.proofs.Named.{below_none}
 use Rattle.mc_cover.specs.Guessed.{or_else, first_edge}
 use Rattle.mc_cover.proofs.Options.{same_some}
 
+low_or : (a b : ℕ) → (a ≤ b) ⊎ (b < a)
+low_or zero b = inl (omega arith)
+low_or (suc a) zero = inr (omega arith)
+low_or (suc a) (suc b) = elim (low_or a b) [ inl l ↦ inl (omega arith) | inr l ↦ inr (omega arith) ]
+
 -- an edge that is there has no less an id than the least
 least_id : (low : ℕ) (es : Edges) (high : ℕ) (id : EdgeId) (e : Edge) → IdsAscend low es high → edge_with es id ≡ Some e → low ≤ id.0
 least_id low es high id e a h = at (low_or low id.0)
   where
-    low_or : (a b : ℕ) → (a ≤ b) ⊎ (b < a)
-    low_or a b = elim (at_or a b) [ inl l ↦ inl l | inr l ↦ inr l ]
-      where
-        at_or : (a b : ℕ) → (a ≤ b) ⊎ (b < a)
-        at_or zero b = inl (omega arith)
-        at_or (suc a) zero = inr (omega arith)
-        at_or (suc a) (suc b) = elim (at_or a b) [ inl l ↦ inl (omega arith) | inr l ↦ inr (omega arith) ]
-
     at : (low ≤ id.0) ⊎ (id.0 < low) → low ≤ id.0
     at (inl l) = l
     at (inr l) = let both = sym (below_none low es high id a l) ∙ h in absurd (cc both)
@@ -52,10 +49,10 @@ module _ {X : Type 0} (f : Edge → Option X) where
 
   pub first_from : (low : ℕ) (es : Edges) (high : ℕ) (id : EdgeId) (x : X) → IdsAscend low es high → first_edge f es ≡ Some (id, x) → IsFirst es id x
   first_from low [] high id x a h = absurd (cc h)
-  first_from low (e ∷ es) high id x a h = at (f e.1) refl h
+  first_from low (e ∷ es) high id x a h = at (λ h. first_from (suc e.0.0) es high id x a.2 h) (f e.1) refl h
     where
-      at : (o : Option X) → f e.1 ≡ o → or_else (option_map (λ x. (e.0, x)) o) (first_edge f es) ≡ Some (id, x) → IsFirst (e ∷ es) id x
-      at (Some y) is h =
+      at : (first_edge f es ≡ Some (id, x) → IsFirst es id x) → (o : Option X) → f e.1 ≡ o → or_else (option_map (λ x. (e.0, x)) o) (first_edge f es) ≡ Some (id, x) → IsFirst (e ∷ es) id x
+      at rest (Some y) is h =
           let pair = same_some (e.0, y) (id, x) h in
           let same_id : e.0 ≡ id = ap (λ (p : EdgeId × X). p.0) pair in
           let same_x : y ≡ x = ap (λ (p : EdgeId × X). p.1) pair in
@@ -72,8 +69,8 @@ module _ {X : Type 0} (f : Edge → Option X) where
                 | inl r ↦ (let n : other.0 ≡ e.0.0 = ap (λ (i : EdgeId). i.0) r.0 in let m : e.0.0 ≡ id.0 = ap (λ (i : EdgeId). i.0) same in omega arith)
                 | inr r ↦ (let m : e.0.0 ≡ id.0 = ap (λ (i : EdgeId). i.0) same in let l = least_id (suc e.0.0) es high other own a.2 r in omega arith)
               ]
-      at None is h =
-          let r = first_from (suc e.0.0) es high id x a.2 h in
+      at rest None is h =
+          let r = rest h in
           record {
             edge = r.edge;
             there = rest_there e es high id r.edge a.2 r.there;
@@ -91,14 +88,14 @@ module _ {X : Type 0} (f : Edge → Option X) where
   -- where no edge is first, none gives anything
   pub first_none : (es : Edges) → first_edge f es ≡ None → (id : EdgeId) (e : Edge) (x : X) → edge_with es id ≡ Some e → f e ≡ Some x → ⊥
   first_none [] h id e x t g = cc t
-  first_none (head ∷ es) h id e x t g = at (f head.1) refl h
+  first_none (head ∷ es) h id e x t g = at (λ h p. first_none es h id e x p g) (f head.1) refl h
     where
-      at : (o : Option X) → f head.1 ≡ o → or_else (option_map (λ x. (head.0, x)) o) (first_edge f es) ≡ None → ⊥
-      at (Some y) is h = cc h
-      at None is h =
+      at : (first_edge f es ≡ None → edge_with es id ≡ Some e → ⊥) → (o : Option X) → f head.1 ≡ o → or_else (option_map (λ x. (head.0, x)) o) (first_edge f es) ≡ None → ⊥
+      at rest (Some y) is h = cc h
+      at rest None is h =
           elim (head_or head es id e t) [
             | inl p ↦ (let both = sym is ∙ (ap f (sym p.1) ∙ g) in cc both)
-            | inr p ↦ first_none es h id e x p g
+            | inr p ↦ rest h p
           ]
 
   -- what is first is found
@@ -123,8 +120,8 @@ module _ {X : Type 0} (f : Edge → Option X) where
 -- one edge less
 pub less_edges : (es : Edges) (id : EdgeId) (e : Edge) → edge_with es id ≡ Some e → suc (length (without es id)) ≡ length es
 less_edges [] id e h = absurd (cc h)
-less_edges (x ∷ es) id e h = at (x.0.0 == id.0) refl h
+less_edges (x ∷ es) id e h = at (λ h. less_edges es id e h) (x.0.0 == id.0) refl h
   where
-    at : (b : Bool) → (x.0.0 == id.0) ≡ b → (if b then Some x.1 else edge_with es id) ≡ Some e → suc (length (if b then es else x ∷ without es id)) ≡ suc (length es)
-    at true is h = refl
-    at false is h = ap suc (less_edges es id e h)
+    at : (edge_with es id ≡ Some e → suc (length (without es id)) ≡ length es) → (b : Bool) → (x.0.0 == id.0) ≡ b → (if b then Some x.1 else edge_with es id) ≡ Some e → suc (length (if b then es else x ∷ without es id)) ≡ suc (length es)
+    at rest true is h = refl
+    at rest false is h = ap suc (rest h)

@@ -138,21 +138,21 @@ module _ (know : Test) (s : State) (tells : Tells know s) where
     none_of rule None own h e = absurd (cc e)
     none_of rule (Some shape) own h e = ap (λ o. first_edge (whole_block know at o) es) (sym (same_some shape own e)) ∙ with_edge (first_edge (whole_block know at shape) es) h
       where
-        with_edge : (o : Option (EdgeId × List NodeId)) → option_map (λ (b : EdgeId × List NodeId). record { rule = rule; id = b.0; contents = b.1 }) o ≡ None → o ≡ None
+        with_edge : (o : Option (EdgeId × List NodeId)) → option_map {U = BlockFor} (λ (b : EdgeId × List NodeId). record { rule = rule; id = b.0; contents = b.1 }) o ≡ None → o ≡ None
         with_edge None h = refl
         with_edge (Some x) h = absurd (cc h)
 
     block_from : (rules : List Rule) (b : BlockFor) → first_block know at es rules ≡ Some b → (place : ℕ) × (shape : StructId) × IsBlock rules place shape b
     block_from [] b h = absurd (cc h)
-    block_from (rule ∷ rules) b h = here (block_of_rule know at es rule rule.block) refl h
+    block_from (rule ∷ rules) b h = here (λ h. block_from rules b h) (block_of_rule know at es rule rule.block) refl h
       where
-        here : (o : Option BlockFor) → block_of_rule know at es rule rule.block ≡ o → or_else o (first_block know at es rules) ≡ Some b → (place : ℕ) × (shape : StructId) × IsBlock (rule ∷ rules) place shape b
-        here (Some x) is h =
+        here : (first_block know at es rules ≡ Some b → (place : ℕ) × (shape : StructId) × IsBlock rules place shape b) → (o : Option BlockFor) → block_of_rule know at es rule rule.block ≡ o → or_else o (first_block know at es rules) ≡ Some b → (place : ℕ) × (shape : StructId) × IsBlock (rule ∷ rules) place shape b
+        here rest (Some x) is h =
             let same = same_some x b h in
             let r = of_rule rule rule.block b (is ∙ ap (λ x. Some x) same) in
             (0, r.0, record { listed = ap (λ x. Some x) r.2; block = ap (λ (x : Rule). x.block) (sym r.2) ∙ r.1; found = r.3; before = λ earlier other own l at' e. absurd (omega arith) })
-        here None is h =
-            let r = block_from rules b h in
+        here rest None is h =
+            let r = rest h in
             (suc r.0, r.1, record { listed = r.2.listed; block = r.2.block; found = r.2.found; before = λ earlier other own l at' e. none_before is r.0 r.2.before earlier other own l at' e })
           where
             none_before : block_of_rule know at es rule rule.block ≡ None → (place : ℕ) → NoneBefore rules place → NoneBefore (rule ∷ rules) (suc place)
@@ -235,14 +235,14 @@ module _ (know : Test) (s : State) (tells : Tells know s) where
 
       bare_from : (rules : List Rule) (own : Rule) → first_empty rules ≡ Some own → (place : ℕ) × IsEmptyRule rules place own
       bare_from [] own h = absurd (cc h)
-      bare_from (rule ∷ rules) own h = here (if_empty rule rule.block) refl h
+      bare_from (rule ∷ rules) own h = here (λ h. bare_from rules own h) (if_empty rule rule.block) refl h
         where
-          here : (o : Option Rule) → if_empty rule rule.block ≡ o → or_else o (first_empty rules) ≡ Some own → (place : ℕ) × IsEmptyRule (rule ∷ rules) place own
-          here (Some x) is h =
+          here : (first_empty rules ≡ Some own → (place : ℕ) × IsEmptyRule rules place own) → (o : Option Rule) → if_empty rule rule.block ≡ o → or_else o (first_empty rules) ≡ Some own → (place : ℕ) × IsEmptyRule (rule ∷ rules) place own
+          here rest (Some x) is h =
               let r = is_empty rule rule.block own (is ∙ ap (λ x. Some x) (same_some x own h)) in
               (0, record { listed = ap (λ x. Some x) r.1; bare = ap (λ (x : Rule). x.block) (sym r.1) ∙ r.0; before = λ earlier other l at' e. absurd (omega arith) })
-          here None is h =
-              let r = bare_from rules own h in
+          here rest None is h =
+              let r = rest h in
               (suc r.0, record { listed = r.1.listed; bare = r.1.bare; before = λ earlier other l at' e. none_before is r.0 r.1.before earlier other l at' e })
             where
               none_before : if_empty rule rule.block ≡ None → (place : ℕ) → NoneEmpty rules place → NoneEmpty (rule ∷ rules) (suc place)
@@ -282,36 +282,43 @@ module _ (know : Test) (s : State) (tells : Tells know s) where
               (r.0, rule, p.listed, p.bare, p.before, (rule_is M F pred es def rule at [] (none_called r.0 rule p.listed p.bare) g).1 (sym (same_some (given_by_rule F pred def rule at [] es) g e)))
 
   module _ (defs : List Def) (fit : IsDefs defs) (stop : Option Stop) (pred : PredId) (def : Def) (defined : slice_get defs pred.0 ≡ Some def) where
-    -- by as many guesses as there are edges and one more
-    guess_is : (k : ℕ) (at : Term) (es : Edges) (high : ℕ) → IdsAscend 0 es high → length es < k → IsThe (GuessAt defs s stop k pred at es) (guess_at know defs stop k pred at es)
-    guess_is zero at es high ascend l g = absurd (omega arith)
-    guess_is (suc k) at es high ascend l g = (from, λ e. (def, defined, (inner g).1 (e ∙ here)))
+    guarded : (place : ℕ) (rule : Rule) → slice_get def.rules place ≡ Some rule → rule.block ≡ None → rule.calls ≡ []
+    guarded place rule listed = (rule_fits defs fit pred.0 def defined place rule listed).guarded
+
+    -- all that a guess may be by
+    abbrev AllWays : ℕ → Term → Edges → Def → List Term → Type 0
+    AllWays k at es def g =
+        FirstOf (Stops s at stop) (FirstOf (BySummary s pred at es) (FirstOf (ByBlock (GuessAt defs s stop k) def s pred at es) (FirstOf (ByEmptyRule (GuessAt defs s stop k) def pred at es) (λ g. g ≡ replicate (length def.params) zero_term)))) g
+
+    one_level : (k : ℕ) (at : Term) (es : Edges) (high : ℕ) → IdsAscend 0 es high → ((id : EdgeId) (e : Edge) → edge_with es id ≡ Some e → IsRight (GuessAt defs s stop k) (guess_at know defs stop k) pred (without es id))
+        → IsThe (AllWays k at es def) (guess_of know stop (guess_at know defs stop k) pred at es (Some def))
+    one_level k at es high ascend right =
+        let M : PredId → Term → Edges → List Term → Type 0 = GuessAt defs s stop k in
+        let F : Guesses = guess_at know defs stop k in
+        let z : List Term = replicate (length def.params) zero_term in
+        let four = first_of (ByEmptyRule M def pred at es) (λ g. g ≡ z) (by_empty_rule F pred def at es) z (empty_given at es M F pred def high ascend guarded) (λ g. (λ e. e, λ e. e)) in
+        let three = first_of (ByBlock M def s pred at es) (FirstOf (ByEmptyRule M def pred at es) (λ g. g ≡ z)) (by_block know F pred def at es) (unwrap_or (by_empty_rule F pred def at es) z) (block_given at es M F pred def high ascend right) four in
+        let two = first_of (BySummary s pred at es) (FirstOf (ByBlock M def s pred at es) (FirstOf (ByEmptyRule M def pred at es) (λ g. g ≡ z))) (by_summary know pred at es) (unwrap_or (by_block know F pred def at es) (unwrap_or (by_empty_rule F pred def at es) z)) (summary_given pred at es high ascend) three in
+        first_of (Stops s at stop) (FirstOf (BySummary s pred at es) (FirstOf (ByBlock M def s pred at es) (FirstOf (ByEmptyRule M def pred at es) (λ g. g ≡ z)))) (by_stop know at stop)
+        (unwrap_or (by_summary know pred at es) (unwrap_or (by_block know F pred def at es) (unwrap_or (by_empty_rule F pred def at es) z))) (stop_given at stop) two
+
+    next_level : (k : ℕ) (at : Term) (es : Edges) → IsThe (AllWays k at es def) (guess_of know stop (guess_at know defs stop k) pred at es (Some def)) → IsThe (GuessAt defs s stop (suc k) pred at es) (guess_at know defs stop (suc k) pred at es)
+    next_level k at es inner g = (from, λ e. (def, defined, (inner g).1 (e ∙ here)))
       where
-        right : (id : EdgeId) (e : Edge) → edge_with es id ≡ Some e → (at : Term) → IsThe (GuessAt defs s stop k pred at (without es id)) (guess_at know defs stop k pred at (without es id))
-        right id e t at = let less = less_edges es id e t in guess_is k at (without es id) high (ids_without 0 es high id ascend) (omega arith)
-
-        guarded : (place : ℕ) (rule : Rule) → slice_get def.rules place ≡ Some rule → rule.block ≡ None → rule.calls ≡ []
-        guarded place rule listed = (rule_fits defs fit pred.0 def defined place rule listed).guarded
-
-        inner : IsThe (FirstOf (Stops s at stop) (FirstOf (BySummary s pred at es) (FirstOf (ByBlock (GuessAt defs s stop k) def s pred at es) (FirstOf (ByEmptyRule (GuessAt defs s stop k) def pred at es) (λ g. g ≡ replicate (length def.params) zero_term)))))
-            (guess_of know stop (guess_at know defs stop k) pred at es (Some def))
-        inner =
-            let o3 = by_block know (guess_at know defs stop k) pred def at es in
-            let o4 = by_empty_rule (guess_at know defs stop k) pred def at es in
-            let z = replicate (length def.params) zero_term in
-            let four = first_of (ByEmptyRule (GuessAt defs s stop k) def pred at es) (λ g. g ≡ z) o4 z (empty_given at es (GuessAt defs s stop k) (guess_at know defs stop k) pred def high ascend guarded) (λ g. (λ e. e, λ e. e)) in
-            let three = first_of (ByBlock (GuessAt defs s stop k) def s pred at es) (FirstOf (ByEmptyRule (GuessAt defs s stop k) def pred at es) (λ g. g ≡ z)) o3 (unwrap_or o4 z) (block_given at es (GuessAt defs s stop k) (guess_at know defs stop k) pred def high ascend right) four in
-            let two = first_of (BySummary s pred at es) (FirstOf (ByBlock (GuessAt defs s stop k) def s pred at es) (FirstOf (ByEmptyRule (GuessAt defs s stop k) def pred at es) (λ g. g ≡ z))) (by_summary know pred at es) (unwrap_or o3 (unwrap_or o4 z)) (summary_given pred at es high ascend) three in
-            first_of (Stops s at stop) (FirstOf (BySummary s pred at es) (FirstOf (ByBlock (GuessAt defs s stop k) def s pred at es) (FirstOf (ByEmptyRule (GuessAt defs s stop k) def pred at es) (λ g. g ≡ z)))) (by_stop know at stop) (unwrap_or (by_summary know pred at es) (unwrap_or o3 (unwrap_or o4 z))) (stop_given at stop) two
-
         here : guess_at know defs stop (suc k) pred at es ≡ guess_of know stop (guess_at know defs stop k) pred at es (Some def)
         here = ap (guess_of know stop (guess_at know defs stop k) pred at es) defined
 
         from : GuessAt defs s stop (suc k) pred at es g → g ≡ guess_at know defs stop (suc k) pred at es
         from (own, d, f) =
             let same : own ≡ def = same_some own def (sym d ∙ defined) in
-            let mine = subst (λ (o : Def). FirstOf (Stops s at stop) (FirstOf (BySummary s pred at es) (FirstOf (ByBlock (GuessAt defs s stop k) o s pred at es) (FirstOf (ByEmptyRule (GuessAt defs s stop k) o pred at es) (λ g. g ≡ replicate (length o.params) zero_term)))) g) same f in
-            (inner g).0 mine ∙ sym here
+            (inner g).0 (subst (λ (o : Def). AllWays k at es o g) same f) ∙ sym here
+
+    -- by as many guesses as there are edges and one more
+    guess_is : (k : ℕ) (at : Term) (es : Edges) (high : ℕ) → IdsAscend 0 es high → length es < k → IsThe (GuessAt defs s stop k pred at es) (guess_at know defs stop k pred at es)
+    guess_is zero at es high ascend l g = absurd (omega arith)
+    guess_is (suc k) at es high ascend l g =
+        next_level k at es (one_level k at es high ascend
+        (λ id e t at. (let less = less_edges es id e t in guess_is k at (without es id) high (ids_without 0 es high id ascend) (omega arith)))) g
 
 pub guess_is_the_guess : GuessIsTheGuess
 guess_is_the_guess know defs s pred def at stop es high guessed fit tells ascend defined =

@@ -28,11 +28,11 @@ use Rattle.mc_cover.proofs.Sound.{rule_fits}
 -- an edge that is there has one of the ids
 pub id_in : (es : Edges) (id : EdgeId) (e : Edge) → edge_with es id ≡ Some e → IsIn id (ids_of es)
 id_in [] id e h = absurd (cc h)
-id_in (x ∷ es) id e h = at (x.0.0 == id.0) refl h
+id_in (x ∷ es) id e h = at (λ h. id_in es id e h) (x.0.0 == id.0) refl h
   where
-    at : (here : Bool) → (x.0.0 == id.0) ≡ here → (if here then Some x.1 else edge_with es id) ≡ Some e → IsIn id (ids_of (x ∷ es))
-    at true is h = inl (ap (λ n. record { 0 = n }) (sym (eqb-true x.0.0 id.0 is)))
-    at false is h = inr (id_in es id e h)
+    at : (edge_with es id ≡ Some e → IsIn id (ids_of es)) → (here : Bool) → (x.0.0 == id.0) ≡ here → (if here then Some x.1 else edge_with es id) ≡ Some e → IsIn id (ids_of (x ∷ es))
+    at rest true is h = inl (ap (λ n. record { 0 = n }) (sym (eqb-true x.0.0 id.0 is)))
+    at rest false is h = inr (rest h)
 
 pub number_in : (es : Edges) (id : EdgeId) (e : Edge) → edge_with es id ≡ Some e → IsIn id.0 (map (λ (i : EdgeId). i.0) (ids_of es))
 number_in es id e h = in_map (λ (i : EdgeId). i.0) id (ids_of es) (id_in es id e h)

@@ -86,11 +86,11 @@ seg_parts know g (Some (Seg b args pred last lasts)) e =
 pub all_there_from : (fields : List (Option NodeId)) (contents : List NodeId) → all_there fields ≡ Some contents → fields ≡ map Some contents
 all_there_from [] contents e = ap (map Some) (same_some [] contents e)
 all_there_from (None ∷ fields) contents e = absurd (cc e)
-all_there_from (Some n ∷ fields) contents e = at (all_there fields) refl e
+all_there_from (Some n ∷ fields) contents e = at (λ known is. all_there_from fields known is) (all_there fields) refl e
   where
-    at : (o : Option (List NodeId)) → all_there fields ≡ o → option_map (λ known. n ∷ known) o ≡ Some contents → Some n ∷ fields ≡ map Some contents
-    at None is e = absurd (cc e)
-    at (Some known) is e = ap (λ l. Some n ∷ l) (all_there_from fields known is) ∙ ap (map Some) (same_some (n ∷ known) contents e)
+    at : ((known : List NodeId) → all_there fields ≡ Some known → fields ≡ map Some known) → (o : Option (List NodeId)) → all_there fields ≡ o → option_map (λ known. n ∷ known) o ≡ Some contents → Some n ∷ fields ≡ map Some contents
+    at rest None is e = absurd (cc e)
+    at rest (Some known) is e = ap (λ l. Some n ∷ l) (rest known is) ∙ ap (map Some) (same_some (n ∷ known) contents e)
 
 pub all_there_to : (contents : List NodeId) → all_there (map Some contents) ≡ Some contents
 all_there_to [] = refl

@@ -32,11 +32,11 @@ and_last b e = ap (λ b. b && true) e
 -- one id more
 among_more : (x : EdgeId) (ids : List EdgeId) (id : EdgeId) → is_among x ids ≡ false → (id.0 == x.0) ≡ false → is_among x (ids ++ id ∷ []) ≡ false
 among_more x [] id e f = or_last (id.0 == x.0) ∙ f
-among_more x (y ∷ ids) id e f = at (y.0 == x.0) refl e
+among_more x (y ∷ ids) id e f = at (λ e. among_more x ids id e f) (y.0 == x.0) refl e
   where
-    at : (b : Bool) → (y.0 == x.0) ≡ b → (b || is_among x ids) ≡ false → ((y.0 == x.0) || is_among x (ids ++ id ∷ [])) ≡ false
-    at true is e = absurd (cc e)
-    at false is e = ap (λ b. b || is_among x (ids ++ id ∷ [])) is ∙ among_more x ids id e f
+    at : (is_among x ids ≡ false → is_among x (ids ++ id ∷ []) ≡ false) → (b : Bool) → (y.0 == x.0) ≡ b → (b || is_among x ids) ≡ false → ((y.0 == x.0) || is_among x (ids ++ id ∷ [])) ≡ false
+    at rest true is e = absurd (cc e)
+    at rest false is e = ap (λ b. b || is_among x (ids ++ id ∷ [])) is ∙ rest e
 
 turned : (a b : ℕ) → (a == b) ≡ false → (b == a) ≡ false
 turned a b e = at (b == a) refl

@@ -41,14 +41,14 @@ module _ (M : PredId → Term → Edges → List Term → Type 0) (F : Guesses) 
 
   calls_to : (calls : List Call) (before : Partial) → IfAny calls → ByCalls M pred es calls before (after_calls F pred es calls before)
   calls_to [] before right = refl
-  calls_to (call ∷ calls) before right = at (call.pred.0 == pred.0) refl
+  calls_to (call ∷ calls) before right = at (λ mid. calls_to calls mid (any calls right)) (call.pred.0 == pred.0) refl
     where
-      at : (b : Bool) → (call.pred.0 == pred.0) ≡ b → ByCalls M pred es (call ∷ calls) before (after_calls F pred es calls (if b then after_call F pred es call (given before call.at) before else before))
-      at true is =
+      at : ((mid : Partial) → ByCalls M pred es calls mid (after_calls F pred es calls mid)) → (b : Bool) → (call.pred.0 == pred.0) ≡ b → ByCalls M pred es (call ∷ calls) before (after_calls F pred es calls (if b then after_call F pred es call (given before call.at) before else before))
+      at rest true is =
           let mid = after_call F pred es call (given before call.at) before in
-          (mid, inl (same_pred call.pred pred is, call_to call (given before call.at) before right), calls_to calls mid (any calls right))
-      at false is =
-          (before, inr ((λ e. clash (eq-eqb call.pred.0 pred.0 (ap (λ (p : PredId). p.0) e)) is), refl), calls_to calls before (any calls right))
+          (mid, inl (same_pred call.pred pred is, call_to call (given before call.at) before right), rest mid)
+      at rest false is =
+          (before, inr ((λ e. clash (eq-eqb call.pred.0 pred.0 (ap (λ (p : PredId). p.0) e)) is), refl), rest before)
         where
           clash : {b : Bool} → b ≡ true → b ≡ false → ⊥
           clash p q = cc (p, q)
