@@ -1,6 +1,6 @@
 -- Where nothing that is tried meets a goal, there is no cover, and no segment cover.
 use Rattle.std.proofs.Common.{◌≡◌, ◌⊎◌, ◌<◌, inl, inr, ℕ, zero, suc, Bool, true, false, not, ◌&&◌, Option, Some, None, List, [], ◌∷◌, ◌++◌, length, map, slice_get, refl, ap, sym, subst, ◌∙◌, append_assoc, arith, eq-eqb}
-use Rattle.std.specs.Prelude.{◌==◌, ◌*◌, ◌+◌, ◌≤◌, is_some, option_map, option_and_then}
+use Rattle.std.specs.Prelude.{◌==◌, ◌↔◌, ◌*◌, ◌+◌, ◌≤◌, is_some, option_map, option_and_then}
 use Rattle.std.specs.List.{AllByRecursion}
 use Rattle.std.proofs.lemmas.List.{length-map}
 use Rattle.mc_base.specs.declared.ids.EdgeId.{EdgeId}
@@ -8,6 +8,7 @@ use Rattle.mc_base.specs.declared.ids.NodeId.{NodeId}
 use Rattle.mc_base.specs.declared.ids.PredId.{PredId}
 use Rattle.mc_base.specs.declared.ids.StructId.{StructId}
 use Rattle.mc_defs.specs.declared.rules.Call.{Call}
+use Rattle.mc_defs.specs.declared.rules.Def.{Def}
 use Rattle.mc_defs.specs.declared.rules.Rule.{Rule}
 use Rattle.mc_defs.specs.Conditions.{IsDefs}
 use Rattle.mc_graph.specs.declared.edge.Edge.{Edge}
@@ -26,15 +27,15 @@ use Rattle.mc_search.proofs.Firsts.{none_on}
 use Rattle.mc_search.proofs.Tries.{LeadsOn, on_by_mark, on_none, on_both}
 use Rattle.mc_cover.specs.Goals.{Stop, Goal, Mark, at_end, by_ind, by_seg, by_rule, by_call, Setting, is_ind, is_seg, behind_seg, whole_block, contents_by}
 use Rattle.mc_cover.specs.Marks.{Named, ends_here, names_at, def_at, rule_at, has_call, fits, goal_of, goals_to, calls_of_rule, calls_of_rule_to, calls_of, edge_of, takes, ids_of, marks, space}
-use Rattle.mc_cover.specs.First.{all_calls, choice_of, limit, first_for}
-use Rattle.mc_cover.specs.Laws.{NoCoverIsMissed, NoSegCoverIsMissed}
+use Rattle.mc_cover.specs.First.{all_calls, Choice, choice_of, limit, first_for, first_cover, first_seg_cover}
+use Rattle.mc_cover.specs.Laws.{NoFirstNoCover, NoFirstNoSegCover}
 use Rattle.mc_cover.specs.Terms.{equal_terms, all_equal_terms, all_lie_in, atoms_known}
 use Rattle.mc_cover.proofs.Fixed.{fixed_once, lie_count}
 use Rattle.mc_cover.proofs.Left.{left_by, left_same, left_less, is_free_there, is_free_none}
 use Rattle.mc_cover.proofs.Listed.{ind_listed, seg_listed, rule_listed, whole_in, call_in, numbers, all_few}
 use Rattle.mc_cover.proofs.Options.{then_yes}
 use Rattle.mc_cover.proofs.Parts.{block_yes, rule_found}
-use Rattle.mc_cover.proofs.Sound.{rule_fits, first_count}
+use Rattle.mc_cover.proofs.Sound.{rule_fits, first_count, first_is_cover, first_is_seg_cover}
 use Rattle.mc_cover.proofs.Terms.{equal_to, all_equal_to, all_lie_to, atoms_to}
 
 -- a goal of a predicate
@@ -193,10 +194,22 @@ module _ (w : Setting) (s : State) (tells : Tells w.know s) (fit : IsDefs w.defs
   pub no_seg_cover : (stop : Stop) (pred : PredId) (at : Term) (args : List Term) (left : Edges) → first_for w (goal_for pred at args (Some stop)) ≡ None → SegCover w.defs s pred at args stop.0 stop.1 w.edges left → ⊥
   no_seg_cover stop pred at args left e c = none_tried (goal_for pred at args (Some stop)) left e (on_seg_cover stop c.depth pred at args [] left c.found)
 
-pub no_cover_is_missed : NoCoverIsMissed
-no_cover_is_missed know defs s pred at args es high left fit tells ascend e c =
-    no_cover (record { know = know; defs = defs; edges = es }) s tells fit high ascend pred at args left e c
+no_first_covers : (know : Test) (defs : List Def) (s : State) (pred : PredId) (at : Term) (args : List Term) (es : Edges) → IsDefs defs → Tells know s → ((left : Edges) → Cover defs s pred at args es left → ⊥)
+    → (o : Option Choice) → first_cover know defs pred at args es ≡ o → first_cover know defs pred at args es ≡ None
+no_first_covers know defs s pred at args es fit tells none None is = is
+no_first_covers know defs s pred at args es fit tells none (Some found) is = absurd (none found.left (first_is_cover know defs s pred at args es found fit tells is))
 
-pub no_seg_cover_is_missed : NoSegCoverIsMissed
-no_seg_cover_is_missed know defs s pred at args «end» ends es high left fit tells ascend e c =
-    no_seg_cover (record { know = know; defs = defs; edges = es }) s tells fit high ascend (end, ends) pred at args left e c
+no_first_seg_covers : (know : Test) (defs : List Def) (s : State) (pred : PredId) (at : Term) (args : List Term) («end» : Term) (ends : List Term) (es : Edges) → IsDefs defs → Tells know s
+    → ((left : Edges) → SegCover defs s pred at args end ends es left → ⊥) → (o : Option Choice) → first_seg_cover know defs pred at args end ends es ≡ o → first_seg_cover know defs pred at args end ends es ≡ None
+no_first_seg_covers know defs s pred at args «end» ends es fit tells none None is = is
+no_first_seg_covers know defs s pred at args «end» ends es fit tells none (Some found) is = absurd (none found.left (first_is_seg_cover know defs s pred at args end ends es found fit tells is))
+
+pub no_first_no_cover : NoFirstNoCover
+no_first_no_cover know defs s pred at args es high fit tells ascend =
+    (λ e left c. no_cover (record { know = know; defs = defs; edges = es }) s tells fit high ascend pred at args left e c,
+    λ none. no_first_covers know defs s pred at args es fit tells none (first_cover know defs pred at args es) refl)
+
+pub no_first_no_seg_cover : NoFirstNoSegCover
+no_first_no_seg_cover know defs s pred at args «end» ends es high fit tells ascend =
+    (λ e left c. no_seg_cover (record { know = know; defs = defs; edges = es }) s tells fit high ascend (end, ends) pred at args left e c,
+    λ none. no_first_seg_covers know defs s pred at args end ends es fit tells none (first_seg_cover know defs pred at args end ends es) refl)

@@ -67,7 +67,7 @@ module _ (w : Setting) where
   block_there : (at : Term) (o : Option StructId) (block : Option EdgeId) (contents : List NodeId) (id : EdgeId) → contents_by w.know w.edges at o block ≡ Some contents → block ≡ Some id → is_some (edge_with w.edges id) ≡ true
   block_there at None None contents id c b = absurd (cc b)
   block_there at None (Some own) contents id c b = absurd (cc c)
-  block_there at (Some shape) None contents id c b = absurd (cc c)
+  block_there at (Some shape) None contents id c b = absurd (cc b)
   block_there at (Some shape) (Some own) contents id c b =
       let e = then_some (whole_block w.know at shape) (edge_with w.edges own) contents c in
       ap (λ i. is_some (edge_with w.edges i)) (sym (same_some own id b)) ∙ ap is_some e.1

@@ -47,9 +47,11 @@ first_for w g = option_map (choice_of w.edges) (first_try (space w) (limit w) g)
 -- the first cover of a predicate at a term with arguments, from these edges
 abbrev pub first_cover : Test → List Def → PredId → Term → List Term → Edges → Option Choice
 first_cover know defs pred at args es =
-    first_for (record { know = know; defs = defs; edges = es }) (record { pred = pred; at = at; args = args; stop = None })
+    first_for (record { know = know; defs = defs; edges = es })
+    (record { pred = pred; at = at; args = args; stop = None })
 
 -- the first segment cover, from a term with arguments to another with others
 abbrev pub first_seg_cover : Test → List Def → PredId → Term → List Term → Term → List Term → Edges → Option Choice
 first_seg_cover know defs pred at args «end» ends es =
-    first_for (record { know = know; defs = defs; edges = es }) (record { pred = pred; at = at; args = args; stop = Some (end, ends) })
+    first_for (record { know = know; defs = defs; edges = es })
+    (record { pred = pred; at = at; args = args; stop = Some (end, ends) })

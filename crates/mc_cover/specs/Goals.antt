@@ -24,8 +24,8 @@ pub record Goal : Type 0 where
   pub args : List Term
   pub stop : Option Stop
 
--- how a goal is met: nothing is taken, where the segment ends; this Ind; this Seg, and what is at its end; the rule of the
--- predicate at a place, with this block where it has one; such a rule, whose call at another place goes on to the stop
+-- how a goal is met: nothing is taken, where the segment ends; this Ind; this Seg, and what is at its end; the rule of
+-- the predicate at a place, with this block where it has one; such a rule, whose call at a place goes on to the stop
 pub data Mark : Type 0 where
   at_end : Mark
   by_ind : EdgeId → Mark
@@ -47,7 +47,8 @@ all_there (Some n ∷ ns) = option_map (λ known. n ∷ known) (all_there ns)
 
 -- the nodes of the fields of a block of the struct at an equal node, where all are known
 abbrev pub whole_block : Test → Term → StructId → Edge → Option (List NodeId)
-whole_block know at shape (Block b own fields) = if own.0 == shape.0 && equal_terms know at (plain b) then all_there fields else None
+whole_block know at shape (Block b own fields) =
+    if own.0 == shape.0 && equal_terms know at (plain b) then all_there fields else None
 whole_block know at shape (Ind b pred args) = None
 whole_block know at shape (Seg b args pred «end» ends) = None
 
@@ -55,7 +56,8 @@ whole_block know at shape (Seg b args pred «end» ends) = None
 abbrev pub is_ind : Test → Goal → Option Edge → Bool
 is_ind know g None = false
 is_ind know g (Some (Block b shape fields)) = false
-is_ind know g (Some (Ind b pred args)) = pred.0 == g.pred.0 && (equal_terms know g.at (plain b) && all_equal_terms know g.args (map plain args))
+is_ind know g (Some (Ind b pred args)) =
+    pred.0 == g.pred.0 && (equal_terms know g.at (plain b) && all_equal_terms know g.args (map plain args))
 is_ind know g (Some (Seg b args pred «end» ends)) = false
 
 -- the edge is a Seg of the goal's predicate there
@@ -63,14 +65,16 @@ abbrev pub is_seg : Test → Goal → Option Edge → Bool
 is_seg know g None = false
 is_seg know g (Some (Block b shape fields)) = false
 is_seg know g (Some (Ind b pred args)) = false
-is_seg know g (Some (Seg b args pred «end» ends)) = pred.0 == g.pred.0 && (equal_terms know g.at (plain b) && all_equal_terms know g.args (map plain args))
+is_seg know g (Some (Seg b args pred «end» ends)) =
+    pred.0 == g.pred.0 && (equal_terms know g.at (plain b) && all_equal_terms know g.args (map plain args))
 
 -- what is left to be made behind a Seg: the same from its end on
 abbrev pub behind_seg : Goal → Option Edge → List Goal
 behind_seg g None = []
 behind_seg g (Some (Block b shape fields)) = []
 behind_seg g (Some (Ind b pred args)) = []
-behind_seg g (Some (Seg b args pred «end» ends)) = record { pred = g.pred; at = plain end; args = map plain ends; stop = g.stop } ∷ []
+behind_seg g (Some (Seg b args pred «end» ends)) =
+    record { pred = g.pred; at = plain end; args = map plain ends; stop = g.stop } ∷ []
 
 -- the nodes that a rule's contents are: those of the block's fields, none without a block
 abbrev pub contents_by : Test → Edges → Term → Option StructId → Option EdgeId → Option (List NodeId)

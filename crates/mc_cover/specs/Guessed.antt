@@ -32,7 +32,8 @@ first_edge f (e ∷ es) = or_else (option_map (λ x. (e.0, x)) (f e.1)) (first_e
 abbrev pub summary_of : Test → PredId → Term → Edge → Option (List NodeId)
 summary_of know pred at (Block b shape fields) = None
 summary_of know pred at (Ind b own args) = if own.0 == pred.0 && equal_terms know at (plain b) then Some args else None
-summary_of know pred at (Seg b args own «end» ends) = if own.0 == pred.0 && equal_terms know at (plain b) then Some args else None
+summary_of know pred at (Seg b args own «end» ends) =
+    if own.0 == pred.0 && equal_terms know at (plain b) then Some args else None
 
 -- a block for a rule: its id, and the nodes of its fields
 pub record BlockFor : Type 0 where
@@ -44,7 +45,8 @@ pub record BlockFor : Type 0 where
 abbrev pub block_of_rule : Test → Term → Edges → Rule → Option StructId → Option BlockFor
 block_of_rule know at es rule None = None
 block_of_rule know at es rule (Some shape) =
-    option_map (λ (b : EdgeId × List NodeId). record { rule = rule; id = b.0; contents = b.1 }) (first_edge (whole_block know at shape) es)
+    option_map (λ (b : EdgeId × List NodeId). record { rule = rule; id = b.0; contents = b.1 })
+    (first_edge (whole_block know at shape) es)
 
 -- the first rule whose block is there, with it
 abbrev pub first_block : Test → Term → Edges → List Rule → Option BlockFor
@@ -74,7 +76,8 @@ after_call M pred es call (Some at) names = give_all names call.args (M pred at 
 abbrev pub after_calls : Guesses → PredId → Edges → List Call → Partial → Partial
 after_calls M pred es [] names = names
 after_calls M pred es (call ∷ calls) names =
-    after_calls M pred es calls (if call.pred.0 == pred.0 then after_call M pred es call (given names call.at) names else names)
+    after_calls M pred es calls
+    (if call.pred.0 == pred.0 then after_call M pred es call (given names call.at) names else names)
 
 -- the atoms' equalities, again and again: no name gets a term twice, so as many passes as names suffice
 abbrev pub settled : Partial → List DefAtom → Partial
@@ -83,16 +86,19 @@ settled names atoms = by_passes (length names) names atoms
 -- what a rule gives
 abbrev pub given_by_rule : Guesses → PredId → Def → Rule → Term → List NodeId → Edges → List Term
 given_by_rule M pred def rule at contents es =
-    parameters_of (settled (after_calls M pred es rule.calls (begun rule (length def.params) at contents)) rule.atoms) 1 (length def.params)
+    parameters_of (settled (after_calls M pred es rule.calls (begun rule (length def.params) at contents)) rule.atoms)
+    1 (length def.params)
 
 -- the arguments of the least Ind or Seg of the predicate there
 abbrev pub by_summary : Test → PredId → Term → Edges → Option (List Term)
-by_summary know pred at es = option_map (λ (found : EdgeId × List NodeId). map plain found.1) (first_edge (summary_of know pred at) es)
+by_summary know pred at es =
+    option_map (λ (found : EdgeId × List NodeId). map plain found.1) (first_edge (summary_of know pred at) es)
 
 -- what the first rule gives whose block is there
 abbrev pub by_block : Test → Guesses → PredId → Def → Term → Edges → Option (List Term)
 by_block know M pred def at es =
-    option_map (λ (b : BlockFor). given_by_rule M pred def b.rule at b.contents (without es b.id)) (first_block know at es def.rules)
+    option_map (λ (b : BlockFor). given_by_rule M pred def b.rule at b.contents (without es b.id))
+    (first_block know at es def.rules)
 
 -- what the first rule without a block gives
 abbrev pub by_empty_rule : Guesses → PredId → Def → Term → Edges → Option (List Term)
@@ -115,7 +121,8 @@ guess_of know stop M pred at es (Some def) =
 -- at most so many guesses, one within the other
 abbrev pub guess_at : Test → List Def → Option Stop → ℕ → Guesses
 guess_at know defs stop zero pred at es = []
-guess_at know defs stop (suc k) pred at es = guess_of know stop (guess_at know defs stop k) pred at es (slice_get defs pred.0)
+guess_at know defs stop (suc k) pred at es =
+    guess_of know stop (guess_at know defs stop k) pred at es (slice_get defs pred.0)
 
 -- the guess: each within another has one edge less
 abbrev pub guess : Test → List Def → PredId → Term → Option Stop → Edges → List Term

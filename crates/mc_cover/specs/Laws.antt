@@ -19,39 +19,44 @@ use Rattle.mc_cover.specs.Guessed.{guess}
 abbrev pub FirstIsCover : Type 0
 FirstIsCover =
     (know : Test) (defs : List Def) (s : State) (pred : PredId) (at : Term) (args : List Term) (es : Edges) (found : Choice)
-    → IsDefs defs → Tells know s → first_cover know defs pred at args es ≡ Some found → Cover defs s pred at args es found.left
+    → IsDefs defs → Tells know s
+    → first_cover know defs pred at args es ≡ Some found → Cover defs s pred at args es found.left
 
 -- the first segment cover is a segment cover
 abbrev pub FirstIsSegCover : Type 0
 FirstIsSegCover =
-    (know : Test) (defs : List Def) (s : State) (pred : PredId) (at : Term) (args : List Term) («end» : Term) (ends : List Term) (es : Edges) (found : Choice)
-    → IsDefs defs → Tells know s → first_seg_cover know defs pred at args end ends es ≡ Some found
-    → SegCover defs s pred at args end ends es found.left
+    (know : Test) (defs : List Def) (s : State) (pred : PredId) (at : Term) (args : List Term)
+    («end» : Term) (ends : List Term) (es : Edges) (found : Choice)
+    → IsDefs defs → Tells know s
+    → first_seg_cover know defs pred at args end ends es ≡ Some found → SegCover defs s pred at args end ends es found.left
 
 -- the edges of the first way to meet a goal are there, each once, and the others are left
 abbrev pub FirstTakesEdges : Type 0
 FirstTakesEdges =
-    (w : Setting) (g : Goal) (found : Choice)
-    → first_for w g ≡ Some found → (are_distinct found.used ≡ true) × (are_there w.edges found.used ≡ true) × (found.left ≡ others w.edges found.used)
+    (w : Setting) (g : Goal) (found : Choice) → first_for w g ≡ Some found
+    → (are_distinct found.used ≡ true) × (are_there w.edges found.used ≡ true) × (found.left ≡ others w.edges found.used)
 
--- where there is no first cover, there is no cover
-abbrev pub NoCoverIsMissed : Type 0
-NoCoverIsMissed =
-    (know : Test) (defs : List Def) (s : State) (pred : PredId) (at : Term) (args : List Term) (es : Edges) (high : ℕ) (left : Edges)
-    → IsDefs defs → Tells know s → IdsAscend 0 es high → first_cover know defs pred at args es ≡ None
-    → Cover defs s pred at args es left → ⊥
+-- there is no first cover exactly where there is no cover
+abbrev pub NoFirstNoCover : Type 0
+NoFirstNoCover =
+    (know : Test) (defs : List Def) (s : State) (pred : PredId) (at : Term) (args : List Term) (es : Edges) (high : ℕ)
+    → IsDefs defs → Tells know s → IdsAscend 0 es high
+    → (first_cover know defs pred at args es ≡ None) ↔ ((left : Edges) → Cover defs s pred at args es left → ⊥)
 
--- where there is no first segment cover, there is no segment cover
-abbrev pub NoSegCoverIsMissed : Type 0
-NoSegCoverIsMissed =
-    (know : Test) (defs : List Def) (s : State) (pred : PredId) (at : Term) (args : List Term) («end» : Term) (ends : List Term) (es : Edges) (high : ℕ) (left : Edges)
-    → IsDefs defs → Tells know s → IdsAscend 0 es high → first_seg_cover know defs pred at args end ends es ≡ None
-    → SegCover defs s pred at args end ends es left → ⊥
+-- there is no first segment cover exactly where there is no segment cover
+abbrev pub NoFirstNoSegCover : Type 0
+NoFirstNoSegCover =
+    (know : Test) (defs : List Def) (s : State) (pred : PredId) (at : Term) (args : List Term)
+    («end» : Term) (ends : List Term) (es : Edges) (high : ℕ)
+    → IsDefs defs → Tells know s → IdsAscend 0 es high
+    → (first_seg_cover know defs pred at args end ends es ≡ None)
+    ↔ ((left : Edges) → SegCover defs s pred at args end ends es left → ⊥)
 
 -- of a predicate that is defined there is one guess, and this is it
 abbrev pub GuessIsTheGuess : Type 0
 GuessIsTheGuess =
-    (know : Test) (defs : List Def) (s : State) (pred : PredId) (def : Def) (at : Term) (stop : Option Stop) (es : Edges) (high : ℕ) (guessed : List Term)
+    (know : Test) (defs : List Def) (s : State) (pred : PredId) (def : Def) (at : Term) (stop : Option Stop)
+    (es : Edges) (high : ℕ) (guessed : List Term)
     → IsDefs defs → Tells know s → IdsAscend 0 es high → slice_get defs pred.0 ≡ Some def
     → Guess defs s pred at stop es guessed ↔ (guessed ≡ guess know defs pred at stop es)
 

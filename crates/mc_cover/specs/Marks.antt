@@ -38,16 +38,20 @@ names_at g rule contents = with_fixed (g.at ∷ (g.args ++ map plain contents)) 
 abbrev pub names_fit : Test → Goal → Def → Rule → List NodeId → List Term → Bool
 names_fit know g def rule contents names =
     length g.args == length def.params
-    && (length contents == length rule.contents && (all_lie_in know rule.names names && atoms_known know names rule.atoms))
+    && (length contents == length rule.contents
+    && (all_lie_in know rule.names names && atoms_known know names rule.atoms))
 
 -- the rule with terms for its names, where they fit
 abbrev pub named_with : Test → Goal → Def → Rule → List NodeId → Option Named
 named_with know g def rule contents =
-    if names_fit know g def rule contents (names_at g rule contents) then Some (record { rule = rule; names = names_at g rule contents }) else None
+    if names_fit know g def rule contents (names_at g rule contents)
+    then Some (record { rule = rule; names = names_at g rule contents })
+    else None
 
 -- the same with the nodes of a block, where the rule has one
 abbrev pub named_by : Setting → Goal → Option EdgeId → Def → Rule → Option Named
-named_by w g block def rule = option_and_then (named_with w.know g def rule) (contents_by w.know w.edges g.at rule.block block)
+named_by w g block def rule =
+    option_and_then (named_with w.know g def rule) (contents_by w.know w.edges g.at rule.block block)
 
 -- the goal's predicate
 abbrev pub def_at : Setting → Goal → Option Def
@@ -55,7 +59,8 @@ def_at w g = slice_get w.defs g.pred.0
 
 -- the rule of the goal's predicate at a place, with terms for its names
 abbrev pub rule_at : Setting → Goal → ℕ → Option EdgeId → Option Named
-rule_at w g place block = option_and_then (λ def. option_and_then (named_by w g block def) (slice_get def.rules place)) (def_at w g)
+rule_at w g place block =
+    option_and_then (λ def. option_and_then (named_by w g block def) (slice_get def.rules place)) (def_at w g)
 
 -- the rule has a call of the predicate at a place
 abbrev pub has_call : PredId → ℕ → Named → Bool
@@ -79,12 +84,12 @@ goals_to names stop call [] = []
 goals_to names stop zero (c ∷ cs) = goal_of names stop c ∷ map (goal_of names None) cs
 goals_to names stop (suc call) (c ∷ cs) = goal_of names None c ∷ goals_to names stop call cs
 
--- the goals of a rule's calls, and the same where one of them goes on to the stop
+-- the goals of a rule's calls
 abbrev pub calls_of_rule : Option Named → List Goal
 calls_of_rule None = []
 calls_of_rule (Some by) = map (goal_of by.names None) by.rule.calls
 
--- the goals of a rule's calls, and the same where one of them goes on to the stop
+-- the same where the call at a place goes on to the stop
 abbrev pub calls_of_rule_to : Option Stop → ℕ → Option Named → List Goal
 calls_of_rule_to stop call None = []
 calls_of_rule_to stop call (Some by) = goals_to by.names stop call by.rule.calls
@@ -125,7 +130,8 @@ marks_with place rule block = by_rule place block ∷ map (by_call place block) 
 -- rules from a place on, in order
 abbrev pub marks_of_rules : List EdgeId → ℕ → List Rule → List Mark
 marks_of_rules ids place [] = []
-marks_of_rules ids place (rule ∷ rules) = flat_map (marks_with place rule) (blocks_for ids rule.block) ++ marks_of_rules ids (suc place) rules
+marks_of_rules ids place (rule ∷ rules) =
+    flat_map (marks_with place rule) (blocks_for ids rule.block) ++ marks_of_rules ids (suc place) rules
 
 -- the rules of a predicate
 abbrev pub rules_of : Option Def → List Rule
@@ -134,7 +140,10 @@ rules_of (Some def) = def.rules
 
 -- all marks in order: the end of a segment, each edge as an Ind, each as a Seg, and the rules of the predicate
 abbrev pub marks : Setting → Goal → List Mark
-marks w g = at_end ∷ (map by_ind (ids_of w.edges) ++ (map by_seg (ids_of w.edges) ++ marks_of_rules (ids_of w.edges) 0 (rules_of (def_at w g))))
+marks w g =
+    at_end
+    ∷ (map by_ind (ids_of w.edges)
+    ++ (map by_seg (ids_of w.edges) ++ marks_of_rules (ids_of w.edges) 0 (rules_of (def_at w g))))
 
 -- how goals are met; a search may end with any marks, since edges may be left
 abbrev pub space : Setting → Space Goal Mark

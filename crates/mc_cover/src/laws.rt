@@ -1,5 +1,5 @@
 // What is first, and what is guessed. Each law is what a function with no body ensures.
-ghost use Rattle.mc_cover.specs.Laws.{FirstIsCover, FirstIsSegCover, FirstTakesEdges, NoCoverIsMissed, NoSegCoverIsMissed, GuessIsTheGuess, NoGuessUndefined};
+ghost use Rattle.mc_cover.specs.Laws.{FirstIsCover, FirstIsSegCover, FirstTakesEdges, NoFirstNoCover, NoFirstNoSegCover, GuessIsTheGuess, NoGuessUndefined};
 
 /// The first cover is a cover, and the first segment cover is one; the edges that they use are
 /// there, each once.
@@ -9,10 +9,10 @@ pub fn firsts_are_covers()
     ensures edges { FirstTakesEdges }
 {}
 
-/// Where there is no first cover, there is no cover; so with segment covers.
+/// There is no first cover exactly where there is no cover; so with segment covers.
 pub fn none_is_missed()
-    ensures cover { NoCoverIsMissed }
-    ensures segment { NoSegCoverIsMissed }
+    ensures cover { NoFirstNoCover }
+    ensures segment { NoFirstNoSegCover }
 {}
 
 /// Of a predicate that is defined there is one guess, which is the function's; of another there is none.
