@@ -1,6 +1,6 @@
 -- Where nothing that is tried meets a goal, there is no cover, and no segment cover.
-use Rattle.std.proofs.Common.{◌≡◌, ◌⊎◌, ◌<◌, inl, inr, ℕ, zero, suc, Bool, true, false, not, ◌&&◌, Option, Some, None, List, [], ◌∷◌, ◌++◌, length, map, slice_get, refl, ap, sym, subst, ◌∙◌, append_assoc, arith, eq-eqb}
-use Rattle.std.specs.Prelude.{◌==◌, ◌↔◌, ◌*◌, ◌+◌, ◌≤◌, is_some, option_map, option_and_then}
+use Rattle.std.proofs.Common.{◌≡◌, ◌<◌, inl, inr, ℕ, zero, suc, true, ◌&&◌, Option, Some, None, List, [], ◌∷◌, ◌++◌, length, map, slice_get, refl, ap, sym, subst, ◌∙◌, append_assoc, arith, eq-eqb}
+use Rattle.std.specs.Prelude.{◌==◌, ◌*◌, ◌+◌, ◌≤◌, is_some, option_map}
 use Rattle.std.specs.List.{AllByRecursion}
 use Rattle.std.proofs.lemmas.List.{length-map}
 use Rattle.mc_base.specs.declared.ids.EdgeId.{EdgeId}
@@ -9,11 +9,9 @@ use Rattle.mc_base.specs.declared.ids.PredId.{PredId}
 use Rattle.mc_base.specs.declared.ids.StructId.{StructId}
 use Rattle.mc_defs.specs.declared.rules.Call.{Call}
 use Rattle.mc_defs.specs.declared.rules.Def.{Def}
-use Rattle.mc_defs.specs.declared.rules.Rule.{Rule}
 use Rattle.mc_defs.specs.Conditions.{IsDefs}
-use Rattle.mc_graph.specs.declared.edge.Edge.{Edge}
 use Rattle.mc_graph.specs.declared.edge.Edge.TheVariants.{Block, Ind, Seg}
-use Rattle.mc_graph.specs.Graph.{Edges, edge_with, without, IdsAscend}
+use Rattle.mc_graph.specs.Graph.{Edges, edge_with, IdsAscend}
 use Rattle.mc_state.specs.declared.terms.Term.{Term}
 use Rattle.mc_state.specs.Covers.{Fixes, BlockIsTaken, RuleTerms, CallsAreFound, CallsAreFoundAt, IsByInd, IsBySeg, CoverAt, Cover, EndsThere, SegCoverAt, SegCover}
 use Rattle.mc_state.specs.State.{State}
@@ -21,12 +19,12 @@ use Rattle.mc_state.specs.Terms.{plain, term_of}
 use Rattle.mc_premises.specs.Known.{Test, Tells}
 use Rattle.mc_premises.specs.Lists.{on_some}
 use Rattle.mc_premises.proofs.Tests.{and_yes}
-use Rattle.mc_search.specs.Search.{is_free, applies, first_try}
+use Rattle.mc_search.specs.Search.{is_free, first_try}
 use Rattle.mc_search.specs.Met.{IsIn}
 use Rattle.mc_search.proofs.Firsts.{none_on}
 use Rattle.mc_search.proofs.Tries.{LeadsOn, on_by_mark, on_none, on_both}
 use Rattle.mc_cover.specs.Goals.{Stop, Goal, Mark, at_end, by_ind, by_seg, by_rule, by_call, Setting, is_ind, is_seg, behind_seg, whole_block, contents_by}
-use Rattle.mc_cover.specs.Marks.{Named, ends_here, names_at, def_at, rule_at, has_call, fits, goal_of, goals_to, calls_of_rule, calls_of_rule_to, calls_of, edge_of, takes, ids_of, marks, space}
+use Rattle.mc_cover.specs.Marks.{ends_here, names_at, def_at, rule_at, has_call, fits, goal_of, goals_to, calls_of_rule, calls_of_rule_to, calls_of, edge_of, takes, ids_of, marks, space}
 use Rattle.mc_cover.specs.First.{all_calls, Choice, choice_of, limit, first_for, first_cover, first_seg_cover}
 use Rattle.mc_cover.specs.Laws.{NoFirstNoCover, NoFirstNoSegCover}
 use Rattle.mc_cover.specs.Terms.{equal_terms, all_equal_terms, all_lie_in, atoms_known}
@@ -205,11 +203,13 @@ no_first_seg_covers know defs s pred at args «end» ends es fit tells none None
 no_first_seg_covers know defs s pred at args «end» ends es fit tells none (Some found) is = absurd (none found.left (first_is_seg_cover know defs s pred at args end ends es found fit tells is))
 
 pub no_first_no_cover : NoFirstNoCover
-no_first_no_cover know defs s pred at args es high fit tells ascend =
-    (λ e left c. no_cover (record { know = know; defs = defs; edges = es }) s tells fit high ascend pred at args left e c,
-    λ none. no_first_covers know defs s pred at args es fit tells none (first_cover know defs pred at args es) refl)
+no_first_no_cover know defs s pred at args es high fit tells ascend = (
+  λ e left c. no_cover (record { know = know; defs = defs; edges = es }) s tells fit high ascend pred at args left e c,
+  λ none. no_first_covers know defs s pred at args es fit tells none (first_cover know defs pred at args es) refl,
+)
 
 pub no_first_no_seg_cover : NoFirstNoSegCover
-no_first_no_seg_cover know defs s pred at args «end» ends es high fit tells ascend =
-    (λ e left c. no_seg_cover (record { know = know; defs = defs; edges = es }) s tells fit high ascend (end, ends) pred at args left e c,
-    λ none. no_first_seg_covers know defs s pred at args end ends es fit tells none (first_seg_cover know defs pred at args end ends es) refl)
+no_first_no_seg_cover know defs s pred at args «end» ends es high fit tells ascend = (
+  λ e left c. no_seg_cover (record { know = know; defs = defs; edges = es }) s tells fit high ascend (end, ends) pred at args left e c,
+  λ none. no_first_seg_covers know defs s pred at args end ends es fit tells none (first_seg_cover know defs pred at args end ends es) refl,
+)

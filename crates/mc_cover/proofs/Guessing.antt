@@ -1,5 +1,5 @@
 -- The guess is the one that there is.
-use Rattle.std.proofs.Common.{◌≡◌, ◌⊎◌, ◌≤◌, ◌<◌, inl, inr, ℕ, zero, suc, Bool, true, false, ◌&&◌, Option, Some, None, List, [], ◌∷◌, length, map, slice_get, refl, ap, sym, subst, ◌∙◌, arith, eq-eqb}
+use Rattle.std.proofs.Common.{◌≡◌, ◌<◌, inl, inr, ℕ, zero, suc, Bool, true, false, ◌&&◌, Option, Some, None, List, [], ◌∷◌, length, map, slice_get, refl, ap, sym, subst, ◌∙◌, arith, eq-eqb}
 use Rattle.std.specs.Prelude.{◌==◌, ◌↔◌, replicate, option_map, unwrap_or, if◌then◌else◌}
 use Rattle.mc_base.specs.declared.ids.EdgeId.{EdgeId}
 use Rattle.mc_base.specs.declared.ids.NodeId.{NodeId}
@@ -13,7 +13,7 @@ use Rattle.mc_graph.specs.declared.edge.Edge.{Edge}
 use Rattle.mc_graph.specs.declared.edge.Edge.TheVariants.{Block, Ind, Seg}
 use Rattle.mc_graph.specs.Graph.{Edges, edge_with, without, IdsAscend}
 use Rattle.mc_state.specs.declared.terms.Term.{Term}
-use Rattle.mc_state.specs.Guess.{HasWholeBlock, HasSummary, Stops, BySummary, ByRule, ByBlock, ByEmptyRule, FirstOf, GuessAt}
+use Rattle.mc_state.specs.Guess.{HasWholeBlock, HasSummary, Stops, BySummary, ByBlock, ByEmptyRule, FirstOf, GuessAt}
 use Rattle.mc_state.specs.State.{State}
 use Rattle.mc_state.specs.Terms.{plain, zero_term, AreEqualTerms}
 use Rattle.mc_premises.specs.Known.{Test, Tells}
@@ -94,9 +94,13 @@ module _ (know : Test) (s : State) (tells : Tells know s) where
       to : (o : Option (EdgeId × List NodeId)) → first_edge (summary_of know pred at) es ≡ o → option_map (λ (found : EdgeId × List NodeId). map plain found.1) o ≡ Some g → BySummary s pred at es g
       to None is e = absurd (cc e)
       to (Some (id, args)) is e =
-          let r = first_from (summary_of know pred at) 0 es high id args ascend is in
-          (id, args, has_from pred at es id r.edge args r.there r.gives, sym (same_some (map plain args) g e),
-          λ other others h. (let o = has_to pred at es other others h in r.least other o.0 others o.1 o.2))
+          let r = first_from (summary_of know pred at) 0 es high id args ascend is in (
+            id,
+            args,
+            has_from pred at es id r.edge args r.there r.gives,
+            sym (same_some (map plain args) g e),
+            λ other others h. (let o = has_to pred at es other others h in r.least other o.0 others o.1 o.2),
+          )
 
   -- a whole block
   whole_from : (at : Term) (es : Edges) (shape : StructId) (id : EdgeId) (e : Edge) (contents : List NodeId) → edge_with es id ≡ Some e → whole_block know at shape e ≡ Some contents → HasWholeBlock s at es shape id contents
@@ -210,11 +214,19 @@ module _ (know : Test) (s : State) (tells : Tells know s) where
           to (Some b) is e =
               let r = block_from def.rules b is in
               let p = r.2 in
-              let first = first_from (whole_block know at r.1) 0 es high b.id b.contents ascend p.found in
-              (r.0, b.rule, r.1, b.id, b.contents, p.listed, p.block, whole_from at es r.1 b.id first.edge b.contents first.there first.gives,
-              λ earlier other own i ns l at' o h. (let w = whole_to at es own i ns h in first_none (whole_block know at own) es (p.before earlier other own l at' o) i w.0 ns w.1 w.2),
-              λ i ns h. (let w = whole_to at es r.1 i ns h in first.least i w.0 ns w.1 w.2),
-              (rule_is M F pred (without es b.id) def b.rule at b.contents (any_right b.id first.edge first.there right b.rule) g).1 (sym (same_some (given_by_rule F pred def b.rule at b.contents (without es b.id)) g e)))
+              let first = first_from (whole_block know at r.1) 0 es high b.id b.contents ascend p.found in (
+                r.0,
+                b.rule,
+                r.1,
+                b.id,
+                b.contents,
+                p.listed,
+                p.block,
+                whole_from at es r.1 b.id first.edge b.contents first.there first.gives,
+                λ earlier other own i ns l at' o h. (let w = whole_to at es own i ns h in first_none (whole_block know at own) es (p.before earlier other own l at' o) i w.0 ns w.1 w.2),
+                λ i ns h. (let w = whole_to at es r.1 i ns h in first.least i w.0 ns w.1 w.2),
+                (rule_is M F pred (without es b.id) def b.rule at b.contents (any_right b.id first.edge first.there right b.rule) g).1 (sym (same_some (given_by_rule F pred def b.rule at b.contents (without es b.id)) g e)),
+              )
 
       -- the first rule without a block
       abbrev NoneEmpty : List Rule → ℕ → Type 0

@@ -1,9 +1,8 @@
 -- A mark that fits is one of its goal's, and leaves few goals.
-use Rattle.std.proofs.Common.{◌≡◌, ◌≤◌, ◌<◌, ◌+◌, ℕ, zero, suc, inl, inr, Bool, true, false, not, ◌&&◌, Option, Some, None, List, [], ◌∷◌, ◌++◌, length, map, slice_get, refl, ap, sym, subst, ◌∙◌, arith, eqb-true}
-use Rattle.std.specs.Prelude.{◌==◌, is_some, option_map, option_and_then, if◌then◌else◌}
+use Rattle.std.proofs.Common.{◌≡◌, ◌≤◌, ◌<◌, ◌+◌, ℕ, zero, suc, inl, inr, Bool, true, false, not, Option, Some, None, List, [], ◌∷◌, ◌++◌, length, map, slice_get, refl, ap, sym, subst, ◌∙◌, arith, eqb-true}
+use Rattle.std.specs.Prelude.{◌==◌, is_some, option_map, if◌then◌else◌}
 use Rattle.std.specs.List.{flat_map}
 use Rattle.std.proofs.lemmas.List.{length-map}
-use Rattle.std.proofs.lemmas.Option.{slice_get_within}
 use Rattle.mc_base.specs.declared.ids.EdgeId.{EdgeId}
 use Rattle.mc_base.specs.declared.ids.NodeId.{NodeId}
 use Rattle.mc_base.specs.declared.ids.StructId.{StructId}
@@ -18,8 +17,8 @@ use Rattle.mc_premises.specs.Lists.{on_some}
 use Rattle.mc_premises.proofs.Tests.{and_both}
 use Rattle.mc_search.specs.Met.{IsIn, LeavesFew, AllLeaveFew}
 use Rattle.mc_search.proofs.Members.{in_left, in_right, in_map, in_flat_map}
-use Rattle.mc_cover.specs.Goals.{Stop, Goal, Mark, at_end, by_ind, by_seg, by_rule, by_call, Setting, is_ind, is_seg, behind_seg, whole_block, contents_by}
-use Rattle.mc_cover.specs.Marks.{Named, def_at, rule_at, has_call, fits, goal_of, goals_to, calls_of_rule, calls_of_rule_to, calls_of, takes, ids_of, blocks_for, marks_with, marks_of_rules, rules_of, marks, space}
+use Rattle.mc_cover.specs.Goals.{Stop, Goal, Mark, at_end, by_ind, by_seg, by_rule, by_call, Setting, is_ind, behind_seg, whole_block, contents_by}
+use Rattle.mc_cover.specs.Marks.{Named, def_at, rule_at, has_call, goal_of, goals_to, calls_of_rule, calls_of_rule_to, ids_of, blocks_for, marks_with, marks_of_rules, rules_of, marks, space}
 use Rattle.mc_cover.specs.First.{calls_in, all_calls}
 use Rattle.mc_cover.proofs.Options.{there, then_some, same_some}
 use Rattle.mc_cover.proofs.Parts.{ind_parts, seg_parts, rule_parts, named_there}

@@ -1,6 +1,6 @@
 -- What fits a goal, taken apart.
-use Rattle.std.proofs.Common.{◌≡◌, ℕ, Bool, true, false, ◌&&◌, Option, Some, None, List, [], ◌∷◌, ◌++◌, length, map, slice_get, refl, ap, sym, subst, ◌∙◌, eqb-true, eq-eqb}
-use Rattle.std.specs.Prelude.{◌==◌, is_some, option_map, option_and_then, if◌then◌else◌}
+use Rattle.std.proofs.Common.{◌≡◌, ℕ, Bool, true, false, ◌&&◌, Option, Some, None, List, [], ◌∷◌, length, map, slice_get, refl, ap, subst, ◌∙◌, eqb-true, eq-eqb}
+use Rattle.std.specs.Prelude.{◌==◌, option_map, option_and_then, if◌then◌else◌}
 use Rattle.mc_base.specs.declared.ids.EdgeId.{EdgeId}
 use Rattle.mc_base.specs.declared.ids.NodeId.{NodeId}
 use Rattle.mc_base.specs.declared.ids.PredId.{PredId}
@@ -10,14 +10,13 @@ use Rattle.mc_defs.specs.declared.rules.Def.{Def}
 use Rattle.mc_defs.specs.declared.rules.Rule.{Rule}
 use Rattle.mc_graph.specs.declared.edge.Edge.{Edge}
 use Rattle.mc_graph.specs.declared.edge.Edge.TheVariants.{Block, Ind, Seg}
-use Rattle.mc_graph.specs.Graph.{Edges, edge_with}
 use Rattle.mc_state.specs.declared.terms.Term.{Term}
 use Rattle.mc_state.specs.Terms.{plain}
 use Rattle.mc_premises.specs.Known.{Test}
 use Rattle.mc_premises.specs.Lists.{on_some}
 use Rattle.mc_premises.proofs.Tests.{and_both, and_yes}
 use Rattle.mc_cover.specs.Goals.{Stop, Goal, Setting, all_there, whole_block, is_ind, is_seg, contents_by}
-use Rattle.mc_cover.specs.Marks.{Named, ends_here, names_at, names_fit, named_with, named_by, def_at, rule_at, has_call}
+use Rattle.mc_cover.specs.Marks.{Named, ends_here, names_at, names_fit, named_with, named_by, def_at, rule_at}
 use Rattle.mc_cover.specs.Terms.{equal_terms, all_equal_terms, all_lie_in, atoms_known}
 use Rattle.mc_cover.proofs.Options.{then_some, then_yes, if_some, if_yes, same_some}
 

@@ -1,11 +1,9 @@
 -- The edges that the first way takes are there, each once.
 use Rattle.std.proofs.Common.{◌≡◌, ℕ, zero, suc, Bool, true, false, not, ◌&&◌, ◌||◌, Option, Some, None, List, [], ◌∷◌, ◌++◌, refl, ap, sym, subst, ◌∙◌, append-nil, eqb-true, eq-eqb}
 use Rattle.std.specs.Prelude.{◌==◌, is_some, option_map, option_to_list}
-use Rattle.std.specs.List.{list_all, list_any}
 use Rattle.mc_base.specs.declared.ids.EdgeId.{EdgeId}
 use Rattle.mc_base.specs.declared.ids.NodeId.{NodeId}
 use Rattle.mc_base.specs.declared.ids.StructId.{StructId}
-use Rattle.mc_graph.specs.declared.edge.Edge.{Edge}
 use Rattle.mc_graph.specs.Graph.{Edges, edge_with}
 use Rattle.mc_state.specs.declared.terms.Term.{Term}
 use Rattle.mc_premises.specs.Lists.{on_some}
@@ -14,7 +12,7 @@ use Rattle.mc_premises.proofs.Tests.{and_both, and_yes, not_no}
 use Rattle.mc_search.specs.Search.{uses, is_free, is_unused, first_try}
 use Rattle.mc_search.specs.Met.{Leads}
 use Rattle.mc_search.proofs.Firsts.{first_leads}
-use Rattle.mc_cover.specs.Goals.{Goal, Mark, at_end, by_ind, by_seg, by_rule, by_call, Setting, is_ind, is_seg, whole_block, contents_by}
+use Rattle.mc_cover.specs.Goals.{Goal, Mark, at_end, by_ind, by_seg, by_rule, by_call, Setting, is_ind, whole_block, contents_by}
 use Rattle.mc_cover.specs.Marks.{has_call, rule_at, fits, calls_of, edge_of, takes, space}
 use Rattle.mc_cover.specs.First.{taken, Choice, choice_of, limit, first_for}
 use Rattle.mc_cover.specs.Laws.{FirstTakesEdges}

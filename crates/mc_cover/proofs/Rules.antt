@@ -1,5 +1,5 @@
 -- What a rule gives in a guess is given in one way.
-use Rattle.std.proofs.Common.{◌≡◌, ◌⊎◌, inl, inr, ℕ, Bool, true, false, Option, Some, None, List, [], ◌∷◌, length, refl, ap, sym, subst, ◌∙◌, eq-eqb}
+use Rattle.std.proofs.Common.{◌≡◌, ◌⊎◌, inl, inr, Bool, true, false, Option, Some, None, List, [], ◌∷◌, length, refl, ap, ◌∙◌, eq-eqb}
 use Rattle.std.specs.Prelude.{◌==◌, ◌↔◌, if◌then◌else◌}
 use Rattle.mc_base.specs.declared.ids.NodeId.{NodeId}
 use Rattle.mc_base.specs.declared.ids.PredId.{PredId}
@@ -8,7 +8,7 @@ use Rattle.mc_defs.specs.declared.rules.Def.{Def}
 use Rattle.mc_defs.specs.declared.rules.Rule.{Rule}
 use Rattle.mc_graph.specs.Graph.{Edges}
 use Rattle.mc_state.specs.declared.terms.Term.{Term}
-use Rattle.mc_state.specs.Guess.{Partial, Guessing, given, give_all, begun, parameters_of, ByCall, ByCalls, ByRule}
+use Rattle.mc_state.specs.Guess.{Partial, given, give_all, begun, parameters_of, ByCall, ByCalls, ByRule}
 use Rattle.mc_cover.specs.Guessed.{Guesses, after_call, after_calls, settled, given_by_rule}
 use Rattle.mc_cover.proofs.Parts.{same_pred}
 use Rattle.mc_cover.proofs.Settled.{settled_settles, settles_once}

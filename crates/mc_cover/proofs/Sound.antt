@@ -1,5 +1,5 @@
 -- What is tried and meets a goal is a cover, or a segment cover where there is a stop.
-use Rattle.std.proofs.Common.{◌≡◌, ◌⊎◌, inl, inr, ℕ, zero, suc, Bool, true, false, not, ◌&&◌, Option, Some, None, List, [], ◌∷◌, ◌++◌, length, map, slice_get, refl, ap, sym, subst, ◌∙◌, append_assoc, length-append, arith}
+use Rattle.std.proofs.Common.{◌≡◌, inl, inr, ℕ, zero, suc, true, not, Option, Some, None, List, [], ◌∷◌, ◌++◌, length, map, slice_get, refl, ap, sym, subst, ◌∙◌, append_assoc, length-append, arith}
 use Rattle.std.specs.Prelude.{◌+◌, is_some, option_map}
 use Rattle.std.proofs.lemmas.List.{length-map}
 use Rattle.mc_base.specs.declared.ids.EdgeId.{EdgeId}
@@ -9,28 +9,27 @@ use Rattle.mc_base.specs.declared.ids.StructId.{StructId}
 use Rattle.mc_defs.specs.declared.rules.Call.{Call}
 use Rattle.mc_defs.specs.declared.rules.Def.{Def}
 use Rattle.mc_defs.specs.declared.rules.Rule.{Rule}
-use Rattle.mc_defs.specs.Conditions.{IsDefs, DefFits, RuleFits, RuleFitsStructs, AtomsFit}
-use Rattle.mc_graph.specs.declared.edge.Edge.{Edge}
+use Rattle.mc_defs.specs.Conditions.{IsDefs, DefFits, RuleFits, RuleFitsStructs}
 use Rattle.mc_graph.specs.declared.edge.Edge.TheVariants.{Block, Ind, Seg}
 use Rattle.mc_graph.specs.Graph.{Edges, edge_with, without}
 use Rattle.mc_state.specs.declared.terms.Term.{Term}
-use Rattle.mc_state.specs.Covers.{BlockIsTaken, RuleTerms, CallsAreFound, CallsAreFoundAt, IsByInd, IsBySeg, CoverAt, Cover, EndsThere, SegCoverAt, SegCover}
+use Rattle.mc_state.specs.Covers.{BlockIsTaken, RuleTerms, CallsAreFound, CallsAreFoundAt, IsByInd, CoverAt, Cover, EndsThere, SegCoverAt}
 use Rattle.mc_state.specs.State.{State}
 use Rattle.mc_state.specs.Terms.{plain, term_of}
-use Rattle.mc_premises.specs.Known.{Test, Tells}
+use Rattle.mc_premises.specs.Known.{Tells}
 use Rattle.mc_premises.specs.Lists.{on_some}
 use Rattle.mc_premises.proofs.Tests.{and_both}
-use Rattle.mc_search.specs.Search.{is_free, applies, first_try}
+use Rattle.mc_search.specs.Search.{is_free, first_try}
 use Rattle.mc_search.specs.Met.{AreMetBy, IsMet}
 use Rattle.mc_search.proofs.Firsts.{first_meets}
 use Rattle.mc_cover.specs.Goals.{Stop, Goal, Mark, at_end, by_ind, by_seg, by_rule, by_call, Setting, is_ind, is_seg, behind_seg, whole_block, contents_by}
 use Rattle.mc_cover.specs.Marks.{Named, ends_here, names_at, def_at, rule_at, has_call, fits, goal_of, goals_to, calls_of_rule, calls_of_rule_to, calls_of, edge_of, takes, space}
-use Rattle.mc_cover.specs.First.{taken, Choice, choice_of, limit, first_for}
+use Rattle.mc_cover.specs.First.{Choice, choice_of, limit, first_for}
 use Rattle.mc_cover.specs.Laws.{FirstIsCover, FirstIsSegCover}
 use Rattle.mc_cover.proofs.Fixed.{fixed_front, fixed_fixes}
 use Rattle.mc_cover.proofs.Left.{left_by, left_same, left_less, still_there}
 use Rattle.mc_cover.proofs.Options.{there, not_there, then_some, same_some, all_at}
-use Rattle.mc_cover.proofs.Parts.{end_parts, IndParts, ind_parts, SegParts, seg_parts, BlockParts, block_parts, RuleParts, rule_parts, call_parts, named_there}
+use Rattle.mc_cover.proofs.Parts.{end_parts, ind_parts, SegParts, seg_parts, block_parts, RuleParts, rule_parts, call_parts, named_there}
 use Rattle.mc_cover.proofs.Terms.{equal_from, all_equal_from, all_lie_from, atoms_from}
 
 -- a rule that is listed fits

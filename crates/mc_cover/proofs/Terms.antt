@@ -1,5 +1,5 @@
 -- Tests of terms, and what is derived of them.
-use Rattle.std.proofs.Common.{◌≡◌, List, [], ◌∷◌, ◌&&◌, true, ◌-ℤ◌, refl}
+use Rattle.std.proofs.Common.{◌≡◌, List, [], ◌∷◌, true, ◌-ℤ◌, refl}
 use Rattle.std.specs.List.{AllByRecursion}
 use Rattle.mc_base.specs.declared.plain.Kind.{Kind}
 use Rattle.mc_base.specs.declared.plain.Atom.TheVariants as atom

@@ -1,5 +1,5 @@
 -- What is known in small states, as tests of atoms.
-use Rattle.std.specs.Prelude.{◌==◌, ◌&&◌, ◌++◌, ℕ, pos, negsuc, int_le, List, [], ◌∷◌, Bool, true, false, Option, Some, None, map}
+use Rattle.std.specs.Prelude.{◌==◌, ◌&&◌, ◌++◌, ℕ, pos, negsuc, int_le, List, [], ◌∷◌, Bool, false, Option, Some, map}
 use Rattle.std.specs.List.{list_any, flat_map}
 use Rattle.mc_base.specs.declared.plain.Atom.{Atom}
 use Rattle.mc_base.specs.declared.plain.Atom.TheVariants.{Eq, Ne, In}

@@ -1,5 +1,5 @@
 -- The first cover and the first segment cover.
-use Rattle.std.specs.Prelude.{◌+◌, ◌*◌, ◌++◌, ℕ, suc, List, [], ◌∷◌, Option, Some, None, length, option_map, option_to_list}
+use Rattle.std.specs.Prelude.{◌+◌, ◌*◌, ℕ, suc, List, [], ◌∷◌, Option, Some, None, length, option_map, option_to_list}
 use Rattle.std.specs.List.{flat_map}
 use Rattle.mc_base.specs.declared.ids.EdgeId.{EdgeId}
 use Rattle.mc_base.specs.declared.ids.PredId.{PredId}

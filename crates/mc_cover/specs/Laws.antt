@@ -1,10 +1,9 @@
 -- What is first is a cover, there is none only where none exists, and the guess is the one that there is.
-use Rattle.std.specs.Prelude.{◌≡◌, ◌↔◌, ℕ, List, [], Option, Some, None, true, slice_get}
+use Rattle.std.specs.Prelude.{◌≡◌, ◌↔◌, ℕ, List, Option, Some, None, true, slice_get}
 use Rattle.mc_base.specs.declared.ids.PredId.{PredId}
 use Rattle.mc_defs.specs.declared.rules.Def.{Def}
 use Rattle.mc_defs.specs.Conditions.{IsDefs}
-use Rattle.mc_graph.specs.declared.edge.Edge.{Edge}
-use Rattle.mc_graph.specs.Graph.{Edges, Picks, IdsAscend}
+use Rattle.mc_graph.specs.Graph.{Edges, IdsAscend}
 use Rattle.mc_state.specs.declared.terms.Term.{Term}
 use Rattle.mc_state.specs.Covers.{Cover, SegCover}
 use Rattle.mc_state.specs.Guess.{Guess}

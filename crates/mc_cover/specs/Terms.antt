@@ -1,5 +1,5 @@
 -- What is known of terms, and terms for the names of a rule.
-use Rattle.std.specs.Prelude.{◌-ℤ◌, ◌++◌, List, [], ◌∷◌, Bool, true, false, Option, Some, None}
+use Rattle.std.specs.Prelude.{◌-ℤ◌, ◌++◌, List, [], ◌∷◌, Bool, true, false}
 use Rattle.std.specs.List.{list_all}
 use Rattle.mc_base.specs.declared.plain.Atom.TheVariants as atom
 use Rattle.mc_base.specs.declared.plain.Kind.{Kind}

@@ -1,5 +1,5 @@
 -- The first try that meets a goal.
-use Rattle.std.proofs.Common.{◌≡◌, ℕ, suc, ◌*◌, ◌≤◌, ◌+◌, List, [], ◌∷◌, inl, inr, true, Option, Some, None, length, refl, sym, subst, arith}
+use Rattle.std.proofs.Common.{◌≡◌, ℕ, suc, ◌*◌, ◌≤◌, List, [], ◌∷◌, inl, inr, true, Option, Some, None, length, refl, sym, subst, arith}
 use Rattle.mc_search.specs.Search.{Space, tries, first, first_try}
 use Rattle.mc_search.specs.Met.{IsIn, IsMet, Leads, AllLeaveFew}
 use Rattle.mc_search.proofs.Bound.{bound}

@@ -1,6 +1,5 @@
 -- What is among the tries: exactly what meets the goals.
-use Rattle.std.proofs.Common.{◌≡◌, ℕ, zero, suc, ◌+◌, ◌≤◌, List, [], ◌∷◌, ◌++◌, inl, inr, Bool, true, false, Option, Some, None, length, refl, sym, ◌∙◌, ap, arith, length-append, append_assoc}
-use Rattle.std.specs.List.{flat_map}
+use Rattle.std.proofs.Common.{◌≡◌, ℕ, zero, suc, ◌+◌, ◌≤◌, List, [], ◌∷◌, ◌++◌, inl, inr, Bool, true, false, Option, Some, length, refl, ◌∙◌, ap, arith, length-append}
 use Rattle.mc_search.specs.Search.{Space, tries, options, applies, ended}
 use Rattle.mc_search.specs.Met.{IsIn, AreMetBy, IsMet, Leads}
 use Rattle.mc_search.proofs.Members.{in_flat_map, from_flat_map, in_filter, from_filter}

@@ -1,5 +1,5 @@
 -- A search over a list of goals, which are met from the first on; it knows nothing of what goals and their marks are.
-use Rattle.std.specs.Prelude.{◌==◌, ◌&&◌, ◌||◌, ◌++◌, not, ℕ, zero, suc, List, [], ◌∷◌, Bool, true, false, Option, Some, None, if◌then◌else◌}
+use Rattle.std.specs.Prelude.{◌==◌, ◌&&◌, ◌||◌, ◌++◌, not, ℕ, zero, suc, List, [], ◌∷◌, Bool, true, false, Option, Some, None}
 use Rattle.std.specs.List.{filter, flat_map}
 
 -- how goals are met: the marks of a goal in their order, which of them fit, the goals that each leaves, what each takes,
