@@ -3,7 +3,7 @@ use Rattle.std.proofs.Common.{◌≡◌, ℕ, zero, suc, ◌⊎◌, ℤ, Option,
 use Rattle.mc_base.specs.declared.ids.PredId.{PredId}
 use Rattle.mc_heap.specs.Heap.{Region}
 use Rattle.mc_heap.specs.Instances.{nowhere}
-use Rattle.mc_heap.specs.Parts.{Split, IsEmpty, Star, StarAt}
+use Rattle.mc_heap.specs.Parts.{Split, IsEmpty, StarAt}
 use Rattle.mc_heap.specs.PartLaws.{SplitCommutes, SplitRegroupsLeft, SplitRegroupsRight, SplitAddsEmpty}
 use Rattle.mc_defs.specs.declared.rules.Call.{Call}
 use Rattle.mc_defs.specs.declared.rules.Def.{Def}
@@ -35,8 +35,8 @@ module _ (commutes : SplitCommutes) (to_left : SplitRegroupsLeft) (to_right : Sp
         commutes c u.0 o.1 u.2,
         o.4,
         λ b l' c' t q.
-        let w = to_right c' u.0 l' s.0 o.2 (commutes c' l' u.0 q) u.1 in
-        (s.0, w.0, w.2, s.3, o.5 b l' w.0 t (commutes w.0 o.2 l' w.1)),
+            let w = to_right c' u.0 l' s.0 o.2 (commutes c' l' u.0 q) u.1 in
+            (s.0, w.0, w.2, s.3, o.5 b l' w.0 t (commutes w.0 o.2 l' w.1)),
       )
 
   module _ (adds_empty : SplitAddsEmpty) (defs : List Def) (p : PredId) (stop : ℤ) (ends : List ℤ) where

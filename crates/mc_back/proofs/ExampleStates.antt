@@ -1,15 +1,13 @@
 -- A doubly linked segment is unfolded from its end.
-use Rattle.std.proofs.Common.{◌≡◌, ◌≢◌, ℕ, zero, suc, ℤ, pos, Bool, true, false, Option, Some, None, List, [], ◌∷◌, slice_get, refl, sym, ap, subst, arith, inl, inr}
+use Rattle.std.proofs.Common.{◌≡◌, ℕ, zero, suc, ℤ, pos, Bool, true, false, Option, Some, None, [], ◌∷◌, slice_get, refl, sym, subst, arith, inl, inr}
 use Rattle.std.specs.Prelude.{not, Err}
 use Rattle.std.proofs.lemmas.Int.{ints}
-use Rattle.mc_base.specs.declared.ids.NodeId.{NodeId}
 use Rattle.mc_base.specs.declared.plain.Atom.TheVariants.{Eq, Ne}
 use Rattle.mc_base.specs.declared.plain.Kind.TheVariants.{Ptr}
 use Rattle.mc_base.specs.Nodes.{Valuation, null}
 use Rattle.mc_heap.specs.Heap.{Block, Region, IsAtAddresses}
 use Rattle.mc_heap.specs.Parts.{Joins, Split, IsEmpty}
 use Rattle.mc_heap.specs.PartLaws.{SplitAddsEmpty}
-use Rattle.mc_defs.specs.Examples.{blocks}
 use Rattle.mc_defs.specs.Meaning as meaning
 use Rattle.mc_defs.specs.Meaning.{RuleValues, Sat}
 use Rattle.mc_premises.specs.Back.{IsBackPosition}
@@ -24,7 +22,7 @@ use Rattle.mc_state.specs.Laws.{NoneStandsForFalse, EqualNodesAreOne}
 use Rattle.mc_state.specs.Stands.{StandsBy}
 use Rattle.mc_state.specs.State.{State}
 use Rattle.mc_unfold.specs.WrongRules.{IsSoundRule}
-use Rattle.mc_back.specs.Examples.{dlls, dll_id, same_id, dll_def, null_rule, edge, seven_and_nine, null_and_nine, dll_segment, dll_emptied, segment_then_node, false_segment, dll_whole, same_segment}
+use Rattle.mc_back.specs.Examples.{dlls, dll_id, dll_def, null_rule, edge, seven_and_nine, null_and_nine, dll_segment, dll_emptied, segment_then_node, false_segment, dll_whole, same_segment}
 use Rattle.mc_back.specs.Judges.{unfolding_back}
 use Rattle.mc_back.specs.Unfolded.{UnfoldsBack}
 use Rattle.mc_back.specs.WrongRules.{NeverEmpty}

@@ -1,15 +1,14 @@
 -- The rule that unfolds a segment from its end is judged by its instances, and gives one list of successors.
-use Rattle.std.proofs.Common.{◌≡◌, ◌⊎◌, ◌+◌, ℕ, zero, suc, List, [], ◌∷◌, Bool, true, false, ◌&&◌, Option, Some, None, slice_get, refl, ap, sym, ◌∙◌, subst, inl, inr, arith}
+use Rattle.std.proofs.Common.{◌≡◌, ◌⊎◌, ◌+◌, ℕ, zero, suc, List, [], ◌∷◌, Bool, true, false, ◌&&◌, Option, Some, None, slice_get, refl, ap, sym, ◌∙◌, inl, inr, arith}
 use Rattle.std.specs.Prelude.{◌||◌, not, Ok}
 use Rattle.mc_base.specs.declared.ids.EdgeId.{EdgeId}
 use Rattle.mc_base.specs.declared.ids.NodeId.{NodeId}
 use Rattle.mc_base.specs.declared.ids.PredId.{PredId}
 use Rattle.mc_defs.specs.declared.rules.Def.{Def}
-use Rattle.mc_defs.specs.declared.rules.Rule.{Rule}
 use Rattle.mc_graph.specs.declared.edge.Edge.{Edge}
 use Rattle.mc_graph.specs.declared.edge.Edge.TheVariants.{Block, Ind, Seg}
 use Rattle.mc_graph.specs.Graph.{edge_with}
-use Rattle.mc_premises.specs.Back.{is_back}
+use Rattle.mc_premises.specs.Back.{IsBackPosition, is_back}
 use Rattle.mc_premises.specs.Known.{Test, Tells, is_false, equal}
 use Rattle.mc_premises.specs.Laws.{BackIsTold}
 use Rattle.mc_premises.specs.Lists.{on_some}
@@ -17,7 +16,6 @@ use Rattle.mc_premises.specs.Named.{SegParts, seg_of}
 use Rattle.mc_premises.specs.Premises.{Judged}
 use Rattle.mc_premises.proofs.Numbered.{need_ok, have_ok}
 use Rattle.mc_premises.proofs.Tests.{and_both, and_yes, not_false, is_sound, equal_from, equal_to}
-use Rattle.mc_state.specs.Facts.{AreEqual}
 use Rattle.mc_state.specs.State.{State}
 use Rattle.mc_unfold.specs.Judges.{rules_in, rules_of}
 use Rattle.mc_back.specs.Judges.{ends_back_at, is_reached_back, unfolding_back}
@@ -84,6 +82,11 @@ module _ (know : Test) (defs : List Def) (pred : PredId) (node : NodeId) where
       or_right (is_back defs pred position && equal know x node) (ends_back_at know defs pred node (suc position) ends)
       (back_to (suc position) ends place last e (ap (is_back defs pred) at ∙ back) known)
 
+-- what the rules of the predicate give is what those of its definition give
+given : (defs : List Def) (edge : EdgeId) (s : State) (g : SegParts) (position : ℕ) (back : IsBackPosition defs g.pred position) (next : List State)
+    → back_successors s edge g.at g.args g.pred g.stop g.ends (rules_of defs g.pred) ≡ next → next ≡ back_successors s edge g.at g.args g.pred g.stop g.ends back.def.rules
+given defs edge s g position back next is = sym is ∙ ap (λ (o : Option Def). back_successors s edge g.at g.args g.pred g.stop g.ends (rules_in o)) back.defined
+
 module _ (told : BackIsTold) (know : Test) (defs : List Def) (accessed : Option NodeId) (edge : EdgeId) (s : State) (tells : Tells know s) where
   from : (next : List State) → unfolding_back know defs accessed edge s ≡ Ok next → UnfoldsBack defs accessed edge s next
   from next e =
@@ -112,7 +115,7 @@ module _ (told : BackIsTold) (know : Test) (defs : List Def) (accessed : Option 
         last = reached.last;
         ends_at = reached.ends_at;
         meets = equal_from know s tells reached.last node.0 reached.known;
-        gives = sym is ∙ ap (λ (o : Option Def). back_successors s edge g.at g.args g.pred g.stop g.ends (rules_in o)) back.defined;
+        gives = given defs edge s g position back next is;
       }
 
   to : (next : List State) → UnfoldsBack defs accessed edge s next → unfolding_back know defs accessed edge s ≡ Ok next

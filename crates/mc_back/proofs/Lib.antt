@@ -1,4 +1,5 @@
 pub mod Ends
+pub mod ExampleFits
 pub mod ExampleStates
 pub mod Judging
 pub mod Lists

@@ -1,5 +1,5 @@
 -- Lists: what holds of each, and where images stand.
-use Rattle.std.proofs.Common.{◌≡◌, ℕ, zero, suc, List, [], ◌∷◌, ◌++◌, Some, None, map, take, drop, remove, slice_get, refl, ap}
+use Rattle.std.proofs.Common.{◌≡◌, ℕ, zero, suc, List, [], ◌∷◌, ◌++◌, Some, map, take, drop, remove, slice_get, refl, ap}
 use Rattle.std.specs.List.{flat_map, AllByRecursion}
 use Rattle.mc_heap.specs.Heap.{Region}
 use Rattle.mc_heap.specs.Parts.{IsEmpty, Star, StarAt}

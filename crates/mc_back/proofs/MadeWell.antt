@@ -1,5 +1,5 @@
 -- What the rule that unfolds a segment from its end makes is well made.
-use Rattle.std.proofs.Common.{◌≡◌, ℕ, zero, suc, Option, Some, None, List, [], ◌∷◌, ◌++◌, map, take, drop, remove, length, slice_get, refl, sym, ◌∙◌, ap, subst}
+use Rattle.std.proofs.Common.{◌≡◌, ℕ, zero, suc, Some, List, [], ◌∷◌, map, take, drop, remove, length, slice_get, refl, sym, ap, subst}
 use Rattle.std.specs.List.{AllByRecursion}
 use Rattle.mc_base.specs.declared.ids.EdgeId.{EdgeId}
 use Rattle.mc_base.specs.declared.ids.NodeId.{NodeId}
@@ -13,16 +13,15 @@ use Rattle.mc_defs.specs.declared.rules.Rule.{Rule}
 use Rattle.mc_defs.specs.declared.shapes.StructInfo.{StructInfo}
 use Rattle.mc_defs.specs.Conditions.{DefsFit}
 use Rattle.mc_defs.specs.Instances.{node_of, atom_of}
-use Rattle.mc_graph.specs.declared.edge.Edge.{Edge}
 use Rattle.mc_graph.specs.declared.edge.Edge.TheVariants.{Seg}
 use Rattle.mc_graph.specs.Graph.{edge_with, without}
 use Rattle.mc_pure.specs.Pure.{Kinds, HasKind, IsWellFormed}
-use Rattle.mc_state.specs.Bodies.{call_edge, block_edges, body_edges}
+use Rattle.mc_state.specs.Bodies.{call_edge, block_edges}
 use Rattle.mc_state.specs.Fits.{HaveKinds, ArgsFit, EdgeFitsDefs, IsWellMade}
 use Rattle.mc_state.specs.Laws.{NewNodesHaveKinds}
 use Rattle.mc_state.specs.State.{State, with_nodes, with_edges, with_only_edges}
 use Rattle.mc_unfold.specs.RuleLaws.{IsOwnPlace, OwnPlacesAreOwn, RuleOfFitting}
-use Rattle.mc_unfold.specs.Unfolded.{own_places, equal_atoms}
+use Rattle.mc_unfold.specs.Unfolded.{own_places}
 use Rattle.mc_unfold.specs.WellMade.{EdgeFits, NodesKeepWellMade, EdgesKeepWellMade, AtomsKeepWellMade, FewerKeepWellMade, EdgeOfFitting, EmptiedIsWellMade, RuleIsMade, RulesAreMade, EqualsAreFormed}
 use Rattle.mc_back.specs.Laws.{BackMakesWellMade}
 use Rattle.mc_back.specs.Unfolded.{new_nodes, body_behind, call_is_end, atoms_behind, unfolded_back}

@@ -1,6 +1,6 @@
 -- The rule that unfolds a segment from its end is sound, and numbers stay in their bounds.
 use Rattle.std.proofs.Common.{◌≡◌, ℕ, zero, suc, ℤ, pos, Option, Some, None, List, [], ◌∷◌, ◌++◌, map, take, drop, remove, length, get_or, slice_get, refl, sym, ◌∙◌, ap, ap₂, subst, inl, inr}
-use Rattle.std.specs.List.{AllByRecursion, flat_map}
+use Rattle.std.specs.List.{AllByRecursion}
 use Rattle.std.proofs.Math.ListN.{get_or-map}
 use Rattle.std.proofs.lemmas.List.{length-map}
 use Rattle.mc_base.specs.declared.ids.EdgeId.{EdgeId}
@@ -11,7 +11,7 @@ use Rattle.mc_base.specs.declared.plain.Kind.{Kind}
 use Rattle.mc_base.specs.Atoms.{IsTrueAtom, nodes_of_atom}
 use Rattle.mc_base.specs.Nodes.{Valuation, at_node, null}
 use Rattle.mc_heap.specs.Heap.{Region}
-use Rattle.mc_heap.specs.Parts.{Split, IsEmpty, Star, StarAt}
+use Rattle.mc_heap.specs.Parts.{Split, Star, StarAt}
 use Rattle.mc_heap.specs.PartLaws.{SplitCommutes, SplitDropsEmpty}
 use Rattle.mc_defs.specs.declared.rules.Call.{Call}
 use Rattle.mc_defs.specs.declared.rules.Def.{Def}
@@ -22,13 +22,12 @@ use Rattle.mc_defs.specs.Meaning.{RuleValues, BlockMeets, CallMeets, SegCallMeet
 use Rattle.mc_defs.specs.Meaning as meaning
 use Rattle.mc_defs.specs.Values as named
 use Rattle.mc_defs.specs.Values.{value_of, InKinds}
-use Rattle.mc_graph.specs.declared.edge.Edge.{Edge}
 use Rattle.mc_graph.specs.declared.edge.Edge.TheVariants.{Seg}
 use Rattle.mc_graph.specs.Edges.{nodes_of}
 use Rattle.mc_graph.specs.Graph.{Picks, edge_with, without}
-use Rattle.mc_pure.specs.Pure.{Kinds, IsNode}
+use Rattle.mc_pure.specs.Pure.{IsNode}
 use Rattle.mc_state.specs.Bodies.{body_edges}
-use Rattle.mc_state.specs.BodyLaws.{IsBody, BodiesAreEdges}
+use Rattle.mc_state.specs.BodyLaws.{BodiesAreEdges}
 use Rattle.mc_state.specs.Fits.{AreNodes, IsBounded}
 use Rattle.mc_state.specs.Laws.{NodesAreAdded, NodesHaveValues, ValuesAgree, AtomsAreAdded, EdgesAreTaken, EdgesArePut, NodesStayBounded, NewNodesAreThere, AtomsStayBounded, EdgesStayBounded, FewerEdgesStayBounded, PickedNodesAreThere}
 use Rattle.mc_state.specs.Rules.{StandsForSome, IsSound}
@@ -36,7 +35,7 @@ use Rattle.mc_state.specs.Stands.{EdgeMeets, StandsBy, AgreeBelow, extended}
 use Rattle.mc_state.specs.State.{State, numbered_nodes, with_nodes, with_edges, with_only_edges}
 use Rattle.mc_unfold.specs.RuleLaws.{RuleAtomsAreTrue, EqualAtomsAreTrue, NameIsThere, BodyIsThere, RuleAtomsAreThere, EqualAtomsAreThere, OwnPlaceIsListed}
 use Rattle.mc_unfold.specs.Unfolded.{emptied, equal_atoms, own_places}
-use Rattle.mc_back.specs.Ends.{EndsWithBody, SegEnds}
+use Rattle.mc_back.specs.Ends.{SegEnds}
 use Rattle.mc_back.specs.Laws.{LawOfBack}
 use Rattle.mc_back.specs.Unfolded.{new_nodes, body_behind, call_is_end, atoms_behind, unfolded_back, back_successors}
 use Rattle.mc_back.proofs.Lists.{all_append, all_left, all_right, all_map, all_take, all_drop, image_at, in_pieces, all_pieces, all_images, star_at_get, star_without}

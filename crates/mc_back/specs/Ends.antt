@@ -11,7 +11,8 @@ use Rattle.mc_defs.specs.Meaning.{Sat, Seg, EndsThere, SegBodyMeets}
 abbrev pub EndsWithBody : List Def → PredId → ℤ → List ℤ → ℤ → List ℤ → Region → Type 0
 EndsWithBody defs pred stop ends value args region =
     (last : ℤ) × (lasts : List ℤ) × (front : Region) × (back : Region) × Split region front back
-    × Seg defs pred value args last lasts front × SegBodyMeets (Sat defs) (EndsThere stop ends) defs pred last lasts back
+    × Seg defs pred value args last lasts front
+    × SegBodyMeets (Sat defs) (EndsThere stop ends) defs pred last lasts back
 
 -- a segment, of whatever height, is empty, or ends with the body of a rule of which one call is the segment's end
 abbrev pub SegEnds : Type 0

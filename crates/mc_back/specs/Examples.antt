@@ -12,13 +12,17 @@ use Rattle.mc_defs.specs.declared.rules.Rule.{Rule}
 use Rattle.mc_defs.specs.declared.shapes.StructInfo.{StructInfo}
 use Rattle.mc_graph.specs.declared.edge.Edge.TheVariants.{Block, Ind, Seg}
 use Rattle.mc_pure.specs.Examples.{node}
+use Rattle.mc_pure.specs.Pure.{Kinds}
 use Rattle.mc_state.specs.CoverExamples.{state_of, entry}
 use Rattle.mc_state.specs.State.{State}
 
 -- struct node { int data; struct node *next; struct node *prev; };
 abbrev pub node_struct : StructInfo
 node_struct =
-    record { name = codes "node"; fields = record { name = codes "data"; kind = Int } ∷ record { name = codes "next"; kind = Ptr } ∷ record { name = codes "prev"; kind = Ptr } ∷ [] }
+    record {
+      name = codes "node";
+      fields = record { name = codes "data"; kind = Int } ∷ record { name = codes "next"; kind = Ptr } ∷ record { name = codes "prev"; kind = Ptr } ∷ [];
+    }
 
 abbrev pub structs : List StructInfo
 structs = node_struct ∷ []
@@ -77,16 +81,20 @@ edge n = record { 0 = n }
 abbrev pub seven_and_nine : Valuation
 seven_and_nine n = get_or (pos 0 ∷ pos 7 ∷ pos 9 ∷ pos 7 ∷ pos 9 ∷ []) n (pos 0)
 
+-- four pointers
+abbrev pub four_pointers : Kinds
+four_pointers = (node 1, Ptr) ∷ (node 2, Ptr) ∷ (node 3, Ptr) ∷ (node 4, Ptr) ∷ []
+
 -- a segment of a doubly linked list, from node 1 behind node 2 to node 3 behind node 4
 abbrev pub dll_segment : State
-dll_segment = state_of ((node 1, Ptr) ∷ (node 2, Ptr) ∷ (node 3, Ptr) ∷ (node 4, Ptr) ∷ []) (Seg (node 1) (node 2 ∷ []) dll_id (node 3) (node 4 ∷ []) ∷ []) []
+dll_segment = state_of four_pointers (Seg (node 1) (node 2 ∷ []) dll_id (node 3) (node 4 ∷ []) ∷ []) []
 
 -- it is empty: it ends where it begins
 abbrev pub dll_emptied : State
 dll_emptied =
     record {
       env = [];
-      kinds = (node 1, Ptr) ∷ (node 2, Ptr) ∷ (node 3, Ptr) ∷ (node 4, Ptr) ∷ [];
+      kinds = four_pointers;
       graph = record { edges = []; next = 1 };
       atoms = Eq (node 1) (node 3) (pos 0) ∷ Eq (node 2) (node 4) (pos 0) ∷ [];
       next = 5;
@@ -98,7 +106,8 @@ abbrev pub segment_then_node : State
 segment_then_node =
     record {
       env = [];
-      kinds = (node 1, Ptr) ∷ (node 2, Ptr) ∷ (node 3, Ptr) ∷ (node 4, Ptr) ∷ (node 5, Ptr) ∷ (node 6, Ptr) ∷ (node 7, Int) ∷ (node 8, Ptr) ∷ (node 9, Ptr) ∷ [];
+      kinds = (node 1, Ptr) ∷ (node 2, Ptr) ∷ (node 3, Ptr) ∷ (node 4, Ptr)
+          ∷ (node 5, Ptr) ∷ (node 6, Ptr) ∷ (node 7, Int) ∷ (node 8, Ptr) ∷ (node 9, Ptr) ∷ [];
       graph = record {
         edges = entry 1 (Seg (node 1) (node 2 ∷ []) dll_id (node 5) (node 6 ∷ []))
             ∷ entry 2 (Block (node 5) node_id (Some (node 7) ∷ Some (node 8) ∷ Some (node 9) ∷ [])) ∷ [];
@@ -113,7 +122,7 @@ segment_then_node =
 -- the same segment in a state that is false
 abbrev pub false_segment : State
 false_segment =
-    state_of ((node 1, Ptr) ∷ (node 2, Ptr) ∷ (node 3, Ptr) ∷ (node 4, Ptr) ∷ []) (Seg (node 1) (node 2 ∷ []) dll_id (node 3) (node 4 ∷ []) ∷ []) (Ne null null (pos 0) ∷ [])
+    state_of four_pointers (Seg (node 1) (node 2 ∷ []) dll_id (node 3) (node 4 ∷ []) ∷ []) (Ne null null (pos 0) ∷ [])
 
 -- a doubly linked list, which is no segment
 abbrev pub dll_whole : State
@@ -125,4 +134,4 @@ null_and_nine n = get_or (pos 0 ∷ pos 0 ∷ pos 9 ∷ []) n (pos 0)
 
 -- a segment whose argument stays the same, so that it says nothing of its last block
 abbrev pub same_segment : State
-same_segment = state_of ((node 1, Ptr) ∷ (node 2, Ptr) ∷ (node 3, Ptr) ∷ (node 4, Ptr) ∷ []) (Seg (node 1) (node 2 ∷ []) same_id (node 3) (node 4 ∷ []) ∷ []) []
+same_segment = state_of four_pointers (Seg (node 1) (node 2 ∷ []) same_id (node 3) (node 4 ∷ []) ∷ []) []

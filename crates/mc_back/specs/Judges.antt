@@ -1,5 +1,5 @@
 -- What the rule that unfolds a segment from its end gives at a state, or the first premise that is unmet.
-use Rattle.std.specs.Prelude.{◌&&◌, ◌||◌, not, ℕ, suc, Bool, true, false, List, [], ◌∷◌, Option, Ok}
+use Rattle.std.specs.Prelude.{◌&&◌, ◌||◌, not, ℕ, suc, Bool, false, List, [], ◌∷◌, Option, Ok}
 use Rattle.mc_base.specs.declared.ids.EdgeId.{EdgeId}
 use Rattle.mc_base.specs.declared.ids.NodeId.{NodeId}
 use Rattle.mc_base.specs.declared.ids.PredId.{PredId}
@@ -14,7 +14,7 @@ use Rattle.mc_state.specs.State.{State}
 use Rattle.mc_unfold.specs.Judges.{rules_of}
 use Rattle.mc_back.specs.Unfolded.{back_successors}
 
--- one of the end arguments, of which these are those from a position on, stands at a back position and is equal to the node
+-- one of the end arguments, given from a position on, stands at a back position and is equal to the node
 abbrev pub ends_back_at : Test → List Def → PredId → NodeId → ℕ → List NodeId → Bool
 ends_back_at know defs pred node position [] = false
 ends_back_at know defs pred node position (e ∷ ends) =

@@ -36,6 +36,7 @@ BackIsJudged =
 -- what L15 makes is well made where the state is
 abbrev pub BackMakesWellMade : Type 0
 BackMakesWellMade =
-    (defs : List Def) (vars : List VarInfo) (structs : List StructInfo) (accessed : Option NodeId) (edge : EdgeId) (s : State) (next : List State)
+    (defs : List Def) (vars : List VarInfo) (structs : List StructInfo) (accessed : Option NodeId) (edge : EdgeId)
+    (s : State) (next : List State)
     → DefsFit structs defs → IsWellMade defs vars structs s → UnfoldsBack defs accessed edge s next
     → AllByRecursion (IsWellMade defs vars structs) next

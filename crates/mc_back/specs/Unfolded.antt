@@ -24,21 +24,26 @@ new_nodes s rule = numbered_nodes s.next (length rule.names)
 -- a segment to the start of a rule's body and its parameters, and that body without the call at a place
 abbrev pub body_behind : NodeId → List NodeId → PredId → List NodeId → Rule → ℕ → List Edge
 body_behind at args pred nodes rule place =
-    Seg at args pred (node_of nodes 0) (take (length args) (drop 1 nodes)) ∷ body_edges nodes rule.block rule.contents (remove rule.calls place)
+    Seg at args pred (node_of nodes 0) (take (length args) (drop 1 nodes))
+    ∷ body_edges nodes rule.block rule.contents (remove rule.calls place)
 
 -- the call is the end: its node and its arguments are equal to these
 abbrev pub call_is_end : List NodeId → NodeId → List NodeId → Option Call → List Atom
 call_is_end nodes stop ends None = []
-call_is_end nodes stop ends (Some call) = equal_atoms (node_of nodes call.at ∷ map (node_of nodes) call.args) (stop ∷ ends)
+call_is_end nodes stop ends (Some call) =
+    equal_atoms (node_of nodes call.at ∷ map (node_of nodes) call.args) (stop ∷ ends)
 
 -- a rule's atoms, and that its call at a place is the end
 abbrev pub atoms_behind : List NodeId → NodeId → List NodeId → Rule → ℕ → List Atom
-atoms_behind nodes stop ends rule place = map (atom_of nodes) rule.atoms ++ call_is_end nodes stop ends (slice_get rule.calls place)
+atoms_behind nodes stop ends rule place =
+    map (atom_of nodes) rule.atoms ++ call_is_end nodes stop ends (slice_get rule.calls place)
 
 -- the state with a segment and the body of a rule in place of a Seg, where the call at a place is the Seg's end
 abbrev pub unfolded_back : State → EdgeId → NodeId → List NodeId → PredId → NodeId → List NodeId → Rule → ℕ → State
 unfolded_back s edge at args pred stop ends rule place =
-    with_atoms (with_edges (with_only_edges (with_nodes s rule.names) (without s.graph.edges edge)) (body_behind at args pred (new_nodes s rule) rule place)) (atoms_behind (new_nodes s rule) stop ends rule place)
+    with_atoms
+    (with_edges (with_only_edges (with_nodes s rule.names) (without s.graph.edges edge)) (body_behind at args pred (new_nodes s rule) rule place))
+    (atoms_behind (new_nodes s rule) stop ends rule place)
 
 -- what a Seg becomes: nothing, or for each rule and each of its calls of the predicate a segment and the rule's body
 abbrev pub back_successors : State → EdgeId → NodeId → List NodeId → PredId → NodeId → List NodeId → List Rule → List State

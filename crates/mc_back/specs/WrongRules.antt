@@ -1,5 +1,5 @@
 -- A rule that looks like the one that unfolds a segment from its end, and is not sound.
-use Rattle.std.specs.Prelude.{List, ◌∷◌}
+use Rattle.std.specs.Prelude.{◌∷◌}
 use Rattle.mc_state.specs.State.{State}
 use Rattle.mc_unfold.specs.WrongRules.{EdgeRule}
 use Rattle.mc_back.specs.Unfolded.{UnfoldsBack}

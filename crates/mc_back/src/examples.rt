@@ -1,13 +1,14 @@
 // A doubly linked segment that is unfolded from its end, and a rule for which the law fails.
 ghost use Rattle.std.specs.Prelude.{◌≡◌, Some, None, Err, [], ◌∷◌};
 ghost use Rattle.mc_heap.specs.Heap.{IsAtAddresses};
+ghost use Rattle.mc_defs.specs.Conditions.{DefsFit};
 ghost use Rattle.mc_defs.specs.Examples.{blocks};
 ghost use Rattle.mc_premises.specs.Known.{Test, Tells};
 ghost use Rattle.mc_pure.specs.Examples.{node};
-ghost use Rattle.mc_state.specs.Fits.{IsBounded};
+ghost use Rattle.mc_state.specs.Fits.{IsWellMade};
 ghost use Rattle.mc_state.specs.Stands.{StandsBy};
 ghost use Rattle.mc_unfold.specs.WrongRules.{IsSoundRule};
-ghost use Rattle.mc_back.specs.Examples.{dlls, edge, seven_and_nine, dll_segment, dll_emptied, segment_then_node};
+ghost use Rattle.mc_back.specs.Examples.{structs, dlls, edge, seven_and_nine, dll_segment, dll_emptied, segment_then_node};
 ghost use Rattle.mc_back.specs.Examples.{false_segment, dll_whole, same_segment};
 ghost use Rattle.mc_back.specs.Judges.{unfolding_back};
 ghost use Rattle.mc_back.specs.Unfolded.{UnfoldsBack};
@@ -17,9 +18,10 @@ use mc_defs::example_premises;
 use mc_heap::{heaps_change_one_address, parts_regroup};
 use mc_state::derived_is_true;
 
-/// A segment whose last block is accessed is empty, or a segment to that block.
+/// A segment whose last block is accessed is empty, or a segment to that block. The definitions fit, and the state is well made.
 pub fn example_of_back()
-    ensures bounded { IsBounded dll_segment }
+    ensures fits { DefsFit structs dlls }
+    ensures made { IsWellMade dlls [] structs dll_segment }
     ensures unfolds { UnfoldsBack dlls (Some (node 4)) (edge 0) dll_segment (dll_emptied ∷ segment_then_node ∷ []) }
     ensures addresses { IsAtAddresses (blocks []) }
     ensures stands { StandsBy dlls seven_and_nine [] (blocks []) dll_segment }

@@ -9,7 +9,8 @@ use mc_state::{
     bodies_are_edges, edges_come_and_go, new_nodes_are_free, nodes_are_there, numbers_stay_bounded,
 };
 use mc_unfold::{
-    own_places_are_calls, rules_are_made, rules_stand_at_nodes, states_stay_well_made, unfolding_is_well_made,
+    own_places_are_calls, rules_are_made, rules_stand_at_nodes, states_stay_well_made,
+    unfolding_is_well_made,
 };
 
 /// A segment is empty, or ends with the body of a rule of which one call is the segment's end.

@@ -1,7 +1,7 @@
 -- Naming, merging, dropping and forgetting are judged by their instances.
-use Rattle.std.proofs.Common.{◌≡◌, ◌⊎◌, inl, inr, ℕ, zero, suc, ℤ, ◌-ℤ◌, pos, List, [], ◌∷◌, ◌&&◌, ◌||◌, not, Bool, true, false, Contains, slice_get, Option, Some, None, is_some, refl, sym, ◌∙◌, ap, subst, eqb-true, eq-eqb}
+use Rattle.std.proofs.Common.{◌≡◌, ◌⊎◌, inl, inr, ℕ, zero, suc, ℤ, ◌-ℤ◌, List, [], ◌∷◌, ◌&&◌, ◌||◌, not, Bool, true, false, slice_get, Option, Some, None, is_some, refl, sym, ◌∙◌, ap, subst, eqb-true, eq-eqb}
 use Rattle.std.specs.Prelude.{◌==◌, Ok, if◌then◌else◌}
-use Rattle.std.specs.List.{AllByRecursion, list_all, list_any}
+use Rattle.std.specs.List.{list_all}
 use Rattle.mc_base.specs.declared.ids.EdgeId.{EdgeId}
 use Rattle.mc_base.specs.declared.ids.NodeId.{NodeId}
 use Rattle.mc_base.specs.declared.plain.Kind.{Kind}
@@ -11,19 +11,19 @@ use Rattle.mc_base.specs.declared.plain.Atom.TheVariants.{Eq, In}
 use Rattle.mc_base.specs.Nodes.{null}
 use Rattle.mc_graph.specs.declared.edge.Edge.{Edge}
 use Rattle.mc_graph.specs.Edges.{start_of, nodes_of, known_nodes}
-use Rattle.mc_graph.specs.Graph.{Edges, edge_with, without}
+use Rattle.mc_graph.specs.Graph.{edge_with, without}
 use Rattle.mc_pure.specs.Pure.{Kinds, HasKind, IsNode, AreOfOneKind, kind_of, low_of, high_of}
 use Rattle.mc_state.specs.State.{State, next_node, with_nodes, with_atoms, with_only_edges}
-use Rattle.mc_state.specs.Facts.{CanMerge, IsUnnamed, merged}
+use Rattle.mc_state.specs.Facts.{IsUnnamed, merged}
 use Rattle.mc_state.specs.Fits.{IsBounded}
 use Rattle.mc_premises.specs.Premises.{Judged}
 use Rattle.mc_premises.specs.Known.{Test, Tells, is_false, equal, has_kind}
 use Rattle.mc_premises.proofs.Numbered.{need_ok, have_ok}
-use Rattle.mc_premises.proofs.Tests.{and_both, and_yes, not_yes, not_no, not_false, is_sound, equal_from, equal_to, has_kind_from, has_kind_to, each_from, each_to}
+use Rattle.mc_premises.proofs.Tests.{and_both, and_yes, not_yes, not_false, is_sound, equal_from, equal_to, has_kind_from, has_kind_to}
 use Rattle.mc_fold.specs.Changed.{NamesSpare, MergesNodes, DropsEdge, ForgetsNode, IsListWithout, left_over}
 use Rattle.mc_fold.specs.ChangeJudges.{is_there, lies_in, naming_spare, may_merge, of_one_kind, merging_nodes, is_reached, dropping_edge, is_listed, is_unnamed, forgetting_node}
-use Rattle.mc_fold.specs.JudgedLaws.{SpareIsJudged, MergeIsJudged, DropIsJudged, ForgetIsJudged}
-use Rattle.mc_fold.proofs.Reaching.{Among, among_from, among_to, among_at, place_of, any_from, any_to, reached_from, reached_to}
+use Rattle.mc_fold.specs.JudgedLaws.{SpareIsJudged, MergeIsJudged, ReachedIsTold, DropIsJudged, ForgetIsJudged}
+use Rattle.mc_fold.proofs.Reaching.{Among, among_from, among_to, among_at, any_from, any_to, reached_from, reached_to}
 use Rattle.mc_fold.proofs.WrittenOnce.{forget_one}
 
 -- ---- nodes
@@ -52,6 +52,11 @@ there_by kinds n kind (inr e) = at (n.0 == 0)
 there_to : (kinds : Kinds) (n : NodeId) → IsNode kinds n → is_there kinds n ≡ true
 there_to kinds n there = there_by kinds n there.0 there.1
 
+-- a test does not both hold and fail
+never : (b : Bool) → not b ≡ true → b ≡ true → ⊥
+never true e is = cc e
+never false e is = cc is
+
 -- nodes with one number are one
 same_from : (a b : NodeId) → (a.0 == b.0) ≡ true → a ≡ b
 same_from a b e = ap (λ k. record { 0 = k }) (eqb-true a.0 b.0 e)
@@ -60,7 +65,7 @@ same_to : (a b : NodeId) → a ≡ b → (a.0 == b.0) ≡ true
 same_to a b e = eq-eqb a.0 b.0 (ap (λ (n : NodeId). n.0) e)
 
 differ_from : (a b : NodeId) → not (a.0 == b.0) ≡ true → a ≡ b → ⊥
-differ_from a b e same = let wrong : not true ≡ true = ap not (sym (same_to a b same)) ∙ e in cc wrong
+differ_from a b e same = never (a.0 == b.0) e (same_to a b same)
 
 pub differ_to : (a b : NodeId) → (a ≡ b → ⊥) → not (a.0 == b.0) ≡ true
 differ_to a b differ = not_yes (a.0 == b.0) (λ e. differ (same_from a b e))
@@ -173,7 +178,7 @@ module _ (know : Test) (edge : EdgeId) (s : State) (tells : Tells know s) where
         consistent = not_false know s tells two.0;
         e = three.0;
         there = three.1;
-        unreached = λ r. let wrong : not true ≡ true = ap not (sym (reached_to know s tells bounded (start_of three.0) r)) ∙ four.0 in cc wrong;
+        unreached = λ r. never (is_reached know s (start_of three.0)) four.0 (reached_to know s tells bounded (start_of three.0) r);
         gives = sym is;
       }
 
@@ -197,7 +202,7 @@ listed_from n ns e =
     subst (λ k. Among k ns) same m.1
 
 unlisted_from : (n : NodeId) (ns : List NodeId) → not (is_listed n ns) ≡ true → Among n ns → ⊥
-unlisted_from n ns e a = let wrong : not true ≡ true = ap not (sym (listed_to n ns a)) ∙ e in cc wrong
+unlisted_from n ns e a = never (is_listed n ns) e (listed_to n ns a)
 
 unlisted_to : (n : NodeId) (ns : List NodeId) → (Among n ns → ⊥) → not (is_listed n ns) ≡ true
 unlisted_to n ns none = not_yes (is_listed n ns) (λ e. none (listed_from n ns e))
@@ -276,6 +281,9 @@ spare_judged know node add kind s tells next = (spare_from know node add kind s 
 
 pub merge_judged : MergeIsJudged
 merge_judged know keep gone s tells next = (merge_from know keep gone s tells next, merge_to know keep gone s tells next)
+
+pub reached_told : ReachedIsTold
+reached_told know s n bounded tells = (reached_from know s tells n, reached_to know s tells bounded n)
 
 pub drop_judged : DropIsJudged
 drop_judged know edge s bounded tells next = (drop_from know edge s tells bounded next, drop_to know edge s tells next)

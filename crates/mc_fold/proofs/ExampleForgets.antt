@@ -114,7 +114,7 @@ of_null (In a lo hi) e = rw e.0 (λ t. widened (base known.zero) t.0 t.1)
 
 -- ---- nothing is written of no node
 
-nothing_listed : (P : Atom → Type 0) → ((f : Atom) → P f → ⊥) → AreListed P []
+pub nothing_listed : (P : Atom → Type 0) → ((f : Atom) → P f → ⊥) → AreListed P []
 nothing_listed P none = record { order = tt; exact = λ f. (λ c. absurd (among_none f c), λ p. absurd (none f p)) }
 
 only_null : (n : NodeId) → IsNode [] n → n ≡ null

@@ -1,31 +1,29 @@
 -- A node is forgotten that another equals: a disequality of the two is one of the other with itself.
-use Rattle.std.proofs.Common.{◌≡◌, ◌≢◌, ◌⊎◌, inl, inr, ◌<◌, ◌≤◌, ℕ, zero, suc, ℤ, ◌+ℤ◌, ◌-ℤ◌, neg_ℤ, ◌≤ℤ◌, ◌<ℤ◌, pos, negsuc, Bool, true, false, Option, Some, None, Contains, List, [], ◌∷◌, ◌++◌, slice_get, refl, sym, ◌∙◌, ap, ap₂, subst, arith, eqb-true, eq-eqb}
-use Rattle.std.proofs.lemmas.Int.{ints, clamps, by_lt_z}
-use Rattle.std.specs.Int.{int_max, int_min}
+use Rattle.std.proofs.Common.{◌≡◌, ◌⊎◌, inl, inr, ◌≤◌, ℕ, zero, suc, ℤ, ◌+ℤ◌, ◌-ℤ◌, neg_ℤ, ◌≤ℤ◌, ◌<ℤ◌, pos, negsuc, Bool, true, false, Option, Some, None, Contains, [], ◌∷◌, refl, sym, ◌∙◌, ap, ap₂, subst, arith, eqb-true}
+use Rattle.std.proofs.lemmas.Int.{ints, clamps}
 use Rattle.std.specs.Prelude.{◌==◌, if◌then◌else◌}
-use Rattle.std.specs.List.{AllByRecursion}
 use Rattle.mc_base.specs.declared.ids.NodeId.{NodeId}
 use Rattle.mc_base.specs.declared.plain.Atom.{Atom}
 use Rattle.mc_base.specs.declared.plain.Atom.TheVariants.{Eq, Ne, In}
 use Rattle.mc_base.specs.declared.plain.Kind.{Kind}
-use Rattle.mc_base.specs.declared.plain.Kind.TheVariants.{Int, Ptr}
+use Rattle.mc_base.specs.declared.plain.Kind.TheVariants.{Int}
 use Rattle.mc_base.specs.Atoms.{moved_atom, nodes_of_atom}
 use Rattle.mc_base.specs.Nodes.{moved, null}
 use Rattle.mc_pure.specs.Canonical.{IsLeast, IsRangeAtom, IsClassAtom, IsDifference, plainly}
-use Rattle.mc_pure.specs.Derived.{Follows, IsFalse, HasRange, base, itself, turned, chained, shifted, met, widened, fixed, differs, differs_along, raised, lowered, disjoint}
+use Rattle.mc_pure.specs.Derived.{Follows, IsFalse, base, itself, turned, chained, shifted, met, widened, fixed, differs, differs_along, raised, lowered, disjoint}
 use Rattle.mc_pure.specs.Examples.{node}
-use Rattle.mc_pure.specs.Laws.{DerivedIsTrue, TrueIsNotFalse, FollowsFromMore, IsTrue}
+use Rattle.mc_pure.specs.Laws.{TrueIsNotFalse, FollowsFromMore, IsTrue}
 use Rattle.mc_pure.specs.Pure as known
 use Rattle.mc_pure.specs.Pure.{Pure, Kinds, Base, IsNode, kind_atom, kind_of, low_of, high_of}
 use Rattle.mc_state.specs.Fits.{AreNodes}
-use Rattle.mc_state.specs.State.{State, pure_of}
+use Rattle.mc_state.specs.State.{pure_of}
 use Rattle.mc_fold.specs.Changed.{alone, Forgets, ForgetsNode}
 use Rattle.mc_fold.specs.Examples.{valued, gap_beside, gap_left}
 use Rattle.mc_fold.specs.Written.{IsGap, IsFullListOf}
 use Rattle.mc_fold.proofs.ExampleForgets.{named, nothing_listed}
 use Rattle.mc_fold.proofs.ExampleWritten.{follows_moved, two_to, atom_not_moved, one_node, its_kind, null_not_one, null_not_two, not_two}
-use Rattle.mc_fold.proofs.Ordered.{among_cases, among_here, among_none}
-use Rattle.mc_fold.proofs.Reaching.{Among, among_to, among_from}
+use Rattle.mc_fold.proofs.Ordered.{among_cases, among_none}
+use Rattle.mc_fold.proofs.Reaching.{among_to, among_from}
 use Rattle.mc_fold.proofs.Refusing.{numbers_fit}
 
 -- ---- what a number says of itself
@@ -197,15 +195,15 @@ left_range (Ne a b c) r = r
 left_range (In n lo hi) r = elim (one_node Int n (r.0, inr r.2)) [
   | inl e ↦ r.1 e
   | inr e ↦ let kind : Int ≡ r.0 = its_kind Int r.0 n r.2 in
-    let narrow : (low_of Int <ℤ lo) ⊎ (hi <ℤ high_of Int) = subst (λ (k : Kind). (low_of k <ℤ lo) ⊎ (hi <ℤ high_of k)) (sym kind) r.4 in
-    let here : Follows (alone gap_left) (In (node 1) lo hi) = subst (λ m. Follows (alone gap_left) (In m lo hi)) e r.3.follows in
-    let range : (lo ≤ℤ low_of Int) × (high_of Int ≤ℤ hi) = says IsFive five_turns (alone gap_left) left_says (In (node 1) lo hi) here in
-    let a = range.0 in
-    let b = range.1 in
-    elim narrow [
-      | inl less ↦ omega (arith, ints)
-      | inr less ↦ omega (arith, ints)
-    ]
+      let narrow : (low_of Int <ℤ lo) ⊎ (hi <ℤ high_of Int) = subst (λ (k : Kind). (low_of k <ℤ lo) ⊎ (hi <ℤ high_of k)) (sym kind) r.4 in
+      let here : Follows (alone gap_left) (In (node 1) lo hi) = subst (λ m. Follows (alone gap_left) (In m lo hi)) e r.3.follows in
+      let range : (lo ≤ℤ low_of Int) × (high_of Int ≤ℤ hi) = says IsFive five_turns (alone gap_left) left_says (In (node 1) lo hi) here in
+      let a = range.0 in
+      let b = range.1 in
+      elim narrow [
+        | inl less ↦ omega (arith, ints)
+        | inr less ↦ omega (arith, ints)
+      ]
 ]
 
 left_class : (f : Atom) → IsClassAtom (alone gap_left) f → ⊥
@@ -224,11 +222,11 @@ left_difference (Ne i j c) r = elim (one_node Int i r.0.0) [
   | inl e ↦ let number : i.0 ≡ 0 = ap (λ (n : NodeId). n.0) e in let less = r.2 in omega arith
   | inr e ↦ elim (one_node Int j r.1.0) [
     | inl f ↦ let h : Follows (alone gap_left) (Ne (node 1) null c) = subst (λ m. Follows (alone gap_left) (Ne (node 1) m c)) f (subst (λ m. Follows (alone gap_left) (Ne m j c)) e r.3) in
-      let plain : Follows bare (Ne (node 1) null c) = elim (says IsFive five_turns (alone gap_left) left_says (Ne (node 1) null c) h) [
-        | inl apart ↦ disjoint bare_kind (base known.zero) apart
-        | inr g ↦ absurd (null_not_one g.1)
-      ] in
-      r.4 (subst (λ m. Follows bare (Ne i m c)) (sym f) (subst (λ m. Follows bare (Ne m null c)) (sym e) plain))
+        let plain : Follows bare (Ne (node 1) null c) = elim (says IsFive five_turns (alone gap_left) left_says (Ne (node 1) null c) h) [
+          | inl apart ↦ disjoint bare_kind (base known.zero) apart
+          | inr g ↦ absurd (null_not_one g.1)
+        ] in
+        r.4 (subst (λ m. Follows bare (Ne i m c)) (sym f) (subst (λ m. Follows bare (Ne m null c)) (sym e) plain))
     | inr f ↦ let one : i.0 ≡ 1 = ap (λ (n : NodeId). n.0) e in let other : j.0 ≡ 1 = ap (λ (n : NodeId). n.0) f in let less = r.2 in omega arith
   ]
 ]
@@ -252,17 +250,17 @@ is_gap (Ne i j c) r =
     let more = r.2 in
     elim (one_node Int i r.0.0) [
       | inl e ↦ let zero_is : Follows bare (Ne null null c) = disjoint (base known.zero) (base known.zero) (inl (omega (arith, ints))) in
-        absurd (r.4 (subst (λ m. Follows bare (Ne i m c)) (sym e ∙ r.1) (subst (λ m. Follows bare (Ne m null c)) (sym e) zero_is)))
+          absurd (r.4 (subst (λ m. Follows bare (Ne i m c)) (sym e ∙ r.1) (subst (λ m. Follows bare (Ne m null c)) (sym e) zero_is)))
       | inr e ↦ let other : j ≡ node 1 = sym r.1 ∙ e in
-        let h : Follows (alone gap_left) (Ne (node 1) (node 1) c) = subst (λ m. Follows (alone gap_left) (Ne (node 1) m c)) other (subst (λ m. Follows (alone gap_left) (Ne m j c)) e r.3) in
-        elim (says IsFive five_turns (alone gap_left) left_says (Ne (node 1) (node 1) c) h) [
-          | inl apart ↦ let plain : Follows bare (Ne (node 1) (node 1) c) = disjoint bare_kind bare_kind apart in
-            absurd (r.4 (subst (λ m. Follows bare (Ne i m c)) (sym other) (subst (λ m. Follows bare (Ne m (node 1) c)) (sym e) plain)))
-          | inr g ↦ elim g.2 [
-            | inl five ↦ let same : gap ≡ Ne i j c = ap (λ m. Ne m (node 1) (pos 5)) (sym e) ∙ ap₂ (λ m z. Ne i m z) (sym other) (sym five) in among_to (gap ∷ []) (Ne i j c) (inl same)
-            | inr minus ↦ absurd (below more minus)
+          let h : Follows (alone gap_left) (Ne (node 1) (node 1) c) = subst (λ m. Follows (alone gap_left) (Ne (node 1) m c)) other (subst (λ m. Follows (alone gap_left) (Ne m j c)) e r.3) in
+          elim (says IsFive five_turns (alone gap_left) left_says (Ne (node 1) (node 1) c) h) [
+            | inl apart ↦ let plain : Follows bare (Ne (node 1) (node 1) c) = disjoint bare_kind bare_kind apart in
+                absurd (r.4 (subst (λ m. Follows bare (Ne i m c)) (sym other) (subst (λ m. Follows bare (Ne m (node 1) c)) (sym e) plain)))
+            | inr g ↦ elim g.2 [
+              | inl five ↦ let same : gap ≡ Ne i j c = ap (λ m. Ne m (node 1) (pos 5)) (sym e) ∙ ap₂ (λ m z. Ne i m z) (sym other) (sym five) in among_to (gap ∷ []) (Ne i j c) (inl same)
+              | inr minus ↦ absurd (below more minus)
+            ]
           ]
-        ]
     ] where
       below : pos 0 <ℤ c → c ≡ negsuc 4 → ⊥
       below more minus = omega (arith, ints)

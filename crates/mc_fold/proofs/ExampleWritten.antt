@@ -1,13 +1,12 @@
 -- What is written where a node is forgotten: that a block starts at an address, and a disequality of a node with itself.
-use Rattle.std.proofs.Common.{◌≡◌, ◌≢◌, ◌⊎◌, inl, inr, ◌<◌, ◌≤◌, ℕ, zero, suc, ℤ, ◌+ℤ◌, ◌-ℤ◌, neg_ℤ, ◌≤ℤ◌, ◌<ℤ◌, pos, negsuc, Bool, true, false, Option, Some, None, Contains, List, [], ◌∷◌, ◌++◌, slice_get, refl, sym, ◌∙◌, ap, ap₂, subst, arith, eqb-true}
-use Rattle.std.proofs.lemmas.Int.{ints, clamps, by_lt_z}
-use Rattle.std.specs.Prelude.{◌==◌, ◌↔◌, if◌then◌else◌}
-use Rattle.std.specs.List.{AllByRecursion}
+use Rattle.std.proofs.Common.{◌≡◌, ◌⊎◌, inl, inr, ℕ, zero, suc, ℤ, ◌+ℤ◌, ◌≤ℤ◌, pos, Bool, true, false, Option, Some, None, Contains, List, [], ◌∷◌, slice_get, refl, sym, ◌∙◌, ap, ap₂, subst, arith, eqb-true}
+use Rattle.std.proofs.lemmas.Int.{ints}
+use Rattle.std.specs.Prelude.{◌==◌, if◌then◌else◌}
 use Rattle.mc_base.specs.declared.ids.NodeId.{NodeId}
 use Rattle.mc_base.specs.declared.plain.Atom.{Atom}
 use Rattle.mc_base.specs.declared.plain.Atom.TheVariants.{Eq, Ne, In}
 use Rattle.mc_base.specs.declared.plain.Kind.{Kind}
-use Rattle.mc_base.specs.declared.plain.Kind.TheVariants.{Int, Ptr}
+use Rattle.mc_base.specs.declared.plain.Kind.TheVariants.{Ptr}
 use Rattle.mc_base.specs.Atoms.{moved_atom, nodes_of_atom}
 use Rattle.mc_base.specs.Nodes.{moved, null}
 use Rattle.mc_base.specs.declared.ids.EdgeId.{EdgeId}
@@ -16,21 +15,20 @@ use Rattle.mc_graph.specs.declared.edge.Edge.{Edge}
 use Rattle.mc_graph.specs.declared.edge.Edge.TheVariants.{Block}
 use Rattle.mc_graph.specs.Edges.{nodes_of}
 use Rattle.mc_state.specs.CoverExamples.{entry}
-use Rattle.mc_pure.specs.Canonical.{IsLeast, IsRangeAtom, IsClassAtom, IsDifference, plainly}
-use Rattle.mc_pure.specs.Derived.{Follows, IsFalse, HasRange, base, itself, turned, chained, shifted, met, widened, fixed, differs, differs_along, raised, lowered, disjoint}
+use Rattle.mc_pure.specs.Canonical.{IsRangeAtom, IsClassAtom, IsDifference, plainly}
+use Rattle.mc_pure.specs.Derived.{Follows, IsFalse, base, itself, turned, chained, shifted, met, widened, fixed, differs, differs_along, raised, lowered, disjoint}
 use Rattle.mc_pure.specs.Examples.{node}
 use Rattle.mc_pure.specs.Laws.{DerivedIsTrue, TrueIsNotFalse, FollowsFromMore, IsTrue}
 use Rattle.mc_pure.specs.Pure as known
 use Rattle.mc_pure.specs.Pure.{Pure, Kinds, Base, IsNode, kind_atom, kind_of}
-use Rattle.mc_state.specs.Facts.{Derives, instead}
-use Rattle.mc_state.specs.Facts as facts
+use Rattle.mc_state.specs.Facts.{instead}
 use Rattle.mc_state.specs.Fits.{AreNodes}
-use Rattle.mc_state.specs.State.{State, pure_of}
+use Rattle.mc_state.specs.State.{pure_of}
 use Rattle.mc_fold.specs.Changed.{alone, Forgets, ForgetsNode}
-use Rattle.mc_fold.specs.Examples.{valued, block_beside, block_left, gap_beside, gap_left}
+use Rattle.mc_fold.specs.Examples.{valued, block_beside, block_left}
 use Rattle.mc_fold.specs.Written.{IsGap, IsFullListOf}
 use Rattle.mc_fold.proofs.ExampleForgets.{named, nothing_listed}
-use Rattle.mc_fold.proofs.Ordered.{among_cases, among_here, among_none}
+use Rattle.mc_fold.proofs.Ordered.{among_cases, among_none}
 use Rattle.mc_fold.proofs.Reaching.{Among, among_to, among_from, among_all}
 use Rattle.mc_fold.proofs.Refusing.{numbers_fit}
 
@@ -115,6 +113,9 @@ module _ (truth : DerivedIsTrue) (false_not : TrueIsNotFalse) (grows : FollowsFr
       numbers_fit (valued (pos 1 ∷ pos 0 ∷ [])) (pure_of block_beside) refl ((omega (arith, ints), omega (arith, ints)), ((omega (arith, ints), omega (arith, ints)), tt)) tt
       ((omega (arith, ints), omega (arith, ints)), tt) (omega arith)
 
+  null_pointer : Follows (alone block_left) (In null (known.low_of Ptr) (known.high_of Ptr))
+  null_pointer = widened {lo = pos 0} {hi = pos 0} (base known.zero) (omega (arith, ints)) (omega (arith, ints))
+
   block_bases : (f : Atom) → Base (pure_of block_beside) f → Follows (alone block_left) (moved_atom (two_to 0) f)
   block_bases f (known.written place e) = absurd (cc e)
   block_bases _ known.zero = base known.zero
@@ -123,7 +124,7 @@ module _ (truth : DerivedIsTrue) (false_not : TrueIsNotFalse) (grows : FollowsFr
       subst (λ (x : NodeId × Kind). Follows (alone block_left) (moved_atom (two_to 0) (kind_atom x.0 x.1))) both (base (known.kind 0 refl))
   block_bases _ (known.kind {n} {k} (suc zero) e) =
       let both : (node 2, Ptr) ≡ (n, k) = cc e in
-      subst (λ (x : NodeId × Kind). Follows (alone block_left) (moved_atom (two_to 0) (kind_atom x.0 x.1))) both (widened (base known.zero) (omega (arith, ints)) (omega (arith, ints)))
+      subst (λ (x : NodeId × Kind). Follows (alone block_left) (moved_atom (two_to 0) (kind_atom x.0 x.1))) both null_pointer
   block_bases _ (known.kind (suc (suc place)) e) = absurd (cc e)
   block_bases _ (known.block {a} zero e) =
       let same : node 1 ≡ a = cc e in
@@ -199,17 +200,17 @@ module _ (truth : DerivedIsTrue) (false_not : TrueIsNotFalse) (grows : FollowsFr
   range_block (In n lo hi) r = elim (one_node Ptr n (r.0, inr r.2)) [
     | inl e ↦ absurd (r.1 e)
     | inr e ↦ let follows : Follows (alone block_left) (In (node 1) lo hi) = subst (λ m. Follows (alone block_left) (In m lo hi)) e r.3.follows in
-      let outer = address_least lo hi follows in
-      let here : Follows (alone block_left) (In n (pos 1) (pos 4611686018427387903)) = subst (λ m. Follows (alone block_left) (In m (pos 1) (pos 4611686018427387903))) (sym e) address_written in
-      let inner = r.3.least (pos 1) (pos 4611686018427387903) here in
-      let a = outer.0 in
-      let b = outer.1 in
-      let c = inner.0 in
-      let d = inner.1 in
-      let low : pos 1 ≡ lo = omega (arith, ints) in
-      let high : pos 4611686018427387903 ≡ hi = omega (arith, ints) in
-      let same : In (node 1) (pos 1) (pos 4611686018427387903) ≡ In n lo hi = ap (λ m. In m (pos 1) (pos 4611686018427387903)) (sym e) ∙ ap₂ (λ x y. In n x y) low high in
-      among_to (In (node 1) (pos 1) (pos 4611686018427387903) ∷ []) (In n lo hi) (inl same)
+        let outer = address_least lo hi follows in
+        let here : Follows (alone block_left) (In n (pos 1) (pos 4611686018427387903)) = subst (λ m. Follows (alone block_left) (In m (pos 1) (pos 4611686018427387903))) (sym e) address_written in
+        let inner = r.3.least (pos 1) (pos 4611686018427387903) here in
+        let a = outer.0 in
+        let b = outer.1 in
+        let c = inner.0 in
+        let d = inner.1 in
+        let low : pos 1 ≡ lo = omega (arith, ints) in
+        let high : pos 4611686018427387903 ≡ hi = omega (arith, ints) in
+        let same : In (node 1) (pos 1) (pos 4611686018427387903) ≡ In n lo hi = ap (λ m. In m (pos 1) (pos 4611686018427387903)) (sym e) ∙ ap₂ (λ x y. In n x y) low high in
+        among_to (In (node 1) (pos 1) (pos 4611686018427387903) ∷ []) (In n lo hi) (inl same)
   ]
 
   block_class : (f : Atom) → IsClassAtom (alone block_left) f → ⊥
@@ -221,9 +222,9 @@ module _ (truth : DerivedIsTrue) (false_not : TrueIsNotFalse) (grows : FollowsFr
         | inl e ↦ r.1 e
         | inr e ↦ elim (one_node Ptr a there.0) [
           | inl x ↦ let h : Follows (alone block_left) (Eq null (node 1) c) = subst (λ m. Follows (alone block_left) (Eq m (node 1) c)) x (subst (λ m. Follows (alone block_left) (Eq a m c)) e r.3) in
-            let low : pos 0 ≡ pos 1 +ℤ c = truth (alone block_left) (valued (pos 1 ∷ [])) low_true (Eq null (node 1) c) (inl h) in
-            let high : pos 0 ≡ pos 4611686018427387903 +ℤ c = truth (alone block_left) (valued (pos 4611686018427387903 ∷ [])) high_true (Eq null (node 1) c) (inl h) in
-            omega (arith, ints)
+              let low : pos 0 ≡ pos 1 +ℤ c = truth (alone block_left) (valued (pos 1 ∷ [])) low_true (Eq null (node 1) c) (inl h) in
+              let high : pos 0 ≡ pos 4611686018427387903 +ℤ c = truth (alone block_left) (valued (pos 4611686018427387903 ∷ [])) high_true (Eq null (node 1) c) (inl h) in
+              omega (arith, ints)
           | inr x ↦ r.0 (x ∙ sym e)
         ]
       ]

@@ -6,7 +6,6 @@ use Rattle.mc_base.specs.declared.ids.EdgeId.{EdgeId}
 use Rattle.mc_base.specs.declared.ids.NodeId.{NodeId}
 use Rattle.mc_base.specs.declared.ids.PredId.{PredId}
 use Rattle.mc_base.specs.declared.ids.StructId.{StructId}
-use Rattle.mc_base.specs.declared.plain.Kind.{Kind}
 use Rattle.mc_defs.specs.declared.rules.Call.{Call}
 use Rattle.mc_defs.specs.declared.rules.Def.{Def}
 use Rattle.mc_defs.specs.declared.rules.Rule.{Rule}
@@ -16,8 +15,8 @@ use Rattle.mc_graph.specs.declared.edge.Edge.TheVariants.{Block, Ind, Seg}
 use Rattle.mc_graph.specs.Graph.{Edges, edge_with}
 use Rattle.mc_state.specs.State.{State}
 use Rattle.mc_state.specs.Facts.{AreAllEqual, Derives}
-use Rattle.mc_state.specs.Fits.{IsBounded, HaveKinds}
-use Rattle.mc_premises.specs.Premises.{Judged, then_give}
+use Rattle.mc_state.specs.Fits.{IsBounded}
+use Rattle.mc_premises.specs.Premises.{then_give}
 use Rattle.mc_premises.specs.Lists.{all_both, on_some}
 use Rattle.mc_premises.specs.Known.{Test, Tells, is_false, has_kind}
 use Rattle.mc_premises.specs.Named.{others, named_ids, are_named, Looked}

@@ -1,5 +1,5 @@
 -- Segments and goals are judged by their instances.
-use Rattle.std.proofs.Common.{◌≡◌, ℕ, List, [], ◌∷◌, Bool, true, false, Option, Some, None, refl, ap, sym, subst, ◌∙◌, eqb-true, eq-eqb}
+use Rattle.std.proofs.Common.{◌≡◌, List, [], ◌∷◌, Bool, true, false, Option, Some, None, refl, ap, sym, subst, ◌∙◌, eqb-true, eq-eqb}
 use Rattle.std.specs.Prelude.{◌==◌, ◌&&◌, not, Ok, slice_get, if◌then◌else◌}
 use Rattle.mc_base.specs.declared.ids.EdgeId.{EdgeId}
 use Rattle.mc_base.specs.declared.ids.NodeId.{NodeId}
@@ -10,10 +10,10 @@ use Rattle.mc_defs.specs.declared.rules.Def.{Def}
 use Rattle.mc_graph.specs.declared.edge.Edge.{Edge}
 use Rattle.mc_graph.specs.declared.edge.Edge.TheVariants.{Block, Ind, Seg}
 use Rattle.mc_graph.specs.Graph.{Edges, edge_with, without}
-use Rattle.mc_pure.specs.Pure.{Kinds, HasKind}
+use Rattle.mc_pure.specs.Pure.{Kinds}
 use Rattle.mc_state.specs.declared.goal.Goal.{Goal}
 use Rattle.mc_state.specs.State.{State, with_edges}
-use Rattle.mc_state.specs.Fits.{IsBounded, HaveKinds, ArgsFit}
+use Rattle.mc_state.specs.Fits.{IsBounded, HaveKinds}
 use Rattle.mc_premises.specs.Premises.{Judged}
 use Rattle.mc_premises.specs.Lists.{all_both}
 use Rattle.mc_premises.specs.Known.{Test, Tells, is_false, equal, all_equal, has_kind}

@@ -1,5 +1,5 @@
 -- Folded edges fit where the edges before do.
-use Rattle.std.proofs.Common.{◌≡◌, ℕ, zero, suc, List, [], ◌∷◌, ◌++◌, Bool, true, false, Option, Some, None, length, map, take, slice_get, All, refl, sym, ◌∙◌, ap, subst}
+use Rattle.std.proofs.Common.{◌≡◌, ℕ, zero, suc, List, [], ◌∷◌, ◌++◌, Bool, true, false, Option, Some, length, map, take, slice_get, sym, ◌∙◌, ap, subst}
 use Rattle.std.proofs.lemmas.List.Elements.{All-contains}
 use Rattle.std.specs.Prelude.{◌==◌, option_to_list, remove, if◌then◌else◌}
 use Rattle.std.specs.List.{AllByRecursion}
@@ -19,7 +19,7 @@ use Rattle.mc_graph.specs.declared.edge.Edge.{Edge}
 use Rattle.mc_graph.specs.declared.edge.Edge.TheVariants.{Ind, Seg}
 use Rattle.mc_graph.specs.Graph.{Edges, Picks, edge_with, without}
 use Rattle.mc_pure.specs.Pure.{Kinds, HasKind}
-use Rattle.mc_state.specs.State.{State, with_edges, with_only_edges}
+use Rattle.mc_state.specs.State.{State, with_edges}
 use Rattle.mc_state.specs.Fits.{IsBounded, HaveKinds, ArgsFit, EdgeFitsDefs, EdgeFitsStructs, IsWellMade}
 use Rattle.mc_fold.specs.Folded.{folded, Matches}
 use Rattle.mc_fold.specs.Laws.{LawOfFoldInd, LawOfFoldSeg, LawOfCloseSeg, LawOfJoinSegs, LawOfEmptySeg, LawOfDrop}

@@ -1,8 +1,8 @@
 -- What is left when a node is forgotten is well made.
-use Rattle.std.proofs.Common.{◌≡◌, ◌⊎◌, inl, inr, ◌≤◌, ◌<◌, ◌+◌, ℕ, zero, suc, ℤ, ◌+ℤ◌, ◌-ℤ◌, neg_ℤ, ◌≤ℤ◌, ◌<ℤ◌, pos, negsuc, List, [], ◌∷◌, ◌++◌, Bool, true, false, Option, Some, None, Contains, map, slice_get, refl, sym, ◌∙◌, ap, subst, arith, eqb-true, eq-eqb}
+use Rattle.std.proofs.Common.{◌≡◌, ◌⊎◌, inl, inr, ◌≤◌, ◌<◌, ℕ, zero, suc, ℤ, ◌+ℤ◌, ◌-ℤ◌, ◌≤ℤ◌, ◌<ℤ◌, pos, negsuc, List, [], ◌∷◌, ◌++◌, Bool, true, false, Some, Contains, map, slice_get, refl, sym, ◌∙◌, ap, subst, arith, eqb-true, eq-eqb}
 use Rattle.std.proofs.lemmas.Int.{ints, clamps, by_lt_z}
 use Rattle.std.specs.Int.{int_max, int_min}
-use Rattle.std.specs.Prelude.{◌==◌, if◌then◌else◌}
+use Rattle.std.specs.Prelude.{◌==◌}
 use Rattle.std.specs.List.{AllByRecursion}
 use Rattle.mc_base.specs.declared.ids.EdgeId.{EdgeId}
 use Rattle.mc_base.specs.declared.ids.NodeId.{NodeId}
@@ -26,7 +26,7 @@ use Rattle.mc_state.specs.State.{State, pure_of}
 use Rattle.mc_state.specs.Facts.{IsUnnamed, kinds_without}
 use Rattle.mc_state.specs.Facts as facts
 use Rattle.mc_state.specs.Fits.{IsBounded, EdgeFitsDefs, EdgeFitsStructs, IsWellMade}
-use Rattle.mc_fold.specs.Changed.{alone, left_over, Forgets, ForgetsNode}
+use Rattle.mc_fold.specs.Changed.{alone, left_over, Forgets}
 use Rattle.mc_fold.specs.Laws.{LawOfForget}
 use Rattle.mc_fold.specs.MadeLaws.{ForgetStaysMade}
 use Rattle.mc_fold.specs.Written.{IsGap}

@@ -1,5 +1,5 @@
 -- States with a node more or one for another fit where the states before do.
-use Rattle.std.proofs.Common.{◌≡◌, ◌⊎◌, inl, inr, ℕ, zero, suc, ℤ, ◌+ℤ◌, ◌-ℤ◌, ◌≤ℤ◌, ◌<ℤ◌, pos, negsuc, List, [], ◌∷◌, ◌++◌, Bool, true, false, Option, Some, None, length, map, option_map, slice_get, refl, sym, ◌∙◌, ap, subst, arith, eqb-true, eq-eqb}
+use Rattle.std.proofs.Common.{◌≡◌, inl, inr, ℕ, suc, ℤ, ◌-ℤ◌, ◌≤ℤ◌, ◌<ℤ◌, pos, List, [], ◌∷◌, Bool, true, false, Option, Some, None, length, map, option_map, slice_get, refl, sym, ◌∙◌, ap, subst, arith, eqb-true, eq-eqb}
 use Rattle.std.proofs.lemmas.Int.{ints}
 use Rattle.std.specs.Prelude.{◌==◌, if◌then◌else◌}
 use Rattle.std.specs.List.{AllByRecursion}
@@ -11,7 +11,7 @@ use Rattle.mc_base.specs.declared.plain.Kind.{Kind}
 use Rattle.mc_base.specs.declared.plain.Kind.TheVariants.{Int, Ptr}
 use Rattle.mc_base.specs.declared.plain.VarInfo.{VarInfo}
 use Rattle.mc_base.specs.Atoms.{moved_atom}
-use Rattle.mc_base.specs.Nodes.{moved, null}
+use Rattle.mc_base.specs.Nodes.{moved}
 use Rattle.mc_defs.specs.declared.rules.Def.{Def}
 use Rattle.mc_defs.specs.declared.shapes.StructInfo.{StructInfo}
 use Rattle.mc_graph.specs.declared.edge.Edge.{Edge}
@@ -22,9 +22,9 @@ use Rattle.mc_pure.specs.Derived as pure
 use Rattle.mc_pure.specs.Derived.{Follows, IsFalse}
 use Rattle.mc_pure.specs.Pure as known
 use Rattle.mc_pure.specs.Pure.{Kinds, Pure, HasKind, IsNode, IsOffset, IsWellFormed, kind_of, low_of, high_of}
-use Rattle.mc_state.specs.State.{State, next_node, pure_of, with_nodes, with_atoms}
-use Rattle.mc_state.specs.Facts.{CanMerge, instead, kinds_without, merged}
-use Rattle.mc_state.specs.Fits.{IsBounded, HaveKinds, MayHaveKinds, ArgsFit, EdgeFitsDefs, EdgeFitsStructs, FitsProgram, IsWellMade}
+use Rattle.mc_state.specs.State.{State, next_node, pure_of, with_nodes}
+use Rattle.mc_state.specs.Facts.{CanMerge, instead, kinds_without}
+use Rattle.mc_state.specs.Fits.{IsBounded, HaveKinds, MayHaveKinds, EdgeFitsDefs, EdgeFitsStructs, FitsProgram}
 use Rattle.mc_state.specs.Laws.{NewNodesHaveKinds}
 use Rattle.mc_fold.specs.Laws.{LawOfSpare, LawOfMerge}
 use Rattle.mc_fold.specs.MadeLaws.{SpareStaysMade, MergeStaysMade}
@@ -126,8 +126,8 @@ kind_place (k ∷ kinds) n kind e = at (k.0.0 == n.0) refl (kind_place kinds n k
 
 -- a node lies in the range of its kind
 pub in_kind : (p : Pure) (n : NodeId) (kind : Kind) → HasKind p.kinds kind n → Follows p (In n (low_of kind) (high_of kind))
-in_kind p n Int (inl e) = rw e (pure.widened (pure.base known.zero) (omega (arith, ints)) (omega (arith, ints)))
-in_kind p n Ptr (inl e) = rw e (pure.widened (pure.base known.zero) (omega (arith, ints)) (omega (arith, ints)))
+in_kind p n Int (inl e) = rw e (pure.widened {lo = pos 0} {hi = pos 0} {m = low_of Int} {k = high_of Int} (pure.base known.zero) (omega (arith, ints)) (omega (arith, ints)))
+in_kind p n Ptr (inl e) = rw e (pure.widened {lo = pos 0} {hi = pos 0} {m = low_of Ptr} {k = high_of Ptr} (pure.base known.zero) (omega (arith, ints)) (omega (arith, ints)))
 in_kind p n kind (inr e) = let at = kind_place p.kinds n kind e in pure.base (known.kind at.0 at.1)
 
 -- what moves a number of a kind to one of the kind is an offset
@@ -248,10 +248,10 @@ merged_kind kinds keep gone can kind n has = at (n.0 == gone.0) refl
     keep_has e = elim can.kind.2 [
       | inl null_is ↦ absurd (can.not_null null_is)
       | inr own ↦ let one : can.kind.0 ≡ kind = cc (own, e) in
-        elim can.kind.1 [
-          | inl null_is ↦ inl null_is
-          | inr k ↦ inr (kept_kind kinds gone keep apart ∙ k ∙ ap (λ (x : Kind). Some x) one)
-        ]
+          elim can.kind.1 [
+            | inl null_is ↦ inl null_is
+            | inr k ↦ inr (kept_kind kinds gone keep apart ∙ k ∙ ap (λ (x : Kind). Some x) one)
+          ]
     ]
 
     at : (b : Bool) → (n.0 == gone.0) ≡ b → HasKind (kinds_without kinds gone) kind (record { 0 = if b then keep.0 else n.0 })

@@ -1,22 +1,21 @@
 -- The nodes that are reached are those of a list.
-use Rattle.std.proofs.Common.{◌≡◌, ◌<◌, ◌≤◌, ◌+◌, ◌⊎◌, inl, inr, ℕ, zero, suc, pos, List, [], ◌∷◌, ◌++◌, ◌&&◌, ◌||◌, not, Bool, true, false, cond, length, get_or, slice_get, filter, flat_map, Contains, Option, Some, None, refl, sym, ◌∙◌, ap, ap₂, subst, arith}
+use Rattle.std.proofs.Common.{◌≡◌, ◌≤◌, ◌+◌, ◌⊎◌, inl, inr, ℕ, zero, suc, pos, List, [], ◌∷◌, ◌++◌, ◌||◌, not, Bool, true, false, cond, length, slice_get, filter, flat_map, Contains, Option, Some, None, refl, sym, ◌∙◌, ap, ap₂, subst, arith}
 use Rattle.std.specs.List.{AllByRecursion, list_any}
 use Rattle.mc_base.specs.declared.ids.EdgeId.{EdgeId}
 use Rattle.mc_base.specs.declared.ids.NodeId.{NodeId}
 use Rattle.mc_base.specs.declared.plain.Kind.TheVariants.{Int}
-use Rattle.mc_base.specs.declared.plain.Atom.TheVariants.{Eq}
 use Rattle.mc_base.specs.Nodes.{null}
 use Rattle.mc_graph.specs.declared.edge.Edge.{Edge}
 use Rattle.mc_graph.specs.Edges.{start_of, nodes_of, known_nodes}
 use Rattle.mc_graph.specs.Graph.{Edges}
 use Rattle.mc_pure.specs.Derived as pure
 use Rattle.mc_pure.specs.Pure.{IsNode}
-use Rattle.mc_state.specs.State.{State, pure_of}
+use Rattle.mc_state.specs.State.{State}
 use Rattle.mc_state.specs.Facts.{AreEqual, IsReached, from_null, from_var, along_equal, along_edge}
 use Rattle.mc_state.specs.Fits.{AreNodes, IsBounded}
 use Rattle.mc_premises.specs.Known.{Test, Tells, equal}
 use Rattle.mc_premises.proofs.Tests.{equal_from, equal_to}
-use Rattle.mc_fold.specs.ChangeJudges.{equals_one, starts_at, reached_in, is_reached}
+use Rattle.mc_fold.specs.ChangeJudges.{starts_at, reached_in, is_reached}
 use Rattle.mc_fold.proofs.Ordered.{among_cases, among_here, among_there, among_none}
 
 -- ---- lists

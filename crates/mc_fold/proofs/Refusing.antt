@@ -1,9 +1,8 @@
 -- First premises that are unmet.
-use Rattle.std.proofs.Common.{◌≡◌, ◌≢◌, ◌<◌, ◌≤◌, ℕ, zero, suc, ℤ, ◌≤ℤ◌, ◌-ℤ◌, pos, Bool, true, false, not, ◌&&◌, Some, None, List, [], ◌∷◌, length, slice_get, refl, sym, ◌∙◌, ap, inl, inr, arith}
+use Rattle.std.proofs.Common.{◌≡◌, ◌<◌, ◌≤◌, ℕ, zero, suc, ◌-ℤ◌, pos, Bool, true, false, not, ◌&&◌, Some, None, List, [], ◌∷◌, length, slice_get, refl, ap, inl, inr, arith}
 use Rattle.std.proofs.lemmas.Int.{ints}
 use Rattle.std.specs.Prelude.{Err}
 use Rattle.std.specs.List.{AllByRecursion}
-use Rattle.mc_base.specs.declared.ids.EdgeId.{EdgeId}
 use Rattle.mc_base.specs.declared.ids.NodeId.{NodeId}
 use Rattle.mc_base.specs.declared.plain.Atom.{Atom}
 use Rattle.mc_base.specs.declared.plain.Atom.TheVariants.{Eq, Ne, In}
@@ -23,7 +22,7 @@ use Rattle.mc_state.specs.State.{State, pure_of}
 use Rattle.mc_premises.specs.Known.{Test, Tells, is_false, equal, has_kind}
 use Rattle.mc_premises.proofs.Tests.{is_sound, equal_to}
 use Rattle.mc_fold.specs.ChangeJudges.{is_there, naming_spare, merging_nodes, dropping_edge, forgetting_node}
-use Rattle.mc_fold.specs.Examples.{edge, valued, two_segments, pointer, small_number, named_twice, lost_list, other_length, list_apart, pointed_list, list_goal, null_goal, tree_goal}
+use Rattle.mc_fold.specs.Examples.{edge, valued, two_segments, pointer, small_number, named_twice, lost_list, other_length, list_apart, pointed_list, list_goal, null_goal, tree_goal, false_pointer, cell_unknown, other_defs, pointed_node}
 use Rattle.mc_fold.specs.Judges.{folding_ind, folding_seg, closing_seg, joining_segs, making_seg, meeting_goal}
 use Rattle.mc_fold.proofs.Reaching.{among_at, among_all}
 
@@ -39,7 +38,7 @@ place_below (y ∷ ys) zero x e = omega arith
 place_below (y ∷ ys) (suc i) x e = let rest = place_below ys i x e in omega arith
 
 -- of kinds, atoms and one block at most
-numbers_fit : (v : Valuation) (p : Pure) → v 0 ≡ pos 0 → AllByRecursion (λ k. InKind k.1 (v k.0.0)) p.kinds → AllByRecursion (IsTrueAtom v) p.written → AllByRecursion (λ a. IsTrueAtom v (address_atom a)) p.starts → length p.starts ≤ 1 → IsTrue v p
+pub numbers_fit : (v : Valuation) (p : Pure) → v 0 ≡ pos 0 → AllByRecursion (λ k. InKind k.1 (v k.0.0)) p.kinds → AllByRecursion (IsTrueAtom v) p.written → AllByRecursion (λ a. IsTrueAtom v (address_atom a)) p.starts → length p.starts ≤ 1 → IsTrue v p
 numbers_fit v p start kinds atoms starts few f (known.written place e) = among_all (IsTrueAtom v) p.written f atoms (among_at p.written place f e)
 numbers_fit v p start kinds atoms starts few _ known.zero = (omega (arith, ints, start), omega (arith, ints, start))
 numbers_fit v p start kinds atoms starts few _ (known.kind {n} {k} place e) = kind_true v n k (among_all (λ (x : NodeId × Kind). InKind x.1 (v x.0.0)) p.kinds (n, k) kinds (among_at p.kinds place (n, k) e))
@@ -58,6 +57,12 @@ and_false false = refl
 not_true : (b : Bool) → (b ≡ true → ⊥) → b ≡ false
 not_true true n = absurd (n refl)
 not_true false n = refl
+
+-- ---- a false state
+
+module _ (know : Test) (tells : Tells know false_pointer) where
+  pub stopped : not (is_false know) ≡ false
+  stopped = ap not ((tells (Ne null null (pos 0))).1 (inr (pure.apart (pure.base (known.written 0 refl)))))
 
 module _ (truth : DerivedIsTrue) (sound : TrueIsNotFalse) where
   module _ (s : State) (v : Valuation) (fits : IsTrue v (pure_of s)) (know : Test) (tells : Tells know s) where
@@ -169,6 +174,13 @@ module _ (truth : DerivedIsTrue) (sound : TrueIsNotFalse) where
     unfolding is_there
     forget_absent atoms = rw (passes pointer (valued (pos 1 ∷ [])) pointer_fits know tells) refl
 
+  node_fits : IsTrue (valued (pos 1 ∷ [])) (pure_of pointed_node)
+  node_fits = numbers_fit (valued (pos 1 ∷ [])) (pure_of pointed_node) refl ((omega (arith, ints), omega (arith, ints)), tt) tt tt (omega arith)
+
+  pub forget_variable : (know : Test) → Tells know pointed_node → (atoms : List Atom) → forgetting_node know atoms (node 1) pointed_node ≡ Err 4
+  unfolding is_there
+  forget_variable know tells atoms = rw (passes pointed_node (valued (pos 1 ∷ [])) node_fits know tells) refl
+
   -- ---- a list
 
   lost_fits : IsTrue (valued (pos 7 ∷ [])) (pure_of lost_list)
@@ -275,6 +287,22 @@ module _ (truth : DerivedIsTrue) (sound : TrueIsNotFalse) where
     fold_elsewhere =
         let differ : know (Eq (node 3) (node 1) (pos 0)) ≡ false = unknown cell_and_list at_seven cell_fits know tells (Eq (node 3) (node 1) (pos 0)) (λ t. let wrong : pos 9 ≡ pos 7 = t in cc wrong) in
         rw (passes cell_and_list at_seven cell_fits know tells) (rw differ refl)
+
+    pub fold_other_call : folding_seg know other_defs lenlist_id 0 (node 1 ∷ node 2 ∷ node 3 ∷ []) (edge 0) [] 0 cell_and_list ≡ Err 4
+    fold_other_call = rw (passes cell_and_list at_seven cell_fits know tells) refl
+
+  unknown_fits : IsTrue at_seven (pure_of cell_unknown)
+  unknown_fits =
+      numbers_fit at_seven (pure_of cell_unknown) refl
+      ((omega (arith, ints), omega (arith, ints)), ((omega (arith, ints), omega (arith, ints)), ((omega (arith, ints), omega (arith, ints)), tt))) tt
+      ((omega (arith, ints), omega (arith, ints)), tt) (omega arith)
+
+  pub fold_unknown : (know : Test) → Tells know cell_unknown → folding_ind know defs list_id 1 (node 1 ∷ node 2 ∷ node 3 ∷ []) (Some (edge 0)) (edge 1 ∷ []) cell_unknown ≡ Err 5
+  unfolding has_kind
+  fold_unknown know tells =
+      let one = same cell_unknown at_seven unknown_fits know tells (node 1) (Ptr, inr refl) in
+      let two = same cell_unknown at_seven unknown_fits know tells (node 2) (Int, inr refl) in
+      rw (passes cell_unknown at_seven unknown_fits know tells) (rw one (rw two refl))
 
   fork_fits : IsTrue (valued (pos 7 ∷ pos 9 ∷ [])) (pure_of fork_and_tree)
   fork_fits =

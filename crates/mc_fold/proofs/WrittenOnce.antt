@@ -7,7 +7,7 @@ use Rattle.mc_pure.specs.Canonical.{IsLeast, IsRangeAtom, IsClassAtom, IsDiffere
 use Rattle.mc_pure.specs.Derived.{Follows}
 use Rattle.mc_pure.specs.Pure.{Kinds, Pure, IsNode, kind_of}
 use Rattle.mc_state.specs.State.{State}
-use Rattle.mc_fold.specs.Changed.{alone, left_over, Forgets, ForgetsNode}
+use Rattle.mc_fold.specs.Changed.{alone, left_over, Forgets}
 use Rattle.mc_fold.specs.Laws.{ForgetIsDetermined}
 use Rattle.mc_fold.specs.Written.{IsGap, IsFullListOf}
 use Rattle.mc_fold.proofs.Naming.{after_is}

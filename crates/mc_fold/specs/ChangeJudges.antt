@@ -1,5 +1,5 @@
 -- What the rules that name, merge and drop give, or the first premise that is unmet.
-use Rattle.std.specs.Prelude.{◌==◌, ◌&&◌, ◌||◌, ◌++◌, not, ℕ, zero, suc, ℤ, ◌-ℤ◌, pos, Bool, true, false, List, [], ◌∷◌, Option, Some, None, Ok, is_some, length, filter, flat_map, if◌then◌else◌}
+use Rattle.std.specs.Prelude.{◌==◌, ◌&&◌, ◌||◌, ◌++◌, not, ℕ, zero, suc, ℤ, ◌-ℤ◌, Bool, true, false, List, [], ◌∷◌, Ok, is_some, length, filter, flat_map, if◌then◌else◌}
 use Rattle.std.specs.List.{list_all, list_any}
 use Rattle.mc_base.specs.declared.ids.EdgeId.{EdgeId}
 use Rattle.mc_base.specs.declared.ids.NodeId.{NodeId}

@@ -1,11 +1,13 @@
 -- States whose edges are folded and whose nodes are named, merged and forgotten, and what they become.
-use Rattle.std.specs.Prelude.{ℕ, ℤ, pos, true, false, Some, None, List, [], ◌∷◌, get_or}
+use Rattle.std.specs.Prelude.{ℕ, ℤ, pos, true, false, Some, None, List, [], ◌∷◌, get_or, codes}
 use Rattle.mc_base.specs.declared.ids.EdgeId.{EdgeId}
+use Rattle.mc_base.specs.declared.ids.NodeId.{NodeId}
 use Rattle.mc_base.specs.declared.plain.Atom.TheVariants.{Eq, Ne, In}
 use Rattle.mc_base.specs.declared.plain.Kind.TheVariants.{Int, Ptr}
 use Rattle.mc_base.specs.Nodes.{Valuation, null}
 use Rattle.mc_heap.specs.Heap.{Block}
-use Rattle.mc_defs.specs.Examples.{cell_id, fork_id, list_id, lenlist_id, tree_id, fork_with}
+use Rattle.mc_defs.specs.declared.rules.Def.{Def}
+use Rattle.mc_defs.specs.Examples.{cell_id, fork_id, list_id, lenlist_id, tree_id, fork_with, list_def, list_rule}
 use Rattle.mc_graph.specs.declared.edge.Edge.TheVariants.{Block as Fork, Ind, Seg}
 use Rattle.mc_graph.specs.Graph.{Edges}
 use Rattle.mc_pure.specs.Examples.{node}
@@ -162,9 +164,29 @@ second_fork = (9, fork_with (pos 0) (pos 0)) ∷ []
 abbrev pub list_apart : State
 list_apart = state_of ((node 1, Ptr) ∷ (node 2, Ptr) ∷ (node 3, Ptr) ∷ []) (Seg (node 1) [] list_id (node 2) [] ∷ Ind (node 3) list_id [] ∷ []) []
 
+-- a cell of whose pointer nothing is known, and a list
+abbrev pub cell_unknown : State
+cell_unknown = state_of ((node 1, Ptr) ∷ (node 2, Int) ∷ (node 3, Ptr) ∷ []) (Fork (node 1) cell_id (Some (node 2) ∷ None ∷ []) ∷ rest_list ∷ []) []
+
+-- a predicate of cells with a list behind them: its rule calls another predicate
+abbrev pub other_defs : List Def
+other_defs = list_def ∷ record { name = codes "cell"; params = []; rules = list_rule ∷ [] } ∷ []
+
+-- a pointer that is a variable's
+abbrev pub pointed_node : State
+pointed_node = record pointer { env = Some (node 1) ∷ [] }
+
 -- a list that a variable points to
 abbrev pub pointed_list : State
 pointed_list = record lost_list { env = Some (node 1) ∷ [] }
+
+-- a pointer that is not itself
+abbrev pub false_pointer : State
+false_pointer = state_of ((node 1, Ptr) ∷ []) [] (Ne (node 1) (node 1) (pos 0) ∷ [])
+
+-- the first three nodes
+abbrev pub first_three : List NodeId
+first_three = node 1 ∷ node 2 ∷ node 3 ∷ []
 
 -- the goal of a list at node 0
 abbrev pub null_goal : Goal

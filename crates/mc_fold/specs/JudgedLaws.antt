@@ -1,5 +1,5 @@
 -- The rules are judged by their instances.
-use Rattle.std.specs.Prelude.{◌≡◌, ◌↔◌, ℕ, ℤ, Ok, List, Option}
+use Rattle.std.specs.Prelude.{◌≡◌, ◌↔◌, ℕ, ℤ, true, Err, List, Option}
 use Rattle.mc_base.specs.declared.ids.EdgeId.{EdgeId}
 use Rattle.mc_base.specs.declared.ids.NodeId.{NodeId}
 use Rattle.mc_base.specs.declared.ids.PredId.{PredId}
@@ -8,14 +8,19 @@ use Rattle.mc_base.specs.declared.plain.Atom.{Atom}
 use Rattle.mc_defs.specs.declared.rules.Def.{Def}
 use Rattle.mc_state.specs.declared.goal.Goal.{Goal}
 use Rattle.mc_state.specs.State.{State}
+use Rattle.mc_state.specs.Facts.{IsReached}
 use Rattle.mc_state.specs.Fits.{IsBounded}
-use Rattle.mc_premises.specs.Premises.{IsJudged}
+use Rattle.mc_premises.specs.Premises.{Judged, IsJudged}
 use Rattle.mc_premises.specs.Known.{Test, Tells}
 use Rattle.mc_fold.specs.Folded.{FoldsInd, FoldsSeg, ClosesSeg, JoinsSegs, MakesEmptySeg}
 use Rattle.mc_fold.specs.Changed.{NamesSpare, MergesNodes, DropsEdge, ForgetsNode, IsListWithout}
 use Rattle.mc_fold.specs.Goals.{MeetsGoal}
 use Rattle.mc_fold.specs.Judges.{folding_ind, folding_seg, closing_seg, joining_segs, making_seg, meeting_goal}
-use Rattle.mc_fold.specs.ChangeJudges.{naming_spare, merging_nodes, dropping_edge, forgetting_node}
+use Rattle.mc_fold.specs.ChangeJudges.{naming_spare, merging_nodes, is_reached, dropping_edge, forgetting_node}
+
+-- by whatever test tells what is derived in the state, premise k is the first that is unmet
+abbrev pub FailsAt : {A : Type 0} → State → (Test → State → Judged A) → ℕ → Type 0
+FailsAt s judge k = (know : Test) → Tells know s → judge know s ≡ Err k
 
 -- L3 is judged by its instances
 abbrev pub FoldIndIsJudged : Type 0
@@ -52,6 +57,10 @@ SpareIsJudged = (know : Test) (node : NodeId) (add : ℤ) (kind : Kind) (s : Sta
 -- L9 is judged by its instances
 abbrev pub MergeIsJudged : Type 0
 MergeIsJudged = (know : Test) (keep gone : NodeId) (s : State) → Tells know s → IsJudged (merging_nodes know keep gone s) (MergesNodes keep gone s)
+
+-- the nodes that are reached are those that the judge finds
+abbrev pub ReachedIsTold : Type 0
+ReachedIsTold = (know : Test) (s : State) (n : NodeId) → IsBounded s → Tells know s → (is_reached know s n ≡ true) ↔ IsReached s n
 
 -- L10 is judged by its instances
 abbrev pub DropIsJudged : Type 0

@@ -1,5 +1,5 @@
 -- The list of atoms that is written where a node is forgotten.
-use Rattle.std.specs.Prelude.{◌≡◌, ℤ, pos, ◌<ℤ◌, List, ◌++◌}
+use Rattle.std.specs.Prelude.{◌≡◌, pos, ◌<ℤ◌, List, ◌++◌}
 use Rattle.mc_base.specs.declared.plain.Atom.{Atom}
 use Rattle.mc_base.specs.declared.plain.Atom.TheVariants.{Eq, Ne, In}
 use Rattle.mc_pure.specs.Pure.{Pure}

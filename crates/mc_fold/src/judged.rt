@@ -1,6 +1,6 @@
 // The rules are judged by their instances. Each law is what a function with no body ensures.
 ghost use Rattle.mc_fold.specs.JudgedLaws.{FoldIndIsJudged, FoldSegIsJudged, CloseSegIsJudged, JoinSegsIsJudged};
-ghost use Rattle.mc_fold.specs.JudgedLaws.{EmptySegIsJudged, SpareIsJudged, MergeIsJudged, DropIsJudged, ForgetIsJudged, GoalIsJudged};
+ghost use Rattle.mc_fold.specs.JudgedLaws.{EmptySegIsJudged, SpareIsJudged, MergeIsJudged, DropIsJudged, ForgetIsJudged, GoalIsJudged, ReachedIsTold};
 
 /// Segments are closed, joined and made exactly where the judge gives something, and this it gives; goals are met
 /// where it gives something.
@@ -17,10 +17,12 @@ pub fn folding_is_judged()
     ensures seg { FoldSegIsJudged }
 {}
 
-/// Nodes are named, merged and forgotten and edges dropped exactly where the judge gives something, and this it gives.
+/// Nodes are named, merged and forgotten and edges dropped exactly where the judge gives something, and this it gives;
+/// the nodes that it finds reached are those that are.
 pub fn naming_is_judged()
     ensures spare { SpareIsJudged }
     ensures merge { MergeIsJudged }
+    ensures reached { ReachedIsTold }
     ensures drop_edge { DropIsJudged }
     ensures forget { ForgetIsJudged }
 {}

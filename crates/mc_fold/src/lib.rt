@@ -22,8 +22,8 @@ pub use laws::{
 pub use made::{folding_makes_well, naming_makes_well, segments_make_well};
 pub use refused::{
     examples_of_cells_refused, examples_of_closing_refused, examples_of_dropping_refused,
-    examples_of_forks_refused, examples_of_joining_refused, examples_of_making_refused,
-    examples_of_naming_refused,
+    examples_of_false_state, examples_of_forks_refused, examples_of_joining_refused,
+    examples_of_making_refused, examples_of_naming_refused,
 };
 pub use rules::{
     CloseSeg, DropEdge, EmptySeg, FoldInd, FoldSeg, ForgetNode, JoinSegs, MergeNodes, SpareNode,

@@ -1,76 +1,79 @@
 // First premises that are unmet, of small states.
-ghost use Rattle.std.specs.Prelude.{pos, Err, Some, None, List, [], ◌∷◌};
+ghost use Rattle.std.specs.Prelude.{pos, Some, None, List, [], ◌∷◌};
 ghost use Rattle.mc_base.specs.declared.plain.Atom.{Atom as Fact};
 ghost use Rattle.mc_base.specs.declared.plain.Kind.TheVariants.{Int, Ptr};
 ghost use Rattle.mc_base.specs.Nodes.{null};
 ghost use Rattle.mc_defs.specs.Examples.{defs, list_id, lenlist_id, tree_id};
 ghost use Rattle.mc_pure.specs.Examples.{node};
 ghost use Rattle.mc_state.specs.CoverExamples.{cell_and_list, segment_and_list, fork_and_tree};
-ghost use Rattle.mc_premises.specs.Known.{Test, Tells};
 ghost use Rattle.mc_fold.specs.Examples.{edge, two_segments, pointer, small_number, named_twice, lost_list};
-ghost use Rattle.mc_fold.specs.Examples.{other_length, list_apart, pointed_list, list_goal, null_goal, tree_goal};
+ghost use Rattle.mc_fold.specs.Examples.{other_length, list_apart, pointed_list, list_goal, null_goal, tree_goal, first_three, false_pointer};
+ghost use Rattle.mc_fold.specs.Examples.{cell_unknown, other_defs, pointed_node};
+ghost use Rattle.mc_fold.specs.JudgedLaws.{FailsAt};
 ghost use Rattle.mc_fold.specs.Judges.{folding_ind, folding_seg, closing_seg, joining_segs, making_seg, meeting_goal};
 ghost use Rattle.mc_fold.specs.ChangeJudges.{naming_spare, merging_nodes, dropping_edge, forgetting_node};
 
 /// A fork, its block named for a rule without one and no block for a rule that has one, one edge twice,
 /// one edge for two calls, a list for a tree, and a fork that is not null.
 pub fn examples_of_forks_refused()
-    ensures twice { (know : Test) → Tells know fork_and_tree → folding_ind know defs tree_id 1 (node 1 ∷ node 2 ∷ node 3 ∷ []) (Some (edge 1)) (edge 2 ∷ edge 2 ∷ []) fork_and_tree ≡ Err 3 }
-    ensures block_twice { (know : Test) → Tells know fork_and_tree → folding_ind know defs tree_id 1 (node 1 ∷ node 2 ∷ node 3 ∷ []) (Some (edge 1)) (edge 1 ∷ edge 2 ∷ []) fork_and_tree ≡ Err 3 }
-    ensures absent { (know : Test) → Tells know fork_and_tree → folding_ind know defs tree_id 1 (node 1 ∷ node 2 ∷ node 3 ∷ []) (Some (edge 1)) (edge 2 ∷ edge 3 ∷ []) fork_and_tree ≡ Err 3 }
-    ensures fewer { (know : Test) → Tells know fork_and_tree → folding_ind know defs tree_id 1 (node 1 ∷ node 2 ∷ node 3 ∷ []) (Some (edge 1)) (edge 2 ∷ []) fork_and_tree ≡ Err 4 }
-    ensures bare { (know : Test) → Tells know fork_and_tree → folding_ind know defs tree_id 1 (node 1 ∷ node 2 ∷ node 3 ∷ []) None (edge 2 ∷ []) fork_and_tree ≡ Err 4 }
-    ensures block { (know : Test) → Tells know fork_and_tree → folding_ind know defs tree_id 0 (node 2 ∷ []) (Some (edge 1)) [] fork_and_tree ≡ Err 4 }
-    ensures no_rule { (know : Test) → Tells know fork_and_tree → folding_ind know defs tree_id 2 (node 1 ∷ node 2 ∷ node 3 ∷ []) (Some (edge 1)) (edge 2 ∷ []) fork_and_tree ≡ Err 4 }
-    ensures list { (know : Test) → Tells know fork_and_tree → folding_ind know defs tree_id 1 (node 1 ∷ node 2 ∷ node 3 ∷ []) (Some (edge 1)) (edge 2 ∷ edge 0 ∷ []) fork_and_tree ≡ Err 6 }
-    ensures not_null { (know : Test) → Tells know fork_and_tree → folding_ind know defs tree_id 0 (node 1 ∷ []) None [] fork_and_tree ≡ Err 7 }
-    ensures no_call { (know : Test) → Tells know fork_and_tree → folding_seg know defs tree_id 1 (node 1 ∷ node 2 ∷ node 3 ∷ []) (edge 1) (edge 2 ∷ []) 2 fork_and_tree ≡ Err 4 }
-    ensures all_calls { (know : Test) → Tells know fork_and_tree → folding_seg know defs tree_id 1 (node 1 ∷ node 2 ∷ node 3 ∷ []) (edge 1) (edge 2 ∷ edge 0 ∷ []) 1 fork_and_tree ≡ Err 4 }
+    ensures twice { FailsAt fork_and_tree (λ know. folding_ind know defs tree_id 1 first_three (Some (edge 1)) (edge 2 ∷ edge 2 ∷ [])) 3 }
+    ensures block_twice { FailsAt fork_and_tree (λ know. folding_ind know defs tree_id 1 first_three (Some (edge 1)) (edge 1 ∷ edge 2 ∷ [])) 3 }
+    ensures absent { FailsAt fork_and_tree (λ know. folding_ind know defs tree_id 1 first_three (Some (edge 1)) (edge 2 ∷ edge 3 ∷ [])) 3 }
+    ensures fewer { FailsAt fork_and_tree (λ know. folding_ind know defs tree_id 1 first_three (Some (edge 1)) (edge 2 ∷ [])) 4 }
+    ensures bare { FailsAt fork_and_tree (λ know. folding_ind know defs tree_id 1 first_three None (edge 2 ∷ [])) 4 }
+    ensures block { FailsAt fork_and_tree (λ know. folding_ind know defs tree_id 0 (node 2 ∷ []) (Some (edge 1)) []) 4 }
+    ensures no_rule { FailsAt fork_and_tree (λ know. folding_ind know defs tree_id 2 first_three (Some (edge 1)) (edge 2 ∷ [])) 4 }
+    ensures list { FailsAt fork_and_tree (λ know. folding_ind know defs tree_id 1 first_three (Some (edge 1)) (edge 2 ∷ edge 0 ∷ [])) 6 }
+    ensures not_null { FailsAt fork_and_tree (λ know. folding_ind know defs tree_id 0 (node 1 ∷ []) None []) 7 }
+    ensures no_call { FailsAt fork_and_tree (λ know. folding_seg know defs tree_id 1 first_three (edge 1) (edge 2 ∷ []) 2) 4 }
+    ensures all_calls { FailsAt fork_and_tree (λ know. folding_seg know defs tree_id 1 first_three (edge 1) (edge 2 ∷ edge 0 ∷ []) 1) 4 }
 {
     mc_pure::derived_is_true();
 }
 
-/// A cell with no block named, with a pointer for a number, and at another node; and its nodes, which are of two kinds
-/// or not known to be equal.
+/// A cell with no block named, with a pointer for a number, with an unknown field, with a call of another predicate
+/// left open, and at another node; and its nodes, which are of two kinds or not known to be equal.
 pub fn examples_of_cells_refused()
-    ensures no_block { (know : Test) → Tells know cell_and_list → folding_ind know defs list_id 1 (node 1 ∷ node 2 ∷ node 3 ∷ []) None (edge 1 ∷ []) cell_and_list ≡ Err 4 }
-    ensures kind { (know : Test) → Tells know cell_and_list → folding_ind know defs list_id 1 (node 1 ∷ node 1 ∷ node 3 ∷ []) (Some (edge 0)) (edge 1 ∷ []) cell_and_list ≡ Err 4 }
-    ensures elsewhere { (know : Test) → Tells know cell_and_list → folding_ind know defs list_id 1 (node 3 ∷ node 2 ∷ node 3 ∷ []) (Some (edge 0)) (edge 1 ∷ []) cell_and_list ≡ Err 5 }
-    ensures two_kinds { (know : Test) → Tells know cell_and_list → merging_nodes know (node 1) (node 2) cell_and_list ≡ Err 4 }
-    ensures apart { (know : Test) → Tells know cell_and_list → merging_nodes know (node 1) (node 3) cell_and_list ≡ Err 5 }
+    ensures no_block { FailsAt cell_and_list (λ know. folding_ind know defs list_id 1 first_three None (edge 1 ∷ [])) 4 }
+    ensures kind { FailsAt cell_and_list (λ know. folding_ind know defs list_id 1 (node 1 ∷ node 1 ∷ node 3 ∷ []) (Some (edge 0)) (edge 1 ∷ [])) 4 }
+    ensures unknown { FailsAt cell_unknown (λ know. folding_ind know defs list_id 1 first_three (Some (edge 0)) (edge 1 ∷ [])) 5 }
+    ensures other_call { FailsAt cell_and_list (λ know. folding_seg know other_defs lenlist_id 0 first_three (edge 0) [] 0) 4 }
+    ensures elsewhere { FailsAt cell_and_list (λ know. folding_ind know defs list_id 1 (node 3 ∷ node 2 ∷ node 3 ∷ []) (Some (edge 0)) (edge 1 ∷ [])) 5 }
+    ensures two_kinds { FailsAt cell_and_list (λ know. merging_nodes know (node 1) (node 2)) 4 }
+    ensures apart { FailsAt cell_and_list (λ know. merging_nodes know (node 1) (node 3)) 5 }
 {
     mc_pure::derived_is_true();
 }
 
 /// Segments that are not closed: no such edge, no segment, one edge twice, no list, a list elsewhere, and one with other arguments.
 pub fn examples_of_closing_refused()
-    ensures absent { (know : Test) → Tells know segment_and_list → closing_seg know (edge 2) (edge 1) segment_and_list ≡ Err 3 }
-    ensures list { (know : Test) → Tells know segment_and_list → closing_seg know (edge 1) (edge 0) segment_and_list ≡ Err 3 }
-    ensures twice { (know : Test) → Tells know segment_and_list → closing_seg know (edge 0) (edge 0) segment_and_list ≡ Err 4 }
-    ensures missing { (know : Test) → Tells know segment_and_list → closing_seg know (edge 0) (edge 2) segment_and_list ≡ Err 4 }
-    ensures segment { (know : Test) → Tells know two_segments → closing_seg know (edge 0) (edge 1) two_segments ≡ Err 4 }
-    ensures apart { (know : Test) → Tells know list_apart → closing_seg know (edge 0) (edge 1) list_apart ≡ Err 5 }
-    ensures lengths { (know : Test) → Tells know other_length → closing_seg know (edge 0) (edge 1) other_length ≡ Err 6 }
+    ensures absent { FailsAt segment_and_list (λ know. closing_seg know (edge 2) (edge 1)) 3 }
+    ensures list { FailsAt segment_and_list (λ know. closing_seg know (edge 1) (edge 0)) 3 }
+    ensures twice { FailsAt segment_and_list (λ know. closing_seg know (edge 0) (edge 0)) 4 }
+    ensures missing { FailsAt segment_and_list (λ know. closing_seg know (edge 0) (edge 2)) 4 }
+    ensures segment { FailsAt two_segments (λ know. closing_seg know (edge 0) (edge 1)) 4 }
+    ensures apart { FailsAt list_apart (λ know. closing_seg know (edge 0) (edge 1)) 5 }
+    ensures lengths { FailsAt other_length (λ know. closing_seg know (edge 0) (edge 1)) 6 }
 {
     mc_pure::derived_is_true();
 }
 
 /// Segments that are not joined: no such edge, one edge twice, a list, and the other way round.
 pub fn examples_of_joining_refused()
-    ensures absent { (know : Test) → Tells know two_segments → joining_segs know (edge 2) (edge 0) two_segments ≡ Err 3 }
-    ensures twice { (know : Test) → Tells know two_segments → joining_segs know (edge 0) (edge 0) two_segments ≡ Err 4 }
-    ensures list { (know : Test) → Tells know segment_and_list → joining_segs know (edge 0) (edge 1) segment_and_list ≡ Err 4 }
-    ensures apart { (know : Test) → Tells know two_segments → joining_segs know (edge 1) (edge 0) two_segments ≡ Err 5 }
+    ensures absent { FailsAt two_segments (λ know. joining_segs know (edge 2) (edge 0)) 3 }
+    ensures twice { FailsAt two_segments (λ know. joining_segs know (edge 0) (edge 0)) 4 }
+    ensures list { FailsAt segment_and_list (λ know. joining_segs know (edge 0) (edge 1)) 4 }
+    ensures apart { FailsAt two_segments (λ know. joining_segs know (edge 1) (edge 0)) 5 }
 {
     mc_pure::derived_is_true();
 }
 
 /// Segments that are not made: at no node, with arguments too many, to another node, and with other arguments there.
 pub fn examples_of_making_refused()
-    ensures absent { (know : Test) → Tells know pointer → making_seg know defs list_id (node 2) [] (node 1) [] pointer ≡ Err 3 }
-    ensures more { (know : Test) → Tells know pointer → making_seg know defs list_id (node 1) (node 1 ∷ []) (node 1) [] pointer ≡ Err 3 }
-    ensures apart { (know : Test) → Tells know pointer → making_seg know defs list_id (node 1) [] null [] pointer ≡ Err 4 }
-    ensures lengths { (know : Test) → Tells know other_length → making_seg know defs lenlist_id (node 1) (node 2 ∷ []) (node 1) (node 3 ∷ []) other_length ≡ Err 5 }
+    ensures absent { FailsAt pointer (λ know. making_seg know defs list_id (node 2) [] (node 1) []) 3 }
+    ensures more { FailsAt pointer (λ know. making_seg know defs list_id (node 1) (node 1 ∷ []) (node 1) []) 3 }
+    ensures apart { FailsAt pointer (λ know. making_seg know defs list_id (node 1) [] null []) 4 }
+    ensures lengths { FailsAt other_length (λ know. making_seg know defs lenlist_id (node 1) (node 2 ∷ []) (node 1) (node 3 ∷ [])) 5 }
 {
     mc_pure::derived_is_true();
 }
@@ -78,27 +81,42 @@ pub fn examples_of_making_refused()
 /// Numbers that are not named, and nodes that are not merged: no such node, a number that is too large, another kind; a
 /// node with itself, and null.
 pub fn examples_of_naming_refused()
-    ensures absent { (know : Test) → Tells know small_number → naming_spare know (node 2) (pos 1) Int small_number ≡ Err 3 }
-    ensures large { (know : Test) → Tells know small_number → naming_spare know (node 1) (pos 2147483645) Int small_number ≡ Err 4 }
-    ensures kind { (know : Test) → Tells know small_number → naming_spare know (node 1) (pos 1) Ptr small_number ≡ Err 4 }
-    ensures itself { (know : Test) → Tells know named_twice → merging_nodes know (node 1) (node 1) named_twice ≡ Err 3 }
-    ensures merged_null { (know : Test) → Tells know named_twice → merging_nodes know (node 1) null named_twice ≡ Err 3 }
-    ensures none_there { (know : Test) → Tells know named_twice → merging_nodes know (node 3) (node 1) named_twice ≡ Err 3 }
+    ensures absent { FailsAt small_number (λ know. naming_spare know (node 2) (pos 1) Int) 3 }
+    ensures large { FailsAt small_number (λ know. naming_spare know (node 1) (pos 2147483645) Int) 4 }
+    ensures kind { FailsAt small_number (λ know. naming_spare know (node 1) (pos 1) Ptr) 4 }
+    ensures itself { FailsAt named_twice (λ know. merging_nodes know (node 1) (node 1)) 3 }
+    ensures merged_null { FailsAt named_twice (λ know. merging_nodes know (node 1) null) 3 }
+    ensures none_there { FailsAt named_twice (λ know. merging_nodes know (node 3) (node 1)) 3 }
 {
     mc_pure::derived_is_true();
 }
 
 /// What is not dropped, forgotten or a goal met: no such edge, an edge that is reached; null, no node, and a node at which
-/// an edge starts; a list for a tree, and a list elsewhere.
+/// an edge starts or that a variable has; a list for a tree, and a list elsewhere.
 pub fn examples_of_dropping_refused()
-    ensures absent { (know : Test) → Tells know lost_list → dropping_edge know (edge 1) lost_list ≡ Err 3 }
-    ensures reached { (know : Test) → Tells know pointed_list → dropping_edge know (edge 0) pointed_list ≡ Err 4 }
-    ensures forgotten_null { (know : Test) → Tells know pointer → (atoms : List Fact) → forgetting_node know atoms null pointer ≡ Err 3 }
-    ensures no_node { (know : Test) → Tells know pointer → (atoms : List Fact) → forgetting_node know atoms (node 2) pointer ≡ Err 3 }
-    ensures start { (know : Test) → Tells know lost_list → (atoms : List Fact) → forgetting_node know atoms (node 1) lost_list ≡ Err 4 }
-    ensures tree { (know : Test) → Tells know lost_list → meeting_goal know tree_goal (edge 0) lost_list ≡ Err 3 }
-    ensures no_edge { (know : Test) → Tells know lost_list → meeting_goal know list_goal (edge 1) lost_list ≡ Err 3 }
-    ensures elsewhere { (know : Test) → Tells know lost_list → meeting_goal know null_goal (edge 0) lost_list ≡ Err 4 }
+    ensures absent { FailsAt lost_list (λ know. dropping_edge know (edge 1)) 3 }
+    ensures reached { FailsAt pointed_list (λ know. dropping_edge know (edge 0)) 4 }
+    ensures forgotten_null { (atoms : List Fact) → FailsAt pointer (λ know. forgetting_node know atoms null) 3 }
+    ensures no_node { (atoms : List Fact) → FailsAt pointer (λ know. forgetting_node know atoms (node 2)) 3 }
+    ensures start { (atoms : List Fact) → FailsAt lost_list (λ know. forgetting_node know atoms (node 1)) 4 }
+    ensures variable { (atoms : List Fact) → FailsAt pointed_node (λ know. forgetting_node know atoms (node 1)) 4 }
+    ensures tree { FailsAt lost_list (λ know. meeting_goal know tree_goal (edge 0)) 3 }
+    ensures no_edge { FailsAt lost_list (λ know. meeting_goal know list_goal (edge 1)) 3 }
+    ensures elsewhere { FailsAt lost_list (λ know. meeting_goal know null_goal (edge 0)) 4 }
 {
     mc_pure::derived_is_true();
 }
+
+/// A false state is refused by each rule at the second premise, before anything else is asked.
+pub fn examples_of_false_state()
+    ensures fold_ind { FailsAt false_pointer (λ know. folding_ind know defs list_id 9 [] None []) 2 }
+    ensures fold_seg { FailsAt false_pointer (λ know. folding_seg know defs list_id 9 [] (edge 0) [] 0) 2 }
+    ensures close { FailsAt false_pointer (λ know. closing_seg know (edge 0) (edge 0)) 2 }
+    ensures join { FailsAt false_pointer (λ know. joining_segs know (edge 0) (edge 0)) 2 }
+    ensures make { FailsAt false_pointer (λ know. making_seg know defs list_id (node 9) [] (node 9) []) 2 }
+    ensures spare { FailsAt false_pointer (λ know. naming_spare know (node 9) (pos 1) Int) 2 }
+    ensures merge { FailsAt false_pointer (λ know. merging_nodes know (node 9) (node 9)) 2 }
+    ensures drop_edge { FailsAt false_pointer (λ know. dropping_edge know (edge 0)) 2 }
+    ensures forget { (atoms : List Fact) → FailsAt false_pointer (λ know. forgetting_node know atoms null) 2 }
+    ensures goal { FailsAt false_pointer (λ know. meeting_goal know list_goal (edge 0)) 2 }
+{}

@@ -1,12 +1,12 @@
 -- Back positions as a test.
-use Rattle.std.proofs.Common.{◌≡◌, ◌<◌, ℕ, List, Bool, true, false, ◌&&◌, Option, Some, None, length, refl, sym, ap, ◌∙◌, eqb-true, eq-eqb, arith}
+use Rattle.std.proofs.Common.{◌≡◌, ◌<◌, ℕ, List, Bool, true, false, Option, Some, None, length, refl, sym, ap, ◌∙◌, eqb-true, eq-eqb, arith}
 use Rattle.std.specs.Prelude.{◌==◌, nat_lt, slice_get, if◌then◌else◌}
 use Rattle.std.specs.List.{list_all, AllByRecursion}
 use Rattle.mc_base.specs.declared.ids.PredId.{PredId}
 use Rattle.mc_defs.specs.declared.rules.Call.{Call}
 use Rattle.mc_defs.specs.declared.rules.Def.{Def}
 use Rattle.mc_defs.specs.declared.rules.Rule.{Rule}
-use Rattle.mc_premises.specs.Back.{is_back_call, IsBackPosition, is_back_of, is_back}
+use Rattle.mc_premises.specs.Back.{is_back_call, IsBackPosition, is_back_of}
 use Rattle.mc_premises.specs.Lists.{on_some}
 use Rattle.mc_premises.specs.Laws.{BackIsTold}
 use Rattle.mc_premises.proofs.Tests.{and_both, and_yes, each_from, each_to}
@@ -45,7 +45,7 @@ module _ (pred : PredId) (i : ℕ) where
   def_to : (def : Def) → i < length def.params → AllByRecursion (λ (rule : Rule). AllByRecursion (IsBackCall pred i) rule.calls) def.rules → is_back_of pred i def ≡ true
   def_to def inside all =
       and_yes (nat_lt i (length def.params)) (list_all (λ (rule : Rule). list_all (is_back_call pred i) rule.calls) def.rules) (lt_to i (length def.params) inside)
-        (each_to _ _ (λ (rule : Rule) own. each_to (is_back_call pred i) (IsBackCall pred i) (call_to pred i) rule.calls own) def.rules all)
+      (each_to _ _ (λ (rule : Rule) own. each_to (is_back_call pred i) (IsBackCall pred i) (call_to pred i) rule.calls own) def.rules all)
 
   back_from : (defs : List Def) (o : Option Def) → slice_get defs pred.0 ≡ o → on_some (is_back_of pred i) o ≡ true → IsBackPosition defs pred i
   back_from defs None there e = absurd (cc e)

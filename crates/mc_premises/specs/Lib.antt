@@ -3,4 +3,5 @@ pub mod Lists
 pub mod Known
 pub mod Named
 pub mod Back
+pub mod BackExamples
 pub mod Laws

@@ -4,6 +4,8 @@
 //! judged cite them.
 #![tactic(auto)]
 
+mod examples;
 mod laws;
 
+pub use examples::example_back_positions;
 pub use laws::{back_is_told, picks_are_named, tests_tell};

@@ -89,7 +89,7 @@ unknown_there kinds zero = tt
 unknown_there kinds (suc count) = unknown_there kinds count
 
 -- the starts of blocks are nodes of their edges
-starts_there : (kinds : Kinds) (es : Edges) → AllByRecursion (λ (e : EdgeId × Edge). EdgeIsThere kinds e.1) es → AreNodes kinds (block_starts es)
+pub starts_there : (kinds : Kinds) (es : Edges) → AllByRecursion (λ (e : EdgeId × Edge). EdgeIsThere kinds e.1) es → AreNodes kinds (block_starts es)
 starts_there kinds [] a = tt
 starts_there kinds ((id, edge.Block at shape fields) ∷ es) a = (a.0.0, starts_there kinds es a.1)
 starts_there kinds ((id, edge.Ind at pred args) ∷ es) a = starts_there kinds es a.1

@@ -1,6 +1,6 @@
 -- Premises that are unmet at the states of the small flow graph.
-use Rattle.std.proofs.Common.{◌≡◌, [], ◌∷◌, Bool, true, false, refl, ap, sym, ◌∙◌, subst, arith, inl, inr, ℤ, pos, ◌+ℤ◌}
-use Rattle.std.specs.Prelude.{not, Err}
+use Rattle.std.proofs.Common.{◌≡◌, [], ◌∷◌, Bool, true, false, Some, refl, arith, inl, inr, pos, ◌+ℤ◌}
+use Rattle.std.specs.Prelude.{not}
 use Rattle.std.specs.Int.{int_wrap}
 use Rattle.std.proofs.lemmas.Int.{ints}
 use Rattle.mc_base.specs.declared.plain.Atom.TheVariants.{Eq, In}
@@ -13,11 +13,12 @@ use Rattle.mc_premises.proofs.Tests.{is_sound, equal_from, equal_to}
 use Rattle.mc_pure.specs.Derived.{itself}
 use Rattle.mc_pure.specs.Examples.{node}
 use Rattle.mc_state.specs.Laws.{DerivedIsTrue, NoneStandsForFalse}
-use Rattle.mc_state.specs.State.{State}
+use Rattle.mc_state.specs.State.{with_var}
 use Rattle.mc_step.specs.Examples as ex
-use Rattle.mc_step.specs.JudgedExamples.{IsFirstUnmet, without_x, without_y, known_result, only, greatest, least}
+use Rattle.mc_step.specs.JudgedExamples.{Gives, GivesByRanges, IsFirstUnmet, without_x, without_y, known_result, only, greatest, least}
 use Rattle.mc_step.specs.Judges as rule
-use Rattle.mc_step.specs.Sums.{Ranges, sum, difference}
+use Rattle.mc_step.specs.Steps.{moved_to}
+use Rattle.mc_step.specs.Sums.{sum, difference}
 use Rattle.mc_step.proofs.ExampleStates.{heap_addresses, one_cell_stands}
 use Rattle.mc_step.proofs.ExampleSteps.{one_cell_sound, no_cell_sound, not_whole_sound}
 
@@ -57,6 +58,49 @@ module _ (law : NoneStandsForFalse) where
       let here : equal know (node 1) (node 1) ≡ true = same know tells in
       rw sound (rw here refl)
 
+  -- ---- what is given
+
+  pub sums : GivesByRanges rule.S5 (ex.at 4) ex.one_cell ex.after_sum
+  sums know range tells y one = let sound : not (is_false know) ≡ true = is_sound know ex.one_cell tells (one_cell_sound law) in rw sound (rw y (rw one refl))
+
+  pub differences : GivesByRanges rule.S6 (ex.at 5) ex.one_cell ex.after_difference
+  differences know range tells y one = let sound : not (is_false know) ≡ true = is_sound know ex.one_cell tells (one_cell_sound law) in rw sound (rw y (rw one refl))
+
+  pub products : GivesByRanges rule.S7 (ex.at 6) ex.one_cell ex.after_product
+  products know range tells y one = let sound : not (is_false know) ≡ true = is_sound know ex.one_cell tells (one_cell_sound law) in rw sound (rw y (rw one refl))
+
+  pub load : Gives rule.S8 (ex.at 7) ex.one_cell (moved_to (ex.at 8) (with_var ex.one_cell ex.t (Some null)) ∷ [])
+  load know range tells =
+      let sound : not (is_false know) ≡ true = is_sound know ex.one_cell tells (one_cell_sound law) in
+      let here : equal know (node 1) (node 1) ≡ true = same know tells in
+      rw sound (rw here refl)
+
+  pub store : Gives rule.S9 (ex.at 8) ex.one_cell ex.after_store
+  store know range tells =
+      let sound : not (is_false know) ≡ true = is_sound know ex.one_cell tells (one_cell_sound law) in
+      let here : equal know (node 1) (node 1) ≡ true = same know tells in
+      rw sound (rw here refl)
+
+  pub malloc : Gives rule.S10 (ex.at 9) ex.one_cell ex.after_malloc
+  malloc know range tells = let sound : not (is_false know) ≡ true = is_sound know ex.one_cell tells (one_cell_sound law) in rw sound refl
+
+  pub free : Gives rule.S12 (ex.at 11) ex.one_cell ex.after_free
+  free know range tells =
+      let sound : not (is_false know) ≡ true = is_sound know ex.one_cell tells (one_cell_sound law) in
+      let here : equal know (node 1) (node 1) ≡ true = same know tells in
+      rw sound (rw here refl)
+
+  pub at_most : GivesByRanges rule.S14 (ex.at 13) ex.one_cell ex.after_at_most
+  at_most know range tells y one = let sound : not (is_false know) ≡ true = is_sound know ex.one_cell tells (one_cell_sound law) in rw sound (rw y (rw one refl))
+
+  pub assume : Gives rule.S15 (ex.at 14) ex.one_cell ex.after_assume
+  assume know range tells = let sound : not (is_false know) ≡ true = is_sound know ex.one_cell tells (one_cell_sound law) in rw sound refl
+
+  pub assert' : Gives rule.S16 (ex.at 15) ex.one_cell ex.after_assert
+  assert' know range tells = let sound : not (is_false know) ≡ true = is_sound know ex.one_cell tells (one_cell_sound law) in rw sound refl
+
+  -- ---- what is unmet
+
   pub stored : IsFirstUnmet rule.S9 (ex.at 8) without_y 3
   stored know range tells = let sound : not (is_false know) ≡ true = is_sound know without_y tells (one_cell_sound law) in rw sound refl
 
@@ -77,8 +121,8 @@ module _ (law : NoneStandsForFalse) where
   not_equal derived know tells false e = refl
   not_equal derived know tells true e =
       let seven : ex.valuation (pos 5) 1 ≡ ex.valuation (pos 5) 0 +ℤ pos 0 =
-          derived defs (ex.valuation (pos 5)) (ex.values (pos 5)) (region_of ex.heap) ex.one_cell (Eq (node 1) null (pos 0)) heap_addresses
-          (one_cell_stands (pos 5) (omega (arith, ints)) (omega (arith, ints))) (equal_from know ex.one_cell tells (node 1) null e) in
+      derived defs (ex.valuation (pos 5)) (ex.values (pos 5)) (region_of ex.heap) ex.one_cell (Eq (node 1) null (pos 0)) heap_addresses
+      (one_cell_stands (pos 5) (omega (arith, ints)) (omega (arith, ints))) (equal_from know ex.one_cell tells (node 1) null e) in
       let clash : pos 7 ≡ pos 0 = seven in
       absurd (cc clash)
 

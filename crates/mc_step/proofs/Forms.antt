@@ -1,5 +1,5 @@
 -- What an instruction is whose parts are given, and what judged rules give.
-use Rattle.std.proofs.Common.{◌≡◌, ℕ, List, Bool, true, false, Option, Some, None, refl, sym, ap}
+use Rattle.std.proofs.Common.{◌≡◌, List, true, Option, Some, refl, sym, ap}
 use Rattle.std.specs.Prelude.{Ok}
 use Rattle.mc_base.specs.declared.ids.PointId.{PointId}
 use Rattle.mc_base.specs.declared.ids.VarId.{VarId}

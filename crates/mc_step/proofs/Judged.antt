@@ -1,6 +1,6 @@
 -- Each rule of instructions is judged by its instances.
-use Rattle.std.proofs.Common.{◌≡◌, ◌⊎◌, inl, inr, ℕ, List}
-use Rattle.std.specs.Prelude.{Ok, Err, ◌↔◌}
+use Rattle.std.proofs.Common.{◌≡◌, inl, inr, List}
+use Rattle.std.specs.Prelude.{Ok}
 use Rattle.mc_base.specs.declared.ids.PointId.{PointId}
 use Rattle.mc_defs.specs.declared.rules.Def.{Def}
 use Rattle.mc_flow.specs.declared.graph.Flow.{Flow}

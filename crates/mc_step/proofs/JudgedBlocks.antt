@@ -1,7 +1,7 @@
 -- The rules of blocks are judged by their instances.
 use Rattle.std.proofs.Common.{◌≡◌, ◌<◌, ◌≤◌, ℕ, zero, suc, List, [], ◌∷◌, Bool, true, false, Option, Some, None, length, map, slice_get, refl, ap, ap₂, sym, ◌∙◌, subst, eqb-true, eq-eqb, arith, pos}
 use Rattle.std.specs.Prelude.{◌==◌, not, Ok, if◌then◌else◌, option_map, option_and_then}
-use Rattle.std.specs.List.{find, AllByRecursion}
+use Rattle.std.specs.List.{find}
 use Rattle.std.specs.Ordering.{int_eq}
 use Rattle.std.proofs.lemmas.Bool.Decides.{Decides-int_eq}
 use Rattle.mc_base.specs.declared.ids.EdgeId.{EdgeId}
@@ -28,9 +28,9 @@ use Rattle.mc_premises.proofs.Numbered.{need_ok, have_ok}
 use Rattle.mc_premises.proofs.Tests.{not_false, is_sound, equal_from, equal_to, and_both, and_yes}
 use Rattle.mc_pure.specs.Laws.{BlocksAtOneNode}
 use Rattle.mc_pure.specs.Pure.{Kinds}
-use Rattle.mc_state.specs.State.{State, var_node, with_var, with_number}
+use Rattle.mc_state.specs.State.{State, var_node, with_number}
 use Rattle.mc_state.specs.Facts.{AreEqual}
-use Rattle.mc_state.specs.Fits.{MayHaveKinds, EdgeFitsStructs, FitsProgram, IsWellMade}
+use Rattle.mc_state.specs.Fits.{MayHaveKinds, EdgeFitsStructs, IsWellMade}
 use Rattle.mc_step.specs.declared.next.Next.{Next}
 use Rattle.mc_step.specs.Instructions.{load_of, store_of, free_of}
 use Rattle.mc_step.specs.JudgedLaws.{FieldsAreThere}
@@ -139,7 +139,7 @@ fields_there flow s n shape f kind block fits field =
     let info = e.0 in
     let known : slice_get flow.structs.list shape.0 ≡ Some info = e.1 in
     let inside : option_map (λ f. f.kind) (slice_get info.fields f) ≡ Some kind =
-        sym (ap (option_and_then (λ (info : StructInfo). option_map (λ f. f.kind) (slice_get info.fields f))) known) ∙ field in
+    sym (ap (option_and_then (λ (info : StructInfo). option_map (λ f. f.kind) (slice_get info.fields f))) known) ∙ field in
     let there = map_there (λ f. f.kind) info.fields f kind inside in
     let long = same_length s.kinds (map (λ f. f.kind) info.fields) block.fields e.2 in
     omega arith

@@ -1,10 +1,9 @@
 -- The rules of moves, tests for equality, shapes and ends are judged by their instances.
-use Rattle.std.proofs.Common.{◌≡◌, List, [], ◌∷◌, Bool, true, false, Option, Some, None, refl, ap, ap₂, ◌∙◌, pos}
+use Rattle.std.proofs.Common.{◌≡◌, List, [], ◌∷◌, true, Option, Some, None, refl, ap, ap₂, ◌∙◌, pos}
 use Rattle.std.specs.Prelude.{not, Ok}
 use Rattle.mc_base.specs.declared.ids.NodeId.{NodeId}
 use Rattle.mc_base.specs.declared.ids.PointId.{PointId}
 use Rattle.mc_base.specs.declared.plain.Atom.TheVariants.{Eq, Ne}
-use Rattle.mc_base.specs.Nodes.{null}
 use Rattle.mc_flow.specs.declared.graph.Flow.{Flow}
 use Rattle.mc_flow.specs.declared.instr.Operand.{Operand}
 use Rattle.mc_graph.specs.Graph.{Edges}
@@ -207,7 +206,7 @@ module _ (know : Test) (flow : Flow) (p : PointId) (s : State) (tells : Tells kn
       let node : operand_node s i.o ≡ Some i.n = i.known in
       let args : operand_nodes (with_operand s i.o) i.os ≡ Some i.args = nodes_to i.os (with_operand s i.o) i.args i.args_known in
       let side : i.side ≡ side_branch p i.pred i.n i.args (with_operands (with_operand s i.o) i.os) =
-          i.side_is ∙ ap (λ goal. record { point = p; goal = Some goal; state = with_operands (with_operand s i.o) i.os }) i.goal_is in
+      i.side_is ∙ ap (λ goal. record { point = p; goal = Some goal; state = with_operands (with_operand s i.o) i.os }) i.goal_is in
       rw here (rw sound (rw node (rw args (ok_to _ next (i.gives ∙ ap (λ (n : Next). n ∷ moved_to i.q s ∷ []) side)))))
 
   pub end_from : ending know (code_at flow p) s ≡ Ok next → S17Is flow p s next

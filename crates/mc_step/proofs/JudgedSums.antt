@@ -1,5 +1,5 @@
 -- The rules of sums, differences, products and comparisons are judged by their instances.
-use Rattle.std.proofs.Common.{◌≡◌, ◌++◌, List, [], ◌∷◌, Bool, true, false, Option, Some, None, refl, ap, ap₂, sym, ◌∙◌, subst, arith, ℤ, pos, negsuc, ◌+ℤ◌, ◌-ℤ◌, ◌*ℤ◌, ◌≤ℤ◌}
+use Rattle.std.proofs.Common.{◌≡◌, ◌++◌, List, [], ◌∷◌, Bool, true, false, Option, Some, None, refl, ap, ap₂, sym, ◌∙◌, subst, arith, ℤ, pos, negsuc, ◌+ℤ◌, ◌-ℤ◌, ◌≤ℤ◌}
 use Rattle.std.specs.Prelude.{◌&&◌, not, Ok, int_le, if◌then◌else◌}
 use Rattle.std.proofs.lemmas.Int.{ints}
 use Rattle.mc_base.specs.declared.ids.NodeId.{NodeId}
@@ -16,7 +16,6 @@ use Rattle.mc_flow.specs.declared.instr.Operand.{Operand}
 use Rattle.mc_flow.specs.Valid.{IsValid, IsOperand}
 use Rattle.mc_flow.specs.Values.{wrapped}
 use Rattle.mc_premises.specs.Known.{Test, Tells, is_false}
-use Rattle.mc_premises.specs.Premises.{Judged}
 use Rattle.mc_premises.proofs.Numbered.{need_ok, have_ok}
 use Rattle.mc_premises.proofs.Tests.{not_false, is_sound}
 use Rattle.mc_pure.specs.Pure.{Pure}
@@ -233,14 +232,14 @@ module _ (op : Operation) (offsets : NodeId → NodeId → NodeId → Range → 
       let left_mid = least_range_has_number (pure_of before) m.a m.left.lo m.left.hi m.left_range in
       let right_mid = least_range_has_number (pure_of before) m.b m.right.lo m.right.hi m.right_range in
       let new = λ (t : State). moved_to q (with_atoms (with_var (with_nodes t (Int ∷ [])) x (Some (next_node t)))
-          (range_atoms op.apply (next_node t) m.left m.right m.results ++ offsets (next_node t) m.a m.b m.left m.right)) ∷ [] in
+      (range_atoms op.apply (next_node t) m.left m.right m.results ++ offsets (next_node t) m.a m.b m.left m.right)) ∷ [] in
       let n = next_node before in
       let written = least_atoms (IsOutcome op.apply m.left m.right) (op.ends (ends_of m.left) (ends_of m.right)) (spans m.left m.right left_mid right_mid) n m.results m.results_range in
       m.gives ∙ ap new m.operands
       ∙ ap (λ l. moved_to q (with_atoms (with_var (with_nodes before (Int ∷ [])) x (Some n)) l) ∷ []) (all_atoms n m.a m.b m.left m.right m.results written)
 
   module _ (spans : SpansResults op) (know : Test) (range : Ranges) (s : State) (tells : Tells know s) (next : List Next) where
-    from : (i : ResultParts) → HaveInts range i.o i.o' s → computing op know range (Some i) s ≡ Ok next → (IsFalse s → ⊥) × Computes op.apply offsets i.x i.o i.o' i.q s next
+    from : (i : ResultParts) → ((IsFalse s → ⊥) → HaveInts range i.o i.o' s) → computing op know range (Some i) s ≡ Ok next → (IsFalse s → ⊥) × Computes op.apply offsets i.x i.o i.o' i.q s next
     from i have_ints e =
         let two = need_ok 2 _ _ next e in
         let three = have_ok 3 (operand_node s i.o) _ next two.1 in
@@ -248,7 +247,7 @@ module _ (op : Operation) (offsets : NodeId → NodeId → NodeId → Range → 
         let four = have_ok 4 (operand_node (with_operand s i.o) i.o') _ next three.2 in
         let b = four.0 in
         let before = with_operand (with_operand s i.o) i.o' in
-        let ranges = have_ints a b three.1 four.1 in
+        let ranges = have_ints (not_false know s tells two.0) a b three.1 four.1 in
         let l = range before a in
         let r = range before b in
         let left = range_of l ranges.0.0 in
@@ -274,13 +273,13 @@ module _ (op : Operation) (offsets : NodeId → NodeId → NodeId → Range → 
           },
         )
 
-    to : (i : ResultParts) → HaveInts range i.o i.o' s → (IsFalse s → ⊥) → Computes op.apply offsets i.x i.o i.o' i.q s next → computing op know range (Some i) s ≡ Ok next
+    to : (i : ResultParts) → ((IsFalse s → ⊥) → HaveInts range i.o i.o' s) → (IsFalse s → ⊥) → Computes op.apply offsets i.x i.o i.o' i.q s next → computing op know range (Some i) s ≡ Ok next
     to i have_ints consistent m =
         let before = with_operand (with_operand s i.o) i.o' in
         let sound : not (is_false know) ≡ true = is_sound know s tells consistent in
         let left_is : operand_node s i.o ≡ Some m.a = m.left_known in
         let right_is : operand_node (with_operand s i.o) i.o' ≡ Some m.b = m.right_known in
-        let ranges = have_ints m.a m.b m.left_known m.right_known in
+        let ranges = have_ints consistent m.a m.b m.left_known m.right_known in
         let l = range before m.a in
         let r = range before m.b in
         let ls : ends_of m.left ≡ l = same_ends (pure_of before) m.a m.left l m.left_range ranges.0.1 in
@@ -290,8 +289,8 @@ module _ (op : Operation) (offsets : NodeId → NodeId → NodeId → Range → 
 
 module _ (laws : MadeLaws) (know : Test) (range : Ranges) (flow : Flow) (defs : List Def) (p : PointId) (s : State) (valid : IsValid flow defs) (well : IsWellMade defs flow.vars flow.structs.list s) (tells : Tells know s) (ranges : HaveRanges range flow p s) (next : List Next) where
   -- the operands of an instruction of two numbers
-  given : (code : Instr) (o o' : Operand) → code_at flow p ≡ Some code → ranged code ≡ Some (o, o') → IsOperand flow.vars Int o → IsOperand flow.vars Int o' → HaveInts range o o' s
-  given code o o' at is fits fits' = ints_of laws range flow defs s o o' well fits fits' (ranges code o o' at is)
+  given : (code : Instr) (o o' : Operand) → code_at flow p ≡ Some code → ranged code ≡ Some (o, o') → IsOperand flow.vars Int o → IsOperand flow.vars Int o' → (IsFalse s → ⊥) → HaveInts range o o' s
+  given code o o' at is fits fits' consistent = ints_of laws range flow defs s o o' well fits fits' (ranges code o o' at is consistent)
 
   pub add_from : adding know range (code_at flow p) s ≡ Ok next → S5Is flow p s next
   add_from e =
@@ -350,7 +349,7 @@ module _ (laws : MadeLaws) (know : Test) (range : Ranges) (flow : Flow) (defs : 
       let b = four.0 in
       let before = with_operand (with_operand s i.o) i.o' in
       let fits = fits_at flow defs p (instr.TestLe i.o i.o' i.t i.f) valid at in
-      let have_ints = given (instr.TestLe i.o i.o' i.t i.f) i.o i.o' at refl fits.0 fits.1 a b three.1 four.1 in
+      let have_ints = given (instr.TestLe i.o i.o' i.t i.f) i.o i.o' at refl fits.0 fits.1 (not_false know s tells two.0) a b three.1 four.1 in
       record {
         o = i.o;
         o' = i.o';
@@ -379,7 +378,7 @@ module _ (laws : MadeLaws) (know : Test) (range : Ranges) (flow : Flow) (defs : 
       let right_is : operand_node (with_operand s i.o) i.o' ≡ Some i.b = i.right_known in
       let before = with_operand (with_operand s i.o) i.o' in
       let fits = fits_at flow defs p (instr.TestLe i.o i.o' i.t i.f) valid i.at in
-      let have_ints = given (instr.TestLe i.o i.o' i.t i.f) i.o i.o' i.at refl fits.0 fits.1 i.a i.b i.left_known i.right_known in
+      let have_ints = given (instr.TestLe i.o i.o' i.t i.f) i.o i.o' i.at refl fits.0 fits.1 i.consistent i.a i.b i.left_known i.right_known in
       let l = range before i.a in
       let r = range before i.b in
       let left_range = subst (λ (t : State). HasRange (pure_of t) i.a i.left.lo i.left.hi) i.operands i.left_range in

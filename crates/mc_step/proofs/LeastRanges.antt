@@ -1,17 +1,15 @@
 -- Least ranges of nodes.
-use Rattle.std.proofs.Common.{◌≡◌, ℕ, zero, suc, List, [], ◌∷◌, Bool, true, false, Option, Some, None, slice_get, refl, ap, ap₂, sym, ◌∙◌, subst, eqb-true, inl, inr, arith, ℤ, pos, negsuc, ◌+ℤ◌, ◌≤ℤ◌, ◌<ℤ◌}
+use Rattle.std.proofs.Common.{◌≡◌, ℕ, suc, [], ◌∷◌, Bool, true, false, Some, slice_get, refl, ap, ap₂, sym, subst, eqb-true, inl, inr, arith, ℤ, pos, negsuc, ◌+ℤ◌, ◌≤ℤ◌, ◌<ℤ◌}
 use Rattle.std.specs.Prelude.{◌==◌, int_le, if◌then◌else◌}
 use Rattle.std.proofs.lemmas.Int.{ints}
 use Rattle.mc_base.specs.declared.ids.NodeId.{NodeId}
 use Rattle.mc_base.specs.declared.plain.Atom.TheVariants.{Ne, In}
 use Rattle.mc_base.specs.declared.plain.Kind.{Kind}
 use Rattle.mc_base.specs.declared.plain.Kind.TheVariants.{Int}
-use Rattle.mc_base.specs.Nodes.{null}
 use Rattle.mc_pure.specs.Derived.{Follows, HasRange, base, widened, raised, disjoint}
 use Rattle.mc_pure.specs.Pure.{Pure, Kinds, HasKind, kind_of, low_of, high_of}
 use Rattle.mc_pure.specs.Pure as pure
 use Rattle.mc_step.specs.JudgedLaws.{LeastRangeIsOne, LeastRangeHasNumber, LeastRangeIsOfInts}
-use Rattle.mc_step.specs.Sums.{Ends, AreInts}
 use Rattle.mc_step.proofs.Tests.{le_of, lt_of}
 
 pub least_range_is_one : LeastRangeIsOne

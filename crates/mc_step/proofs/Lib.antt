@@ -21,9 +21,11 @@ pub mod Lists
 pub mod LowerLaws
 pub mod Moving
 pub mod Numbers
+pub mod NumbersAdd
 pub mod Once
 pub mod OneBlock
 pub mod Operands
+pub mod OperandsAdd
 pub mod Parts
 pub mod Products
 pub mod Refuted

@@ -1,5 +1,5 @@
 -- A rule of instructions has one list of successors.
-use Rattle.std.proofs.Common.{◌≡◌, List, [], ◌∷◌, Option, Some, None, slice_get, refl, ap, ap₂, sym, ◌∙◌, subst, pos}
+use Rattle.std.proofs.Common.{◌≡◌, List, [], ◌∷◌, Option, Some, slice_get, refl, ap, ap₂, sym, ◌∙◌, subst, pos}
 use Rattle.mc_base.specs.declared.ids.EdgeId.{EdgeId}
 use Rattle.mc_base.specs.declared.ids.NodeId.{NodeId}
 use Rattle.mc_base.specs.declared.ids.PointId.{PointId}
@@ -10,7 +10,6 @@ use Rattle.mc_base.specs.declared.plain.Atom.TheVariants.{Eq, Ne}
 use Rattle.mc_base.specs.Nodes.{null}
 use Rattle.mc_defs.specs.declared.rules.Def.{Def}
 use Rattle.mc_flow.specs.declared.graph.Flow.{Flow}
-use Rattle.mc_flow.specs.declared.instr.Instr.{Instr}
 use Rattle.mc_flow.specs.declared.instr.Instr.TheVariants as instr
 use Rattle.mc_flow.specs.declared.instr.Operand.{Operand}
 use Rattle.mc_flow.specs.Steps.{field_count}
@@ -25,10 +24,10 @@ use Rattle.mc_state.specs.State.{State, pure_of, var_node, with_var, without_var
 use Rattle.mc_state.specs.Facts.{IsFalse, AreEqual}
 use Rattle.mc_step.specs.declared.next.Next.{Next}
 use Rattle.mc_step.specs.Instructions.{CopyParts, ResultParts, LoadParts, StoreParts, MallocParts, TestParts, AssumeParts, AssertParts, skip_of, copy_of, undef_of, input_of, add_of, sub_of, mul_of, load_of, store_of, malloc_of, free_of, test_eq_of, test_le_of, assume_of, assert_of, empty_of}
-use Rattle.mc_step.specs.JudgedLaws.{IsStepBy, StepsAreOne}
+use Rattle.mc_step.specs.JudgedLaws.{StepsAreOne}
 use Rattle.mc_step.specs.Judges.{InstrRule, with_replaced, with_freed, with_shape, side_branch}
 use Rattle.mc_step.specs.Judges as rule
-use Rattle.mc_step.specs.Operands.{code_at, operand_node, with_operand, with_operands, AreNodesOf, HasBlock}
+use Rattle.mc_step.specs.Operands.{code_at, operand_node, with_operand, with_operands, HasBlock}
 use Rattle.mc_step.specs.Steps.{moved_to, sum_offsets, difference_offsets, no_offsets, Computes, S1Is, S2Is, S3Is, S4Is, S5Is, S6Is, S7Is, S8Is, S9Is, S10Is, S11Is, S12Is, S13Is, S14Is, S15Is, S16Is, S18Is}
 use Rattle.mc_step.specs.Sums.{Ends, Operation, sum, difference, product, with_result, at_most_atoms, above_atoms}
 use Rattle.mc_step.proofs.Gaps.{same_node}
@@ -79,9 +78,9 @@ module _ (flow : Flow) (p : PointId) (s : State) (next other : List Next) where
       let nodes = pair_same s g.o g.o' h.o h.o' m.a m.b k.a k.b (ap (λ (g : ResultParts). g.o) same) (ap (λ (g : ResultParts). g.o') same) m.left_known m.right_known k.left_known k.right_known in
       let states : at h ≡ at g = ap at (sym same) in
       let left : HasRange (pure_of (at g)) m.a k.left.lo k.left.hi =
-          subst (λ (n : NodeId). HasRange (pure_of (at g)) n k.left.lo k.left.hi) (sym nodes.0) (subst (λ (t : State). HasRange (pure_of t) k.a k.left.lo k.left.hi) states k.left_range) in
+      subst (λ (n : NodeId). HasRange (pure_of (at g)) n k.left.lo k.left.hi) (sym nodes.0) (subst (λ (t : State). HasRange (pure_of t) k.a k.left.lo k.left.hi) states k.left_range) in
       let right : HasRange (pure_of (at g)) m.b k.right.lo k.right.hi =
-          subst (λ (n : NodeId). HasRange (pure_of (at g)) n k.right.lo k.right.hi) (sym nodes.1) (subst (λ (t : State). HasRange (pure_of t) k.b k.right.lo k.right.hi) states k.right_range) in
+      subst (λ (n : NodeId). HasRange (pure_of (at g)) n k.right.lo k.right.hi) (sym nodes.1) (subst (λ (t : State). HasRange (pure_of t) k.b k.right.lo k.right.hi) states k.right_range) in
       let ls : ends_of m.left ≡ ends_of k.left = same_ends (pure_of (at g)) m.a m.left (ends_of k.left) m.left_range left in
       let rs : ends_of m.right ≡ ends_of k.right = same_ends (pure_of (at g)) m.b m.right (ends_of k.right) m.right_range right in
       let made = λ (g : ResultParts) (a b : NodeId) (l r : Ends). moved_to g.q (with_result op g.x a b l r (at g)) ∷ [] in
@@ -142,9 +141,9 @@ module _ (flow : Flow) (p : PointId) (s : State) (next other : List Next) where
       let nodes = pair_same s g.o g.o' h.o h.o' i.a i.b j.a j.b (ap (λ (g : TestParts). g.o) same) (ap (λ (g : TestParts). g.o') same) i.left_known i.right_known j.left_known j.right_known in
       let states : j.before ≡ i.before = j.operands ∙ ap at (sym same) ∙ sym i.operands in
       let left : HasRange (pure_of i.before) i.a j.left.lo j.left.hi =
-          subst (λ (n : NodeId). HasRange (pure_of i.before) n j.left.lo j.left.hi) (sym nodes.0) (subst (λ (t : State). HasRange (pure_of t) j.a j.left.lo j.left.hi) states j.left_range) in
+      subst (λ (n : NodeId). HasRange (pure_of i.before) n j.left.lo j.left.hi) (sym nodes.0) (subst (λ (t : State). HasRange (pure_of t) j.a j.left.lo j.left.hi) states j.left_range) in
       let right : HasRange (pure_of i.before) i.b j.right.lo j.right.hi =
-          subst (λ (n : NodeId). HasRange (pure_of i.before) n j.right.lo j.right.hi) (sym nodes.1) (subst (λ (t : State). HasRange (pure_of t) j.b j.right.lo j.right.hi) states j.right_range) in
+      subst (λ (n : NodeId). HasRange (pure_of i.before) n j.right.lo j.right.hi) (sym nodes.1) (subst (λ (t : State). HasRange (pure_of t) j.b j.right.lo j.right.hi) states j.right_range) in
       let ls : ends_of i.left ≡ ends_of j.left = same_ends (pure_of i.before) i.a i.left (ends_of j.left) i.left_range left in
       let rs : ends_of i.right ≡ ends_of j.right = same_ends (pure_of i.before) i.b i.right (ends_of j.right) i.right_range right in
       let made = λ (g : TestParts) (a b : NodeId) (l r : Ends) (t : State). moved_to g.t (with_atoms t (at_most_atoms a b l r)) ∷ moved_to g.f (with_atoms t (above_atoms a b l r)) ∷ [] in
@@ -160,7 +159,7 @@ module _ (flow : Flow) (p : PointId) (s : State) (next other : List Next) where
       let h : AssumeParts = record { pred = j.pred; x = j.x; os = j.os; q = j.q } in
       let same : g ≡ h = some_same (assume_of (code_at flow p)) g h (ap assume_of i.at) (ap assume_of j.at) in
       let args : i.args ≡ j.args = some_same (rule.operand_nodes s i.os) i.args j.args (nodes_to i.os s i.args i.known)
-          (ap (λ (g : AssumeParts). rule.operand_nodes s g.os) same ∙ nodes_to j.os s j.args j.known) in
+      (ap (λ (g : AssumeParts). rule.operand_nodes s g.os) same ∙ nodes_to j.os s j.args j.known) in
       let made = λ (g : AssumeParts) (args : List NodeId) (t : State). moved_to g.q (with_var (with_shape g.pred args t) g.x (Some (next_node t))) ∷ [] in
       i.gives ∙ ap (made g i.args) i.operands ∙ ap₂ (λ (g : AssumeParts) (args : List NodeId). made g args (with_operands s g.os)) same args ∙ sym (j.gives ∙ ap (made h j.args) j.operands)
 
@@ -171,12 +170,12 @@ module _ (flow : Flow) (p : PointId) (s : State) (next other : List Next) where
       let same : g ≡ h = some_same (assert_of (code_at flow p)) g h (ap assert_of i.at) (ap assert_of j.at) in
       let node : i.n ≡ j.n = same_node (operand_node s i.o) i.n j.n i.known (ap (λ (g : AssertParts). operand_node s g.o) same ∙ j.known) in
       let args : i.args ≡ j.args = some_same (rule.operand_nodes (with_operand s i.o) i.os) i.args j.args (nodes_to i.os (with_operand s i.o) i.args i.args_known)
-          (ap (λ (g : AssertParts). rule.operand_nodes (with_operand s g.o) g.os) same ∙ nodes_to j.os (with_operand s j.o) j.args j.args_known) in
+      (ap (λ (g : AssertParts). rule.operand_nodes (with_operand s g.o) g.os) same ∙ nodes_to j.os (with_operand s j.o) j.args j.args_known) in
       let made = λ (g : AssertParts) (n : NodeId) (args : List NodeId). side_branch p g.pred n args (with_operands (with_operand s g.o) g.os) ∷ moved_to g.q s ∷ [] in
       let left : next ≡ made g i.n i.args =
-          i.gives ∙ ap (λ (n : Next). n ∷ moved_to i.q s ∷ []) (i.side_is ∙ ap (λ goal. record { point = p; goal = Some goal; state = with_operands (with_operand s i.o) i.os }) i.goal_is) in
+      i.gives ∙ ap (λ (n : Next). n ∷ moved_to i.q s ∷ []) (i.side_is ∙ ap (λ goal. record { point = p; goal = Some goal; state = with_operands (with_operand s i.o) i.os }) i.goal_is) in
       let right : other ≡ made h j.n j.args =
-          j.gives ∙ ap (λ (n : Next). n ∷ moved_to j.q s ∷ []) (j.side_is ∙ ap (λ goal. record { point = p; goal = Some goal; state = with_operands (with_operand s j.o) j.os }) j.goal_is) in
+      j.gives ∙ ap (λ (n : Next). n ∷ moved_to j.q s ∷ []) (j.side_is ∙ ap (λ goal. record { point = p; goal = Some goal; state = with_operands (with_operand s j.o) j.os }) j.goal_is) in
       left ∙ ap (λ g. made g i.n i.args) same ∙ ap₂ (made h) node args ∙ sym right
 
   empty_once : S18Is flow p s next → S18Is flow p s other → next ≡ other

@@ -1,14 +1,12 @@
 -- What rules of instructions make of a well-made state is well made.
-use Rattle.std.proofs.Common.{◌≡◌, ◌&&◌, ◌≤◌, ◌<◌, ◌+◌, ℕ, zero, suc, List, [], ◌∷◌, ◌++◌, length, map, take, drop, replicate, Bool, true, false, Option, Some, None, slice_get, slice_set, refl, ap, sym, ◌∙◌, subst, inl, inr, arith, ℤ, pos, negsuc, neg_ℤ, ◌+ℤ◌, ◌-ℤ◌, ◌≤ℤ◌}
-use Rattle.std.specs.Prelude.{if◌then◌else◌, option_map, option_and_then, All}
+use Rattle.std.proofs.Common.{◌≡◌, ◌&&◌, ◌≤◌, ◌<◌, ◌+◌, ℕ, zero, suc, List, [], ◌∷◌, ◌++◌, length, map, take, drop, replicate, Bool, true, false, Option, Some, None, slice_get, slice_set, refl, ap, sym, ◌∙◌, subst, inl, arith, ℤ, pos, negsuc, neg_ℤ, ◌≤ℤ◌}
+use Rattle.std.specs.Prelude.{if◌then◌else◌, option_map, option_and_then}
 use Rattle.std.specs.Option.{option_map_or}
-use Rattle.std.specs.Int.{int_max, int_min}
 use Rattle.std.specs.List.{AllByRecursion}
 use Rattle.std.proofs.lemmas.Int.{ints, clamps}
 use Rattle.mc_base.specs.declared.ids.EdgeId.{EdgeId}
 use Rattle.mc_base.specs.declared.ids.NodeId.{NodeId}
 use Rattle.mc_base.specs.declared.ids.PointId.{PointId}
-use Rattle.mc_base.specs.declared.ids.PredId.{PredId}
 use Rattle.mc_base.specs.declared.ids.StructId.{StructId}
 use Rattle.mc_base.specs.declared.ids.VarId.{VarId}
 use Rattle.mc_base.specs.declared.plain.Atom.{Atom}
@@ -21,7 +19,7 @@ use Rattle.mc_defs.specs.declared.rules.DefAtom.{DefAtom}
 use Rattle.mc_defs.specs.declared.rules.DefAtom.TheVariants as def
 use Rattle.mc_defs.specs.declared.rules.Rule.{Rule}
 use Rattle.mc_defs.specs.declared.shapes.StructInfo.{StructInfo}
-use Rattle.mc_defs.specs.Conditions.{kinds_of, content_kinds, known_after, AtomsFit, HasNames, RuleFitsStructs, DefFits}
+use Rattle.mc_defs.specs.Conditions.{kinds_of, content_kinds, AtomsFit, RuleFitsStructs, DefFits}
 use Rattle.mc_flow.specs.declared.graph.Flow.{Flow}
 use Rattle.mc_flow.specs.declared.instr.Instr.TheVariants as instr
 use Rattle.mc_flow.specs.declared.instr.Operand.{Operand}
@@ -32,20 +30,17 @@ use Rattle.mc_graph.specs.declared.edge.Edge.{Edge}
 use Rattle.mc_graph.specs.declared.edge.Edge.TheVariants as edge
 use Rattle.mc_graph.specs.Edges.{known_nodes, nodes_of}
 use Rattle.mc_graph.specs.Graph.{Edges, without, block_starts}
-use Rattle.mc_pure.specs.Derived.{HasRange}
 use Rattle.mc_pure.specs.Pure.{Kinds, HasKind, IsNode, IsWellFormed, IsOffset}
 use Rattle.mc_ranges.specs.declared.Range.{Range}
-use Rattle.mc_state.specs.declared.goal.Goal.{Goal}
-use Rattle.mc_state.specs.State.{State, pure_of, next_node, with_var, without_vars, with_nodes, with_atoms, with_edges, with_only_edges, with_block}
+use Rattle.mc_state.specs.State.{State, pure_of, next_node, with_var, without_vars, with_nodes, with_atoms, with_only_edges, with_block}
 use Rattle.mc_state.specs.Fits.{AreNodes, HaveKinds, MayHaveKinds, EdgeFitsDefs, EdgeFitsStructs, IsWellMade}
 use Rattle.mc_step.specs.declared.next.Next.{Next}
 use Rattle.mc_step.specs.JudgedLaws.{IsMadeFor, StepsAreWellMade}
-use Rattle.mc_step.specs.Judges.{with_replaced, with_freed, with_shape, side_branch}
+use Rattle.mc_step.specs.Judges.{with_replaced, with_shape, side_branch}
 use Rattle.mc_step.specs.Laws.{IsStep, S1, S2, S3, S4, S5, S6, S7, S8, S9, S10, S11, S12, S13, S14, S15, S16, S17, S18}
-use Rattle.mc_step.specs.Operands.{operand_node, with_operand, with_operands, HasBlock}
+use Rattle.mc_step.specs.Operands.{with_operand, with_operands, HasBlock}
 use Rattle.mc_step.specs.Steps.{moved_to, is_single, stays_int, in_range, range_atoms, offset_atom, sum_offsets, difference_offsets, no_offsets, freed_atoms, le_atoms, gt_atoms, Computes}
 use Rattle.mc_step.specs.Steps.{S8Is, S9Is, S10Is, S12Is, S13Is, S14Is, S15Is, S16Is}
-use Rattle.mc_step.specs.Sums.{Ends}
 use Rattle.mc_step.proofs.Grown.{have_grows, all_may_grow, known_kind, kind_set, all_unknown, map_slice, length_map, length_unknown, length_set}
 use Rattle.mc_step.proofs.LeastRanges.{least_range_is_of_ints}
 use Rattle.mc_step.proofs.Lists.{all_append, all_map, all_at, edge_at, known_set}
@@ -237,7 +232,7 @@ module _ (laws : MadeLaws) (flow : Flow) (defs : List Def) (valid : IsValid flow
       let there : AreNodes t.kinds (nodes_of new) = (more.0, known_set (IsNode t.kinds) b.fields i.f i.m (kind, operand.has) more.1) in
       let fits_defs : EdgeFitsDefs defs t.kinds new = (operand.grows Ptr b.at old.0, λ p r d rule there is block. length_set b.fields i.f (Some i.m) ∙ old.1 p r d rule there is block) in
       let fits_structs : EdgeFitsStructs structs t.kinds new =
-          (own.0, own.1, kind_set t.kinds ks b.fields i.f kind (Some i.m) (all_may_grow s.kinds t.kinds operand.grows ks b.fields own.2) (kind_of_field i.shape i.f kind own.0 own.1 fits.2) operand.has) in
+      (own.0, own.1, kind_set t.kinds ks b.fields i.f kind (Some i.m) (all_may_grow s.kinds t.kinds operand.grows ks b.fields own.2) (kind_of_field i.shape i.f kind own.0 own.1 fits.2) operand.has) in
       one_made next i.q (with_replaced i.before b.id new) i.gives
       (subst (λ (u : State). Made (with_replaced u b.id new)) (sym i.operand) (replaced_made laws defs flow.vars structs t b.id new operand.made there fits_defs fits_structs))
 
@@ -333,7 +328,7 @@ module _ (laws : MadeLaws) (flow : Flow) (defs : List Def) (valid : IsValid flow
       let new = new_kind laws defs flow.vars structs i.before Ptr made in
       let grown = have_grows i.before.kinds t.kinds (new_grows laws defs flow.vars structs i.before Ptr made) d.params i.args args in
       let put = edge_made laws defs flow.vars structs t (edge.Ind n i.pred i.args) (nodes_made laws defs flow.vars structs i.before (Ptr ∷ []) made)
-          ((Ptr, new), have_nodes t.kinds d.params i.args grown) (new, (d, fits.1.defined, grown)) tt in
+      ((Ptr, new), have_nodes t.kinds d.params i.args grown) (new, (d, fits.1.defined, grown)) tt in
       one_made next i.q (with_var (with_shape i.pred i.args i.before) i.x (Some n)) i.gives
       (set_made laws defs flow.vars structs (with_shape i.pred i.args i.before) i.x Ptr n put fits.0 new)
 

@@ -1,5 +1,5 @@
 -- How states stay well made.
-use Rattle.std.proofs.Common.{◌≡◌, ◌≤◌, ℕ, suc, List, [], ◌∷◌, ◌++◌, length, map, Bool, true, false, Option, Some, None, slice_get, slice_set, refl, ap, sym, ◌∙◌, subst, inl, inr, arith, ℤ, pos, negsuc, ◌≤ℤ◌}
+use Rattle.std.proofs.Common.{◌≡◌, List, [], ◌∷◌, map, Bool, true, false, Some, None, refl, sym, subst, inl, arith, ℤ, pos}
 use Rattle.std.specs.Prelude.{if◌then◌else◌}
 use Rattle.std.specs.List.{AllByRecursion}
 use Rattle.std.specs.Ordering.{int_eq}
@@ -24,14 +24,19 @@ use Rattle.mc_flow.specs.Valid.{IsVar, IsOperand, ArgsFit}
 use Rattle.mc_graph.specs.declared.edge.Edge.{Edge}
 use Rattle.mc_graph.specs.Edges.{nodes_of}
 use Rattle.mc_graph.specs.Graph.{edge_with, without, numbered}
-use Rattle.mc_pure.specs.Pure.{HasKind, IsNode, IsWellFormed}
+use Rattle.mc_pure.specs.Pure.{HasKind, IsWellFormed}
 use Rattle.mc_state.specs.State.{State, next_node, with_var, without_vars, with_nodes, with_atoms, with_edges, with_only_edges, with_number}
 use Rattle.mc_state.specs.Fits.{AreNodes, HaveKinds, EdgeFitsDefs, EdgeFitsStructs, IsWellMade}
 use Rattle.mc_step.specs.Judges.{with_replaced}
 use Rattle.mc_step.specs.Operands.{operand_node, with_operand, with_operands, AreNodesOf}
-use Rattle.mc_step.proofs.Grown.{Grows, atom_grows, have_grows, defs_grow, structs_grow, all_may_grow, known_kind, kind_set, unknown_set, get_slice, map_slice, all_without, all_replaced, atom_there}
-use Rattle.mc_step.proofs.Lists.{all_append, all_map, edge_at}
+use Rattle.mc_step.proofs.Grown.{Grows, atom_grows, defs_grow, structs_grow, all_may_grow, known_kind, kind_set, unknown_set, get_slice, map_slice, all_without, all_replaced, atom_there}
+use Rattle.mc_step.proofs.Lists.{all_append, all_map}
 use Rattle.mc_step.proofs.LowerLaws.{MadeLaws}
+
+-- a constant other than 0 is an `int`
+pub int_const : (vars : List VarInfo) (kind : Kind) (c : ℤ) → IsOperand vars kind (Const c) → int_eq c (pos 0) ≡ false → (kind ≡ Int) × InKind Int c
+int_const vars Int c fits e = (refl, fits)
+int_const vars Ptr c fits e = let zero : int_eq c (pos 0) ≡ true = (Decides-int_eq c (pos 0)).1 fits in absurd (cc (zero, e))
 
 module _ (laws : MadeLaws) (defs : List Def) (vars : List VarInfo) (structs : List StructInfo) where
   -- the state is well made
@@ -134,16 +139,11 @@ module _ (laws : MadeLaws) (defs : List Def) (vars : List VarInfo) (structs : Li
   var_kind s x kind n m is known =
       known_kind s.kinds (map (λ x. x.kind) vars) s.env x.0 kind n m.fits_program.vars_fit (map_slice (λ (x : VarInfo). x.kind) vars x.0 kind is) (get_slice s.env x.0 n known)
 
-  -- a constant other than 0 is an `int`
-  int_const : (kind : Kind) (c : ℤ) → IsOperand vars kind (Const c) → int_eq c (pos 0) ≡ false → (kind ≡ Int) × InKind Int c
-  int_const Int c fits e = (refl, fits)
-  int_const Ptr c fits e = let zero : int_eq c (pos 0) ≡ true = (Decides-int_eq c (pos 0)).1 fits in absurd (cc (zero, e))
-
   const_made : (s : State) (kind : Kind) (c : ℤ) (zero : Bool) → IsOperand vars kind (Const c) → int_eq c (pos 0) ≡ zero → Made s
       → OperandMade s kind (if◌then◌else◌ {A = NodeId} zero null (next_node s)) (if◌then◌else◌ {A = State} zero s (with_number s c))
   const_made s kind c true fits e m = record { made = m; has = inl refl; grows = λ k n h. h }
   const_made s kind c false fits e m =
-      let is = int_const kind c fits e in
+      let is = int_const vars kind c fits e in
       let low = is.1.0 in
       let high = is.1.1 in
       let t = with_nodes s (Int ∷ []) in

@@ -1,18 +1,37 @@
 -- Premises that are unmet at the states of the small flow graph, and ranges by hand.
-use Rattle.std.specs.Prelude.{◌≡◌, ℕ, ℤ, pos, negsuc, List, [], ◌∷◌, ◌++◌, Option, Some, None, Err}
+use Rattle.std.specs.Prelude.{◌≡◌, ℕ, ℤ, pos, negsuc, List, [], ◌∷◌, ◌++◌, Option, Some, None, Ok, Err}
 use Rattle.mc_base.specs.declared.ids.NodeId.{NodeId}
 use Rattle.mc_base.specs.declared.ids.PointId.{PointId}
 use Rattle.mc_base.specs.declared.plain.Atom.{Atom}
 use Rattle.mc_premises.specs.Known.{Test, Tells}
 use Rattle.mc_pure.specs.Examples.{node}
 use Rattle.mc_state.specs.State.{State}
-use Rattle.mc_step.specs.Examples.{flow, one_cell}
+use Rattle.mc_step.specs.declared.next.Next.{Next}
+use Rattle.mc_step.specs.Examples.{flow, one_cell, with_one}
 use Rattle.mc_step.specs.Judges.{InstrRule, stepping}
 use Rattle.mc_step.specs.Sums.{Ends, Ranges, Operation, result_atoms, at_most_atoms, above_atoms}
+
+-- the numbers from one to another
+abbrev pub from_to : ℤ → ℤ → Ends
+from_to lo hi = record { lo = lo; hi = hi }
+
+-- one number
+abbrev pub only : ℤ → Ends
+only z = from_to z z
 
 -- whatever tells what is derived, this premise of the rule is the first that is unmet
 abbrev pub IsFirstUnmet : InstrRule → PointId → State → ℕ → Type 0
 IsFirstUnmet rule p s k = (know : Test) (range : Ranges) → Tells know s → stepping know range flow rule p s ≡ Err k
+
+-- whatever tells what is derived, the rule gives these successors
+abbrev pub Gives : InstrRule → PointId → State → List Next → Type 0
+Gives rule p s next = (know : Test) (range : Ranges) → Tells know s → stepping know range flow rule p s ≡ Ok next
+
+-- so it does where y goes from 5 to 7 and node 3 is 1
+abbrev pub GivesByRanges : InstrRule → PointId → State → List Next → Type 0
+GivesByRanges rule p s next =
+    (know : Test) (range : Ranges) → Tells know s → range with_one (node 2) ≡ from_to (pos 5) (pos 7) → range with_one (node 3) ≡ only (pos 1)
+    → stepping know range flow rule p s ≡ Ok next
 
 -- the state of one cell, where the variables have these nodes
 abbrev pub with_env : List (Option NodeId) → State
@@ -25,14 +44,6 @@ without_x = with_env (None ∷ Some (node 2) ∷ None ∷ None ∷ [])
 -- x is known, and y is not
 abbrev pub without_y : State
 without_y = with_env (Some (node 1) ∷ None ∷ None ∷ None ∷ [])
-
--- the numbers from one to another
-abbrev pub from_to : ℤ → ℤ → Ends
-from_to lo hi = record { lo = lo; hi = hi }
-
--- one number
-abbrev pub only : ℤ → Ends
-only z = from_to z z
 
 -- the greatest `int`, and the least one
 abbrev pub greatest : ℤ

@@ -6,23 +6,28 @@ use Rattle.mc_base.specs.declared.ids.PointId.{PointId}
 use Rattle.mc_base.specs.declared.ids.StructId.{StructId}
 use Rattle.mc_base.specs.declared.plain.Kind.{Kind}
 use Rattle.mc_base.specs.declared.plain.Kind.TheVariants.{Int, Ptr}
+use Rattle.mc_base.specs.declared.plain.Atom.{Atom}
+use Rattle.mc_base.specs.declared.plain.VarInfo.{VarInfo}
+use Rattle.mc_base.specs.Atoms.{nodes_of_atom}
 use Rattle.mc_defs.specs.declared.rules.Def.{Def}
 use Rattle.mc_flow.specs.declared.graph.Flow.{Flow}
-use Rattle.mc_flow.specs.Valid.{IsValid, IsField}
+use Rattle.mc_flow.specs.declared.instr.Operand.{Operand}
+use Rattle.mc_flow.specs.Valid.{IsValid, IsField, ArgsFit as OperandsFit}
 use Rattle.mc_premises.specs.Known.{Test, Tells}
 use Rattle.mc_premises.specs.Premises.{IsJudged}
 use Rattle.mc_pure.specs.Derived.{HasRange}
 use Rattle.mc_pure.specs.Pure.{Pure, HasKind}
 use Rattle.mc_state.specs.declared.goal.Goal.{Goal}
 use Rattle.mc_state.specs.State.{State}
-use Rattle.mc_state.specs.Fits.{ArgsFit, FitsProgram, IsWellMade}
+use Rattle.mc_state.specs.Facts.{IsFalse, Derives}
+use Rattle.mc_state.specs.Fits.{AreNodes, ArgsFit, IsBounded, FitsProgram, IsWellMade}
 use Rattle.mc_step.specs.declared.next.Next.{Next}
 use Rattle.mc_step.specs.declared.gap.Gap.{Gap}
 use Rattle.mc_step.specs.Judges.{InstrRule, S1, S2, S3, S4, S5, S6, S7, S8, S9, S10, S11, S12, S13, S14, S15, S16, S17, S18, stepping}
 use Rattle.mc_step.specs.Laws.{IsStep}
-use Rattle.mc_step.specs.Operands.{HasBlock}
+use Rattle.mc_step.specs.Operands.{with_operands, HasBlock}
 use Rattle.mc_step.specs.Steps.{S1Is, S2Is, S3Is, S4Is, S5Is, S6Is, S7Is, S8Is, S9Is, S10Is, S11Is, S12Is, S13Is, S14Is, S15Is, S16Is, S17Is, S18Is}
-use Rattle.mc_step.specs.Sums.{Ends, Ranges, AreInts, HaveRanges}
+use Rattle.mc_step.specs.Sums.{Ends, Ranges, AreInts, HaveRanges, TellLeast}
 use Rattle.mc_step.specs.Unmet.{IsUnmet}
 
 -- the instances of a rule
@@ -104,6 +109,26 @@ LeastRangeHasNumber = (p : Pure) (n : NodeId) (lo hi : ℤ) → HasRange p n lo 
 -- a least range of a node of kind Int is one of ints
 abbrev pub LeastRangeIsOfInts : Type 0
 LeastRangeIsOfInts = (p : Pure) (n : NodeId) (r : Ends) → HasKind p.kinds Int n → HasRange p n r.lo r.hi → AreInts r
+
+-- ---- states with the nodes of operands
+
+-- the state with the nodes of operands is false only where the state was
+abbrev pub OperandsKeepSound : Type 0
+OperandsKeepSound =
+    (vars : List VarInfo) (os : List Operand) (kinds : List Kind) (s : State)
+    → IsBounded s → OperandsFit vars os kinds → IsFalse (with_operands s os) → IsFalse s
+
+-- and of the nodes before nothing more is derived in it
+abbrev pub OperandsTellNothing : Type 0
+OperandsTellNothing =
+    (vars : List VarInfo) (os : List Operand) (kinds : List Kind) (s : State) (f : Atom)
+    → IsBounded s → OperandsFit vars os kinds → AreNodes s.kinds (nodes_of_atom f) → Derives (with_operands s os) f → Derives s f
+
+-- so ranges that are the least at states that are not false are the ones that instructions ask for
+abbrev pub RangesSuffice : Type 0
+RangesSuffice =
+    (range : Ranges) (flow : Flow) (defs : List Def) (p : PointId) (s : State)
+    → IsValid flow defs → IsWellMade defs flow.vars flow.structs.list s → TellLeast range → HaveRanges range flow p s
 
 -- ---- well-made states
 

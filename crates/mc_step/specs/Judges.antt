@@ -1,5 +1,5 @@
 -- What rules of instructions give at a state, or the first premise that is unmet.
-use Rattle.std.specs.Prelude.{◌&&◌, not, ℕ, Bool, true, false, List, [], ◌∷◌, pos, Option, Some, None, Ok, map, slice_get}
+use Rattle.std.specs.Prelude.{◌&&◌, not, ℕ, Bool, true, false, List, [], ◌∷◌, pos, Option, Some, None, Ok, slice_get}
 use Rattle.std.specs.List.{find}
 use Rattle.mc_base.specs.declared.ids.EdgeId.{EdgeId}
 use Rattle.mc_base.specs.declared.ids.NodeId.{NodeId}
@@ -151,7 +151,7 @@ allocating know flow code s =
     have 1 (malloc_of code) (λ i.
     need 2 (not (is_false know))
     (Ok (moved_to i.q (with_var s i.x (Some null))
-      ∷ moved_to i.q (with_var (with_block s i.shape (field_count flow.structs i.shape)) i.x (Some (next_node s))) ∷ [])))
+    ∷ moved_to i.q (with_var (with_block s i.shape (field_count flow.structs i.shape)) i.x (Some (next_node s))) ∷ [])))
 
 -- S11: a Free of null
 abbrev pub freeing_null : Test → Option Instr → State → Judged (List Next)
@@ -197,7 +197,7 @@ testing_at_most know range code s =
     have 4 (operand_node (with_operand s i.o) i.o') (λ b.
     let before = with_operand (with_operand s i.o) i.o' in
     Ok (moved_to i.t (with_atoms before (at_most_atoms a b (range before a) (range before b)))
-      ∷ moved_to i.f (with_atoms before (above_atoms a b (range before a) (range before b))) ∷ [])))))
+    ∷ moved_to i.f (with_atoms before (above_atoms a b (range before a) (range before b))) ∷ [])))))
 
 -- ---- shapes
 

@@ -14,6 +14,9 @@ use Rattle.mc_flow.specs.declared.instr.Instr.{Instr}
 use Rattle.mc_flow.specs.declared.instr.Instr.TheVariants.{Add, Sub, Mul, TestLe}
 use Rattle.mc_flow.specs.Values.{wrapped}
 use Rattle.mc_pure.specs.Derived.{HasRange}
+use Rattle.mc_pure.specs.Pure.{IsNode}
+use Rattle.mc_state.specs.Facts.{IsFalse}
+use Rattle.mc_state.specs.Fits.{IsBounded}
 use Rattle.mc_state.specs.State.{State, pure_of, with_var, with_nodes, with_atoms, next_node}
 use Rattle.mc_step.specs.Operands.{code_at, operand_node, with_operand}
 
@@ -70,7 +73,7 @@ difference =
       offsets = λ n a b left right. shift_atoms n a left right (neg_ℤ right.lo);
     }
 
--- the least and the greatest of four numbers
+-- the least of four numbers
 abbrev pub least_of : ℤ → ℤ → ℤ → ℤ → ℤ
 least_of a b c d = int_min (int_min a b) (int_min c d)
 
@@ -78,7 +81,7 @@ least_of a b c d = int_min (int_min a b) (int_min c d)
 abbrev pub greatest_of : ℤ → ℤ → ℤ → ℤ → ℤ
 greatest_of a b c d = int_max (int_max a b) (int_max c d)
 
--- products
+-- products: an operand and a number more is none of them
 abbrev pub product : Operation
 product =
     record {
@@ -93,13 +96,15 @@ product =
 -- the result of two single numbers is their wrapped result; another lies in the range of results, where that lies in `int`
 abbrev pub result_atoms : Operation → NodeId → Ends → Ends → List Atom
 result_atoms op n left right =
-    if is_one left && is_one right then In n (wrapped (op.apply left.lo right.lo)) (wrapped (op.apply left.lo right.lo)) ∷ [] else int_atoms n (op.ends left right)
+    if is_one left && is_one right
+    then In n (wrapped (op.apply left.lo right.lo)) (wrapped (op.apply left.lo right.lo)) ∷ []
+    else int_atoms n (op.ends left right)
 
 -- the variable at a new node, which is the result
 abbrev pub with_result : Operation → VarId → NodeId → NodeId → Ends → Ends → State → State
 with_result op x a b left right s =
     with_atoms (with_var (with_nodes s (Int ∷ [])) x (Some (next_node s)))
-      (result_atoms op (next_node s) left right ++ op.offsets (next_node s) a b left right)
+    (result_atoms op (next_node s) left right ++ op.offsets (next_node s) a b left right)
 
 -- the left number is at most the right one, where they lie in these ranges
 abbrev pub at_most_atoms : NodeId → NodeId → Ends → Ends → List Atom
@@ -134,7 +139,11 @@ ranged (Mul x o o' q) = Some (o, o')
 ranged (TestLe o o' t f) = Some (o, o')
 ranged other = None
 
--- the ranges that the instruction at the point asks for are the least
+-- where the state is not false, the ranges that the instruction at the point asks for are the least
 abbrev pub HaveRanges : Ranges → Flow → PointId → State → Type 0
 HaveRanges range flow p s =
-    (code : Instr) (o o' : Operand) → code_at flow p ≡ Some code → ranged code ≡ Some (o, o') → AreLeast range o o' s
+    (code : Instr) (o o' : Operand) → code_at flow p ≡ Some code → ranged code ≡ Some (o, o') → (IsFalse s → ⊥) → AreLeast range o o' s
+
+-- the ranges that are given are the least wherever a state is not false and its numbers are in their bounds
+abbrev pub TellLeast : Ranges → Type 0
+TellLeast range = (s : State) (n : NodeId) → IsBounded s → (IsFalse s → ⊥) → IsNode s.kinds n → IsLeast range s n

@@ -1,14 +1,33 @@
 // Worked rules: premises that are unmet at small states, and results and comparisons of ranges, worked out by hand.
-ghost use Rattle.std.specs.Prelude.{◌≡◌, pos, negsuc, [], ◌∷◌};
+ghost use Rattle.std.specs.Prelude.{◌≡◌, pos, negsuc, Some, [], ◌∷◌};
 ghost use Rattle.mc_base.specs.declared.plain.Atom.TheVariants.{Eq, Ne, In};
+ghost use Rattle.mc_base.specs.Nodes.{null};
 ghost use Rattle.mc_pure.specs.Examples.{node};
+ghost use Rattle.mc_state.specs.State.{with_var};
 ghost use Rattle.mc_step.specs.Examples as ex;
-ghost use Rattle.mc_step.specs.JudgedExamples.{IsFirstUnmet, without_x, without_y, from_to, only, greatest, least};
+ghost use Rattle.mc_step.specs.JudgedExamples.{Gives, GivesByRanges, IsFirstUnmet, without_x, without_y, from_to, only, greatest, least};
 ghost use Rattle.mc_step.specs.JudgedExamples.{known_result, known_at_most, known_above};
 ghost use Rattle.mc_step.specs.Judges as rule;
+ghost use Rattle.mc_step.specs.Steps.{moved_to};
 ghost use Rattle.mc_step.specs.Sums.{sum, difference, product};
 
 use mc_state::derived_is_true;
+
+/// What rules give at the state of one cell.
+pub fn example_given()
+    ensures sum { GivesByRanges rule.S5 (ex.at 4) ex.one_cell ex.after_sum }
+    ensures difference { GivesByRanges rule.S6 (ex.at 5) ex.one_cell ex.after_difference }
+    ensures product { GivesByRanges rule.S7 (ex.at 6) ex.one_cell ex.after_product }
+    ensures load { Gives rule.S8 (ex.at 7) ex.one_cell (moved_to (ex.at 8) (with_var ex.one_cell ex.t (Some null)) ∷ []) }
+    ensures store { Gives rule.S9 (ex.at 8) ex.one_cell ex.after_store }
+    ensures malloc { Gives rule.S10 (ex.at 9) ex.one_cell ex.after_malloc }
+    ensures free { Gives rule.S12 (ex.at 11) ex.one_cell ex.after_free }
+    ensures at_most { GivesByRanges rule.S14 (ex.at 13) ex.one_cell ex.after_at_most }
+    ensures assume { Gives rule.S15 (ex.at 14) ex.one_cell ex.after_assume }
+    ensures assert { Gives rule.S16 (ex.at 15) ex.one_cell ex.after_assert }
+{
+    derived_is_true();
+}
 
 /// The first unmet premises of moves and of an empty memory: another instruction, operands that are not known, a state
 /// that is not whole, and one with an edge.

@@ -1,6 +1,7 @@
 // What holds of judged rules of instructions. Each law is what a function with no body ensures.
 ghost use Rattle.mc_step.specs.JudgedLaws.{StepsHaveRules, StepsAreJudged, StepsAreOne, StepsAreDecided, FieldsAreThere};
 ghost use Rattle.mc_step.specs.JudgedLaws.{CausesAreOne, LeastRangeIsOne, LeastRangeHasNumber, LeastRangeIsOfInts, StepsAreWellMade};
+ghost use Rattle.mc_step.specs.JudgedLaws.{OperandsKeepSound, OperandsTellNothing, RangesSuffice};
 
 /// An instance is one of some rule.
 pub fn steps_have_rules()
@@ -38,6 +39,17 @@ pub fn least_ranges_are_known()
 /// What a rule makes of a well-made state is well made, and the goal of a side branch fits the definitions.
 pub fn steps_are_well_made()
     ensures { StepsAreWellMade }
+{
+    mc_state::numbers_stay_bounded();
+    mc_state::nodes_are_there();
+}
+
+/// The nodes of operands make no state false, and nothing more is derived of the nodes before; so ranges that are the
+/// least at states that are not false are the ones that instructions ask for.
+pub fn operands_tell_nothing()
+    ensures sound { OperandsKeepSound }
+    ensures told { OperandsTellNothing }
+    ensures ranges { RangesSuffice }
 {
     mc_state::numbers_stay_bounded();
     mc_state::nodes_are_there();

@@ -11,8 +11,13 @@ mod wrong_rules;
 
 pub use examples::{example_blocks, example_gaps, example_numbers, example_premises, example_runs};
 pub use gap::Gap;
-pub use judged_examples::{example_comparisons, example_results, example_unmet_blocks, example_unmet_moves};
-pub use judged_laws::{causes_are_one, fields_are_there, least_ranges_are_known, steps_are_judged, steps_are_well_made, steps_have_rules};
+pub use judged_examples::{
+    example_comparisons, example_given, example_results, example_unmet_blocks, example_unmet_moves,
+};
+pub use judged_laws::{
+    causes_are_one, fields_are_there, least_ranges_are_known, operands_tell_nothing,
+    steps_are_judged, steps_are_well_made, steps_have_rules,
+};
 pub use laws::{steps_are_sound, steps_stay_bounded, unmet_has_no_step};
 pub use next::Next;
 pub use wrong_rules::{

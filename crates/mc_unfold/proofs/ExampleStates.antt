@@ -7,11 +7,12 @@ use Rattle.mc_heap.specs.Heap.{Region, IsAtAddresses}
 use Rattle.mc_heap.specs.Instances.{nowhere}
 use Rattle.mc_heap.specs.Parts.{Split, IsEmpty}
 use Rattle.mc_heap.specs.PartLaws.{SplitCommutes, SplitAddsEmpty}
-use Rattle.mc_defs.specs.Examples.{defs, list_id, list_def, blocks, two_cells}
+use Rattle.mc_defs.specs.Examples.{defs, structs, list_id, list_def, blocks, two_cells}
 use Rattle.mc_defs.specs.Meaning as meaning
 use Rattle.mc_pure.specs.Derived as pure
 use Rattle.mc_pure.specs.Examples.{node}
 use Rattle.mc_state.specs.CoverExamples.{at_seven}
+use Rattle.mc_state.specs.Fits.{IsWellMade}
 use Rattle.mc_state.specs.Laws.{NoneStandsForFalse}
 use Rattle.mc_state.specs.Stands.{StandsBy}
 use Rattle.mc_unfold.specs.Examples.{edge, one_list, no_cell, cell_then_list, one_segment, no_segment, cell_then_segment, first_two}
@@ -83,3 +84,35 @@ module _ (not_false : NoneStandsForFalse) where
         defined = refl;
         gives = refl;
       }
+
+pub list_made : IsWellMade defs [] structs one_list
+list_made =
+    record {
+      bounded = record {
+        positive = omega arith;
+        kinds = (omega arith, omega arith, tt);
+        ids = (omega arith, omega arith, tt);
+        vars = tt;
+        edges = (((Ptr, inr refl), tt), tt);
+        atoms = tt;
+      };
+      atoms = tt;
+      fits_defs = ((inr refl, (list_def, refl, tt)), tt);
+      fits_program = record { vars_fit = tt; blocks_fit = (tt, tt) };
+    }
+
+pub segment_made : IsWellMade defs [] structs one_segment
+segment_made =
+    record {
+      bounded = record {
+        positive = omega arith;
+        kinds = (omega arith, omega arith, (omega arith, omega arith, tt));
+        ids = (omega arith, omega arith, tt);
+        vars = tt;
+        edges = (((Ptr, inr refl), ((Ptr, inr refl), tt)), tt);
+        atoms = tt;
+      };
+      atoms = tt;
+      fits_defs = ((inr refl, (list_def, refl, tt), inr refl, (list_def, refl, tt)), tt);
+      fits_program = record { vars_fit = tt; blocks_fit = (tt, tt) };
+    }

@@ -1,6 +1,6 @@
 -- Which premise is the first that is unmet, at small states.
-use Rattle.std.proofs.Common.{◌≡◌, ◌≢◌, List, [], ◌∷◌, Bool, true, false, Option, Some, None, pos, refl, arith, inl, inr}
-use Rattle.std.specs.Prelude.{ℤ, not, Err}
+use Rattle.std.proofs.Common.{◌≡◌, ◌≢◌, [], ◌∷◌, Bool, true, false, Some, None, pos, refl, arith, inr}
+use Rattle.std.specs.Prelude.{not, Err}
 use Rattle.std.proofs.lemmas.Int.{ints}
 use Rattle.mc_base.specs.declared.ids.NodeId.{NodeId}
 use Rattle.mc_base.specs.declared.plain.Atom.TheVariants.{Eq, Ne}
@@ -8,7 +8,6 @@ use Rattle.mc_base.specs.Nodes.{Valuation, null}
 use Rattle.mc_heap.specs.Heap.{Region, IsAtAddresses}
 use Rattle.mc_defs.specs.Examples.{defs}
 use Rattle.mc_premises.specs.Known.{Test, Tells, is_false, equal}
-use Rattle.mc_premises.specs.Premises.{Judged}
 use Rattle.mc_premises.proofs.Tests.{is_sound}
 use Rattle.mc_pure.specs.Derived as pure
 use Rattle.mc_pure.specs.Pure.{Base}
@@ -19,7 +18,7 @@ use Rattle.mc_state.specs.Laws.{NoneStandsForFalse, EqualNodesAreOne}
 use Rattle.mc_state.specs.Stands.{StandsBy}
 use Rattle.mc_state.specs.State.{State}
 use Rattle.mc_unfold.specs.Examples.{edge, one_list, one_segment, first_two}
-use Rattle.mc_unfold.specs.Judges.{may_unfold, unfolding_ind, unfolding_seg}
+use Rattle.mc_unfold.specs.Judges.{unfolding_ind, unfolding_seg}
 use Rattle.mc_unfold.specs.PremiseExamples.{false_list, false_segment}
 
 no_test : (b : Bool) → (b ≡ true → ⊥) → b ≡ false

@@ -1,12 +1,11 @@
 -- The rules that unfold are judged by their instances.
-use Rattle.std.proofs.Common.{◌≡◌, ◌⊎◌, List, [], ◌∷◌, Bool, true, false, Option, Some, None, map, slice_get, refl, ap, sym, ◌∙◌, subst, inl, inr}
+use Rattle.std.proofs.Common.{◌≡◌, ◌⊎◌, List, [], ◌∷◌, Bool, true, false, Option, Some, None, refl, ap, sym, ◌∙◌, subst, inl, inr}
 use Rattle.std.specs.Prelude.{◌==◌, ◌||◌, not, Ok, if◌then◌else◌}
-use Rattle.std.specs.List.{AllByRecursion, flat_map}
+use Rattle.std.specs.List.{AllByRecursion}
 use Rattle.mc_base.specs.declared.ids.EdgeId.{EdgeId}
 use Rattle.mc_base.specs.declared.ids.NodeId.{NodeId}
 use Rattle.mc_base.specs.Nodes.{null}
 use Rattle.mc_defs.specs.declared.rules.Def.{Def}
-use Rattle.mc_defs.specs.declared.rules.Rule.{Rule}
 use Rattle.mc_graph.specs.declared.edge.Edge.{Edge}
 use Rattle.mc_graph.specs.declared.edge.Edge.TheVariants.{Block, Ind, Seg}
 use Rattle.mc_graph.specs.Graph.{Edges, edge_with}
@@ -19,17 +18,17 @@ use Rattle.mc_state.specs.Fits.{EdgeFitsDefs, FitsDefs}
 use Rattle.mc_state.specs.Rules.{MayUnfold}
 use Rattle.mc_state.specs.State.{State}
 use Rattle.mc_unfold.specs.JudgedLaws.{IndIsJudged, SegIsJudged}
-use Rattle.mc_unfold.specs.Judges.{WholeInd, whole_ind, may_unfold, rules_in, rules_of, ind_successors, seg_successors, unfolding_ind, unfolding_seg}
+use Rattle.mc_unfold.specs.Judges.{AnyInd, any_ind_of, may_unfold, rules_in, rules_of, ind_successors, seg_successors, unfolding_ind, unfolding_seg}
 use Rattle.mc_unfold.specs.Unfolded.{UnfoldsInd, UnfoldsSeg}
 
 -- an edge with the parts of an Ind is that Ind
-ind_is : (o : Option Edge) (i : WholeInd) → whole_ind o ≡ Some i → o ≡ Some (Ind i.at i.pred i.args)
+ind_is : (o : Option Edge) (i : AnyInd) → any_ind_of o ≡ Some i → o ≡ Some (Ind i.at i.pred i.args)
 ind_is None i e = absurd (cc e)
 ind_is (Some (Block at shape fields)) i e = absurd (cc e)
 ind_is (Some (Seg at args pred stop ends)) i e = absurd (cc e)
 ind_is (Some (Ind at pred args)) i e =
-    let same : ◌≡◌ {A = WholeInd} (record { at = at; pred = pred; args = args }) i = cc e in
-    ap (λ (i : WholeInd). Some (Ind i.at i.pred i.args)) same
+    let same : ◌≡◌ {A = AnyInd} (record { at = at; pred = pred; args = args }) i = cc e in
+    ap (λ (i : AnyInd). Some (Ind i.at i.pred i.args)) same
 
 -- and one with the parts of a Seg is that Seg
 seg_is : (o : Option Edge) (g : SegParts) → seg_of o ≡ Some g → o ≡ Some (Seg g.at g.args g.pred g.stop g.ends)
@@ -78,7 +77,7 @@ module _ (know : Test) (s : State) (tells : Tells know s) where
     ind_from : FitsDefs defs s → (next : List State) → unfolding_ind know defs accessed edge s ≡ Ok next → UnfoldsInd defs accessed edge s next
     ind_from fits next e =
         let two = need_ok 2 _ _ next e in
-        let three = have_ok 3 (whole_ind (edge_with s.graph.edges edge)) _ next two.1 in
+        let three = have_ok 3 (any_ind_of (edge_with s.graph.edges edge)) _ next two.1 in
         let i = three.0 in
         let four = need_ok 4 (may_unfold know accessed i.at) _ next three.2 in
         let there = ind_is (edge_with s.graph.edges edge) i three.1 in
@@ -101,7 +100,7 @@ module _ (know : Test) (s : State) (tells : Tells know s) where
         let sound : not (is_false know) ≡ true = is_sound know s tells u.consistent in
         let there : edge_with s.graph.edges edge ≡ Some (Ind u.at u.pred u.args) = u.there in
         let may : may_unfold know accessed u.at ≡ true = may_to accessed u.at u.may in
-        let i : WholeInd = record { at = u.at; pred = u.pred; args = u.args } in
+        let i : AnyInd = record { at = u.at; pred = u.pred; args = u.args } in
         let gives : ◌≡◌ {A = Judged (List State)} (Ok (ind_successors s edge i (rules_of defs u.pred))) (Ok next) =
         ap (λ (o : Option Def). Ok (ind_successors s edge i (rules_in o))) u.defined ∙ ap (λ n. Ok n) (sym u.gives) in
         rw sound (rw there (rw may gives))

@@ -1,5 +1,5 @@
 -- States stay well made where they get nodes, edges and atoms that fit, and where they lose an edge.
-use Rattle.std.proofs.Common.{◌≡◌, ℕ, suc, Bool, true, false, Option, Some, None, List, [], ◌∷◌, ◌++◌, map, refl, inl, inr}
+use Rattle.std.proofs.Common.{ℕ, suc, Bool, true, false, Option, Some, None, List, [], ◌∷◌, map, refl}
 use Rattle.std.specs.Prelude.{◌==◌, if◌then◌else◌}
 use Rattle.std.specs.List.{AllByRecursion}
 use Rattle.mc_base.specs.declared.ids.EdgeId.{EdgeId}
@@ -19,9 +19,9 @@ use Rattle.mc_graph.specs.declared.edge.Edge.TheVariants.{Block, Ind, Seg}
 use Rattle.mc_graph.specs.Edges.{known_nodes, nodes_of}
 use Rattle.mc_graph.specs.Graph.{Edges, numbered, without}
 use Rattle.mc_pure.specs.Pure.{Kinds, HasKind, IsNode, IsWellFormed}
-use Rattle.mc_state.specs.Fits.{AreNodes, HaveKinds, MayHaveKind, MayHaveKinds, ArgsFit, EdgeFitsDefs, EdgeFitsStructs, IsWellMade}
+use Rattle.mc_state.specs.Fits.{AreNodes, HaveKinds, MayHaveKind, MayHaveKinds, ArgsFit, EdgeFitsDefs, EdgeFitsStructs}
 use Rattle.mc_state.specs.Laws.{NodesStayBounded, NewNodesHaveKinds, AtomsStayBounded, EdgesStayBounded, FewerEdgesStayBounded}
-use Rattle.mc_state.specs.State.{State, with_nodes}
+use Rattle.mc_state.specs.State.{with_nodes}
 use Rattle.mc_unfold.specs.WellMade.{EdgeFits, NodesKeepWellMade, EdgesKeepWellMade, AtomsKeepWellMade, FewerKeepWellMade, EdgeOfFitting}
 use Rattle.mc_unfold.proofs.Judging.{edge_fits}
 use Rattle.mc_unfold.proofs.Lists.{all_append, all_map}

@@ -1,5 +1,5 @@
 -- What the rules that unfold make is well made.
-use Rattle.std.proofs.Common.{◌≡◌, ℕ, zero, suc, Option, Some, List, [], ◌∷◌, ◌++◌, map, take, drop, length, slice_get, refl, sym, ◌∙◌, ap, subst}
+use Rattle.std.proofs.Common.{◌≡◌, ℕ, zero, suc, Some, List, [], ◌∷◌, ◌++◌, map, take, drop, length, slice_get, refl, sym, ◌∙◌, ap, subst}
 use Rattle.std.specs.List.{AllByRecursion, flat_map}
 use Rattle.std.proofs.Math.ListN.{take-append-drop}
 use Rattle.mc_base.specs.declared.ids.EdgeId.{EdgeId}
@@ -13,7 +13,7 @@ use Rattle.mc_defs.specs.declared.rules.Def.{Def}
 use Rattle.mc_defs.specs.declared.rules.Rule.{Rule}
 use Rattle.mc_defs.specs.declared.shapes.StructInfo.{StructInfo}
 use Rattle.mc_defs.specs.Conditions.{DefsFit}
-use Rattle.mc_defs.specs.Instances.{node_of, atom_of}
+use Rattle.mc_defs.specs.Instances.{atom_of}
 use Rattle.mc_graph.specs.declared.edge.Edge.{Edge}
 use Rattle.mc_graph.specs.declared.edge.Edge.TheVariants.{Ind, Seg}
 use Rattle.mc_graph.specs.Graph.{edge_with, without}
@@ -23,7 +23,7 @@ use Rattle.mc_state.specs.Fits.{HaveKinds, ArgsFit, EdgeFitsDefs, IsWellMade}
 use Rattle.mc_state.specs.Laws.{NewNodesHaveKinds}
 use Rattle.mc_state.specs.State.{State, numbered_nodes, with_nodes, with_edges, with_only_edges}
 use Rattle.mc_unfold.specs.RuleLaws.{IsOwnPlace}
-use Rattle.mc_unfold.specs.Unfolded.{new_kinds, rule_nodes, opened, unfolded, unfolded_at, emptied, own_places, equal_atoms}
+use Rattle.mc_unfold.specs.Unfolded.{new_kinds, rule_nodes, opened, unfolded, unfolded_at, own_places, equal_atoms}
 use Rattle.mc_unfold.specs.WellMade.{EdgeFits, NodesKeepWellMade, EdgesKeepWellMade, AtomsKeepWellMade, FewerKeepWellMade, EmptiedIsWellMade, RuleIsMade, IndMakesWellMade, SegMakesWellMade}
 use Rattle.mc_unfold.proofs.Judging.{edge_fits}
 use Rattle.mc_unfold.proofs.Keeping.{have_more, args_more}

@@ -1,5 +1,5 @@
 -- The block, the calls and the atoms of a rule fit at nodes of its names' kinds.
-use Rattle.std.proofs.Common.{◌≡◌, ◌≤◌, ◌<◌, ◌+◌, ℕ, zero, suc, ℤ, pos, true, false, Option, Some, None, List, [], ◌∷◌, map, take, drop, length, get_or, slice_get, refl, sym, ◌∙◌, ap, subst, inl, inr, arith, length-take, length-drop}
+use Rattle.std.proofs.Common.{◌≡◌, ◌≤◌, ◌+◌, ℕ, zero, suc, ℤ, pos, true, false, Option, Some, None, List, [], ◌∷◌, map, take, drop, length, slice_get, refl, sym, ◌∙◌, ap, subst, inl, inr, arith, length-take, length-drop}
 use Rattle.std.specs.Prelude.{All, option_map}
 use Rattle.std.specs.List.{AllByRecursion}
 use Rattle.std.proofs.lemmas.Int.{ints}

@@ -14,10 +14,12 @@ use Rattle.mc_unfold.specs.Unfolded.{UnfoldsInd, UnfoldsSeg}
 abbrev pub IndIsJudged : Type 0
 IndIsJudged =
     (know : Test) (defs : List Def) (accessed : Option NodeId) (edge : EdgeId) (s : State)
-    → FitsDefs defs s → Tells know s → IsJudged (unfolding_ind know defs accessed edge s) (UnfoldsInd defs accessed edge s)
+    → FitsDefs defs s → Tells know s
+    → IsJudged (unfolding_ind know defs accessed edge s) (UnfoldsInd defs accessed edge s)
 
 -- L2 is judged by its instances
 abbrev pub SegIsJudged : Type 0
 SegIsJudged =
     (know : Test) (defs : List Def) (accessed : Option NodeId) (edge : EdgeId) (s : State)
-    → FitsDefs defs s → Tells know s → IsJudged (unfolding_seg know defs accessed edge s) (UnfoldsSeg defs accessed edge s)
+    → FitsDefs defs s → Tells know s
+    → IsJudged (unfolding_seg know defs accessed edge s) (UnfoldsSeg defs accessed edge s)

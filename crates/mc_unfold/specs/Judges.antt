@@ -16,18 +16,18 @@ use Rattle.mc_premises.specs.Premises.{Judged, need, have}
 use Rattle.mc_state.specs.State.{State}
 use Rattle.mc_unfold.specs.Unfolded.{unfolded, unfolded_at, emptied, own_places}
 
--- an Ind, part by part, with its predicate
-pub record WholeInd : Type 0 where
+-- an Ind of whatever predicate, part by part
+pub record AnyInd : Type 0 where
   pub at : NodeId
   pub pred : PredId
   pub args : List NodeId
 
 -- the parts of an edge that is an Ind
-abbrev pub whole_ind : Option Edge → Option WholeInd
-whole_ind None = None
-whole_ind (Some (Block at shape fields)) = None
-whole_ind (Some (Ind at pred args)) = Some (record { at = at; pred = pred; args = args })
-whole_ind (Some (Seg at args pred «end» ends)) = None
+abbrev pub any_ind_of : Option Edge → Option AnyInd
+any_ind_of None = None
+any_ind_of (Some (Block at shape fields)) = None
+any_ind_of (Some (Ind at pred args)) = Some (record { at = at; pred = pred; args = args })
+any_ind_of (Some (Seg at args pred «end» ends)) = None
 
 -- the node is equal to null, or to the accessed node where there is one
 abbrev pub may_unfold : Test → Option NodeId → NodeId → Bool
@@ -44,7 +44,7 @@ abbrev pub rules_of : List Def → PredId → List Rule
 rules_of defs pred = rules_in (slice_get defs pred.0)
 
 -- what an Ind becomes, by each of the rules
-abbrev pub ind_successors : State → EdgeId → WholeInd → List Rule → List State
+abbrev pub ind_successors : State → EdgeId → AnyInd → List Rule → List State
 ind_successors s edge i rules = map (unfolded s edge i.at i.args) rules
 
 -- what a Seg becomes: nothing, or what each of the rules makes of it, for each call of its predicate
@@ -57,7 +57,7 @@ seg_successors s edge g rules =
 abbrev pub unfolding_ind : Test → List Def → Option NodeId → EdgeId → State → Judged (List State)
 unfolding_ind know defs accessed edge s =
     need 2 (not (is_false know))
-    (have 3 (whole_ind (edge_with s.graph.edges edge)) (λ i.
+    (have 3 (any_ind_of (edge_with s.graph.edges edge)) (λ i.
     need 4 (may_unfold know accessed i.at)
     (Ok (ind_successors s edge i (rules_of defs i.pred)))))
 

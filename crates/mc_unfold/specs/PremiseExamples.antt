@@ -15,4 +15,5 @@ false_list = state_of ((node 1, Ptr) ∷ []) (Ind (node 1) list_id [] ∷ []) (N
 
 -- a list segment in a state that is false
 abbrev pub false_segment : State
-false_segment = state_of ((node 1, Ptr) ∷ (node 2, Ptr) ∷ []) (Seg (node 1) [] list_id (node 2) [] ∷ []) (Ne null null (pos 0) ∷ [])
+false_segment =
+    state_of ((node 1, Ptr) ∷ (node 2, Ptr) ∷ []) (Seg (node 1) [] list_id (node 2) [] ∷ []) (Ne null null (pos 0) ∷ [])

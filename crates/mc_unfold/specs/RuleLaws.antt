@@ -1,5 +1,5 @@
 -- What a rule's atoms, edges and calls are at the nodes of its names.
-use Rattle.std.specs.Prelude.{◌≡◌, ◌+◌, ℕ, List, ◌∷◌, pos, Option, Some, map, slice_get}
+use Rattle.std.specs.Prelude.{◌≡◌, ℕ, List, pos, Option, Some, map, slice_get}
 use Rattle.std.specs.List.{AllByRecursion}
 use Rattle.mc_base.specs.declared.ids.NodeId.{NodeId}
 use Rattle.mc_base.specs.declared.ids.PredId.{PredId}
@@ -35,13 +35,15 @@ EqualAtomsAreTrue =
 
 -- the node of each name is there where the nodes are
 abbrev pub NameIsThere : Type 0
-NameIsThere = (kinds : Kinds) (nodes : List NodeId) (name : ℕ) → AreNodes kinds nodes → IsNode kinds (node_of nodes name)
+NameIsThere =
+    (kinds : Kinds) (nodes : List NodeId) (name : ℕ) → AreNodes kinds nodes → IsNode kinds (node_of nodes name)
 
 -- and so are the nodes of a block and of calls
 abbrev pub BodyIsThere : Type 0
 BodyIsThere =
     (kinds : Kinds) (nodes : List NodeId) (block : Option StructId) (contents : List ℕ) (calls : List Call)
-    → AreNodes kinds nodes → AllByRecursion (λ e. AreNodes kinds (nodes_of e)) (body_edges nodes block contents calls)
+    → AreNodes kinds nodes
+    → AllByRecursion (λ e. AreNodes kinds (nodes_of e)) (body_edges nodes block contents calls)
 
 -- and of atoms
 abbrev pub RuleAtomsAreThere : Type 0
@@ -53,7 +55,8 @@ RuleAtomsAreThere =
 abbrev pub EqualAtomsAreThere : Type 0
 EqualAtomsAreThere =
     (kinds : Kinds) (as' bs : List NodeId)
-    → AreNodes kinds as' → AreNodes kinds bs → AllByRecursion (λ a. AreNodes kinds (nodes_of_atom a)) (equal_atoms as' bs)
+    → AreNodes kinds as' → AreNodes kinds bs
+    → AllByRecursion (λ a. AreNodes kinds (nodes_of_atom a)) (equal_atoms as' bs)
 
 -- the place of a call of the predicate is listed
 abbrev pub OwnPlaceIsListed : Type 0
@@ -68,7 +71,8 @@ IsOwnPlace pred calls place = (call : Call) × (slice_get calls place ≡ Some c
 
 -- and only such places are listed
 abbrev pub OwnPlacesAreOwn : Type 0
-OwnPlacesAreOwn = (pred : PredId) (calls : List Call) → AllByRecursion (IsOwnPlace pred calls) (own_places pred 0 calls)
+OwnPlacesAreOwn =
+    (pred : PredId) (calls : List Call) → AllByRecursion (IsOwnPlace pred calls) (own_places pred 0 calls)
 
 -- each rule of definitions that fit structs fits
 abbrev pub RuleOfFitting : Type 0

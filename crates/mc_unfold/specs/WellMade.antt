@@ -67,7 +67,8 @@ pub record RuleIsMade (defs : List Def) (structs : List StructInfo) (kinds : Kin
 -- every rule of definitions that fit is made so
 abbrev pub RulesAreMade : Type 0
 RulesAreMade =
-    (defs : List Def) (structs : List StructInfo) (def : Def) (rule : Rule) (p r : ℕ) (kinds : Kinds) (nodes : List NodeId)
+    (defs : List Def) (structs : List StructInfo) (def : Def) (rule : Rule) (p r : ℕ)
+    (kinds : Kinds) (nodes : List NodeId)
     → DefsFit structs defs → slice_get defs p ≡ Some def → slice_get def.rules r ≡ Some rule
     → HaveKinds kinds rule.names nodes → RuleIsMade defs structs kinds nodes rule
 
@@ -88,13 +89,15 @@ EmptiedIsWellMade =
 -- what L1 makes is well made where the state is
 abbrev pub IndMakesWellMade : Type 0
 IndMakesWellMade =
-    (defs : List Def) (vars : List VarInfo) (structs : List StructInfo) (accessed : Option NodeId) (edge : EdgeId) (s : State) (next : List State)
+    (defs : List Def) (vars : List VarInfo) (structs : List StructInfo) (accessed : Option NodeId) (edge : EdgeId)
+    (s : State) (next : List State)
     → DefsFit structs defs → IsWellMade defs vars structs s → UnfoldsInd defs accessed edge s next
     → AllByRecursion (IsWellMade defs vars structs) next
 
 -- what L2 makes is well made where the state is
 abbrev pub SegMakesWellMade : Type 0
 SegMakesWellMade =
-    (defs : List Def) (vars : List VarInfo) (structs : List StructInfo) (accessed : Option NodeId) (edge : EdgeId) (s : State) (next : List State)
+    (defs : List Def) (vars : List VarInfo) (structs : List StructInfo) (accessed : Option NodeId) (edge : EdgeId)
+    (s : State) (next : List State)
     → DefsFit structs defs → IsWellMade defs vars structs s → UnfoldsSeg defs accessed edge s next
     → AllByRecursion (IsWellMade defs vars structs) next

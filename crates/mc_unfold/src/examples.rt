@@ -1,11 +1,11 @@
 // States that meet the premises of the laws, and rules for which the laws fail.
 ghost use Rattle.std.specs.Prelude.{◌≡◌, Some, None, Err, [], ◌∷◌};
 ghost use Rattle.mc_heap.specs.Heap.{IsAtAddresses};
-ghost use Rattle.mc_defs.specs.Examples.{defs, blocks, two_cells, first_cell};
+ghost use Rattle.mc_defs.specs.Examples.{defs, structs, blocks, two_cells, first_cell};
 ghost use Rattle.mc_premises.specs.Known.{Test, Tells};
 ghost use Rattle.mc_pure.specs.Examples.{node};
 ghost use Rattle.mc_state.specs.CoverExamples.{at_seven};
-ghost use Rattle.mc_state.specs.Fits.{IsBounded};
+ghost use Rattle.mc_state.specs.Fits.{IsWellMade};
 ghost use Rattle.mc_state.specs.Stands.{StandsBy};
 ghost use Rattle.mc_unfold.specs.Unfolded.{UnfoldsInd, UnfoldsSeg};
 ghost use Rattle.mc_unfold.specs.Examples.{edge, one_list, no_cell, cell_then_list, one_segment, no_segment, cell_then_segment, first_two};
@@ -19,7 +19,7 @@ use mc_state::{body_premises, derived_is_true};
 
 /// A list at the accessed node is null, or a cell with a list behind it.
 pub fn example_of_ind()
-    ensures bounded { IsBounded one_list }
+    ensures made { IsWellMade defs [] structs one_list }
     ensures unfolds { UnfoldsInd defs (Some (node 1)) (edge 0) one_list (no_cell ∷ cell_then_list ∷ []) }
     ensures stands { StandsBy defs at_seven [] (blocks two_cells) one_list }
 {
@@ -31,7 +31,7 @@ pub fn example_of_ind()
 
 /// A segment that begins at the accessed node is empty, or a cell with a segment behind it.
 pub fn example_of_seg()
-    ensures bounded { IsBounded one_segment }
+    ensures made { IsWellMade defs [] structs one_segment }
     ensures unfolds { UnfoldsSeg defs (Some (node 1)) (edge 0) one_segment (no_segment ∷ cell_then_segment ∷ []) }
     ensures addresses { IsAtAddresses (blocks first_cell) }
     ensures stands { StandsBy defs (first_two 7 9) [] (blocks first_cell) one_segment }

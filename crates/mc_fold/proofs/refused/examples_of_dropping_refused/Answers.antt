@@ -1,4 +1,4 @@
-use Rattle.mc_fold.proofs.Refusing.{drop_absent, drop_reached, forget_null, forget_absent, forget_start, meet_tree, meet_absent, meet_null}
+use Rattle.mc_fold.proofs.Refusing.{drop_absent, drop_reached, forget_null, forget_absent, forget_start, forget_variable, meet_tree, meet_absent, meet_null}
 use Rattle.mc_fold.proofs.refused.examples_of_dropping_refused.Goals as goal
 
 pub returns : goal.returns
@@ -8,9 +8,10 @@ returns c =
     record {
       absent = drop_absent truth sound;
       reached = drop_reached truth sound;
-      forgotten_null = forget_null truth sound;
-      no_node = forget_absent truth sound;
-      start = forget_start truth sound;
+      forgotten_null = λ atoms know tells. forget_null truth sound know tells atoms;
+      no_node = λ atoms know tells. forget_absent truth sound know tells atoms;
+      start = λ atoms know tells. forget_start truth sound know tells atoms;
+      variable = λ atoms know tells. forget_variable truth sound know tells atoms;
       tree = meet_tree truth sound;
       no_edge = meet_absent truth sound;
       elsewhere = meet_null truth sound;

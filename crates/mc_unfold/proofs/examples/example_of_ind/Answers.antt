@@ -1,5 +1,8 @@
-use Rattle.mc_unfold.proofs.ExampleStates.{list_stands, list_unfolds}
+use Rattle.mc_unfold.proofs.ExampleStates.{list_made, list_stands, list_unfolds}
 use Rattle.mc_unfold.proofs.examples.example_of_ind.Goals as goal
+
+pub returns-clause-made : goal.returns-clause-made
+returns-clause-made c = list_made
 
 pub returns-clause-unfolds : goal.returns-clause-unfolds
 returns-clause-unfolds c =

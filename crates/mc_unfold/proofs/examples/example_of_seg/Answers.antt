@@ -1,8 +1,11 @@
 use Rattle.std.proofs.Common.{arith}
 use Rattle.std.proofs.lemmas.Int.{ints}
 use Rattle.mc_defs.specs.Examples.{blocks, two_cells, first_cell, second_cell}
-use Rattle.mc_unfold.proofs.ExampleStates.{segment_stands, segment_unfolds}
+use Rattle.mc_unfold.proofs.ExampleStates.{segment_made, segment_stands, segment_unfolds}
 use Rattle.mc_unfold.proofs.examples.example_of_seg.Goals as goal
+
+pub returns-clause-made : goal.returns-clause-made
+returns-clause-made c = segment_made
 
 pub returns-clause-unfolds : goal.returns-clause-unfolds
 returns-clause-unfolds c =

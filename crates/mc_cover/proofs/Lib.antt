@@ -1,0 +1,13 @@
+mod Options
+mod Terms
+mod Fixed
+mod Parts
+mod Left
+mod Sound
+mod Listed
+mod Picked
+mod Complete
+mod Settled
+mod FirstEdge
+mod Rules
+mod Guessing

@@ -1,0 +1,7 @@
+use Rattle.std.proofs.Common.{refl}
+use Rattle.mc_search.specs.Search.{options, tries}
+use Rattle.mc_cover.proofs.examples.example_segments.Goals as goal
+
+pub returns : goal.returns
+unfolding options tries
+returns c = record { itself = refl; one_cell = refl; through_left = refl }

@@ -1,0 +1,4 @@
+pub mod Members
+pub mod Tries
+pub mod Bound
+pub mod Firsts
