@@ -1,0 +1,119 @@
+-- Disequalities moved to the least nodes of classes.
+use Rattle.std.proofs.Common.{◌≡◌, ℕ, ◌⊎◌, ◌<◌, ℤ, pos, negsuc, ◌+ℤ◌, ◌-ℤ◌, neg_ℤ, ◌≤ℤ◌, ◌<ℤ◌, List, Option, Some, None, slice_get, get_or, length, Bool, true, false, refl, sym, ◌∙◌, ap, subst, inl, inr, arith}
+use Rattle.std.proofs.lemmas.Int.{ints}
+use Rattle.std.proofs.lemmas.Option.{slice_get_within, slice_get-get_or}
+use Rattle.mc_base.specs.declared.ids.NodeId.{NodeId}
+use Rattle.mc_base.specs.declared.plain.Atom.{Atom}
+use Rattle.mc_base.specs.declared.plain.Atom.TheVariants.{Eq, Ne, In}
+use Rattle.mc_ranges.specs.Ends.{IsEnd}
+use Rattle.mc_pure.specs.Pure.{Pure, IsNode}
+use Rattle.mc_pure.specs.Derived.{Follows, IsFalse, HasRange, turned, chained, differs, differs_along}
+use Rattle.mc_pure.specs.Rows.{IsShort}
+use Rattle.mc_pure.specs.Classes.{IsLong}
+use Rattle.mc_pure.specs.declared.classes.ClassPlace.{ClassPlace}
+use Rattle.mc_canon.specs.declared.gaps.Gap.{Gap}
+use Rattle.mc_canon.specs.Order.{GivesAtMost}
+use Rattle.mc_canon.specs.Left.{IsPlace, FindsPlace}
+use Rattle.mc_canon.specs.Gaps.{AreNodes, AreApart, ArePair, IsMoved, MovedPlaces, StartGives, StartsGive, IsPlain, IsTurned, gap_atom, turned_gap, Shows, Gives, GapOf, PairGives, PairsGiveAt}
+use Rattle.mc_canon.proofs.Lists.{at_most_as}
+use Rattle.mc_canon.proofs.Nodes.{eq_as, ne_as, range_once, place_once, not_below}
+
+pub gap_same : (a b : Gap) → a.left ≡ b.left → a.right ≡ b.right → a.by ≡ b.by → a ≡ b
+gap_same a b p q r =
+    ap (λ (z : NodeId). let x : Gap = record { left = z; right = a.right; by = a.by } in x) p
+    ∙ ap (λ (z : NodeId). let x : Gap = record { left = b.left; right = z; by = a.by } in x) q
+    ∙ ap (λ (z : ℤ). let x : Gap = record { left = b.left; right = b.right; by = z } in x) r
+
+-- ranges that do not meet
+pub apart_to : (p : Pure) (g : Gap) (l h m k : ℤ) → HasRange p g.left l h → HasRange p g.right m k → (h <ℤ (m +ℤ g.by)) ⊎ ((k +ℤ g.by) <ℤ l) → AreApart p g
+apart_to p g l h m k x y w = record { lo = l; hi = h; m = m; k = k; left_range = x; right_range = y; apart = w }
+
+pub apart_from : (p : Pure) (nf : IsFalse p → ⊥) (g : Gap) (l h m k : ℤ) → HasRange p g.left l h → HasRange p g.right m k → AreApart p g → (h <ℤ (m +ℤ g.by)) ⊎ ((k +ℤ g.by) <ℤ l)
+apart_from p nf g l h m k x y a =
+    let u = range_once p nf g.left a.lo a.hi l h a.left_range x in
+    let v = range_once p nf g.right a.m a.k m k a.right_range y in
+    elim a.apart [ inl w ↦ inl (omega (arith, ints, u.1, v.0)) | inr w ↦ inr (omega (arith, ints, u.0, v.1)) ]
+
+pub met_long : (l h m k c : ℤ) → IsEnd l → IsEnd h → IsEnd m → IsEnd k → ((h <ℤ (m +ℤ c)) ⊎ ((k +ℤ c) <ℤ l) → ⊥) → IsLong c
+met_long l h m k c a b d e n =
+    let x = not_below (m +ℤ c) h (λ w. n (inl w)) in
+    let y = not_below l (k +ℤ c) (λ w. n (inr w)) in
+    (omega (arith, ints, a.0, e.1), omega (arith, ints, b.1, d.0))
+
+-- a disequality of nodes and that of the nodes of a gap, by the places of all four
+module _ (p : Pure) (nf : IsFalse p → ⊥) (x y : NodeId) (d : ℤ) (g : Gap) (first second left right : ClassPlace) (px : IsPlace p None x first) (py : IsPlace p None y second) (pl : IsPlace p None g.left left) (pr : IsPlace p None g.right right) where
+  pub moved_to : MovedPlaces first second left right d g.by → IsMoved p x y d g
+  moved_to m =
+      let by = m.by_is in
+      record {
+        e = first.offset -ℤ left.offset;
+        h = second.offset -ℤ right.offset;
+        left_equal = eq_as p (chained (eq_as p px.equal refl m.left_is refl) (turned pl.equal)) refl refl (omega (arith, ints));
+        right_equal = eq_as p (chained (eq_as p py.equal refl m.right_is refl) (turned pr.equal)) refl refl (omega (arith, ints));
+        by_is = omega (arith, ints);
+      }
+
+  pub moved_from : IsMoved p x y d g → MovedPlaces first second left right d g.by
+  moved_from m =
+      let by = m.by_is in
+      let a = place_once p nf None x first (record { least = left.least; offset = m.e +ℤ left.offset }) px (record { least = pl.least; equal = chained m.left_equal pl.equal }) in
+      let b = place_once p nf None y second (record { least = right.least; offset = m.h +ℤ right.offset }) py (record { least = pr.least; equal = chained m.right_equal pr.equal }) in
+      let ea : first.offset ≡ m.e +ℤ left.offset = ap (λ (z : ClassPlace). z.offset) a in
+      let eb : second.offset ≡ m.h +ℤ right.offset = ap (λ (z : ClassPlace). z.offset) b in
+      record {
+        left_is = ap (λ (z : ClassPlace). z.least) a;
+        right_is = ap (λ (z : ClassPlace). z.least) b;
+        by_is = omega (arith, ints);
+      }
+
+-- one way round alone
+pub one_way : (inside : Bool) (g : Gap) → IsTurned inside g → IsTurned inside (turned_gap g) → ⊥
+one_way true g x y = let u = x.1 in let v = y.1 in omega (arith, ints)
+one_way false g x y = omega arith
+
+pub gives_first : (p : Pure) (starts : List NodeId) (inside : Bool) (g : Gap) (f : Atom) → GivesAtMost (Shows p starts inside g) (Some f) → GivesAtMost (Gives p starts inside g) (Some f)
+gives_first p starts inside g f m = (inl m.0, λ h k. elim k [ inl x ↦ m.1 h x | inr x ↦ absurd (one_way inside g m.0.turned x.turned) ])
+
+pub gives_second : (p : Pure) (starts : List NodeId) (inside : Bool) (g t : Gap) (o : Option Atom) → t.left ≡ g.right → t.right ≡ g.left → t.by ≡ neg_ℤ g.by → GivesAtMost (Shows p starts inside g) None → GivesAtMost (Shows p starts inside t) o → GivesAtMost (Gives p starts inside g) o
+gives_second p starts inside g t o a b c none m =
+    let m' = subst (λ (z : Gap). GivesAtMost (Shows p starts inside z) o) (gap_same t (turned_gap g) a b c) m in
+    at_most_as (Shows p starts inside (turned_gap g)) (Gives p starts inside g) o (λ h k. inr k) (λ h k. elim k [ inl x ↦ absurd (none h x) | inr x ↦ x ]) m'
+
+-- the gap of a disequality is one
+pub gap_once : (p : Pure) (nf : IsFalse p → ⊥) (gone : Option NodeId) (x y : NodeId) (d : ℤ) (g t : Gap) → GapOf p gone x y d g → GapOf p gone x y d t → g ≡ t
+gap_once p nf gone x y d g t a b =
+    let l = place_once p nf gone x a.left_place b.left_place a.left_is b.left_is in
+    let r = place_once p nf gone y a.right_place b.right_place a.right_is b.right_is in
+    let lo = ap (λ (z : ClassPlace). z.offset) l in
+    let ro = ap (λ (z : ClassPlace). z.offset) r in
+    let ga = a.by in
+    let gb = b.by in
+    gap_same g t (a.left ∙ ap (λ (z : ClassPlace). z.least) l ∙ sym b.left) (a.right ∙ ap (λ (z : ClassPlace). z.least) r ∙ sym b.right) (omega (arith, ints))
+
+module _ (p : Pure) (nf : IsFalse p → ⊥) (gone : Option NodeId) (starts : List NodeId) (inside : Bool) (x y : NodeId) (d : ℤ) where
+  pub pair_found : (first second : ClassPlace) (g : Gap) (o : Option Atom) → IsPlace p gone x first → IsPlace p gone y second → g.left ≡ first.least → g.right ≡ second.least → g.by ≡ (second.offset +ℤ d) -ℤ first.offset → GivesAtMost (Gives p starts inside g) o → GivesAtMost (PairGives p gone starts inside x y d) o
+  pair_found first second g o px py l r b m =
+      let here : GapOf p gone x y d g = record { left_place = first; right_place = second; left_is = px; right_is = py; left = l; right = r; by = b } in
+      at_most_as (Gives p starts inside g) (PairGives p gone starts inside x y d) o
+      (λ f k. (g, here, k))
+      (λ f k. subst (λ (z : Gap). Gives p starts inside z f) (gap_once p nf gone x y d k.0 g k.1 here) k.2)
+      m
+
+  pub no_first : FindsPlace p gone x None → GivesAtMost (PairGives p gone starts inside x y d) None
+  no_first none f k = none k.1.left_place k.1.left_is
+
+  pub no_second : FindsPlace p gone y None → GivesAtMost (PairGives p gone starts inside x y d) None
+  no_second none f k = none k.1.right_place k.1.right_is
+
+-- the atom of a gap follows from the disequality
+pub gap_true : (p : Pure) (gone : Option NodeId) (x y : NodeId) (d : ℤ) (g : Gap) → GapOf p gone x y d g → Follows p (Ne x y d) → Follows p (gap_atom g)
+gap_true p gone x y d g k f =
+    let one = differs (differs_along (differs (differs_along f k.right_is.equal)) k.left_is.equal) in
+    let by = k.by in
+    let e : neg_ℤ (neg_ℤ (d +ℤ k.right_place.offset) +ℤ k.left_place.offset) ≡ g.by = omega (arith, ints) in
+    subst (λ (z : NodeId). Follows p (Ne z g.right g.by)) (sym k.left)
+    (subst (λ (z : NodeId). Follows p (Ne k.left_place.least z g.by)) (sym k.right) (ne_as p one e))
+
+-- the same of starts of blocks, as the code has them
+pub starts_below : (starts : List NodeId) (i : ℕ) (n : NodeId) → slice_get starts i ≡ Some n → i < length starts
+starts_below starts i n e = slice_get_within starts i n e

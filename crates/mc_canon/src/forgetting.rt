@@ -1,0 +1,97 @@
+// Forgetting a node.
+ghost use Rattle.std.specs.Prelude.{◌≡◌, ◌≢◌, IfOk, Some};
+ghost use Rattle.mc_base.specs.Nodes.{null};
+ghost use Rattle.mc_pure.specs.Pure.{IsNode};
+ghost use Rattle.mc_pure.specs.Derived.{IsFalse};
+ghost use Rattle.mc_canon.specs.Left.{IsLeftOut};
+ghost use Rattle.mc_canon.specs.Forgotten.{IsNextHeir, IsForgottenOrFalse};
+
+use crate::canonical::contradiction;
+use crate::gaps::differences;
+use crate::left::{Left, equalities, ranges};
+use mc_base::{Atom, NoMemory, NodeId};
+use mc_pure::{ClassPlace, Pure};
+use std::alloc::Global;
+
+/// A node in the place of the least node of its class.
+fn heir_at(node: NodeId, place: &ClassPlace) -> ClassPlace
+    ensures least { result.least ≡ node }
+    ensures offset { result.offset ≡ place.now.offset }
+{
+    ClassPlace {
+        least: node,
+        offset: place.offset,
+    }
+}
+
+/// The least node beside one that is left out of its class, with one node more to choose from.
+fn next_heir(
+    pure: &Pure,
+    gone: NodeId,
+    other: NodeId,
+    heir: Option<ClassPlace>,
+) -> Option<ClassPlace>
+    requires there { IsNode pure.now.kinds other }
+    requires not_false { IsFalse pure.now → ⊥ }
+    ensures { IsNextHeir pure.now gone other heir result }
+{
+    if other.0 == gone.0 {
+        return heir;
+    }
+    let place = pure.class_of(other);
+    if place.least.0 != gone.0 {
+        return heir;
+    }
+    match heir {
+        Some(best) => {
+            if best.least.0 <= other.0 {
+                Some(best)
+            } else {
+                Some(heir_at(other, &place))
+            }
+        }
+        None => Some(heir_at(other, &place)),
+    }
+}
+
+/// Leaves a node out.
+fn without(pure: &Pure, gone: NodeId) -> Left
+    requires there { IsNode pure.now.kinds gone }
+    requires not_null { gone ≢ null }
+    requires not_false { IsFalse pure.now → ⊥ }
+    ensures gone { result.gone ≡ Some gone }
+    ensures heir { IsLeftOut pure.now result.gone result.heir }
+{
+    let mut heir = None;
+    for other in pure.nodes() {
+        heir = next_heir(pure, gone, *other, heir);
+    }
+    Left {
+        gone: Some(gone),
+        heir,
+    }
+}
+
+/// What is to be written when a node is forgotten: the canonical list of what was derived of the other nodes, where no
+/// block is known, and behind it the disequalities inside one class.
+pub fn forget(alloc: Global, pure: &Pure, gone: NodeId) -> Result<Vec<Atom>, NoMemory>
+    requires there { IsNode pure.now.kinds gone }
+    requires not_null { gone ≢ null }
+    ensures { IfOk result (λ list. IsForgottenOrFalse pure.now gone list.items) }
+{
+    if pure.is_false() {
+        return contradiction(alloc);
+    }
+    let left = without(pure, gone);
+    let mut list = ranges(alloc, pure, &left)?;
+    let same = equalities(alloc, pure, &left)?;
+    let apart = differences(alloc, pure, &left, &[], false, pure.starts())?;
+    let inner = differences(alloc, pure, &left, &[], true, pure.starts())?;
+    pure.has_normal_form();
+    mc_pure::normal_forms_say_all();
+    mc_pure::derived_grows();
+    list.extend_from_slice(same.as_slice())?;
+    list.extend_from_slice(apart.as_slice())?;
+    list.extend_from_slice(inner.as_slice())?;
+    Ok(list)
+}
