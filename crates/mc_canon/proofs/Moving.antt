@@ -80,34 +80,34 @@ gives_second p starts inside g t o a b c none m =
     at_most_as (Shows p starts inside (turned_gap g)) (Gives p starts inside g) o (λ h k. inr k) (λ h k. elim k [ inl x ↦ absurd (none h x) | inr x ↦ x ]) m'
 
 -- the gap of a disequality is one
-pub gap_once : (p : Pure) (nf : IsFalse p → ⊥) (gone : Option NodeId) (x y : NodeId) (d : ℤ) (g t : Gap) → GapOf p gone x y d g → GapOf p gone x y d t → g ≡ t
-gap_once p nf gone x y d g t a b =
-    let l = place_once p nf gone x a.left_place b.left_place a.left_is b.left_is in
-    let r = place_once p nf gone y a.right_place b.right_place a.right_is b.right_is in
+pub gap_once : (p : Pure) (nf : IsFalse p → ⊥) (lost : Option NodeId) (x y : NodeId) (d : ℤ) (g t : Gap) → GapOf p lost x y d g → GapOf p lost x y d t → g ≡ t
+gap_once p nf lost x y d g t a b =
+    let l = place_once p nf lost x a.left_place b.left_place a.left_is b.left_is in
+    let r = place_once p nf lost y a.right_place b.right_place a.right_is b.right_is in
     let lo = ap (λ (z : ClassPlace). z.offset) l in
     let ro = ap (λ (z : ClassPlace). z.offset) r in
     let ga = a.by in
     let gb = b.by in
     gap_same g t (a.left ∙ ap (λ (z : ClassPlace). z.least) l ∙ sym b.left) (a.right ∙ ap (λ (z : ClassPlace). z.least) r ∙ sym b.right) (omega (arith, ints))
 
-module _ (p : Pure) (nf : IsFalse p → ⊥) (gone : Option NodeId) (starts : List NodeId) (inside : Bool) (x y : NodeId) (d : ℤ) where
-  pub pair_found : (first second : ClassPlace) (g : Gap) (o : Option Atom) → IsPlace p gone x first → IsPlace p gone y second → g.left ≡ first.least → g.right ≡ second.least → g.by ≡ (second.offset +ℤ d) -ℤ first.offset → GivesAtMost (Gives p starts inside g) o → GivesAtMost (PairGives p gone starts inside x y d) o
+module _ (p : Pure) (nf : IsFalse p → ⊥) (lost : Option NodeId) (starts : List NodeId) (inside : Bool) (x y : NodeId) (d : ℤ) where
+  pub pair_found : (first second : ClassPlace) (g : Gap) (o : Option Atom) → IsPlace p lost x first → IsPlace p lost y second → g.left ≡ first.least → g.right ≡ second.least → g.by ≡ (second.offset +ℤ d) -ℤ first.offset → GivesAtMost (Gives p starts inside g) o → GivesAtMost (PairGives p lost starts inside x y d) o
   pair_found first second g o px py l r b m =
-      let here : GapOf p gone x y d g = record { left_place = first; right_place = second; left_is = px; right_is = py; left = l; right = r; by = b } in
-      at_most_as (Gives p starts inside g) (PairGives p gone starts inside x y d) o
+      let here : GapOf p lost x y d g = record { left_place = first; right_place = second; left_is = px; right_is = py; left = l; right = r; by = b } in
+      at_most_as (Gives p starts inside g) (PairGives p lost starts inside x y d) o
       (λ f k. (g, here, k))
-      (λ f k. subst (λ (z : Gap). Gives p starts inside z f) (gap_once p nf gone x y d k.0 g k.1 here) k.2)
+      (λ f k. subst (λ (z : Gap). Gives p starts inside z f) (gap_once p nf lost x y d k.0 g k.1 here) k.2)
       m
 
-  pub no_first : FindsPlace p gone x None → GivesAtMost (PairGives p gone starts inside x y d) None
+  pub no_first : FindsPlace p lost x None → GivesAtMost (PairGives p lost starts inside x y d) None
   no_first none f k = none k.1.left_place k.1.left_is
 
-  pub no_second : FindsPlace p gone y None → GivesAtMost (PairGives p gone starts inside x y d) None
+  pub no_second : FindsPlace p lost y None → GivesAtMost (PairGives p lost starts inside x y d) None
   no_second none f k = none k.1.right_place k.1.right_is
 
 -- the atom of a gap follows from the disequality
-pub gap_true : (p : Pure) (gone : Option NodeId) (x y : NodeId) (d : ℤ) (g : Gap) → GapOf p gone x y d g → Follows p (Ne x y d) → Follows p (gap_atom g)
-gap_true p gone x y d g k f =
+pub gap_true : (p : Pure) (lost : Option NodeId) (x y : NodeId) (d : ℤ) (g : Gap) → GapOf p lost x y d g → Follows p (Ne x y d) → Follows p (gap_atom g)
+gap_true p lost x y d g k f =
     let one = differs (differs_along (differs (differs_along f k.right_is.equal)) k.left_is.equal) in
     let by = k.by in
     let e : neg_ℤ (neg_ℤ (d +ℤ k.right_place.offset) +ℤ k.left_place.offset) ≡ g.by = omega (arith, ints) in

@@ -130,15 +130,15 @@ module _ (p : Pure) (nf : IsFalse p → ⊥) where
   pub offset_once : (a b : NodeId) (c e : ℤ) → Follows p (Eq a b c) → Follows p (Eq a b e) → c ≡ e
   offset_once a b c e d f = let z = self_zero a (c +ℤ neg_ℤ e) (chained d (turned f)) in omega (arith, ints)
 
-  pub least_once : (gone : Option NodeId) (b d : NodeId) (c : ℤ) → IsLeastLeft p gone b → IsLeastLeft p gone d → Follows p (Eq b d c) → b ≡ d
-  least_once gone b d c l m f =
+  pub least_once : (lost : Option NodeId) (b d : NodeId) (c : ℤ) → IsLeastLeft p lost b → IsLeastLeft p lost d → Follows p (Eq b d c) → b ≡ d
+  least_once lost b d c l m f =
       let x = l.least d c m.left f in
       let y = m.least b (neg_ℤ c) l.left (turned f) in
       same_node b d (omega arith)
 
-  pub place_once : (gone : Option NodeId) (n : NodeId) (P Q : ClassPlace) → IsPlace p gone n P → IsPlace p gone n Q → P ≡ Q
-  place_once gone n P Q x y =
-      let e = least_once gone P.least Q.least _ x.least y.least (chained (turned x.equal) y.equal) in
+  pub place_once : (lost : Option NodeId) (n : NodeId) (P Q : ClassPlace) → IsPlace p lost n P → IsPlace p lost n Q → P ≡ Q
+  place_once lost n P Q x y =
+      let e = least_once lost P.least Q.least _ x.least y.least (chained (turned x.equal) y.equal) in
       place_same P Q e (offset_once n Q.least P.offset Q.offset (eq_as p x.equal refl e refl) y.equal)
 
   -- two ranges of a node meet
@@ -171,31 +171,31 @@ pub least_whole : (p : Pure) (b : NodeId) → IsLeast p b → IsLeastLeft p None
 least_whole p b l = record { node = l.0; left = tt; least = λ m c w f. l.1 m c f }
 
 -- where the least node is left, it is the least that is left
-pub place_kept : (p : Pure) (gone : Option NodeId) (n : NodeId) (place : ClassPlace) → IsLeast p place.least → Follows p (Eq n place.least place.offset) → IsLeft gone place.least → IsPlace p gone n place
-place_kept p gone n place l d w = record { least = record { node = l.0; left = w; least = λ m c v f. l.1 m c f }; equal = d }
+pub place_kept : (p : Pure) (lost : Option NodeId) (n : NodeId) (place : ClassPlace) → IsLeast p place.least → Follows p (Eq n place.least place.offset) → IsLeft lost place.least → IsPlace p lost n place
+place_kept p lost n place l d w = record { least = record { node = l.0; left = w; least = λ m c v f. l.1 m c f }; equal = d }
 
-is_gone : (g n : NodeId) → (IsLeft (Some g) n → ⊥) → n ≡ g
-is_gone g n h = elim (decide n g) [ inl e ↦ e | inr ne ↦ absurd (h ne) ]
+is_lost : (g n : NodeId) → (IsLeft (Some g) n → ⊥) → n ≡ g
+is_lost g n h = elim (decide n g) [ inl e ↦ e | inr ne ↦ absurd (h ne) ]
 
 -- where it is not, the heir is
-pub place_heir : (p : Pure) (gone : Option NodeId) (heir : ClassPlace) (n : NodeId) (place other : ClassPlace) → IsLeftOut p gone (Some heir) → IsLeast p place.least → Follows p (Eq n place.least place.offset) → (IsLeft gone place.least → ⊥) → other.least ≡ heir.least → other.offset ≡ place.offset -ℤ heir.offset → IsPlace p gone n other
+pub place_heir : (p : Pure) (lost : Option NodeId) (heir : ClassPlace) (n : NodeId) (place other : ClassPlace) → IsLeftOut p lost (Some heir) → IsLeast p place.least → Follows p (Eq n place.least place.offset) → (IsLeft lost place.least → ⊥) → other.least ≡ heir.least → other.offset ≡ place.offset -ℤ heir.offset → IsPlace p lost n other
 place_heir p None heir n place other o l d w e f = absurd (w tt)
 place_heir p (Some g) heir n place other o l d w e f =
-    let s = is_gone g place.least w in
+    let s = is_lost g place.least w in
     let h = o.2 (subst (λ (z : NodeId). IsLeast p z) s l) in
     record {
       least = subst (λ (z : NodeId). IsLeastLeft p (Some g) z) (sym e) h.0;
       equal = eq_as p (chained (eq_as p d refl s refl) (turned h.1)) refl (sym e) (omega (arith, ints, f));
     }
 
-pub heir_long : (p : Pure) (gone : Option NodeId) (heir : ClassPlace) (n : NodeId) (place : ClassPlace) → (IsFalse p → ⊥) → IsNode p.kinds n → IsLeftOut p gone (Some heir) → IsLeast p place.least → Follows p (Eq n place.least place.offset) → (IsLeft gone place.least → ⊥) → IsLong (place.offset -ℤ heir.offset)
-heir_long p gone heir n place nf there o l d w =
-    let x = place_heir p gone heir n place (record { least = heir.least; offset = place.offset -ℤ heir.offset }) o l d w refl refl in
+pub heir_long : (p : Pure) (lost : Option NodeId) (heir : ClassPlace) (n : NodeId) (place : ClassPlace) → (IsFalse p → ⊥) → IsNode p.kinds n → IsLeftOut p lost (Some heir) → IsLeast p place.least → Follows p (Eq n place.least place.offset) → (IsLeft lost place.least → ⊥) → IsLong (place.offset -ℤ heir.offset)
+heir_long p lost heir n place nf there o l d w =
+    let x = place_heir p lost heir n place (record { least = heir.least; offset = place.offset -ℤ heir.offset }) o l d w refl refl in
     eq_long p nf n heir.least (place.offset -ℤ heir.offset) there x.least.node x.equal
 
-pub place_none : (p : Pure) (gone : Option NodeId) (n : NodeId) (place : ClassPlace) → IsLeftOut p gone None → IsLeast p place.least → Follows p (Eq n place.least place.offset) → (IsLeft gone place.least → ⊥) → FindsPlace p gone n None
+pub place_none : (p : Pure) (lost : Option NodeId) (n : NodeId) (place : ClassPlace) → IsLeftOut p lost None → IsLeast p place.least → Follows p (Eq n place.least place.offset) → (IsLeft lost place.least → ⊥) → FindsPlace p lost n None
 place_none p None n place o l d w other x = w tt
 place_none p (Some g) n place o l d w other x =
-    let s = is_gone g place.least w in
+    let s = is_lost g place.least w in
     let none = o.2 (subst (λ (z : NodeId). IsLeast p z) s l) in
     x.least.left (none other.least _ (chained (turned x.equal) (eq_as p d refl s refl)))

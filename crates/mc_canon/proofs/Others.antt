@@ -28,11 +28,11 @@ kind_without (k ∷ kinds) g n w = elim (decide k.0 g) [
   ]
 ]
 
-pub gone_without : (kinds : Kinds) (g : NodeId) → kind_of (kinds_without kinds g) g ≡ None
-gone_without [] g = refl
-gone_without (k ∷ kinds) g = elim (decide k.0 g) [
-  | inl e ↦ ap (λ (z : Kinds). kind_of z g) (drop_here k kinds g e) ∙ gone_without kinds g
-  | inr ne ↦ ap (λ (z : Kinds). kind_of z g) (keep_here k kinds g ne) ∙ later_kind k (kinds_without kinds g) g ne ∙ gone_without kinds g
+pub lost_without : (kinds : Kinds) (g : NodeId) → kind_of (kinds_without kinds g) g ≡ None
+lost_without [] g = refl
+lost_without (k ∷ kinds) g = elim (decide k.0 g) [
+  | inl e ↦ ap (λ (z : Kinds). kind_of z g) (drop_here k kinds g e) ∙ lost_without kinds g
+  | inr ne ↦ ap (λ (z : Kinds). kind_of z g) (keep_here k kinds g ne) ∙ later_kind k (kinds_without kinds g) g ne ∙ lost_without kinds g
 ]
 
 pub node_without : (kinds : Kinds) (g n : NodeId) → IsNode kinds n → n ≢ g → IsNode (kinds_without kinds g) n
@@ -42,7 +42,7 @@ pub without_node : (kinds : Kinds) (g n : NodeId) → g ≢ null → IsNode (kin
 without_node kinds g n nz h = elim h.1 [
   | inl e ↦ ((h.0, inl e), λ f. nz (sym f ∙ e))
   | inr e ↦ elim (decide n g) [
-    | inl f ↦ absurd (none h.0 (sym (ap (λ (z : NodeId). kind_of (kinds_without kinds g) z) f ∙ gone_without kinds g) ∙ e))
+    | inl f ↦ absurd (none h.0 (sym (ap (λ (z : NodeId). kind_of (kinds_without kinds g) z) f ∙ lost_without kinds g) ∙ e))
     | inr w ↦ ((h.0, inr (sym (kind_without kinds g n w) ∙ e)), w)
   ]
 ]

@@ -28,8 +28,8 @@ is_narrow k lo hi = cases (low_of k) lo hi (high_of k)
     cases : (a lo hi b : ℤ) → ((a <ℤ lo) ⊎ (hi <ℤ b)) ⊎ ((lo ≤ℤ a) × (b ≤ℤ hi))
     cases a lo hi b = grind (arith, ints)
 
-module _ (law : NormalSaysAll) (p : Pure) (true_p : IsFalse p → ⊥) (nf : NodeId → Row) (n : IsNormal p nf) (gone : Option NodeId) (r : Pure) (nodes_in : (a : NodeId) → IsNode p.kinds a → IsLeft gone a → IsNode r.kinds a) (kinds_in : (a : NodeId) (k : Kind) → kind_of p.kinds a ≡ Some k → IsLeft gone a → Follows r (kind_atom a k)) (ranges_in : (f : Atom) → IsRangeLeft p gone f → Follows r f) (classes_in : (f : Atom) → IsClassLeft p gone f → Follows r f) where
-  pub range_in : (a : NodeId) (lo hi : ℤ) → IsLeft gone a → HasRange p a lo hi → Follows r (In a lo hi)
+module _ (law : NormalSaysAll) (p : Pure) (true_p : IsFalse p → ⊥) (nf : NodeId → Row) (n : IsNormal p nf) (lost : Option NodeId) (r : Pure) (nodes_in : (a : NodeId) → IsNode p.kinds a → IsLeft lost a → IsNode r.kinds a) (kinds_in : (a : NodeId) (k : Kind) → kind_of p.kinds a ≡ Some k → IsLeft lost a → Follows r (kind_atom a k)) (ranges_in : (f : Atom) → IsRangeLeft p lost f → Follows r f) (classes_in : (f : Atom) → IsClassLeft p lost f → Follows r f) where
+  pub range_in : (a : NodeId) (lo hi : ℤ) → IsLeft lost a → HasRange p a lo hi → Follows r (In a lo hi)
   range_in a lo hi w h = elim (decide a null) [
     | inl e ↦
         let z = subst (λ (x : NodeId). Follows p (In x (pos 0) (pos 0))) (sym e) (base begin.zero) in
@@ -52,7 +52,7 @@ module _ (law : NormalSaysAll) (p : Pure) (true_p : IsFalse p → ⊥) (nf : Nod
       let one : Follows p (In x e e) = in_as p (shifted d (base begin.zero)) (omega (arith, ints)) (omega (arith, ints)) in
       record { follows = one; least = λ m k f. let w = meets p true_p x e e m k one f in (w.1, w.0) }
 
-  pub class_in : (x b : NodeId) (e : ℤ) → IsLeft gone x → IsLeastLeft p gone b → Follows p (Eq x b e) → Follows r (Eq x b e)
+  pub class_in : (x b : NodeId) (e : ℤ) → IsLeft lost x → IsLeastLeft p lost b → Follows p (Eq x b e) → Follows r (Eq x b e)
   class_in x b e w l d =
       let there = (law p nf n (Eq x b e) d).0 in
       elim (decide x b) [
@@ -68,7 +68,7 @@ module _ (law : NormalSaysAll) (p : Pure) (true_p : IsFalse p → ⊥) (nf : Nod
       ]
 
   -- what is plain follows
-  pub plain_in : (starts : List NodeId) → ((i j : ℕ) (x y : NodeId) → ArePair starts i j x y → IsLeft gone x × IsLeft gone y × Follows r (Ne x y (pos 0))) → (g : Gap) → IsLeastLeft p gone g.left → IsLeastLeft p gone g.right → IsPlain p starts g → Follows r (gap_atom g)
+  pub plain_in : (starts : List NodeId) → ((i j : ℕ) (x y : NodeId) → ArePair starts i j x y → IsLeft lost x × IsLeft lost y × Follows r (Ne x y (pos 0))) → (g : Gap) → IsLeastLeft p lost g.left → IsLeastLeft p lost g.right → IsPlain p starts g → Follows r (gap_atom g)
   plain_in starts pairs g gl gr (inl a) = disjoint (range_in g.left a.lo a.hi gl.left a.left_range) (range_in g.right a.m a.k gr.left a.right_range) a.apart
   plain_in starts pairs g gl gr (inr k) =
       let u = k.1.1 in

@@ -73,44 +73,44 @@ abbrev pub Gives : Pure → List NodeId → (inside : Bool) → Gap → Atom →
 Gives p starts inside g f = Shows p starts inside g f ⊎ Shows p starts inside (turned_gap g) f
 
 -- the gap between the least nodes that a disequality gives
-pub record GapOf (p : Pure) (gone : Option NodeId) (x y : NodeId) (d : ℤ) (g : Gap) : Type 0 where
+pub record GapOf (p : Pure) (lost : Option NodeId) (x y : NodeId) (d : ℤ) (g : Gap) : Type 0 where
   pub left_place : ClassPlace
   pub right_place : ClassPlace
-  pub left_is : IsPlace p gone x left_place
-  pub right_is : IsPlace p gone y right_place
+  pub left_is : IsPlace p lost x left_place
+  pub right_is : IsPlace p lost y right_place
   pub left : g.left ≡ left_place.least
   pub right : g.right ≡ right_place.least
   pub by : g.by ≡ (right_place.offset +ℤ d) -ℤ left_place.offset
 
 -- what is written of a disequality
 abbrev pub PairGives : Pure → Option NodeId → List NodeId → (inside : Bool) → (x y : NodeId) → ℤ → Atom → Type 0
-PairGives p gone starts inside x y d f = (g : Gap) × GapOf p gone x y d g × Gives p starts inside g f
+PairGives p lost starts inside x y d f = (g : Gap) × GapOf p lost x y d g × Gives p starts inside g f
 
 -- what is written of an atom
 abbrev pub AtomGives : Pure → Option NodeId → List NodeId → (inside : Bool) → Atom → Atom → Type 0
-AtomGives p gone starts inside (Ne x y d) f = PairGives p gone starts inside x y d f
-AtomGives p gone starts inside (Eq x y d) f = ⊥
-AtomGives p gone starts inside (In x lo hi) f = ⊥
+AtomGives p lost starts inside (Ne x y d) f = PairGives p lost starts inside x y d f
+AtomGives p lost starts inside (Eq x y d) f = ⊥
+AtomGives p lost starts inside (In x lo hi) f = ⊥
 
 -- what is written of the written atoms
 abbrev pub WrittenGives : Pure → Option NodeId → List NodeId → (inside : Bool) → Atom → Type 0
-WrittenGives p gone starts inside f = (w : Atom) × ((i : ℕ) × (slice_get p.written i ≡ Some w)) × AtomGives p gone starts inside w f
+WrittenGives p lost starts inside f = (w : Atom) × ((i : ℕ) × (slice_get p.written i ≡ Some w)) × AtomGives p lost starts inside w f
 
 -- what is written of two nodes of a list, which differ
 abbrev pub PairsGiveAt : Pure → Option NodeId → List NodeId → (inside : Bool) → List NodeId → (i j : ℕ) → Atom → Type 0
-PairsGiveAt p gone starts inside nodes i j f = (x y : NodeId) × ArePair nodes i j x y × PairGives p gone starts inside x y (pos 0) f
+PairsGiveAt p lost starts inside nodes i j f = (x y : NodeId) × ArePair nodes i j x y × PairGives p lost starts inside x y (pos 0) f
 
 -- what is written of one node of a list and the others, which differ
 abbrev pub PairsGiveOf : Pure → Option NodeId → List NodeId → (inside : Bool) → List NodeId → ℕ → Atom → Type 0
-PairsGiveOf p gone starts inside nodes i f = (j : ℕ) × PairsGiveAt p gone starts inside nodes i j f
+PairsGiveOf p lost starts inside nodes i f = (j : ℕ) × PairsGiveAt p lost starts inside nodes i j f
 
 -- what is written of nodes that all differ
 abbrev pub PairsGive : Pure → Option NodeId → List NodeId → (inside : Bool) → List NodeId → Atom → Type 0
-PairsGive p gone starts inside nodes f = (i : ℕ) × PairsGiveOf p gone starts inside nodes i f
+PairsGive p lost starts inside nodes f = (i : ℕ) × PairsGiveOf p lost starts inside nodes i f
 
 -- what is written of the atoms and the nodes
 abbrev pub DifferenceLeft : Pure → Option NodeId → List NodeId → (inside : Bool) → List NodeId → Atom → Type 0
-DifferenceLeft p gone starts inside nodes f = WrittenGives p gone starts inside f ⊎ PairsGive p gone starts inside nodes f
+DifferenceLeft p lost starts inside nodes f = WrittenGives p lost starts inside f ⊎ PairsGive p lost starts inside nodes f
 
 -- the places say that a disequality is a gap, moved
 pub record MovedPlaces (first second left right : ClassPlace) (d by : ℤ) : Type 0 where

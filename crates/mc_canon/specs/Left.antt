@@ -13,33 +13,33 @@ use Rattle.mc_pure.specs.declared.classes.ClassPlace.{ClassPlace}
 -- the node is not the one that is left out
 abbrev pub IsLeft : Option NodeId → NodeId → Type 0
 IsLeft None n = Unit {0}
-IsLeft (Some gone) n = n ≢ gone
+IsLeft (Some lost) n = n ≢ lost
 
 -- the least of the nodes that are left among those that are it and a number more
-pub record IsLeastLeft (p : Pure) (gone : Option NodeId) (b : NodeId) : Type 0 where
+pub record IsLeastLeft (p : Pure) (lost : Option NodeId) (b : NodeId) : Type 0 where
   pub node : IsNode p.kinds b
-  pub left : IsLeft gone b
-  pub least : (m : NodeId) (c : ℤ) → IsLeft gone m → Follows p (Eq b m c) → b.0 ≤ m.0
+  pub left : IsLeft lost b
+  pub least : (m : NodeId) (c : ℤ) → IsLeft lost m → Follows p (Eq b m c) → b.0 ≤ m.0
 
 -- a node and the least that is left of its class
-pub record IsPlace (p : Pure) (gone : Option NodeId) (n : NodeId) (place : ClassPlace) : Type 0 where
-  pub least : IsLeastLeft p gone place.least
+pub record IsPlace (p : Pure) (lost : Option NodeId) (n : NodeId) (place : ClassPlace) : Type 0 where
+  pub least : IsLeastLeft p lost place.least
   pub equal : Follows p (Eq n place.least place.offset)
 
 -- finds that place, or no node of the class is left
 abbrev pub FindsPlace : Pure → Option NodeId → NodeId → Option ClassPlace → Type 0
-FindsPlace p gone n None = (place : ClassPlace) → IsPlace p gone n place → ⊥
-FindsPlace p gone n (Some place) = IsPlace p gone n place
+FindsPlace p lost n None = (place : ClassPlace) → IsPlace p lost n place → ⊥
+FindsPlace p lost n (Some place) = IsPlace p lost n place
 
 -- where a class's least node is left out, what is left of it: nothing, or the least of what is left
 abbrev pub IsHeir : Pure → NodeId → Option ClassPlace → Type 0
-IsHeir p gone None = (m : NodeId) (c : ℤ) → Follows p (Eq m gone c) → m ≡ gone
-IsHeir p gone (Some heir) = IsLeastLeft p (Some gone) heir.least × Follows p (Eq heir.least gone heir.offset)
+IsHeir p lost None = (m : NodeId) (c : ℤ) → Follows p (Eq m lost c) → m ≡ lost
+IsHeir p lost (Some heir) = IsLeastLeft p (Some lost) heir.least × Follows p (Eq heir.least lost heir.offset)
 
 -- what is known of the node that is left out
 abbrev pub IsLeftOut : Pure → Option NodeId → Option ClassPlace → Type 0
 IsLeftOut p None heir = Unit {0}
-IsLeftOut p (Some gone) heir = IsNode p.kinds gone × (gone ≢ null) × (IsLeast p gone → IsHeir p gone heir)
+IsLeftOut p (Some lost) heir = IsNode p.kinds lost × (lost ≢ null) × (IsLeast p lost → IsHeir p lost heir)
 
 -- the first node of an atom
 abbrev pub first_node : Atom → NodeId
@@ -49,17 +49,17 @@ first_node (In a lo hi) = a
 
 -- the atom names nodes that are left alone
 abbrev pub LeavesOut : Option NodeId → Atom → Type 0
-LeavesOut gone f = Over (λ n. IsLeft gone n) f
+LeavesOut lost f = Over (λ n. IsLeft lost n) f
 
 -- the range of a node that is left, where it is narrower than its kind's
 abbrev pub IsRangeLeft : Pure → Option NodeId → Atom → Type 0
-IsRangeLeft p gone f = IsRangeAtom p f × LeavesOut gone f
+IsRangeLeft p lost f = IsRangeAtom p f × LeavesOut lost f
 
 -- the equality of a node with the least that is left of its class, which is neither the node nor node 0
 abbrev pub IsClassLeft : Pure → Option NodeId → Atom → Type 0
-IsClassLeft p gone (Eq a b c) = (a ≢ b) × (b ≢ null) × IsNode p.kinds a × IsLeft gone a × IsLeastLeft p gone b × Follows p (Eq a b c)
-IsClassLeft p gone (Ne a b c) = ⊥
-IsClassLeft p gone (In n lo hi) = ⊥
+IsClassLeft p lost (Eq a b c) = (a ≢ b) × (b ≢ null) × IsNode p.kinds a × IsLeft lost a × IsLeastLeft p lost b × Follows p (Eq a b c)
+IsClassLeft p lost (Ne a b c) = ⊥
+IsClassLeft p lost (In n lo hi) = ⊥
 
 -- such an atom of one node
 abbrev pub OfNode : (Atom → Type 0) → NodeId → Atom → Type 0

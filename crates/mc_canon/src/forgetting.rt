@@ -27,19 +27,19 @@ fn heir_at(node: NodeId, place: &ClassPlace) -> ClassPlace
 /// The least node beside one that is left out of its class, with one node more to choose from.
 fn next_heir(
     pure: &Pure,
-    gone: NodeId,
+    lost: NodeId,
     other: NodeId,
     heir: Option<ClassPlace>,
 ) -> Option<ClassPlace>
     requires there { IsNode pure.now.kinds other }
     requires not_false { IsFalse pure.now → ⊥ }
-    ensures { IsNextHeir pure.now gone other heir result }
+    ensures { IsNextHeir pure.now lost other heir result }
 {
-    if other.0 == gone.0 {
+    if other.0 == lost.0 {
         return heir;
     }
     let place = pure.class_of(other);
-    if place.least.0 != gone.0 {
+    if place.least.0 != lost.0 {
         return heir;
     }
     match heir {
@@ -55,34 +55,34 @@ fn next_heir(
 }
 
 /// Leaves a node out.
-fn without(pure: &Pure, gone: NodeId) -> Left
-    requires there { IsNode pure.now.kinds gone }
-    requires not_null { gone ≢ null }
+fn without(pure: &Pure, lost: NodeId) -> Left
+    requires there { IsNode pure.now.kinds lost }
+    requires not_null { lost ≢ null }
     requires not_false { IsFalse pure.now → ⊥ }
-    ensures gone { result.gone ≡ Some gone }
-    ensures heir { IsLeftOut pure.now result.gone result.heir }
+    ensures lost { result.lost ≡ Some lost }
+    ensures heir { IsLeftOut pure.now result.lost result.heir }
 {
     let mut heir = None;
     for other in pure.nodes() {
-        heir = next_heir(pure, gone, *other, heir);
+        heir = next_heir(pure, lost, *other, heir);
     }
     Left {
-        gone: Some(gone),
+        lost: Some(lost),
         heir,
     }
 }
 
 /// What is to be written when a node is forgotten: the canonical list of what was derived of the other nodes, where no
 /// block is known, and behind it the disequalities inside one class.
-pub fn forget(alloc: Global, pure: &Pure, gone: NodeId) -> Result<Vec<Atom>, NoMemory>
-    requires there { IsNode pure.now.kinds gone }
-    requires not_null { gone ≢ null }
-    ensures { IfOk result (λ list. IsForgottenOrFalse pure.now gone list.items) }
+pub fn forget(alloc: Global, pure: &Pure, lost: NodeId) -> Result<Vec<Atom>, NoMemory>
+    requires there { IsNode pure.now.kinds lost }
+    requires not_null { lost ≢ null }
+    ensures { IfOk result (λ list. IsForgottenOrFalse pure.now lost list.items) }
 {
     if pure.is_false() {
         return contradiction(alloc);
     }
-    let left = without(pure, gone);
+    let left = without(pure, lost);
     let mut list = ranges(alloc, pure, &left)?;
     let same = equalities(alloc, pure, &left)?;
     let apart = differences(alloc, pure, &left, &[], false, pure.starts())?;

@@ -297,11 +297,11 @@ fn pair_gives(
     by: i64,
 ) -> Option<Atom>
     requires not_false { IsFalse pure.now → ⊥ }
-    requires left { IsLeftOut pure.now left.now.gone left.now.heir }
+    requires left { IsLeftOut pure.now left.now.lost left.now.heir }
     requires starts { AreNodes pure.now starts.now }
     requires first { IsNode pure.now.kinds x }
     requires second { IsNode pure.now.kinds y }
-    ensures { GivesAtMost (PairGives pure.now left.now.gone starts.now inside x y by) result }
+    ensures { GivesAtMost (PairGives pure.now left.now.lost starts.now inside x y by) result }
 {
     let Some(first) = place(pure, left, x) else {
         return None;
@@ -321,10 +321,10 @@ fn atom_gives(
     atom: &Atom,
 ) -> Option<Atom>
     requires not_false { IsFalse pure.now → ⊥ }
-    requires left { IsLeftOut pure.now left.now.gone left.now.heir }
+    requires left { IsLeftOut pure.now left.now.lost left.now.heir }
     requires starts { AreNodes pure.now starts.now }
     requires known { Over (IsNode pure.now.kinds) atom.now }
-    ensures { GivesAtMost (AtomGives pure.now left.now.gone starts.now inside atom.now) result }
+    ensures { GivesAtMost (AtomGives pure.now left.now.lost starts.now inside atom.now) result }
 {
     match atom {
         Atom::Ne(x, y, by) => pair_gives(pure, left, starts, inside, *x, *y, *by),
@@ -342,9 +342,9 @@ fn put_written(
     inside: bool,
 ) -> Result<(), NoMemory>
     requires not_false { IsFalse pure.now → ⊥ }
-    requires left { IsLeftOut pure.now left.now.gone left.now.heir }
+    requires left { IsLeftOut pure.now left.now.lost left.now.heir }
     requires starts { AreNodes pure.now starts.now }
-    ensures { IfOk result (λ _. Added (WrittenGives pure.now left.now.gone starts.now inside) list.old.items list.new.items) }
+    ensures { IfOk result (λ _. Added (WrittenGives pure.now left.now.lost starts.now inside) list.old.items list.new.items) }
 {
     for atom in pure.written() {
         put_some(list, atom_gives(pure, left, starts, inside, atom))?;
@@ -363,12 +363,12 @@ fn pair_at(
     j: usize,
 ) -> Option<Atom>
     requires not_false { IsFalse pure.now → ⊥ }
-    requires left { IsLeftOut pure.now left.now.gone left.now.heir }
+    requires left { IsLeftOut pure.now left.now.lost left.now.heir }
     requires starts { AreNodes pure.now starts.now }
     requires nodes { AreNodes pure.now nodes.now }
     requires first { i < length nodes.now }
     requires second { j < length nodes.now }
-    ensures { GivesAtMost (PairsGiveAt pure.now left.now.gone starts.now inside nodes.now i j) result }
+    ensures { GivesAtMost (PairsGiveAt pure.now left.now.lost starts.now inside nodes.now i j) result }
 {
     if i == j {
         return None;
@@ -387,11 +387,11 @@ fn put_pairs_of(
     i: usize,
 ) -> Result<(), NoMemory>
     requires not_false { IsFalse pure.now → ⊥ }
-    requires left { IsLeftOut pure.now left.now.gone left.now.heir }
+    requires left { IsLeftOut pure.now left.now.lost left.now.heir }
     requires starts { AreNodes pure.now starts.now }
     requires nodes { AreNodes pure.now nodes.now }
     requires first { i < length nodes.now }
-    ensures { IfOk result (λ _. Added (PairsGiveOf pure.now left.now.gone starts.now inside nodes.now i) list.old.items list.new.items) }
+    ensures { IfOk result (λ _. Added (PairsGiveOf pure.now left.now.lost starts.now inside nodes.now i) list.old.items list.new.items) }
 {
     for j in 0..nodes.len() {
         put_some(list, pair_at(pure, left, starts, inside, nodes, i, j))?;
@@ -409,10 +409,10 @@ fn put_pairs(
     nodes: &[NodeId],
 ) -> Result<(), NoMemory>
     requires not_false { IsFalse pure.now → ⊥ }
-    requires left { IsLeftOut pure.now left.now.gone left.now.heir }
+    requires left { IsLeftOut pure.now left.now.lost left.now.heir }
     requires starts { AreNodes pure.now starts.now }
     requires nodes { AreNodes pure.now nodes.now }
-    ensures { IfOk result (λ _. Added (PairsGive pure.now left.now.gone starts.now inside nodes.now) list.old.items list.new.items) }
+    ensures { IfOk result (λ _. Added (PairsGive pure.now left.now.lost starts.now inside nodes.now) list.old.items list.new.items) }
 {
     for i in 0..nodes.len() {
         put_pairs_of(list, pure, left, starts, inside, nodes, i)?;
@@ -431,10 +431,10 @@ pub fn differences(
     nodes: &[NodeId],
 ) -> Result<Vec<Atom>, NoMemory>
     requires not_false { IsFalse pure.now → ⊥ }
-    requires left { IsLeftOut pure.now left.now.gone left.now.heir }
+    requires left { IsLeftOut pure.now left.now.lost left.now.heir }
     requires starts { AreNodes pure.now starts.now }
     requires nodes { AreNodes pure.now nodes.now }
-    ensures { IfOk result (λ list. Added (DifferenceLeft pure.now left.now.gone starts.now inside nodes.now) [] list.items) }
+    ensures { IfOk result (λ list. Added (DifferenceLeft pure.now left.now.lost starts.now inside nodes.now) [] list.items) }
 {
     let mut list = Vec::new(alloc);
     put_written(&mut list, pure, left, starts, inside)?;

@@ -17,16 +17,16 @@ use std::alloc::Global;
 /// The node that is left out, if any, and what is left of its class where it is the least node of that.
 #[derive(Clone, Copy)]
 pub struct Left {
-    pub gone: Option<NodeId>,
+    pub lost: Option<NodeId>,
     pub heir: Option<ClassPlace>,
 }
 
 /// Whether the node is left.
-pub fn is_left(gone: Option<NodeId>, node: NodeId) -> bool
-    ensures yes { result ≡ true → IsLeft gone node }
-    ensures no { result ≡ false → IsLeft gone node → ⊥ }
+pub fn is_left(lost: Option<NodeId>, node: NodeId) -> bool
+    ensures yes { result ≡ true → IsLeft lost node }
+    ensures no { result ≡ false → IsLeft lost node → ⊥ }
 {
-    match gone {
+    match lost {
         Some(other) => node.0 != other.0,
         None => true,
     }
@@ -48,11 +48,11 @@ fn beside(place: &ClassPlace, heir: &ClassPlace) -> ClassPlace
 pub fn place(pure: &Pure, left: &Left, node: NodeId) -> Option<ClassPlace>
     requires there { IsNode pure.now.kinds node }
     requires not_false { IsFalse pure.now → ⊥ }
-    requires left { IsLeftOut pure.now left.now.gone left.now.heir }
-    ensures { FindsPlace pure.now left.now.gone node result }
+    requires left { IsLeftOut pure.now left.now.lost left.now.heir }
+    ensures { FindsPlace pure.now left.now.lost node result }
 {
     let place = pure.class_of(node);
-    if is_left(left.gone, place.least) {
+    if is_left(left.lost, place.least) {
         return Some(place);
     }
     match left.heir {
@@ -90,12 +90,12 @@ fn equality_of(node: NodeId, place: &ClassPlace) -> Atom
 fn range_atom(pure: &Pure, left: &Left, node: NodeId) -> Option<Atom>
     requires there { IsNode pure.now.kinds node }
     requires not_false { IsFalse pure.now → ⊥ }
-    ensures { GivesAtMost (OfNode (IsRangeLeft pure.now left.now.gone) node) result }
+    ensures { GivesAtMost (OfNode (IsRangeLeft pure.now left.now.lost) node) result }
 {
     if node.0 == 0 {
         return None;
     }
-    if !is_left(left.gone, node) {
+    if !is_left(left.lost, node) {
         return None;
     }
     let range = pure.range(node);
@@ -115,10 +115,10 @@ fn range_atom(pure: &Pure, left: &Left, node: NodeId) -> Option<Atom>
 fn class_atom(pure: &Pure, left: &Left, node: NodeId) -> Option<Atom>
     requires there { IsNode pure.now.kinds node }
     requires not_false { IsFalse pure.now → ⊥ }
-    requires left { IsLeftOut pure.now left.now.gone left.now.heir }
-    ensures { GivesAtMost (OfNode (IsClassLeft pure.now left.now.gone) node) result }
+    requires left { IsLeftOut pure.now left.now.lost left.now.heir }
+    ensures { GivesAtMost (OfNode (IsClassLeft pure.now left.now.lost) node) result }
 {
-    if !is_left(left.gone, node) {
+    if !is_left(left.lost, node) {
         return None;
     }
     match place(pure, left, node) {
@@ -138,7 +138,7 @@ fn class_atom(pure: &Pure, left: &Left, node: NodeId) -> Option<Atom>
 /// The ranges that are to be written.
 pub fn ranges(alloc: Global, pure: &Pure, left: &Left) -> Result<Vec<Atom>, NoMemory>
     requires not_false { IsFalse pure.now → ⊥ }
-    ensures { IfOk result (λ list. Added (IsRangeLeft pure.now left.now.gone) [] list.items) }
+    ensures { IfOk result (λ list. Added (IsRangeLeft pure.now left.now.lost) [] list.items) }
 {
     let mut list = Vec::new(alloc);
     for node in pure.nodes() {
@@ -150,8 +150,8 @@ pub fn ranges(alloc: Global, pure: &Pure, left: &Left) -> Result<Vec<Atom>, NoMe
 /// The equalities that are to be written.
 pub fn equalities(alloc: Global, pure: &Pure, left: &Left) -> Result<Vec<Atom>, NoMemory>
     requires not_false { IsFalse pure.now → ⊥ }
-    requires left { IsLeftOut pure.now left.now.gone left.now.heir }
-    ensures { IfOk result (λ list. Added (IsClassLeft pure.now left.now.gone) [] list.items) }
+    requires left { IsLeftOut pure.now left.now.lost left.now.heir }
+    ensures { IfOk result (λ list. Added (IsClassLeft pure.now left.now.lost) [] list.items) }
 {
     let mut list = Vec::new(alloc);
     for node in pure.nodes() {
@@ -162,10 +162,10 @@ pub fn equalities(alloc: Global, pure: &Pure, left: &Left) -> Result<Vec<Atom>, 
 
 /// Nothing is left out.
 pub fn whole() -> Left
-    ensures gone { result.gone ≡ None }
+    ensures lost { result.lost ≡ None }
 {
     Left {
-        gone: None,
+        lost: None,
         heir: None,
     }
 }

@@ -5,4 +5,4 @@ use Rattle.mc_canon.proofs.Lists.{Upto}
 use Rattle.mc_canon.proofs.left.equalities.Given as goal
 
 abbrev pub invariant-loop-node : goal.invariant-loop-node
-invariant-loop-node l = Added (Upto (OfNode (IsClassLeft l.pure l.left.gone)) l.node-items l.node-index) [] l.list.items
+invariant-loop-node l = Added (Upto (OfNode (IsClassLeft l.pure l.left.lost)) l.node-items l.node-index) [] l.list.items
