@@ -10,3 +10,5 @@ pub mod Single
 pub mod Clean
 pub mod Others
 pub mod Forgets
+pub mod Heirs
+pub mod Taken

@@ -1,6 +1,7 @@
 -- Nodes in lists, and the facts of equalities and ranges that need no normal form.
 use Rattle.std.proofs.Common.{◌≡◌, ◌≢◌, ℕ, zero, suc, ◌⊎◌, ◌≤◌, ℤ, pos, negsuc, ◌+ℤ◌, ◌-ℤ◌, neg_ℤ, ◌≤ℤ◌, ◌<ℤ◌, List, [], ◌∷◌, Option, Some, None, slice_get, map, nat_eq, Bool, true, false, refl, sym, ◌∙◌, ap, subst, inl, inr, arith}
 use Rattle.std.proofs.lemmas.Int.{ints, clamps}
+use Rattle.std.specs.Int.{int_max, int_min}
 use Rattle.std.proofs.lemmas.Bool.Decides.{nat_tests}
 use Rattle.mc_base.specs.declared.ids.NodeId.{NodeId}
 use Rattle.mc_base.specs.declared.plain.Kind.{Kind}
@@ -144,7 +145,7 @@ module _ (p : Pure) (nf : IsFalse p → ⊥) where
   -- two ranges of a node meet
   pub meets : (a : NodeId) (l h m k : ℤ) → Follows p (In a l h) → Follows p (In a m k) → (l ≤ℤ k) × (m ≤ℤ h)
   meets a l h m k d e =
-      let x = not_below _ _ (λ w. nf (empty w (met d e))) in
+      let x = not_below (int_max l m) (int_min h k) (λ w. nf (empty w (met d e))) in
       (omega (arith, ints, clamps, x), omega (arith, ints, clamps, x))
 
   pub eq_long : (a b : NodeId) (c : ℤ) → IsNode p.kinds a → IsNode p.kinds b → Follows p (Eq a b c) → IsLong c

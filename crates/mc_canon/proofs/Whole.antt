@@ -1,5 +1,5 @@
 -- The canonical list.
-use Rattle.std.proofs.Common.{◌≡◌, ◌≢◌, ◌↔◌, ℕ, ◌⊎◌, ℤ, pos, List, [], ◌∷◌, ◌++◌, Option, Some, None, slice_get, Bool, true, false, refl, sym, ◌∙◌, subst, inl, inr, arith}
+use Rattle.std.proofs.Common.{◌≡◌, ◌≢◌, ◌↔◌, ℕ, ◌⊎◌, ℤ, pos, List, [], ◌∷◌, ◌++◌, Option, Some, None, slice_get, Bool, true, false, IsTrue, append_assoc, refl, sym, ◌∙◌, ap, subst, inl, inr, arith}
 use Rattle.std.proofs.lemmas.Int.{ints}
 use Rattle.mc_base.specs.declared.ids.NodeId.{NodeId}
 use Rattle.mc_base.specs.declared.plain.Kind.{Kind}
@@ -14,7 +14,7 @@ use Rattle.mc_pure.specs.Normal.{IsNormal}
 use Rattle.mc_pure.specs.Rows.{IsTie}
 use Rattle.mc_pure.specs.Classes.{HasNormalForm, NormalSaysAll}
 use Rattle.mc_pure.specs.Laws.{FollowsFromMore}
-use Rattle.mc_pure.specs.Canonical.{IsRangeAtom, IsClassAtom, IsDifference, IsListOf, ComesBefore, plainly}
+use Rattle.mc_pure.specs.Canonical.{IsRangeAtom, IsClassAtom, IsDifference, IsListOf, IsCanonical, ComesBefore, plainly}
 use Rattle.mc_canon.specs.declared.gaps.Gap.{Gap}
 use Rattle.mc_canon.specs.Order.{Among, IsBefore, Added}
 use Rattle.mc_canon.specs.Left.{IsLeft, LeavesOut, IsRangeLeft, IsClassLeft}
@@ -129,3 +129,22 @@ module _ (law : NormalSaysAll) (grows : FollowsFromMore) (p : Pure) (true_p : Is
       equalities_listed = listed (IsClassAtom p) equalities (class_step p true_p) class_added;
       differences_listed = listed (IsDifference p r) differences next_difference difference_added;
     }
+
+pub not_false : (p : Pure) (b : Bool) → IsTrue b ↔ IsFalse p → b ≡ false → IsFalse p → ⊥
+not_false p b e f w = let t = e.1 w in let g : true ≡ false = sym (is_true b t) ∙ f in cc
+  where
+    is_true : (b : Bool) → IsTrue b → b ≡ true
+    is_true true t = refl
+    is_true false t = cc
+
+pub is_false : (p : Pure) (b : Bool) → IsTrue b ↔ IsFalse p → b ≡ true → IsFalse p
+is_false p b e f = e.0 (rw f refl)
+
+-- the three lists, one behind the other
+pub canonical : (law : NormalSaysAll) (grows : FollowsFromMore) (p : Pure) → (IsFalse p → ⊥) → HasNormalForm p → (lost : Option NodeId) → lost ≡ None → (ranges equalities differences first atoms : List Atom) (starts : List NodeId) → starts ≡ p.starts → Added (IsRangeLeft p lost) [] ranges → Added (IsClassLeft p lost) [] equalities → Added (DifferenceLeft p lost starts false []) [] differences → first ≡ ranges ++ equalities → atoms ≡ first ++ differences → IsCanonical p atoms
+canonical law grows p t form lost l R E D first atoms starts s rs es ds f a =
+    let rs' = subst (λ (z : Option NodeId). Added (IsRangeLeft p z) [] R) l rs in
+    let es' = subst (λ (z : Option NodeId). Added (IsClassLeft p z) [] E) l es in
+    let ds' = subst (λ (z : Option NodeId). Added (DifferenceLeft p z p.starts false []) [] D) l (subst (λ (z : List NodeId). Added (DifferenceLeft p lost z false []) [] D) s ds) in
+    let together : atoms ≡ R ++ (E ++ D) = a ∙ ap (λ (z : List Atom). z ++ D) f ∙ append_assoc R E D in
+    inr (t, is_list law grows p t form.nf form.normal R E D rs' es' ds' atoms together)

@@ -29,13 +29,13 @@ pub fn canon(alloc: Global, pure: &Pure) -> Result<Vec<Atom>, NoMemory>
     if pure.is_false() {
         return contradiction(alloc);
     }
+    pure.has_normal_form();
+    mc_pure::normal_forms_say_all();
+    mc_pure::derived_grows();
     let left = whole();
     let mut list = ranges(alloc, pure, &left)?;
     let same = equalities(alloc, pure, &left)?;
     let apart = differences(alloc, pure, &left, pure.starts(), false, &[])?;
-    pure.has_normal_form();
-    mc_pure::normal_forms_say_all();
-    mc_pure::derived_grows();
     list.extend_from_slice(same.as_slice())?;
     list.extend_from_slice(apart.as_slice())?;
     Ok(list)

@@ -62,6 +62,8 @@ fn without(pure: &Pure, lost: NodeId) -> Left
     ensures lost { result.lost ≡ Some lost }
     ensures heir { IsLeftOut pure.now result.lost result.heir }
 {
+    pure.has_normal_form();
+    mc_pure::normal_forms_say_all();
     let mut heir = None;
     for other in pure.nodes() {
         heir = next_heir(pure, lost, *other, heir);
@@ -82,14 +84,14 @@ pub fn forget(alloc: Global, pure: &Pure, lost: NodeId) -> Result<Vec<Atom>, NoM
     if pure.is_false() {
         return contradiction(alloc);
     }
+    pure.has_normal_form();
+    mc_pure::normal_forms_say_all();
+    mc_pure::derived_grows();
     let left = without(pure, lost);
     let mut list = ranges(alloc, pure, &left)?;
     let same = equalities(alloc, pure, &left)?;
     let apart = differences(alloc, pure, &left, &[], false, pure.starts())?;
     let inner = differences(alloc, pure, &left, &[], true, pure.starts())?;
-    pure.has_normal_form();
-    mc_pure::normal_forms_say_all();
-    mc_pure::derived_grows();
     list.extend_from_slice(same.as_slice())?;
     list.extend_from_slice(apart.as_slice())?;
     list.extend_from_slice(inner.as_slice())?;

@@ -1,10 +1,11 @@
 // Disequalities, moved to the least nodes of classes.
 ghost use Rattle.std.specs.Prelude.{◌≡◌, ◌≢◌, ◌+ℤ◌, ◌-ℤ◌, neg_ℤ, ◌⊎◌, ◌<ℤ◌, ◌<◌, pos, true, false, IfOk, None, [], length};
+ghost use Rattle.mc_base.specs.declared.plain.Atom.TheVariants.{Ne};
 ghost use Rattle.mc_ranges.specs.Ends.{IsEnd};
 ghost use Rattle.mc_pure.specs.Pure.{IsNode};
-ghost use Rattle.mc_pure.specs.Classes.{IsLong};
+ghost use Rattle.mc_pure.specs.Classes.{IsLong, HasNormalForm};
 ghost use Rattle.mc_pure.specs.Derived.{IsFalse};
-ghost use Rattle.mc_pure.specs.Rows.{IsShort, Over};
+ghost use Rattle.mc_pure.specs.Rows.{IsShort};
 ghost use Rattle.mc_canon.specs.Order.{Added, GivesAtMost};
 ghost use Rattle.mc_canon.specs.Left.{IsLeftOut, IsPlace};
 ghost use Rattle.mc_canon.specs.Gaps.{AreNodes, AreApart, MovedPlaces, StartsGive, StartGives, IsPlain, IsTurned, gap_atom, Shows, Gives, PairGives, AtomGives, WrittenGives, PairsGiveAt, PairsGiveOf, PairsGive, DifferenceLeft};
@@ -323,7 +324,7 @@ fn atom_gives(
     requires not_false { IsFalse pure.now → ⊥ }
     requires left { IsLeftOut pure.now left.now.lost left.now.heir }
     requires starts { AreNodes pure.now starts.now }
-    requires known { Over (IsNode pure.now.kinds) atom.now }
+    requires known { (x y : _) (d : _) → atom.now ≡ Ne x y d → IsNode pure.now.kinds x × IsNode pure.now.kinds y }
     ensures { GivesAtMost (AtomGives pure.now left.now.lost starts.now inside atom.now) result }
 {
     match atom {
@@ -343,6 +344,7 @@ fn put_written(
 ) -> Result<(), NoMemory>
     requires not_false { IsFalse pure.now → ⊥ }
     requires left { IsLeftOut pure.now left.now.lost left.now.heir }
+    requires form { HasNormalForm pure.now }
     requires starts { AreNodes pure.now starts.now }
     ensures { IfOk result (λ _. Added (WrittenGives pure.now left.now.lost starts.now inside) list.old.items list.new.items) }
 {
@@ -436,6 +438,7 @@ pub fn differences(
     requires nodes { AreNodes pure.now nodes.now }
     ensures { IfOk result (λ list. Added (DifferenceLeft pure.now left.now.lost starts.now inside nodes.now) [] list.items) }
 {
+    pure.has_normal_form();
     let mut list = Vec::new(alloc);
     put_written(&mut list, pure, left, starts, inside)?;
     put_pairs(&mut list, pure, left, starts, inside, nodes)?;

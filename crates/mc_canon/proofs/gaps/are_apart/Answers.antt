@@ -15,15 +15,15 @@ high_than a b c f g h k e = let x = simp to_z-of_z at e in grind (arith, ints)
 pub returns-then-left-right-clause-yes : goal.returns-then-left-right-clause-yes
 returns-then-left-right-clause-yes c =
     let p = c.requires.lo in
-    let q = c.requires.c in
+    let q = c.requires.short in
     let f : SFits w128 c.args.left.now.hi = search rules in
     let g : SFits w128 c.args.right.now.lo = search rules in
-    λ e. inl (low_than c.args.left.now.hi c.args.right.now.lo c.args.c f g c.ranges.c (fits_small _ (omega (arith, ints)) (omega (arith, ints))) c.if-left-right.true)
+    λ e. inl (low_than c.args.left.now.hi c.args.right.now.lo c.args.by f g c.ranges.by (fits_small _ (omega (arith, ints)) (omega (arith, ints))) c.if-left-right.true)
 
-pub returns-then-right-c-clause-yes : goal.returns-then-right-c-clause-yes
-returns-then-right-c-clause-yes c =
+pub returns-then-right-by-clause-yes : goal.returns-then-right-by-clause-yes
+returns-then-right-by-clause-yes c =
     let p = c.requires.hi in
-    let q = c.requires.c in
+    let q = c.requires.short in
     let f : SFits w128 c.args.left.now.lo = search rules in
     let g : SFits w128 c.args.right.now.hi = search rules in
-    λ e. inr (high_than c.args.left.now.lo c.args.right.now.hi c.args.c f g c.ranges.c (fits_small _ (omega (arith, ints)) (omega (arith, ints))) c.if-right-c.true)
+    λ e. inr (high_than c.args.left.now.lo c.args.right.now.hi c.args.by f g c.ranges.by (fits_small _ (omega (arith, ints)) (omega (arith, ints))) c.if-right-by.true)
