@@ -70,8 +70,8 @@ module _ (p : Pure) (lost : Option NodeId) (starts : List NodeId) (inside : Bool
   pair_plain i j x y w k =
       let m = moved_gap x y (pos 0) k.0 k.1 in
       elim k.2 [
-        | inl s ↦ s.new (inr (i, (j, (x, y, w, m))))
-        | inr s ↦ s.new (inr (j, (i, (y, x, record { differ = λ e. w.differ (sym e); first = w.second; second = w.first }, moved_back x y k.0 m))))
+        | inl s ↦ s.new (inr (i, (j, x, y, w, m)))
+        | inr s ↦ s.new (inr (j, (i, y, x, record { differ = λ e. w.differ (sym e); first = w.second; second = w.first }, moved_back x y k.0 m)))
       ]
 
   module _ (nodes : List NodeId) (each : (i j : ℕ) (x y : NodeId) → ArePair p.starts i j x y → ArePair nodes i j x y ⊎ ArePair starts i j x y) where

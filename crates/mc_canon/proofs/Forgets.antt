@@ -1,5 +1,5 @@
 -- What is written when a node is forgotten.
-use Rattle.std.proofs.Common.{◌≡◌, ◌≢◌, ◌↔◌, ℕ, ◌⊎◌, ◌<◌, ℤ, pos, ◌+ℤ◌, ◌-ℤ◌, neg_ℤ, ◌<ℤ◌, List, [], ◌∷◌, ◌++◌, Option, Some, None, slice_get, Bool, true, false, refl, sym, ◌∙◌, ap, subst, inl, inr, arith}
+use Rattle.std.proofs.Common.{◌≡◌, ◌≢◌, ◌↔◌, ℕ, ◌⊎◌, ◌<◌, ℤ, pos, ◌+ℤ◌, ◌-ℤ◌, neg_ℤ, ◌<ℤ◌, List, [], ◌∷◌, ◌++◌, Option, Some, None, slice_get, Bool, true, false, append_assoc, refl, sym, ◌∙◌, ap, subst, inl, inr, arith}
 use Rattle.std.proofs.lemmas.Int.{ints}
 use Rattle.mc_base.specs.declared.ids.NodeId.{NodeId}
 use Rattle.mc_base.specs.declared.plain.Kind.{Kind}
@@ -13,7 +13,7 @@ use Rattle.mc_pure.specs.Derived as derive
 use Rattle.mc_pure.specs.Derived.{Follows, IsFalse, HasRange, base, turned, chained, widened, differs, disjoint, empty, more}
 use Rattle.mc_pure.specs.Normal.{low, high, Apart, IsNormal}
 use Rattle.mc_pure.specs.Rows.{IsTie, Over}
-use Rattle.mc_pure.specs.Classes.{NormalSaysAll}
+use Rattle.mc_pure.specs.Classes.{HasNormalForm, NormalSaysAll}
 use Rattle.mc_pure.specs.Laws.{FollowsFromMore}
 use Rattle.mc_pure.specs.Canonical.{IsLeast, IsRangeAtom, IsClassAtom, IsDifference, IsListOf, ComesBefore, AreListed, plainly}
 use Rattle.mc_pure.specs.declared.classes.ClassPlace.{ClassPlace}
@@ -167,7 +167,7 @@ module _ (law : NormalSaysAll) (grows : FollowsFromMore) (p : Pure) (true_p : Is
           | inl z ↦ (let x = law p nf n (In w.left a.lo a.hi) a.left_range.follows in let y = law p nf n (In w.right a.m a.k) a.right_range.follows in inl (omega (arith, ints, z, x.2, y.1)))
           | inr z ↦ (let x = law p nf n (In w.left a.lo a.hi) a.left_range.follows in let y = law p nf n (In w.right a.m a.k) a.right_range.follows in inr (omega (arith, ints, z, y.2, x.1)))
         ])
-        | inr s ↦ (let e = s.1.1.2.first in cc)
+        | inr s ↦ (let e = s.1.3.first in cc)
       ])
     ]
 
@@ -212,7 +212,7 @@ module _ (law : NormalSaysAll) (grows : FollowsFromMore) (p : Pure) (true_p : Is
     same f = (to_p f, λ k. from_p f k.0 k.1)
 
     true_q : IsFalse q → ⊥
-    true_q (empty {a} {l} {h} x d) = true_p (empty x (to_p (In a l h) d).0)
+    true_q (empty {a} {lo} {hi} x d) = true_p (empty x (to_p (In a lo hi) d).0)
     true_q (derive.apart {a} d) = true_p (derive.apart (to_p (Ne a a (pos 0)) d).0)
     true_q (more {a} {c} x d) = true_p (more x (to_p (Eq a a c) d).0)
 
@@ -338,6 +338,7 @@ module _ (law : NormalSaysAll) (grows : FollowsFromMore) (p : Pure) (true_p : Is
     inner_listed = listed (IsInside q r) I next_inside (added_as (DifferenceLeft p lost [] true p.starts) (IsInside q r) [] I (λ f k. difference_made law p nf n lost [] true p.starts each f (inside_to f k)) (λ f k. inside_from f (difference_true p lost [] true f p.starts (λ i a e. e) k)) is)
 
     forgotten_all : IsForgotten p g all
+    unfolding canonical
     forgotten_all = record {
       same = same;
       listed = record { list = R ++ (E ++ D); inner = I; together = refl; canonical = canonical; inner_listed = inner_listed };
@@ -345,3 +346,15 @@ module _ (law : NormalSaysAll) (grows : FollowsFromMore) (p : Pure) (true_p : Is
 
     pub forgotten : (atoms : List Atom) → atoms ≡ (R ++ (E ++ D)) ++ I → IsForgotten p g atoms
     forgotten atoms e = subst (λ (z : List Atom). IsForgotten p g z) (sym e) forgotten_all
+
+-- the four lists, one behind the other
+pub forgotten_list : (law : NormalSaysAll) (grows : FollowsFromMore) (p : Pure) → (IsFalse p → ⊥) → HasNormalForm p → (g : NodeId) → g ≢ null → (lost : Option NodeId) (heir : Option ClassPlace) → lost ≡ Some g → IsLeftOut p lost heir → (R E D I first second atoms : List Atom) (s u : List NodeId) → s ≡ p.starts → u ≡ p.starts → Added (IsRangeLeft p lost) [] R → Added (IsClassLeft p lost) [] E → Added (DifferenceLeft p lost [] false s) [] D → Added (DifferenceLeft p lost [] true u) [] I → first ≡ R ++ E → second ≡ first ++ D → atoms ≡ second ++ I → IsForgotten p g atoms
+forgotten_list law grows p t form g nz lost heir l out R E D I first second atoms s u es eu ra ea da ia f h a =
+    let out' = subst (λ (z : Option NodeId). IsLeftOut p z heir) l out in
+    let ra' = subst (λ (z : Option NodeId). Added (IsRangeLeft p z) [] R) l ra in
+    let ea' = subst (λ (z : Option NodeId). Added (IsClassLeft p z) [] E) l ea in
+    let da' = subst (λ (z : Option NodeId). Added (DifferenceLeft p z [] false p.starts) [] D) l (subst (λ (z : List NodeId). Added (DifferenceLeft p lost [] false z) [] D) es da) in
+    let ia' = subst (λ (z : Option NodeId). Added (DifferenceLeft p z [] true p.starts) [] I) l (subst (λ (z : List NodeId). Added (DifferenceLeft p lost [] true z) [] I) eu ia) in
+    let three : second ≡ R ++ (E ++ D) = h ∙ ap (λ (z : List Atom). z ++ D) f ∙ append_assoc R E D in
+    let together : atoms ≡ (R ++ (E ++ D)) ++ I = a ∙ ap (λ (z : List Atom). z ++ I) three in
+    forgotten law grows p t form.nf form.normal form.least g nz heir out' R E D I ra' ea' da' ia' atoms together

@@ -28,7 +28,7 @@ at_last nodes i k other m e s f = some_same m other (sym f ∙ ap (λ (z : ℕ).
 module _ (p : Pure) (lost other : NodeId) where
   -- a node that is not of the class, or is the one that is left out
   pub heir_skipped : ((c : ℤ) → Follows p (Eq other lost c) → other ≡ lost) → (old : Option ClassPlace) → IsNextHeir p lost other old old
-  heir_skipped w None nodes i least e h k m c l f d = elim (split k i l) [
+  heir_skipped w None nodes i least e h = λ k m c l f d. elim (split k i l) [
     | inl x ↦ h k m c x f d
     | inr x ↦ (let s = at_last nodes i k other m e x f in s ∙ w c (eq_as p d s refl refl))
   ]
@@ -94,5 +94,5 @@ is_left_out law p form lost out nodes i heir s e le there nz h =
         (w.0, omega arith, f)
 
     last : (heir : Option ClassPlace) → IsHeirBelow p lost nodes i heir → IsHeir p lost heir
-    last None h m c d = let k = place m c d in h k.0 m c k.1 k.2 d
+    last None h = λ m c d. (let k = place m c d in h k.0 m c k.1 k.2 d)
     last (Some heir) h = (record { node = h.0; left = h.1; least = λ m c w d. (let f = chained (turned d) h.2 in let k = place m (neg_ℤ c +ℤ heir.offset) f in h.3 k.0 m (neg_ℤ c +ℤ heir.offset) k.1 k.2 w f) }, h.2)

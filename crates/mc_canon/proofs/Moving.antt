@@ -1,11 +1,10 @@
 -- Disequalities moved to the least nodes of classes.
-use Rattle.std.proofs.Common.{◌≡◌, ℕ, ◌⊎◌, ◌<◌, ℤ, pos, negsuc, ◌+ℤ◌, ◌-ℤ◌, neg_ℤ, ◌≤ℤ◌, ◌<ℤ◌, List, Option, Some, None, slice_get, get_or, length, Bool, true, false, refl, sym, ◌∙◌, ap, subst, inl, inr, arith}
+use Rattle.std.proofs.Common.{◌≡◌, ℕ, ◌≢◌, ◌⊎◌, ◌<◌, ◌≤◌, ◌+◌, ℤ, pos, negsuc, ◌+ℤ◌, ◌-ℤ◌, neg_ℤ, ◌≤ℤ◌, ◌<ℤ◌, List, Option, Some, None, slice_get, get_or, length, Bool, true, false, refl, sym, ◌∙◌, ap, subst, inl, inr, arith}
 use Rattle.std.proofs.lemmas.Int.{ints}
 use Rattle.std.proofs.lemmas.Option.{slice_get_within, slice_get-get_or}
 use Rattle.mc_base.specs.declared.ids.NodeId.{NodeId}
 use Rattle.mc_base.specs.declared.plain.Atom.{Atom}
 use Rattle.mc_base.specs.declared.plain.Atom.TheVariants.{Eq, Ne, In}
-use Rattle.mc_ranges.specs.Ends.{IsEnd}
 use Rattle.mc_pure.specs.Pure.{Pure, IsNode}
 use Rattle.mc_pure.specs.Derived.{Follows, IsFalse, HasRange, turned, chained, differs, differs_along}
 use Rattle.mc_pure.specs.Rows.{IsShort}
@@ -16,7 +15,7 @@ use Rattle.mc_canon.specs.Order.{GivesAtMost}
 use Rattle.mc_canon.specs.Left.{IsPlace, FindsPlace}
 use Rattle.mc_canon.specs.Gaps.{AreNodes, AreApart, ArePair, IsMoved, MovedPlaces, StartGives, StartsGive, IsPlain, IsTurned, gap_atom, turned_gap, Shows, Gives, GapOf, PairGives, PairsGiveAt}
 use Rattle.mc_canon.proofs.Lists.{at_most_as}
-use Rattle.mc_canon.proofs.Nodes.{eq_as, ne_as, range_once, place_once, not_below}
+use Rattle.mc_canon.proofs.Nodes.{eq_as, ne_as, range_once, place_once, not_below, kind_range}
 
 pub gap_same : (a b : Gap) → a.left ≡ b.left → a.right ≡ b.right → a.by ≡ b.by → a ≡ b
 gap_same a b p q r =
@@ -34,11 +33,27 @@ apart_from p nf g l h m k x y a =
     let v = range_once p nf g.right a.m a.k m k a.right_range y in
     elim a.apart [ inl w ↦ inl (omega (arith, ints, u.1, v.0)) | inr w ↦ inr (omega (arith, ints, u.0, v.1)) ]
 
-pub met_long : (l h m k c : ℤ) → IsEnd l → IsEnd h → IsEnd m → IsEnd k → ((h <ℤ (m +ℤ c)) ⊎ ((k +ℤ c) <ℤ l) → ⊥) → IsLong c
+-- the range of a node lies in that of its kind
+pub range_bounds : (p : Pure) (a : NodeId) (l h : ℤ) → IsNode p.kinds a → HasRange p a l h → (negsuc 2147483647 ≤ℤ l) × (h ≤ℤ pos 4611686018427387903)
+range_bounds p a l h na r =
+    let k = kind_range p a na in
+    let w = r.least k.0 k.1 k.2 in
+    (omega (arith, ints, k.3, w.0), omega (arith, ints, k.4, w.1))
+
+pub met_long : (l h m k c : ℤ) → negsuc 2147483647 ≤ℤ l → h ≤ℤ pos 4611686018427387903 → negsuc 2147483647 ≤ℤ m → k ≤ℤ pos 4611686018427387903 → ((h <ℤ (m +ℤ c)) ⊎ ((k +ℤ c) <ℤ l) → ⊥) → IsLong c
 met_long l h m k c a b d e n =
     let x = not_below (m +ℤ c) h (λ w. n (inl w)) in
     let y = not_below l (k +ℤ c) (λ w. n (inr w)) in
-    (omega (arith, ints, a.0, e.1), omega (arith, ints, b.1, d.0))
+    (omega (arith, ints), omega (arith, ints))
+
+-- the same of ends that are theirs
+pub spans_to : (l h m k ll lh rl rh c d : ℤ) → ll ≡ l → lh ≡ h → rl ≡ m → rh ≡ k → d ≡ c → (lh <ℤ (rl +ℤ d)) ⊎ ((rh +ℤ d) <ℤ ll) → (h <ℤ (m +ℤ c)) ⊎ ((k +ℤ c) <ℤ l)
+spans_to l h m k ll lh rl rh c d p q r s e (inl w) = inl (omega (arith, ints))
+spans_to l h m k ll lh rl rh c d p q r s e (inr w) = inr (omega (arith, ints))
+
+pub spans_from : (l h m k ll lh rl rh c d : ℤ) → ll ≡ l → lh ≡ h → rl ≡ m → rh ≡ k → d ≡ c → (h <ℤ (m +ℤ c)) ⊎ ((k +ℤ c) <ℤ l) → (lh <ℤ (rl +ℤ d)) ⊎ ((rh +ℤ d) <ℤ ll)
+spans_from l h m k ll lh rl rh c d p q r s e (inl w) = inl (omega (arith, ints))
+spans_from l h m k ll lh rl rh c d p q r s e (inr w) = inr (omega (arith, ints))
 
 -- a disequality of nodes and that of the nodes of a gap, by the places of all four
 module _ (p : Pure) (nf : IsFalse p → ⊥) (x y : NodeId) (d : ℤ) (g : Gap) (first second left right : ClassPlace) (px : IsPlace p None x first) (py : IsPlace p None y second) (pl : IsPlace p None g.left left) (pr : IsPlace p None g.right right) where
@@ -114,6 +129,53 @@ gap_true p lost x y d g k f =
     subst (λ (z : NodeId). Follows p (Ne z g.right g.by)) (sym k.left)
     (subst (λ (z : NodeId). Follows p (Ne k.left_place.least z g.by)) (sym k.right) (ne_as p one e))
 
--- the same of starts of blocks, as the code has them
-pub starts_below : (starts : List NodeId) (i : ℕ) (n : NodeId) → slice_get starts i ≡ Some n → i < length starts
-starts_below starts i n e = slice_get_within starts i n e
+split : (k n : ℕ) → k < n + 1 → (k < n) ⊎ (k ≡ n)
+split k n l = grind arith
+
+at_place : (xs : List NodeId) (i k : ℕ) (d x : NodeId) → i < length xs → k ≡ i → slice_get xs k ≡ Some x → get_or xs i d ≡ x
+at_place xs i k d x l s e =
+    let h : slice_get xs i ≡ Some x = subst (λ (z : ℕ). slice_get xs z ≡ Some x) s e in
+    let m = slice_get-get_or xs i d l in
+    cc
+
+-- starts of blocks, as the code has them
+module _ (p : Pure) (nf : IsFalse p → ⊥) (starts : List NodeId) (i : ℕ) (d : NodeId) (g : Gap) (first left right : ClassPlace) (li : i < length starts) (px : IsPlace p None (get_or starts i d) first) (pl : IsPlace p None g.left left) (pr : IsPlace p None g.right right) where
+  first_at : (x : NodeId) → slice_get starts i ≡ Some x → IsPlace p None x first
+  first_at x e = subst (λ (z : NodeId). IsPlace p None z first) (at_place starts i i d x li refl e) px
+
+  pub start_class : (first.least ≡ left.least → ⊥) → StartGives p starts g i → ⊥
+  start_class ne k =
+      let m = k.4 in
+      let a = place_once p nf None k.1 first (record { least = left.least; offset = m.e +ℤ left.offset }) (first_at k.1 k.3.first) (record { least = pl.least; equal = chained m.left_equal pl.equal }) in
+      ne (ap (λ (z : ClassPlace). z.least) a)
+
+  pub start_yes : (j : ℕ) (second : ClassPlace) → j < length starts → i ≢ j → IsPlace p None (get_or starts j d) second → MovedPlaces first second left right (pos 0) g.by → StartGives p starts g i
+  start_yes j second lj ne py m =
+      (j, get_or starts i d, get_or starts j d, record { differ = ne; first = slice_get-get_or starts i d li; second = slice_get-get_or starts j d lj }, moved_to p nf (get_or starts i d) (get_or starts j d) (pos 0) g first second left right px py pl pr m)
+
+  -- none of the first starts
+  abbrev pub NoneBelow : ℕ → Type 0
+  NoneBelow n = (j : ℕ) (x y : NodeId) → j < n → ArePair starts i j x y → IsMoved p x y (pos 0) g → ⊥
+
+  pub start_other : (n : ℕ) (second : ClassPlace) → n < length starts → IsPlace p None (get_or starts n d) second → (MovedPlaces first second left right (pos 0) g.by → ⊥) → NoneBelow n → NoneBelow (n + 1)
+  start_other n second ln py no below j x y l w m = elim (split j n l) [
+    | inl z ↦ below j x y z w m
+    | inr z ↦
+        let py' = subst (λ (u : NodeId). IsPlace p None u second) (at_place starts n j d y ln z w.second) py in
+        no (moved_from p nf x y (pos 0) g first second left right (first_at x w.first) py' pl pr m)
+  ]
+
+  pub start_itself : (n : ℕ) → i ≡ n → NoneBelow n → NoneBelow (n + 1)
+  start_itself n e below j x y l w m = elim (split j n l) [ inl z ↦ below j x y z w m | inr z ↦ w.differ (e ∙ sym z) ]
+
+  pub start_no : (n : ℕ) → length starts ≤ n → NoneBelow n → StartGives p starts g i → ⊥
+  start_no n l below k = let w = slice_get_within starts k.0 k.2 k.3.second in below k.0 k.1 k.2 (omega arith) k.3 k.4
+
+pub starts_more : (p : Pure) (starts : List NodeId) (g : Gap) (n : ℕ) → ((i : ℕ) → i < n → StartGives p starts g i → ⊥) → (StartGives p starts g n → ⊥) → (i : ℕ) → i < n + 1 → StartGives p starts g i → ⊥
+starts_more p starts g n below here i l k = elim (split i n l) [
+  | inl z ↦ below i z k
+  | inr z ↦ here (subst (λ (u : ℕ). StartGives p starts g u) z k)
+]
+
+pub starts_no : (p : Pure) (starts : List NodeId) (g : Gap) (n : ℕ) → length starts ≤ n → ((i : ℕ) → i < n → StartGives p starts g i → ⊥) → StartsGive p starts g → ⊥
+starts_no p starts g n l below k = let w = slice_get_within starts k.0 k.1.1 k.1.3.first in below k.0 (omega arith) k.1

@@ -50,16 +50,16 @@ without_node kinds g n nz h = elim h.1 [
     none : (k : Kind) → None ≡ Some k → ⊥
     none k e = cc
 
+kept_at : (x : Entry) (kinds rest : Kinds) (g : NodeId) (n : NodeId) (k : Kind) → x.0 ≢ g → ((i : ℕ) → slice_get rest i ≡ Some (n, k) → (j : ℕ) × (slice_get kinds j ≡ Some (n, k)) × (n ≢ g)) → (i : ℕ) → slice_get (x ∷ rest) i ≡ Some (n, k) → (j : ℕ) × (slice_get (x ∷ kinds) j ≡ Some (n, k)) × (n ≢ g)
+kept_at x kinds rest g n k f later zero e = let s = some_entry x (n, k) e in (zero, e, λ z. f (ap (λ (w : Entry). w.0) s ∙ z))
+kept_at x kinds rest g n k f later (suc i) e = let h = later i e in (suc h.0, h.1, h.2)
+
 pub place_without : (kinds : Kinds) (g : NodeId) (i : ℕ) (n : NodeId) (k : Kind) → slice_get (kinds_without kinds g) i ≡ Some (n, k) → (j : ℕ) × (slice_get kinds j ≡ Some (n, k)) × (n ≢ g)
 place_without [] g i n k e = cc
 place_without (x ∷ kinds) g i n k e = elim (decide x.0 g) [
   | inl f ↦ (let h = place_without kinds g i n k (subst (λ (z : Kinds). slice_get z i ≡ Some (n, k)) (drop_here x kinds g f) e) in (suc h.0, h.1, h.2))
-  | inr f ↦ at i (subst (λ (z : Kinds). slice_get z i ≡ Some (n, k)) (keep_here x kinds g f) e) f
+  | inr f ↦ kept_at x kinds (kinds_without kinds g) g n k f (λ m d. place_without kinds g m n k d) i (subst (λ (z : Kinds). slice_get z i ≡ Some (n, k)) (keep_here x kinds g f) e)
 ]
-  where
-    at : (i : ℕ) → slice_get (x ∷ kinds_without kinds g) i ≡ Some (n, k) → x.0 ≢ g → (j : ℕ) × (slice_get (x ∷ kinds) j ≡ Some (n, k)) × (n ≢ g)
-    at zero e f = let s = some_entry x (n, k) e in (zero, e, λ z. f (ap (λ (w : Entry). w.0) s ∙ z))
-    at (suc i) e f = let h = place_without kinds g i n k e in (suc h.0, h.1, h.2)
 
 -- what follows names what the base atoms name
 pub over_all : (q : Pure) (M : NodeId → Type 0) → ((n : NodeId) → IsNode q.kinds n → M n) → ((f : Atom) → Base q f → Over M f) → {f : Atom} → Follows q f → Over M f

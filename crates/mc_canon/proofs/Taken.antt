@@ -1,16 +1,18 @@
 -- What loops over atoms and pairs of nodes have written.
-use Rattle.std.proofs.Common.{◌≡◌, ◌≢◌, ℕ, ◌⊎◌, ◌<◌, ◌≤◌, ◌+◌, ◌++◌, ◌∷◌, ℤ, pos, List, [], Option, Some, slice_get, get_or, length, Bool, refl, sym, ◌∙◌, ap, subst, inl, inr, arith}
-use Rattle.std.proofs.lemmas.Option.{slice_get_within, slice_get-get_or}
+use Rattle.std.proofs.Common.{◌≡◌, ◌≢◌, ℕ, ◌⊎◌, ◌<◌, ◌≤◌, ◌+◌, ◌++◌, ◌∷◌, ℤ, pos, List, [], Option, Some, None, slice_get, get_or, length, Bool, refl, sym, ◌∙◌, ap, subst, inl, inr, arith}
+use Rattle.std.proofs.lemmas.Option.{slice_get_within, slice_get-get_or, get_or_from_slice_get}
 use Rattle.mc_base.specs.declared.ids.NodeId.{NodeId}
 use Rattle.mc_base.specs.declared.plain.Atom.{Atom}
 use Rattle.mc_base.specs.declared.plain.Atom.TheVariants.{Ne}
 use Rattle.mc_pure.specs.Pure.{Pure, IsNode, Base, address_atom, written, block}
 use Rattle.mc_pure.specs.Derived.{base}
+use Rattle.mc_pure.specs.Rows.{nodes_of}
 use Rattle.mc_pure.specs.Classes.{HasNormalForm, NormalSaysAll}
-use Rattle.mc_canon.specs.Order.{Added}
+use Rattle.mc_canon.specs.Order.{Added, GivesAtMost}
 use Rattle.mc_canon.specs.Gaps.{AreNodes, ArePair, IsMoved, StartGives, AtomGives, WrittenGives, PairGives, PairsGiveAt, PairsGiveOf, PairsGive, DifferenceLeft}
 use Rattle.mc_canon.specs.declared.gaps.Gap.{Gap}
-use Rattle.mc_canon.proofs.Lists.{added_as, added_both, Below, Upto, upto_all}
+use Rattle.mc_canon.proofs.Lists.{added_as, added_both, at_most_as, Below, Upto, upto_all}
+use Rattle.mc_canon.proofs.Nodes.{node_there}
 
 -- the nodes of a written disequality are there
 pub known_at : (p : Pure) → HasNormalForm p → (xs : List Atom) (i : ℕ) (d : Atom) → xs ≡ p.written → i < length xs → (x y : NodeId) (c : ℤ) → get_or xs i d ≡ Ne x y c → IsNode p.kinds x × IsNode p.kinds y
@@ -49,3 +51,19 @@ node_at p xs i d h l = h i (get_or xs i d) (slice_get-get_or xs i d l)
 
 pub pair_at : (xs : List NodeId) (i j : ℕ) (d : NodeId) → i < length xs → j < length xs → i ≢ j → ArePair xs i j (get_or xs i d) (get_or xs j d)
 pair_at xs i j d l m ne = record { differ = ne; first = slice_get-get_or xs i d l; second = slice_get-get_or xs j d m }
+
+pub listed_at : (p : Pure) (xs : List NodeId) (i : ℕ) (d : NodeId) → xs ≡ nodes_of p.kinds → i < length xs → IsNode p.kinds (get_or xs i d)
+listed_at p xs i d e l = node_there p.kinds i (get_or xs i d) (subst (λ (z : List NodeId). slice_get z i ≡ Some (get_or xs i d)) e (slice_get-get_or xs i d l))
+
+pub itself_none : (p : Pure) (lost : Option NodeId) (starts : List NodeId) (inside : Bool) (nodes : List NodeId) (i j : ℕ) → i ≡ j → GivesAtMost (PairsGiveAt p lost starts inside nodes i j) None
+itself_none p lost starts inside nodes i j e f k = k.2.differ e
+
+pub pair_of_places : (p : Pure) (lost : Option NodeId) (starts : List NodeId) (inside : Bool) (nodes : List NodeId) (i j : ℕ) (d : NodeId) (o : Option Atom) → i < length nodes → j < length nodes → i ≢ j → GivesAtMost (PairGives p lost starts inside (get_or nodes i d) (get_or nodes j d) (pos 0)) o → GivesAtMost (PairsGiveAt p lost starts inside nodes i j) o
+pair_of_places p lost starts inside nodes i j d o li lj ne m =
+    at_most_as (PairGives p lost starts inside (get_or nodes i d) (get_or nodes j d) (pos 0)) (PairsGiveAt p lost starts inside nodes i j) o
+    (λ f k. (get_or nodes i d, get_or nodes j d, pair_at nodes i j d li lj ne, k))
+    (λ f k.
+        let ex = get_or_from_slice_get nodes i k.0 d k.2.first in
+        let ey = get_or_from_slice_get nodes j k.1 d k.2.second in
+        subst (λ (z : NodeId). PairGives p lost starts inside z (get_or nodes j d) (pos 0) f) (sym ex) (subst (λ (z : NodeId). PairGives p lost starts inside k.0 z (pos 0) f) (sym ey) k.3))
+    m

@@ -71,7 +71,7 @@ module _ (law : NormalSaysAll) (p : Pure) (true_p : IsFalse p → ⊥) (nf : Nod
   pub plain_in : (starts : List NodeId) → ((i j : ℕ) (x y : NodeId) → ArePair starts i j x y → IsLeft lost x × IsLeft lost y × Follows r (Ne x y (pos 0))) → (g : Gap) → IsLeastLeft p lost g.left → IsLeastLeft p lost g.right → IsPlain p starts g → Follows r (gap_atom g)
   plain_in starts pairs g gl gr (inl a) = disjoint (range_in g.left a.lo a.hi gl.left a.left_range) (range_in g.right a.m a.k gr.left a.right_range) a.apart
   plain_in starts pairs g gl gr (inr k) =
-      let u = k.1.1 in
-      let m = u.3 in
-      let t = pairs k.0 k.1.0 u.0 u.1 u.2 in
-      moved_ne r u.0 u.1 g.left g.right (pos 0) m.e m.h g.by t.2 (class_in u.0 g.left m.e t.0 gl m.left_equal) (class_in u.1 g.right m.h t.1 gr m.right_equal) m.by_is
+      let u = k.1 in
+      let m = u.4 in
+      let t = pairs k.0 u.0 u.1 u.2 u.3 in
+      moved_ne r u.1 u.2 g.left g.right (pos 0) m.e m.h g.by t.2 (class_in u.1 g.left m.e t.0 gl m.left_equal) (class_in u.2 g.right m.h t.1 gr m.right_equal) m.by_is

@@ -77,6 +77,25 @@ fn is_apart(pure: &Pure, gap: &Gap) -> bool
     are_apart(&left, &right, gap.by)
 }
 
+/// The number in 128 bits.
+fn wide(by: i64) -> i128
+    ensures is { result ≡ by }
+    ensures long { IsLong result }
+{
+    i128::from(by)
+}
+
+/// The number that a gap gets where its nodes are moved.
+fn moved_by(right: i128, by: i128, left: i128) -> i128
+    requires right { IsLong right }
+    requires by { IsLong by }
+    requires left { IsLong left }
+    ensures is { result ≡ (right +ℤ by) -ℤ left }
+    ensures short { IsShort result }
+{
+    (right + by) - left
+}
+
 /// By how much more the first is.
 fn difference(a: i64, b: i64) -> i128
     ensures { result ≡ a -ℤ b }
@@ -283,7 +302,7 @@ fn gap_between(left: &ClassPlace, right: &ClassPlace, by: i64) -> Gap
     Gap {
         left: left.least,
         right: right.least,
-        by: i128::from(right.offset) + i128::from(by) - i128::from(left.offset),
+        by: moved_by(wide(right.offset), wide(by), wide(left.offset)),
     }
 }
 

@@ -1,8 +1,12 @@
-use Rattle.std.proofs.Common.{◌≡◌, sym, subst}
+use Rattle.std.proofs.Common.{◌≡◌, rules}
+use mir.Syntax.{w64}
+use mir.Val.{to_z, of_z}
 use Rattle.mc_canon.proofs.gaps.atom_gives.Goals as goal
 
 pub returns-in-Ne : goal.returns-in-Ne
-returns-in-Ne c = rw c.in-Ne.is c.pair_gives.ensures
+returns-in-Ne c =
+    let d : to_z w64 (of_z w64 c.in-Ne.by) ≡ c.in-Ne.by = search rules in
+    rw c.in-Ne.is (rw d at c.pair_gives.ensures)
 
 pub pair_gives-requires-clause-first : goal.pair_gives-requires-clause-first
 pair_gives-requires-clause-first c = (c.requires.known c.in-Ne.x c.in-Ne.y c.in-Ne.by c.in-Ne.is).0

@@ -1,15 +1,12 @@
-use Rattle.std.proofs.Common.{◌≡◌, [], sym, subst}
-use Rattle.std.proofs.lemmas.Option.{slice_get-get_or}
+use Rattle.std.proofs.Common.{◌≡◌, []}
 use Rattle.mc_canon.specs.Left.{IsRangeLeft, OfNode}
 use Rattle.mc_canon.proofs.Lists.{below_none, upto_more, some_added}
-use Rattle.mc_canon.proofs.Nodes.{node_there}
+use Rattle.mc_canon.proofs.Taken.{listed_at}
 use Rattle.mc_canon.proofs.Single.{all_ranges}
 use Rattle.mc_canon.proofs.left.ranges.Goals as goal
 
 pub range_atom-requires-clause-there : goal.range_atom-requires-clause-there
-range_atom-requires-clause-there c =
-    let e = slice_get-get_or c.nodes-node-items.result.now c.loop-node.node-index _ c.loop-node-test.true in
-    node_there c.args.pure.now.kinds c.loop-node.node-index _ (rw c.nodes-node-items.ensures at e)
+range_atom-requires-clause-there c = listed_at c.args.pure.now c.nodes-node-items.result.now c.loop-node.node-index _ c.nodes-node-items.ensures c.loop-node-test.true
 
 pub loop-node-init : goal.loop-node-init
 loop-node-init c = rw c.new-list.ensures.items (below_none _ [])
