@@ -158,11 +158,11 @@ module _ (p : Pure) (nf : IsFalse p → ⊥) (starts : List NodeId) (i : ℕ) (d
   NoneBelow n = (j : ℕ) (x y : NodeId) → j < n → ArePair starts i j x y → IsMoved p x y (pos 0) g → ⊥
 
   pub start_other : (n : ℕ) (second : ClassPlace) → n < length starts → IsPlace p None (get_or starts n d) second → (MovedPlaces first second left right (pos 0) g.by → ⊥) → NoneBelow n → NoneBelow (n + 1)
-  start_other n second ln py no below j x y l w m = elim (split j n l) [
+  start_other n second ln py never below j x y l w m = elim (split j n l) [
     | inl z ↦ below j x y z w m
     | inr z ↦
         let py' = subst (λ (u : NodeId). IsPlace p None u second) (at_place starts n j d y ln z w.second) py in
-        no (moved_from p nf x y (pos 0) g first second left right (first_at x w.first) py' pl pr m)
+        never (moved_from p nf x y (pos 0) g first second left right (first_at x w.first) py' pl pr m)
   ]
 
   pub start_itself : (n : ℕ) → i ≡ n → NoneBelow n → NoneBelow (n + 1)

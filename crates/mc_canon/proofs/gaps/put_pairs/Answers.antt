@@ -11,4 +11,4 @@ pub loop-i-preserved : goal.loop-i-preserved
 loop-i-preserved c = below_more (PairsGiveOf c.args.pure.now c.args.left.now.lost c.args.starts.now c.args.inside c.args.nodes.now) c.loop-i.i _ _ _ c.loop-i.invariant c.in_ok-put_pairs_of.ensures
 
 pub returns : goal.returns
-returns c = pairs_all c.args.pure.now c.args.left.now.lost c.args.starts.now c.args.inside c.args.nodes.now c.loop-i.i _ _ (omega (arith, c.loop-i-test.false, c.len-i-end.ensures)) c.loop-i.invariant
+returns c = pairs_all c.args.pure.now c.args.left.now.lost c.args.starts.now c.args.inside c.args.nodes.now c.loop-i.i _ _ (omega arith) c.loop-i.invariant

@@ -11,4 +11,4 @@ pub loop-j-preserved : goal.loop-j-preserved
 loop-j-preserved c = below_more (PairsGiveAt c.args.pure.now c.args.left.now.lost c.args.starts.now c.args.inside c.args.nodes.now c.args.i) c.loop-j.j _ _ _ c.loop-j.invariant (some_added _ c.pair_at.result _ _ c.pair_at.ensures c.in_ok-put_some.ensures)
 
 pub returns : goal.returns
-returns c = pairs_of_all c.args.pure.now c.args.left.now.lost c.args.starts.now c.args.inside c.args.nodes.now c.args.i c.loop-j.j _ _ (omega (arith, c.loop-j-test.false, c.len-j-end.ensures)) c.loop-j.invariant
+returns c = pairs_of_all c.args.pure.now c.args.left.now.lost c.args.starts.now c.args.inside c.args.nodes.now c.args.i c.loop-j.j _ _ (omega arith) c.loop-j.invariant

@@ -36,4 +36,4 @@ loop-j-preserved c =
 
 pub returns-clause-no : goal.returns-clause-no
 returns-clause-no c =
-    λ _. start_no c.args.pure.now c.requires.not_false c.args.starts.now c.args.i (record { 0 = 0 }) c.args.gap.now c.class_of-first.result c.args.left.now c.args.right.now c.requires.inside (whole_place c.args.pure.now _ c.class_of-first.result c.class_of-first.ensures.least c.class_of-first.ensures.equal) c.requires.left c.requires.right c.loop-j.j (omega (arith, c.loop-j-test.false, c.len-j-end.ensures)) c.loop-j.invariant
+    λ _. start_no c.args.pure.now c.requires.not_false c.args.starts.now c.args.i (record { 0 = 0 }) c.args.gap.now c.class_of-first.result c.args.left.now c.args.right.now c.requires.inside (whole_place c.args.pure.now _ c.class_of-first.result c.class_of-first.ensures.least c.class_of-first.ensures.equal) c.requires.left c.requires.right c.loop-j.j (omega arith) c.loop-j.invariant

@@ -6,4 +6,4 @@ pub loop-i-preserved : goal.loop-i-preserved
 loop-i-preserved c = starts_more c.args.pure.now c.args.starts.now c.args.gap.now c.loop-i.i c.loop-i.invariant (c.if-start_gives.ensures.no refl)
 
 pub returns-clause-no : goal.returns-clause-no
-returns-clause-no c = λ _. starts_no c.args.pure.now c.args.starts.now c.args.gap.now c.loop-i.i (omega (arith, c.loop-i-test.false, c.len-i-end.ensures)) c.loop-i.invariant
+returns-clause-no c = λ _. starts_no c.args.pure.now c.args.starts.now c.args.gap.now c.loop-i.i (omega arith) c.loop-i.invariant
