@@ -162,13 +162,19 @@ module _ (law : NormalSaysAll) (grows : FollowsFromMore) (p : Pure) (true_p : Is
     turned_in : (inside : Bool) (w : Gap) → IsLeastLeft p lost w.left → IsLeastLeft p lost w.right → IsTurned inside w → Follows p (gap_atom w) → Follows q (gap_atom w)
     turned_in inside w l m t d = elim (apart_or (nf w.left) (nf w.right) w.by) [
       | inl a ↦ disjoint (q_range w.left _ _ l.left (range_of law p nf n w.left l.node)) (q_range w.right _ _ m.left (range_of law p nf n w.right m.node)) a
-      | inr never ↦ difference_in inside (gap_atom w) (l, m, t, d, λ k. elim k [
-        | inl a ↦ never (elim a.apart [
-          | inl z ↦ (let x = law p nf n (In w.left a.lo a.hi) a.left_range.follows in let y = law p nf n (In w.right a.m a.k) a.right_range.follows in inl (omega (arith, ints, z, x.2, y.1)))
-          | inr z ↦ (let x = law p nf n (In w.left a.lo a.hi) a.left_range.follows in let y = law p nf n (In w.right a.m a.k) a.right_range.follows in inr (omega (arith, ints, z, y.2, x.1)))
-        ])
-        | inr s ↦ (let e = s.1.3.first in cc)
-      ])
+      | inr never ↦ difference_in inside (gap_atom w) (
+        l,
+        m,
+        t,
+        d,
+        λ k. elim k [
+          | inl a ↦ never (elim a.apart [
+            | inl z ↦ (let x = law p nf n (In w.left a.lo a.hi) a.left_range.follows in let y = law p nf n (In w.right a.m a.k) a.right_range.follows in inl (omega (arith, ints, z, x.2, y.1)))
+            | inr z ↦ (let x = law p nf n (In w.left a.lo a.hi) a.left_range.follows in let y = law p nf n (In w.right a.m a.k) a.right_range.follows in inr (omega (arith, ints, z, y.2, x.1)))
+          ])
+          | inr s ↦ (let e = s.1.3.first in cc)
+        ],
+      )
     ]
 
     least_in : (i j : NodeId) (c : ℤ) → IsLeastLeft p lost i → IsLeastLeft p lost j → Follows p (Ne i j c) → Follows q (Ne i j c)

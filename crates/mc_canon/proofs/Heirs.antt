@@ -32,10 +32,15 @@ module _ (p : Pure) (lost other : NodeId) where
     | inl x ↦ h k m c x f d
     | inr x ↦ (let s = at_last nodes i k other m e x f in s ∙ w c (eq_as p d s refl refl))
   ]
-  heir_skipped w (Some heir) nodes i least e h = (h.0, h.1, h.2, λ k m c l f ne d. elim (split k i l) [
-    | inl x ↦ h.3 k m c x f ne d
-    | inr x ↦ (let s = at_last nodes i k other m e x f in absurd (ne (s ∙ w c (eq_as p d s refl refl))))
-  ])
+  heir_skipped w (Some heir) nodes i least e h = (
+    h.0,
+    h.1,
+    h.2,
+    λ k m c l f ne d. elim (split k i l) [
+      | inl x ↦ h.3 k m c x f ne d
+      | inr x ↦ (let s = at_last nodes i k other m e x f in absurd (ne (s ∙ w c (eq_as p d s refl refl))))
+    ],
+  )
 
   pub heir_same : other ≡ lost → (old : Option ClassPlace) → IsNextHeir p lost other old old
   heir_same s old = heir_skipped (λ c d. s) old
@@ -45,10 +50,15 @@ module _ (p : Pure) (lost other : NodeId) where
       heir_skipped (λ c f. absurd (ne (least_once p t None place.least lost _ (least_whole p place.least l) (least_whole p lost least) (chained (turned d) f)))) old nodes i least e h
 
   pub heir_kept : (best : ClassPlace) → best.least.0 ≤ other.0 → IsNextHeir p lost other (Some best) (Some best)
-  heir_kept best le nodes i least e h = (h.0, h.1, h.2, λ k m c l f ne d. elim (split k i l) [
-    | inl x ↦ h.3 k m c x f ne d
-    | inr x ↦ (let s = number (at_last nodes i k other m e x f) in omega arith)
-  ])
+  heir_kept best le nodes i least e h = (
+    h.0,
+    h.1,
+    h.2,
+    λ k m c l f ne d. elim (split k i l) [
+      | inl x ↦ h.3 k m c x f ne d
+      | inr x ↦ (let s = number (at_last nodes i k other m e x f) in omega arith)
+    ],
+  )
 
   module _ (there : IsNode p.kinds other) (place new : ClassPlace) (d : Follows p (Eq other place.least place.offset)) (s : place.least ≡ lost) (ne : other ≢ lost) (new_is : new.least ≡ other) (offset_is : new.offset ≡ place.offset) where
     new_equal : Follows p (Eq new.least lost new.offset)
@@ -58,16 +68,26 @@ module _ (p : Pure) (lost other : NodeId) where
     new_node = subst (λ (z : NodeId). IsNode p.kinds z) (sym new_is) there
 
     pub heir_first : IsNextHeir p lost other None (Some new)
-    heir_first nodes i least e h = (new_node, (λ f. ne (sym new_is ∙ f)), new_equal, λ k m c l f no d. elim (split k i l) [
-      | inl x ↦ absurd (no (h k m c x f d))
-      | inr x ↦ (let u = number (at_last nodes i k other m e x f) in let v = number new_is in omega arith)
-    ])
+    heir_first nodes i least e h = (
+      new_node,
+      (λ f. ne (sym new_is ∙ f)),
+      new_equal,
+      λ k m c l f no d. elim (split k i l) [
+        | inl x ↦ absurd (no (h k m c x f d))
+        | inr x ↦ (let u = number (at_last nodes i k other m e x f) in let v = number new_is in omega arith)
+      ],
+    )
 
     pub heir_nearer : (best : ClassPlace) → (best.least.0 ≤ other.0 → ⊥) → IsNextHeir p lost other (Some best) (Some new)
-    heir_nearer best gt nodes i least e h = (new_node, (λ f. ne (sym new_is ∙ f)), new_equal, λ k m c l f no d. elim (split k i l) [
-      | inl x ↦ (let u = h.3 k m c x f no d in let v = number new_is in let w = less best.least.0 other.0 gt in omega arith)
-      | inr x ↦ (let u = number (at_last nodes i k other m e x f) in let v = number new_is in omega arith)
-    ])
+    heir_nearer best gt nodes i least e h = (
+      new_node,
+      (λ f. ne (sym new_is ∙ f)),
+      new_equal,
+      λ k m c l f no d. elim (split k i l) [
+        | inl x ↦ (let u = h.3 k m c x f no d in let v = number new_is in let w = less best.least.0 other.0 gt in omega arith)
+        | inr x ↦ (let u = number (at_last nodes i k other m e x f) in let v = number new_is in omega arith)
+      ],
+    )
       where
         less : (a b : ℕ) → (a ≤ b → ⊥) → b < a
         less a b n = grind arith

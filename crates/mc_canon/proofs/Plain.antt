@@ -144,25 +144,41 @@ module _ (law : NormalSaysAll) (p : Pure) (nf : NodeId → Row) (n : IsNormal p 
                 let k = pair_of (Ne u.0 u.1 u.2) u.0 u.1 u.2 u.3 refl in
                 let known = n.known u.0 u.1 u.2 (ne_of_p u.0 u.1 u.2 u.3) in
                 let by = u.4.by in
-                let z = k.3 in
-                (k.0, (k.1, u.0, u.1, k.2, record {
-                  e = (nf u.0).off -ℤ (nf a).off;
-                  h = (nf u.1).off -ℤ (nf b).off;
-                  left_equal = between u.0 a known.0 h.0 u.4.left;
-                  right_equal = between u.1 b known.1 h.1 u.4.right;
-                  by_is = omega (arith, ints);
-                }))
+                let z = k.3 in (
+                  k.0,
+                  (
+                    k.1,
+                    u.0,
+                    u.1,
+                    k.2,
+                    record {
+                      e = (nf u.0).off -ℤ (nf a).off;
+                      h = (nf u.1).off -ℤ (nf b).off;
+                      left_equal = between u.0 a known.0 h.0 u.4.left;
+                      right_equal = between u.1 b known.1 h.1 u.4.right;
+                      by_is = omega (arith, ints);
+                    },
+                  ),
+                )
             | inr u ↦
                 let k = pair_of (Ne u.0 u.1 u.2) u.0 u.1 u.2 u.3 refl in
                 let known = n.known u.0 u.1 u.2 (ne_of_p u.0 u.1 u.2 u.3) in
                 let by = u.4.by in
-                let z = k.3 in
-                (k.1, (k.0, u.1, u.0, record { differ = λ e. k.2.differ (sym e); first = k.2.second; second = k.2.first }, record {
-                  e = (nf u.1).off -ℤ (nf a).off;
-                  h = (nf u.0).off -ℤ (nf b).off;
-                  left_equal = between u.1 a known.1 h.0 u.4.right;
-                  right_equal = between u.0 b known.0 h.1 u.4.left;
-                  by_is = omega (arith, ints);
-                }))
+                let z = k.3 in (
+                  k.1,
+                  (
+                    k.0,
+                    u.1,
+                    u.0,
+                    record { differ = λ e. k.2.differ (sym e); first = k.2.second; second = k.2.first },
+                    record {
+                      e = (nf u.1).off -ℤ (nf a).off;
+                      h = (nf u.0).off -ℤ (nf b).off;
+                      left_equal = between u.1 a known.1 h.0 u.4.right;
+                      right_equal = between u.0 b known.0 h.1 u.4.left;
+                      by_is = omega (arith, ints);
+                    },
+                  ),
+                )
           ])
         ]

@@ -63,7 +63,7 @@ pair_of_places p lost starts inside nodes i j d o li lj ne m =
     at_most_as (PairGives p lost starts inside (get_or nodes i d) (get_or nodes j d) (pos 0)) (PairsGiveAt p lost starts inside nodes i j) o
     (λ f k. (get_or nodes i d, get_or nodes j d, pair_at nodes i j d li lj ne, k))
     (λ f k.
-        let ex = get_or_from_slice_get nodes i k.0 d k.2.first in
-        let ey = get_or_from_slice_get nodes j k.1 d k.2.second in
-        subst (λ (z : NodeId). PairGives p lost starts inside z (get_or nodes j d) (pos 0) f) (sym ex) (subst (λ (z : NodeId). PairGives p lost starts inside k.0 z (pos 0) f) (sym ey) k.3))
+    let ex = get_or_from_slice_get nodes i k.0 d k.2.first in
+    let ey = get_or_from_slice_get nodes j k.1 d k.2.second in
+    subst (λ (z : NodeId). PairGives p lost starts inside z (get_or nodes j d) (pos 0) f) (sym ex) (subst (λ (z : NodeId). PairGives p lost starts inside k.0 z (pos 0) f) (sym ey) k.3))
     m
