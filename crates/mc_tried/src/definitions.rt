@@ -1,7 +1,7 @@
 // Texts, and what their tokens spell: so many definitions, or the first token that stands wrong.
 ghost use Rattle.std.specs.Prelude.{◌<◌, length};
 
-use mc_defread::{DefFault, parse};
+use mc_defparse::{DefFault, parse};
 use std::alloc::{AllocError, Global};
 use std::test::Fail;
 
