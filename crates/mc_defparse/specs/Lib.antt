@@ -6,3 +6,4 @@ pub mod Blocks
 pub mod Heads
 pub mod Files
 pub mod Faults
+pub mod Printing

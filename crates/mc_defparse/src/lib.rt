@@ -7,6 +7,7 @@ mod file;
 mod front;
 mod item;
 mod parser;
+mod print;
 mod step;
 mod symbols;
 mod tree;

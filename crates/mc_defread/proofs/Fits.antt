@@ -243,9 +243,9 @@ goes_atom context guarded front body next a b f after is = subst (λ n. Goes con
 }) where
   stays : AtomsFit body.scope.kinds front (body.atoms ++ a ∷ [])
   stays = let e = append_nil body.scope.kinds in
-    let f' : AtomFits (body.scope.kinds ++ []) (length body.scope.kinds) a = rw e f in
-    let after' : known_after (length body.scope.kinds) a ≡ length (body.scope.kinds ++ []) = rw e after in
-    rw e at (atoms_push body.scope.kinds [] front body.atoms a b.atoms f' after')
+      let f' : AtomFits (body.scope.kinds ++ []) (length body.scope.kinds) a = rw e f in
+      let after' : known_after (length body.scope.kinds) a ≡ length (body.scope.kinds ++ []) = rw e after in
+      rw e at (atoms_push body.scope.kinds [] front body.atoms a b.atoms f' after')
 
 item_ok : (context : Context) (guarded : Bool) (front : ℕ) (body next : Body) (i : Item) → IsSmallItem i → BodyFits context.params front body → item context guarded body i ≡ Ok next → Goes context guarded front body next
 item_ok context guarded front body next (Item.Call p xs) small b e =
@@ -389,7 +389,7 @@ block_rule_ok context scope ps b is r front small e =
     let held_long : length held ≡ length fields = ap length held_is ∙ numbers_long (suc (length ps)) (length fields) in
     let there : slice_get context.structs s.0 ≡ Some t.0 = t.1 in
     let inside : take (length held) (drop (suc (length ps)) v.0.scope.kinds) ≡ fields =
-        ap (λ n. take n (drop (suc (length ps)) v.0.scope.kinds)) held_long ∙ ap (λ ks. take (length fields) (drop (suc (length ps)) ks)) whole ∙ ap (take (length fields)) (drop_seam (Ptr ∷ ps) (fields ++ g.more)) ∙ take_seam fields g.more in
+    ap (λ n. take n (drop (suc (length ps)) v.0.scope.kinds)) held_long ∙ ap (λ ks. take (length fields) (drop (suc (length ps)) ks)) whole ∙ ap (take (length fields)) (drop_seam (Ptr ∷ ps) (fields ++ g.more)) ∙ take_seam fields g.more in
     subst (RuleOk context ps) (ok_is _ r v.2) (record {
       block = ap (option_map (λ info. field_kinds info.fields)) there ∙ ap (λ ks. Some ks) (sym inside);
       names = record {

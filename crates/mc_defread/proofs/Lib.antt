@@ -5,3 +5,4 @@ pub mod OneReading
 pub mod Numbering
 pub mod Folds
 pub mod Sayings
+pub mod Exits

@@ -14,7 +14,6 @@ use Rattle.mc_defparse.specs.Faults.{CanBegin, StopsAt, IsStop, IsOnlyFile}
 use Rattle.mc_defread.specs.Judging.{Judged, judged}
 use Rattle.mc_defread.specs.Readings.{ReadsAs, by_bytes, by_tokens, by_items, place_of, syntax_at}
 
-
 splits : (b c x y : Tokens) (t u : Token) → b ++ t ∷ x ≡ c ++ u ∷ y → (t ≡ u) ⊎ (((z : Tokens) × (c ≡ b ++ t ∷ z)) ⊎ ((z : Tokens) × (b ≡ c ++ u ∷ z)))
 splits [] [] x y t u e = inl (cc)
 splits [] (d ∷ c) x y t u e = let same : t ≡ d = cc in inr (inl (c, rw same refl))
@@ -30,9 +29,9 @@ shorter b z t can = record { more = z ++ can.more; file = can.file; spells = sub
 one_stop : (tokens : Tokens) (place other : Place) → IsStop tokens place → IsStop tokens other → place ≡ other
 one_stop tokens place other (b, t, s, e) (c, u, r, f) =
     elim (splits b c s.after r.after t u (sym s.split ∙ r.split)) [
-      inl k ↦ e ∙ ap (λ token. token.place) k ∙ sym f
-    | inr (inl k) ↦ absurd (s.stuck (shorter b k.0 t (subst CanBegin k.1 r.viable)))
-    | inr (inr k) ↦ absurd (r.stuck (shorter c k.0 u (subst CanBegin k.1 s.viable)))
+      | inl k ↦ e ∙ ap (λ token. token.place) k ∙ sym f
+      | inr (inl k) ↦ absurd (s.stuck (shorter b k.0 t (subst CanBegin k.1 r.viable)))
+      | inr (inr k) ↦ absurd (r.stuck (shorter c k.0 u (subst CanBegin k.1 s.viable)))
     ]
 
 -- tokens that stop spell no file

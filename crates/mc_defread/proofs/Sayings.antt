@@ -68,3 +68,29 @@ placed_none b s fields fs held hs f n e h there = rw (e, h) (rw there refl)
 
 pub placed_missing : (b : Block) (s : Scope) (fields fs : List FieldInfo) (held hs : List (Option ℕ)) (f : FieldInfo) → fields ≡ f ∷ fs → held ≡ None ∷ hs → placed b s fields held ≡ Err (at_end b)
 placed_missing b s fields fs held hs f e h = rw (e, h) refl
+
+pub drop_none : {X : Type 0} (xs : List X) (i : ℕ) → slice_get xs i ≡ None → drop i xs ≡ []
+drop_none [] zero e = refl
+drop_none [] (suc i) e = refl
+drop_none (x ∷ xs) zero e = absurd (cc)
+drop_none (x ∷ xs) (suc i) e = drop_none xs i e
+
+pub placed_short : (b : Block) (s : Scope) (fields fs : List FieldInfo) (held : List (Option ℕ)) (f : FieldInfo) → fields ≡ f ∷ fs → held ≡ [] → placed b s fields held ≡ Err (at_end b)
+placed_short b s fields fs held f e h = rw (e, h) refl
+
+abbrev names_of : StructInfo → List (List ℕ)
+names_of info = map (λ field. field.name) info.fields
+
+-- the contents of a block, as those of its struct's names
+pub block_fails : {B C : Type 0} (scope : Scope) (info : StructInfo) (b : Block) (names : List (List ℕ)) (held : Held) (of : B → Held) (of' : C → Scope) (fault : DefFault) → names ≡ names_of info → held ≡ nothing_held scope info → Finds (contents names held 0 b.contents) of (Err fault) → Finds (block_of scope info b) of' (Err fault)
+block_fails scope info b names held of of' NoMemory e h f = tt
+block_fails scope info b names held of of' (Refused r) e h f =
+    let g = subst (λ (ns : List (List ℕ)). contents ns held 0 b.contents ≡ Err r) e f in
+    let k = subst (λ (x : Held). contents (names_of info) x 0 b.contents ≡ Err r) h g in
+    ap (λ j. j >>= (λ (x : Held). placed b scope info.fields x.fields)) k
+
+pub block_goes : {C : Type 0} (scope : Scope) (info : StructInfo) (b : Block) (names : List (List ℕ)) (held done : Held) (of : C → Scope) (result : Result C DefFault) → names ≡ names_of info → held ≡ nothing_held scope info → contents names held 0 b.contents ≡ Ok done → Finds (placed b scope info.fields done.fields) of result → Finds (block_of scope info b) of result
+block_goes scope info b names held done of result e h f found =
+    let g = subst (λ (ns : List (List ℕ)). contents ns held 0 b.contents ≡ Ok done) e f in
+    let k = subst (λ (x : Held). contents (names_of info) x 0 b.contents ≡ Ok done) h g in
+    finds_same (block_of scope info b) (placed b scope info.fields done.fields) of result (ap (λ j. j >>= (λ (x : Held). placed b scope info.fields x.fields)) k) found

@@ -22,14 +22,24 @@ place_of (Lexical.OpenComment place) = Some place
 place_of (Lexical.BadNumber place) = Some place
 place_of Lexical.NoMemory = None
 
+-- the fault of a byte or a token that no file can have there
 abbrev pub syntax_at : Place → Refusal
 syntax_at place = record { cause = Cause.Syntax; place = place }
 
--- a text is read as definitions over these structs, or as its first fault: it has no tokens, its tokens spell no file, or its items are judged in their order
+-- what a fault of bytes is told as
+abbrev pub syntax_fault : Option Place → DefFault
+syntax_fault (Some place) = Refused (syntax_at place)
+syntax_fault None = NoMemory
+
+-- a text is read as definitions over these structs, or as its first fault: it has no tokens, its tokens spell no file, or
+-- its items are judged in their order
 pub data ReadsAs (text : List ℕ) (structs : List StructInfo) : Judged (List Def) → Type 0 where
-  by_bytes : (fault : LexFault) (place : Place) → Lexes text (Err fault) → place_of fault ≡ Some place → ReadsAs text structs (Err (syntax_at place))
-  by_tokens : (tokens : List Token) (place : Place) → Lexes text (Ok tokens) → IsStop tokens place → ReadsAs text structs (Err (syntax_at place))
-  by_items : {reading : Judged (List Def)} (tokens : List Token) (file : List DefText) → Lexes text (Ok tokens) → IsOnlyFile file tokens → judged structs file ≡ reading → ReadsAs text structs reading
+  by_bytes : (fault : LexFault) (place : Place) → Lexes text (Err fault) → place_of fault ≡ Some place
+      → ReadsAs text structs (Err (syntax_at place))
+  by_tokens : (tokens : List Token) (place : Place) → Lexes text (Ok tokens) → IsStop tokens place
+      → ReadsAs text structs (Err (syntax_at place))
+  by_items : {reading : Judged (List Def)} (tokens : List Token) (file : List DefText) → Lexes text (Ok tokens)
+      → IsOnlyFile file tokens → judged structs file ≡ reading → ReadsAs text structs reading
 
 -- a fault is what the text is read as; memory may always be missing
 abbrev pub IsFault : List ℕ → List StructInfo → DefFault → Type 0

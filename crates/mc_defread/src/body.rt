@@ -3,15 +3,16 @@ ghost use Rattle.mc_defread.specs.Judging.{Context, arguments, call_at, call_wit
 ghost use Rattle.mc_defread.specs.Scopes.{scope_of, body_of, setting_of};
 ghost use Rattle.std.specs.Prelude.{◌≡◌, [], Bool, length, map};
 
-use mc_defparse::{Cause, DefFault, Refusal};
 use crate::kept::Scope;
 use crate::scope::{at, value};
-use mc_defparse::{Bound, DefText, Item, Number, Parameter, Relation, Sum};
 use mc_ast::Name;
 use mc_base::{Args, Items, Kind, PredId};
+use mc_defparse::{
+    Bound, Cause, DefFault, DefText, Item, Number, Parameter, Refusal, Relation, Sum,
+};
 use mc_defs::{Call, DefAtom, StructInfo};
-use mc_text::Text;
 use mc_names::Names;
+use mc_text::Text;
 use std::alloc::Global;
 
 const LEAST: i64 = -2147483648;

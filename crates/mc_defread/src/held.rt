@@ -3,13 +3,12 @@ ghost use Rattle.mc_defread.specs.Judging.{number_in, holds, contents, placed, b
 ghost use Rattle.mc_defread.specs.Scopes.{scope_of, held_of};
 ghost use Rattle.std.specs.Prelude.{◌≡◌, ◌++◌, ◌≤◌, [], None, IfOk, is_some, slice_get, length, map, replicate};
 
-use mc_defparse::{Cause, DefFault, Refusal};
 use crate::kept::Scope;
 use crate::scope::{at, is_blank};
-use mc_defparse::{Block, Content};
+use mc_defparse::{Block, Cause, Content, DefFault, Refusal};
 use mc_defs::{FieldInfo, StructInfo};
-use mc_text::Text;
 use mc_names::Names;
+use mc_text::Text;
 use std::alloc::{AllocError, Global};
 
 /// What a block says up to a content: the names of the rule, and for each field which content names it.
@@ -53,12 +52,7 @@ fn at_end(block: &Block) -> DefFault
 }
 
 impl<'a, 'b> Held<'a, 'b> {
-    fn hold(
-        &mut self,
-        names: &Names,
-        number: usize,
-        content: &'a Content,
-    ) -> Result<(), DefFault>
+    fn hold(&mut self, names: &Names, number: usize, content: &'a Content) -> Result<(), DefFault>
         ensures { Finds (holds names.now (held_of self.old) number content.now) (λ done. held_of self.new) result }
     {
         let Some(place) = names.place(&content.field.text) else {
@@ -135,7 +129,12 @@ impl<'a, 'b> Scope<'a, 'b> {
     }
 
     /// The names of a block of this struct.
-    pub fn block(&mut self, alloc: Global, info: &StructInfo, block: &'a Block) -> Result<(), DefFault>
+    pub fn block(
+        &mut self,
+        alloc: Global,
+        info: &StructInfo,
+        block: &'a Block,
+    ) -> Result<(), DefFault>
         requires { self.old.own ≡ [] }
         ensures { Finds (block_of (scope_of self.old) info.now block.now) (λ done. scope_of self.new) result }
     {

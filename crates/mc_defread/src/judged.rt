@@ -5,15 +5,14 @@ ghost use Rattle.mc_defs.specs.Conditions.{numbers_from};
 ghost use Rattle.std.specs.Prelude.{◌≡◌, ◌-◌, [], IfOk, codes, map};
 
 use crate::body::{Body, Setting};
-use mc_defparse::{Cause, DefFault};
 use crate::held::names_of;
 use crate::kept::Scope;
 use crate::scope::at;
-use mc_defparse::{Block, DefText, Item, Parameter, RuleText};
 use mc_base::{Items, Kind, StructId};
+use mc_defparse::{Block, Cause, DefFault, DefText, Item, Parameter, RuleText};
 use mc_defs::{Def, Rule, StructInfo};
-use mc_text::Text;
 use mc_names::Names;
+use mc_text::Text;
 use std::alloc::{AllocError, Global};
 
 // The numbers from one on up to another.
@@ -28,10 +27,7 @@ fn numbers_between(alloc: Global, first: usize, last: usize) -> Result<Items<u64
 }
 
 // The scope of a rule, which begins with that of its definition.
-fn inner<'a, 'b>(
-    alloc: Global,
-    front: &'b Scope<'a, '_>,
-) -> Result<Scope<'a, 'b>, AllocError>
+fn inner<'a, 'b>(alloc: Global, front: &'b Scope<'a, '_>) -> Result<Scope<'a, 'b>, AllocError>
     requires { front.now.front.now ≡ [] }
     ensures same { IfOk result (λ scope. scope_of scope ≡ scope_of front.now) }
     ensures none { IfOk result (λ scope. scope.own ≡ []) }

@@ -1,39 +1,42 @@
 // Definitions, from their texts.
-ghost use Rattle.mc_defread.specs.Readings.{ReadsAs, IsFault, place_of, syntax_at};
-ghost use Rattle.mc_defread.specs.Judging.{Judged};
+ghost use Rattle.mc_defread.specs.Readings.{ReadsAs, IsFault, place_of, syntax_fault};
+ghost use Rattle.mc_defread.specs.Judging.{Judged, judged, Finds};
+ghost use Rattle.mc_defparse.specs.Grammar.{IsFile};
+ghost use Rattle.mc_ast.specs.Names.{Tokens};
 ghost use Rattle.mc_defs.specs.Conditions.{DefsFit};
 ghost use Rattle.mc_defs.specs.declared.rules.Def.{Def as OneDef};
 ghost use Rattle.mc_defs.specs.declared.shapes.StructInfo.{StructInfo};
 ghost use Rattle.mc_lex.specs.Readings.{Lexes, EndsOnce};
 ghost use Rattle.std.specs.Prelude.{◌≡◌, ◌≤◌, List, ℕ, length, IfOk, MatchResult};
 
-use mc_defparse::{Cause, DefFault, Refusal};
 use crate::judged::judge;
-use mc_defparse::parse;
-use mc_text::Place;
+use mc_defparse::{Cause, DefFault, DefText, Refusal, parse};
 use mc_defs::{Defs, Structs};
 use mc_lex::{LexFault, MAX_BYTES};
-use mc_text::Token;
+use mc_text::{Place, Token};
 use std::alloc::Global;
 
-fn syntax(place: Place) -> DefFault
-    ensures { result ≡ DefFault.Refused (syntax_at place) }
+fn place_of(fault: LexFault) -> Option<Place>
+    ensures { result ≡ place_of fault }
 {
-    DefFault::Refused(Refusal {
-        cause: Cause::Syntax,
-        place,
-    })
+    match fault {
+        LexFault::BadByte(place) => Some(place),
+        LexFault::OpenComment(place) => Some(place),
+        LexFault::BadNumber(place) => Some(place),
+        LexFault::NoMemory => None,
+    }
 }
 
 // What a fault of bytes is told as.
 fn of_lexical(fault: LexFault) -> DefFault
-    ensures { (text : List ℕ) (structs : List StructInfo) → Lexes text (Err fault) → IsFault text structs result }
+    ensures { result ≡ syntax_fault (place_of fault) }
 {
-    match fault {
-        LexFault::BadByte(place) => syntax(place),
-        LexFault::OpenComment(place) => syntax(place),
-        LexFault::BadNumber(place) => syntax(place),
-        LexFault::NoMemory => DefFault::NoMemory,
+    match place_of(fault) {
+        None => DefFault::NoMemory,
+        Some(place) => DefFault::Refused(Refusal {
+            cause: Cause::Syntax,
+            place,
+        }),
     }
 }
 
@@ -45,9 +48,18 @@ fn tokens(alloc: Global, text: &[u8]) -> Result<Vec<Token>, DefFault>
 {
     match mc_lex::lex(alloc, text) {
         Ok(tokens) => Ok(tokens),
-        Err(LexFault::NoMemory) => Err(DefFault::NoMemory),
         Err(fault) => Err(of_lexical(fault)),
     }
+}
+
+// What a file says of these structs, which it fits.
+fn definitions(alloc: Global, structs: &Structs, file: &[DefText]) -> Result<Defs, DefFault>
+    requires { (tokens : Tokens) × IsFile file.now tokens }
+    ensures found { Finds (judged structs.now.list file.now) (λ defs. defs) result }
+    ensures fit { IfOk result (λ defs. DefsFit structs.now.list defs) }
+{
+    let list = judge(alloc, structs.list.as_slice(), file)?;
+    Ok(Defs::fitting(structs, list))
 }
 
 /// The definitions of a text over a program's structs, or the first thing that is wrong with it: a byte that starts no
@@ -60,8 +72,7 @@ pub fn read_defs(alloc: Global, bytes: &[u8], structs: &Structs) -> Result<Defs,
 {
     let tokens = tokens(alloc, bytes)?;
     let file = parse(alloc, &tokens)?;
-    let list = judge(alloc, structs.list.as_slice(), file.as_slice())?;
-    Ok(Defs::fitting(structs, list))
+    definitions(alloc, structs, file.as_slice())
 }
 
 /// A text is read as one thing, definitions or a fault, and nothing else.

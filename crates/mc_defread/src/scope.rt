@@ -3,11 +3,10 @@ ghost use Rattle.mc_defread.specs.Judging.{is_blank, number_in, known, of_kind, 
 ghost use Rattle.mc_defread.specs.Scopes.{scope_of, with_name};
 ghost use Rattle.std.specs.Prelude.{◌≡◌, ◌++◌, ◌+◌, ◌≤◌, [], ◌∷◌, length, OnErr, OnOk};
 
-use mc_defparse::{Cause, DefFault, Refusal};
 use crate::kept::Scope;
-use mc_defparse::{Number, Sum};
 use mc_ast::Name;
 use mc_base::Kind;
+use mc_defparse::{Cause, DefFault, Number, Refusal, Sum};
 use mc_text::Text;
 use std::alloc::AllocError;
 
