@@ -8,4 +8,5 @@ mod kept;
 mod reading;
 mod scope;
 
+pub use mc_defparse::{Cause, DefFault, Refusal};
 pub use reading::{read_defs, texts_are_read_once};
