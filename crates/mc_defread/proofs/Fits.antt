@@ -385,7 +385,8 @@ block_rule_ok context scope ps b is r front small e =
     let g = items_ok context true (suc (length ps) + length fields) (with_scope u.0) v.0 is small (record { atoms = sym long; calls = tt }) v.1 in
     let whole : v.0.scope.kinds ≡ (Ptr ∷ ps) ++ (fields ++ g.more) = g.grown ∙ ap (λ ks. ks ++ g.more) inner ∙ append_assoc (Ptr ∷ ps) fields g.more in
     let held = numbers_from (length scope.kinds) (length u.0.kinds - length scope.kinds) in
-    let held_is : held ≡ numbers_from (suc (length ps)) (length fields) = rw (short, ap (λ n. n) count) refl in
+    let held_is : held ≡ numbers_from (suc (length ps)) (length fields) =
+    ap (λ n. numbers_from n (length u.0.kinds - length scope.kinds)) short ∙ ap (numbers_from (suc (length ps))) count in
     let held_long : length held ≡ length fields = ap length held_is ∙ numbers_long (suc (length ps)) (length fields) in
     let there : slice_get context.structs s.0 ≡ Some t.0 = t.1 in
     let inside : take (length held) (drop (suc (length ps)) v.0.scope.kinds) ≡ fields =
@@ -449,7 +450,7 @@ definitions_ok context n (t ∷ ts) ds whole e =
     let one = definition_ok context n t s.0 whole.0 s.1 in
     let more = definitions_ok context (suc n) ts u.0 whole.1 u.1 in
     let both : Each (DefOk context) (s.0 ∷ u.0) = (one.0, more.0) in
-    (subst (Each (DefOk context)) is both, ap (map (λ d. d.params)) (sym is) ∙ (rw (one.1, more.1) refl))
+    (subst (Each (DefOk context)) is both, ap (map (λ d. d.params)) (sym is) ∙ ap (λ ks. ks ∷ map (λ d. d.params) u.0) one.1 ∙ ap (λ rest. kinds_of t.head.params ∷ rest) more.1)
 
 get_mapped : (ds : List Def) (i : ℕ) (ps : List Kind) → slice_get (map (λ d. d.params) ds) i ≡ Some ps → (d : Def) × (slice_get ds i ≡ Some d) × (d.params ≡ ps)
 get_mapped [] i ps e = absurd (cc)
