@@ -18,7 +18,8 @@ use Rattle.mc_defparse.specs.declared.fault.DefFault.TheVariants as definitions
 use Rattle.mc_defparse.specs.declared.fault.Refusal.{Refusal as DefRefusal}
 use Rattle.mc_defread.specs.Readings.{ReadsAs, IsFault as IsUnreadAs}
 use Rattle.mc_app.specs.Programs.{AreDefinitions, IsProgramHere}
-use Rattle.mc_app.specs.Answers.{Holds, IsWhy, IsWhyBound, IsWhyDefined, IsWhyUnit}
+use Rattle.mc_types.specs.Shapes.{IsBound}
+use Rattle.mc_app.specs.Answers.{Holds, IsWhy, IsWhyBound, IsWhyDefined, IsWhyFitting, IsWhyUnit}
 
 -- from the definitions as they were read
 pub why_of_defs : (holds : Holds) (d c : List ℕ) (unit : UnitTree) (defs : List Def) (a : Answer) → WhereTold (holds d) (AreDefinitions unit defs) → IsWhyBound holds c unit defs a → IsWhyUnit holds d c unit a
@@ -38,6 +39,16 @@ why_of_unit holds p d c unit (Definitions fault) read why = (unit, read, why)
 why_of_unit holds p d c unit Document read why = (unit, read, why)
 why_of_unit holds p d c unit Good read why = (unit, read, why)
 
+-- from what is answered where the shape commands fit
+pub why_of_fitting : (holds : Holds) (c : List ℕ) (unit : UnitTree) (defs : List Def) (a : Answer) → IsBound unit defs → IsWhyFitting holds c unit a → IsWhyBound holds c unit defs a
+why_of_fitting holds c unit defs Words fits why = why
+why_of_fitting holds c unit defs (Definitions fault) fits why = why
+why_of_fitting holds c unit defs (Program (Unread cause)) fits why = why
+why_of_fitting holds c unit defs (Program (Misfit refusal)) fits why = absurd why
+why_of_fitting holds c unit defs (Program NotYet) fits why = (fits, why)
+why_of_fitting holds c unit defs Document fits why = (fits, why)
+why_of_fitting holds c unit defs Good fits why = (fits, why)
+
 -- what files hold has stayed
 pub stay_bound : (old new : Holds) (c : List ℕ) (unit : UnitTree) (defs : List Def) (a : Answer) → Stays old new → IsWhyBound new c unit defs a → IsWhyBound old c unit defs a
 stay_bound old new c unit defs Words stays why = why
@@ -45,8 +56,8 @@ stay_bound old new c unit defs (Definitions fault) stays why = why
 stay_bound old new c unit defs (Program (Unread cause)) stays why = why
 stay_bound old new c unit defs (Program (Misfit refusal)) stays why = why
 stay_bound old new c unit defs (Program NotYet) stays why = why
-stay_bound old new c unit defs Document stays why = (why.0, λ document k. why.1 document (stays c ∙ k))
-stay_bound old new c unit defs Good stays why = (why.0, λ document k. why.1 document (stays c ∙ k))
+stay_bound old new c unit defs Document stays why = (why.0, (why.1.0, λ document k. why.1.1 document (stays c ∙ k)))
+stay_bound old new c unit defs Good stays why = (why.0, (why.1.0, λ document k. why.1.1 document (stays c ∙ k)))
 
 stay_defined : (old new : Holds) (d c : List ℕ) (unit : UnitTree) (a : Answer) → Stays old new → IsWhyDefined new d c unit a → IsWhyDefined old d c unit a
 stay_defined old new d c unit a stays why = (why.0, λ text h. why.1 text (stays d ∙ h), stay_bound old new c unit why.0 a stays why.2)

@@ -2,6 +2,7 @@
 use Rattle.std.specs.Prelude.{◌≡◌, ◌++◌, ◌⊎◌, ℕ, List, [], ◌∷◌, Option, Some, Ok, codes, take}
 use Rattle.mc_ast.specs.Trees.{UnitTree}
 use Rattle.mc_outside.specs.Outside.{WhereTold, AddsIfTold}
+use Rattle.mc_types.specs.Shapes.{IsBound}
 use Rattle.mc_defs.specs.declared.rules.Def.{Def}
 use Rattle.mc_app.specs.Programs.{IsProgramHere, IsUnread, AreDefinitions, IsUndefined, HasMisfit, IsStraightUnit, IsNotStraight, IsCertified}
 use Rattle.mc_app.specs.Printing.{text_of}
@@ -27,15 +28,25 @@ pub record Asks (words : List (List ℕ)) (program definitions document : List �
 abbrev pub Holds : Type 0
 Holds = List ℕ → Option (List ℕ)
 
+-- why this is answered for a program whose shape commands fit
+abbrev pub IsWhyFitting : Holds → List ℕ → UnitTree → Answer → Type 0
+IsWhyFitting holds c unit Words = ⊥
+IsWhyFitting holds c unit (Definitions fault) = ⊥
+IsWhyFitting holds c unit (Program (Unread cause)) = ⊥
+IsWhyFitting holds c unit (Program (Misfit refusal)) = ⊥
+IsWhyFitting holds c unit (Program NotYet) = IsNotStraight unit
+IsWhyFitting holds c unit Document = IsStraightUnit unit × WhereTold (holds c) (λ document. IsCertified document unit → ⊥)
+IsWhyFitting holds c unit Good = IsStraightUnit unit × WhereTold (holds c) (λ document. IsCertified document unit)
+
 -- why this is answered for a program with definitions
 abbrev pub IsWhyBound : Holds → List ℕ → UnitTree → List Def → Answer → Type 0
 IsWhyBound holds c unit defs Words = ⊥
 IsWhyBound holds c unit defs (Definitions fault) = ⊥
 IsWhyBound holds c unit defs (Program (Unread cause)) = ⊥
 IsWhyBound holds c unit defs (Program (Misfit refusal)) = HasMisfit refusal unit defs
-IsWhyBound holds c unit defs (Program NotYet) = IsNotStraight unit defs
-IsWhyBound holds c unit defs Document = IsStraightUnit unit defs × WhereTold (holds c) (λ document. IsCertified document unit → ⊥)
-IsWhyBound holds c unit defs Good = IsStraightUnit unit defs × WhereTold (holds c) (λ document. IsCertified document unit)
+IsWhyBound holds c unit defs (Program NotYet) = IsBound unit defs × IsWhyFitting holds c unit (Program NotYet)
+IsWhyBound holds c unit defs Document = IsBound unit defs × IsWhyFitting holds c unit Document
+IsWhyBound holds c unit defs Good = IsBound unit defs × IsWhyFitting holds c unit Good
 
 -- there are definitions that the file is, where it is told, and with them this is answered
 abbrev pub IsWhyDefined : Holds → List ℕ → List ℕ → UnitTree → Answer → Type 0

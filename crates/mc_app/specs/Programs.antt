@@ -4,7 +4,7 @@ use Rattle.mc_ast.specs.Trees.{FunctionTree, UnitTree}
 use Rattle.mc_types.specs.declared.faults.Fault.{Fault}
 use Rattle.mc_places.specs.Places.{HasDistinctPlaces}
 use Rattle.mc_types.specs.Typing.{IsWellTyped}
-use Rattle.mc_types.specs.Shapes.{IsBound, IsFirstBindFault}
+use Rattle.mc_types.specs.Shapes.{IsFirstBindFault}
 use Rattle.mc_types.specs.Tables.{struct_infos}
 use Rattle.mc_defs.specs.declared.rules.Def.{Def}
 use Rattle.mc_defread.specs.Readings.{ReadsAs}
@@ -57,13 +57,13 @@ IsUndefined unit (NoDefinitions.Refused refusal) text = (length text ≤ 2 ^ 18)
 abbrev pub HasMisfit : Refusal → UnitTree → List Def → Type 0
 HasMisfit refusal unit defs = (fault : Fault) × IsFirstBindFault unit defs fault × (typing_refusal fault ≡ refusal)
 
--- its shape commands fit the definitions, and it is straight
-abbrev pub IsStraightUnit : UnitTree → List Def → Type 0
-IsStraightUnit unit defs = IsBound unit defs × ((straight : StraightForm) × IsStraight unit straight)
+-- the program is straight
+abbrev pub IsStraightUnit : UnitTree → Type 0
+IsStraightUnit unit = (straight : StraightForm) × IsStraight unit straight
 
--- its shape commands fit the definitions, and it is not straight
-abbrev pub IsNotStraight : UnitTree → List Def → Type 0
-IsNotStraight unit defs = IsBound unit defs × ((straight : StraightForm) → IsStraight unit straight → ⊥)
+-- the program is not straight
+abbrev pub IsNotStraight : UnitTree → Type 0
+IsNotStraight unit = (straight : StraightForm) → IsStraight unit straight → ⊥
 
 -- it is straight, and the document is a valid certificate of its flow graph
 abbrev pub IsCertified : List ℕ → UnitTree → Type 0

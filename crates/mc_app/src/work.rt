@@ -9,18 +9,19 @@ ghost use Rattle.mc_straight.specs.Lowering.{flow_of};
 ghost use Rattle.mc_types.specs.Tables.{struct_infos};
 ghost use Rattle.mc_defs.specs.Conditions.{DefsFit};
 ghost use Rattle.mc_app.specs.Programs.{AreDefinitions, IsProgramHere, IsSafe, IsSafeUnit, IsUndefined, IsUnread, IsWellFormed};
-ghost use Rattle.mc_app.specs.Answers.{IsWhy, IsWhyBound, IsWhyUnit};
+ghost use Rattle.mc_app.specs.Answers.{IsWhy, IsWhyBound, IsWhyFitting, IsWhyUnit};
 
 use crate::contents::{text, whole};
 use crate::words::Command;
 use crate::{Answer, NoDefinitions, NoProgram, ProgramFault};
+use mc_ast::Unit;
 use mc_defread::{DefFault, read_defs};
 use mc_defs::Defs;
 use mc_kernel::certified_is_safe;
 use mc_outside::{FileFault, Files};
 use mc_read::{ReadFault, Refusal, programs_have_distinct_places};
 use mc_straight::{Program, lower, straight, trees_are_read_once, trees_run_alike};
-use mc_typed::{Bound, Typed, bind};
+use mc_typed::{Typed, bind};
 use mc_types::TypeFault;
 use std::alloc::{AllocError, Global};
 
@@ -131,22 +132,21 @@ fn is_certificate_in<F: Files>(
 }
 
 // Checks a certificate of a program whose shape commands fit.
-fn check_bound<F: Files>(
+fn check_fitting<F: Files>(
     alloc: Global,
     files: &mut F,
     document: &str,
-    bound: &Bound,
+    unit: &Unit,
 ) -> Result<Answer, FileFault>
-    requires { IsWellFormed (unit_of bound.now.typed.unit) }
-    ensures why { IfOk result (λ a. IsWhyBound (F.holds files.old) document.now (unit_of bound.now.typed.unit) bound.now.defs a) }
-    ensures safe { IfOk result (λ a. a ≡ Answer.Good → IsSafeUnit (unit_of bound.now.typed.unit)) }
+    requires { IsWellFormed (unit_of unit.now) }
+    ensures why { IfOk result (λ a. IsWhyFitting (F.holds files.old) document.now (unit_of unit.now) a) }
+    ensures safe { IfOk result (λ a. a ≡ Answer.Good → IsSafeUnit (unit_of unit.now)) }
     ensures same { Stays (F.holds files.old) (F.holds files.new) }
     ensures cause { HasCause (F.faults files.old) (F.faults files.new) result }
 {
     trees_run_alike();
     trees_are_read_once();
-    let _fits = bound.defs();
-    let Some(short) = straight(alloc, bound.typed().unit())? else {
+    let Some(short) = straight(alloc, unit)? else {
         return Ok(Answer::Program(ProgramFault::NotYet));
     };
     if is_certificate_in(alloc, files, document, &short)? {
@@ -173,7 +173,9 @@ fn check_defined<F: Files>(
 {
     match bind(alloc, typed, defs) {
         Ok(bound) => {
-            let answer = check_bound(alloc, files, document, &bound)?;
+            // Its shape commands fit these.
+            let _defs = bound.defs();
+            let answer = check_fitting(alloc, files, document, bound.typed().unit())?;
             Ok(answer)
         }
         Err(TypeFault::Refused(fault)) => {
