@@ -36,7 +36,7 @@ use Rattle.mc_defparse.specs.declared.tree.Parameter.{Parameter}
 use Rattle.mc_defparse.specs.declared.tree.DefText.{DefText}
 use Rattle.mc_defread.specs.declared.scope.Added.{Added}
 use Rattle.mc_defread.specs.declared.scope.Known.{Known}
-use Rattle.mc_defread.specs.Judging.{Judged, ◌>>=◌, need, at, number_in, at_end, rule_with, Scope, same_kind, of_kind, known, typed, introduced, value_of, constant, offset, sum, Context, Body, arguments, call_at, call_with, call, with_atom, bounded, item, items, placed, block_of, with_scope, placed, rule_by, this_alone, bare_rule, block_rule, rules, parameters, kinds_of, definition_of, definition, definitions, context_of, judged}
+use Rattle.mc_defread.specs.Judging.{Judged, ◌>>=◌, need, at, number_in, at_end, rule_with, Scope, same_kind, of_kind, known, typed, introduced, value_of, constant, offset, sum, Context, Body, arguments, call_at, call_with, call, with_atom, bounded, item, items, placed, block_of, holders, with_scope, rule, rule_by, this_alone, bare_rule, block_rule, rules, parameters, kinds_of, definition_of, definition, definitions, context_of, judged}
 use Rattle.mc_defread.proofs.Positions.{get_front}
 use Rattle.mc_defread.proofs.Whole.{Each, each_push, IsSmall, IsSmallSum, IsSmallItem, IsSmallRule, IsWhole}
 
@@ -190,16 +190,19 @@ calls_more : (params : List (List Kind)) (kinds more : List Kind) (cs : List Cal
 calls_more params kinds more [] a = tt
 calls_more params kinds more (c ∷ cs) (one, a) = (record { ps = one.ps; defined = one.defined; pointer = get_front kinds more c.at Ptr one.pointer; args = args_more kinds more c.args one.ps one.args }, calls_more params kinds more cs a)
 
+args_cons : (kinds : List Kind) (i : ℕ) (p : Kind) (args : List ℕ) (ps : List Kind) → slice_get kinds i ≡ Some p → ArgsFit kinds args ps → ArgsFit kinds (i ∷ args) (p ∷ ps)
+args_cons kinds i p args ps e f = ap (λ (o : Option Kind). o ∷ map (slice_get kinds) args) e ∙ ap (λ (os : List (Option Kind)). Some p ∷ os) f
+
 arguments_fit : (scope : Scope) (ps : List Kind) (xs : List Name) (numbers : List ℕ) → length xs ≡ length ps → arguments scope ps xs ≡ Ok numbers → ArgsFit scope.kinds numbers ps
 arguments_fit scope [] [] numbers same e = subst (λ l. ArgsFit scope.kinds l []) (ok_is [] numbers e) refl
 arguments_fit scope [] (x ∷ xs) numbers same e = absurd (omega arith)
 arguments_fit scope (k ∷ ks) [] numbers same e = absurd (omega arith)
 arguments_fit scope (k ∷ ks) (x ∷ xs) numbers same e =
-    let s = bind_ok _ _ numbers e in
-    let t = bind_ok _ _ numbers s.2 in
+    let s = bind_ok (typed scope k x) (λ i. arguments scope ks xs >>= (λ ns. ok (i ∷ ns))) numbers e in
+    let t = bind_ok (arguments scope ks xs) (λ ns. ok (s.0 ∷ ns)) numbers s.2 in
     let less : length xs ≡ length ks = omega arith in
-    let rest = arguments_fit scope ks xs t.0 less t.1 in
-    rw (← ok_is _ numbers t.2) (rw (typed_ok scope k x s.0 s.1, rest) refl)
+    let both : ArgsFit scope.kinds (s.0 ∷ t.0) (k ∷ ks) = args_cons scope.kinds s.0 k t.0 ks (typed_ok scope k x s.0 s.1) (arguments_fit scope ks xs t.0 less t.1) in
+    subst (λ l. ArgsFit scope.kinds l (k ∷ ks)) (ok_is (s.0 ∷ t.0) numbers t.2) both
 
 call_at_ok : (params : List (List Kind)) (scope : Scope) (pred : ℕ) (ps : List Kind) (x : Name) (xs : List Name) (c : Call) → slice_get params pred ≡ Some ps → length xs ≡ length ps → call_at scope pred ps x xs ≡ Ok c → Calls params scope.kinds c
 call_at_ok params scope pred ps x xs c there same e =
@@ -331,7 +334,9 @@ placed_ok b scope next (field ∷ fields) (one ∷ held) e =
     placed_ok b (record { names = scope.names ++ t.0.name.text ∷ []; kinds = scope.kinds ++ field.kind ∷ [] }) next fields held t.2 ∙ append_assoc scope.kinds (field.kind ∷ []) (field_kinds fields)
 
 block_ok : (scope next : Scope) (info : StructInfo) (b : Block) → block_of scope info b ≡ Ok next → next.kinds ≡ scope.kinds ++ field_kinds info.fields
-block_ok scope next info b e = let s = bind_ok _ _ next e in placed_ok b scope next info.fields s.0.fields s.2
+block_ok scope next info b e =
+    let s = bind_ok (holders scope info b) (λ (held : List (Option ℕ)). placed b scope info.fields held) next e in
+    placed_ok b scope next info.fields s.0 s.2
 
 -- ---- rules
 record RuleOk (context : Context) (ps : List Kind) (r : Rule) : Type 0 where
@@ -414,12 +419,15 @@ rules_ok context scope ps (t ∷ texts) rs front small e =
     let both : Each (RuleOk context ps) (s.0 ∷ u.0) = (rule_ok context scope ps t.block t.items s.0 front small.0 s.1, rules_ok context scope ps texts u.0 front small.1 u.1) in
     subst (Each (RuleOk context ps)) (ok_is _ rs u.2) both
 
+some_of : {X : Type 0} (x : X) (xs : List X) → x ∷ xs ≢ []
+some_of x xs e = cc
+
 some_rules : (context : Context) (scope : Scope) (texts : List RuleText) (rs : List Rule) → texts ≢ [] → rules context scope texts ≡ Ok rs → rs ≢ []
 some_rules context scope [] rs some e = absurd (some refl)
 some_rules context scope (t ∷ texts) rs some e =
-    let s = bind_ok _ _ rs e in
-    let u = bind_ok _ _ rs s.2 in
-    let is : s.0 ∷ u.0 ≡ rs = ok_is _ rs u.2 in λ none. absurd (let both : s.0 ∷ u.0 ≡ [] = is ∙ none in cc)
+    let s = bind_ok (rule context scope t) (λ r. rules context scope texts >>= (λ more. ok (r ∷ more))) rs e in
+    let u = bind_ok (rules context scope texts) (λ more. ok (s.0 ∷ more)) rs s.2 in
+    subst (λ l. l ≢ []) (ok_is (s.0 ∷ u.0) rs u.2) (some_of s.0 u.0)
 
 -- ---- definitions
 record DefOk (context : Context) (d : Def) : Type 0 where

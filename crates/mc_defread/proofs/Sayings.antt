@@ -14,7 +14,7 @@ use Rattle.mc_defparse.specs.declared.fault.DefFault.{DefFault}
 use Rattle.mc_defparse.specs.declared.fault.DefFault.TheVariants.{Refused, NoMemory}
 use Rattle.mc_defparse.specs.declared.tree.Content.{Content}
 use Rattle.mc_defparse.specs.declared.tree.Block.{Block}
-use Rattle.mc_defread.specs.Judging.{at_end, Judged, ◌>>=◌, Finds, Scope, Held, number_in, holds, contents, placed, block_of, nothing_held, call_with, call_at}
+use Rattle.mc_defread.specs.Judging.{at_end, Judged, ◌>>=◌, Finds, Scope, Held, number_in, holds, contents, placed, holders, block_of, nothing_held, call_with, call_at}
 
 pub finds_same : {A B : Type 0} (judged other : Judged A) (of : B → A) (r : Result B DefFault) → judged ≡ other → Finds other of r → Finds judged of r
 finds_same judged other of (Ok b) e f = e ∙ f
@@ -81,16 +81,27 @@ placed_short b s fields fs held f e h = rw (e, h) refl
 abbrev names_of : StructInfo → List (List ℕ)
 names_of info = map (λ field. field.name) info.fields
 
--- the contents of a block, as those of its struct's names
-pub block_fails : {B C : Type 0} (scope : Scope) (info : StructInfo) (b : Block) (names : List (List ℕ)) (held : Held) (of : B → Held) (of' : C → Scope) (fault : DefFault) → names ≡ names_of info → held ≡ nothing_held scope info → Finds (contents names held 0 b.contents) of (Err fault) → Finds (block_of scope info b) of' (Err fault)
-block_fails scope info b names held of of' NoMemory e h f = tt
-block_fails scope info b names held of of' (Refused r) e h f =
-    let g = subst (λ (ns : List (List ℕ)). contents ns held 0 b.contents ≡ Err r) e f in
-    let k = subst (λ (x : Held). contents (names_of info) x 0 b.contents ≡ Err r) h g in
-    ap (λ j. j >>= (λ (x : Held). placed b scope info.fields x.fields)) k
+-- the contents of a block
+pub holders_are : (scope : Scope) (info : StructInfo) (b : Block) (names : List (List ℕ)) (held : Held) (list : List Content) (j : Judged Held) → contents names held 0 list ≡ j → names ≡ names_of info → held ≡ nothing_held scope info → list ≡ b.contents → holders scope info b ≡ (j >>= (λ (x : Held). Ok x.fields))
+holders_are scope info b names held list j f e h l =
+    let g = subst (λ (ns : List (List ℕ)). contents ns held 0 list ≡ j) e f in
+    let k = subst (λ (x : Held). contents (names_of info) x 0 list ≡ j) h g in
+    let m = subst (λ (cs : List Content). contents (names_of info) (nothing_held scope info) 0 cs ≡ j) l k in
+    ap (λ (i : Judged Held). i >>= (λ (x : Held). Ok x.fields)) m
 
-pub block_goes : {C : Type 0} (scope : Scope) (info : StructInfo) (b : Block) (names : List (List ℕ)) (held done : Held) (of : C → Scope) (result : Result C DefFault) → names ≡ names_of info → held ≡ nothing_held scope info → contents names held 0 b.contents ≡ Ok done → Finds (placed b scope info.fields done.fields) of result → Finds (block_of scope info b) of result
-block_goes scope info b names held done of result e h f found =
-    let g = subst (λ (ns : List (List ℕ)). contents ns held 0 b.contents ≡ Ok done) e f in
-    let k = subst (λ (x : Held). contents (names_of info) x 0 b.contents ≡ Ok done) h g in
-    finds_same (block_of scope info b) (placed b scope info.fields done.fields) of result (ap (λ j. j >>= (λ (x : Held). placed b scope info.fields x.fields)) k) found
+pub holders_fail : {B C : Type 0} (scope : Scope) (info : StructInfo) (b : Block) (names : List (List ℕ)) (held : Held) (list : List Content) (of : B → Held) (of' : C → List (Option ℕ)) (fault : DefFault) → Finds (contents names held 0 list) of (Err fault) → names ≡ names_of info → held ≡ nothing_held scope info → list ≡ b.contents → Finds (holders scope info b) of' (Err fault)
+holders_fail scope info b names held list of of' NoMemory f e h l = tt
+holders_fail scope info b names held list of of' (Refused r) f e h l = holders_are scope info b names held list (Err r) f e h l
+
+pub holders_end : (scope : Scope) (info : StructInfo) (b : Block) (names : List (List ℕ)) (held done : Held) (list : List Content) → contents names held 0 list ≡ Ok done → names ≡ names_of info → held ≡ nothing_held scope info → list ≡ b.contents → holders scope info b ≡ Ok done.fields
+holders_end scope info b names held done list f e h l = holders_are scope info b names held list (Ok done) f e h l
+
+pub block_fails : {B C : Type 0} (scope : Scope) (info : StructInfo) (b : Block) (of : B → List (Option ℕ)) (of' : C → Scope) (fault : DefFault) → Finds (holders scope info b) of (Err fault) → Finds (block_of scope info b) of' (Err fault)
+block_fails scope info b of of' NoMemory f = tt
+block_fails scope info b of of' (Refused r) f = ap (λ (i : Judged (List (Option ℕ))). i >>= (λ held. placed b scope info.fields held)) f
+
+pub block_goes : {C : Type 0} (scope : Scope) (info : StructInfo) (b : Block) (held : List (Option ℕ)) (fields : List FieldInfo) (given : List (Option ℕ)) (of : C → Scope) (result : Result C DefFault) → holders scope info b ≡ Ok held → fields ≡ info.fields → given ≡ held → Finds (placed b scope fields given) of result → Finds (block_of scope info b) of result
+block_goes scope info b held fields given of result f e g found =
+    let p = subst (λ (fs : List FieldInfo). Finds (placed b scope fs given) of result) e found in
+    let q = subst (λ (hs : List (Option ℕ)). Finds (placed b scope info.fields hs) of result) g p in
+    finds_same (block_of scope info b) (placed b scope info.fields held) of result (ap (λ (i : Judged (List (Option ℕ))). i >>= (λ hs. placed b scope info.fields hs)) f) q

@@ -243,10 +243,16 @@ placed b scope (field ∷ fields) (one ∷ held) = do
 abbrev pub nothing_held : Scope → StructInfo → Held
 nothing_held scope info = record { names = scope.names; fields = replicate (length info.fields) None }
 
+-- for each field of its struct, which content of a block names it
+abbrev pub holders : Scope → StructInfo → Block → Judged (List (Option ℕ))
+holders scope info b = do
+  held ← contents (map (λ field. field.name) info.fields) (nothing_held scope info) 0 b.contents
+  Ok held.fields
+
 abbrev pub block_of : Scope → StructInfo → Block → Judged Scope
 block_of scope info b = do
-  held ← contents (map (λ field. field.name) info.fields) (nothing_held scope info) 0 b.contents
-  placed b scope info.fields held.fields
+  held ← holders scope info b
+  placed b scope info.fields held
 
 -- ---- rules
 abbrev pub with_scope : Scope → Body

@@ -1,5 +1,5 @@
 // Blocks, judged content by content.
-ghost use Rattle.mc_defread.specs.Judging.{number_in, holds, contents, placed, block_of, Finds};
+ghost use Rattle.mc_defread.specs.Judging.{number_in, holds, contents, placed, holders, block_of, Finds};
 ghost use Rattle.mc_defread.specs.Scopes.{scope_of, held_of};
 ghost use Rattle.std.specs.Prelude.{◌≡◌, ◌++◌, ◌≤◌, [], None, IfOk, is_some, slice_get, length, map, replicate};
 
@@ -52,6 +52,19 @@ fn at_end(block: &Block) -> DefFault
 }
 
 impl<'a, 'b> Held<'a, 'b> {
+    // A block of a struct, before its contents.
+    fn new(
+        alloc: Global,
+        front: &'b Names<'a>,
+        info: &StructInfo,
+    ) -> Result<Held<'a, 'b>, AllocError>
+        ensures { IfOk result (λ held. held_of held ≡ record { names = front.now ++ []; fields = replicate (length info.now.fields) None }) }
+    {
+        let own = Names::new(alloc);
+        let fields = vec![in alloc; None; info.fields.as_slice().len()]?;
+        Ok(Held { front, own, fields })
+    }
+
     fn hold(&mut self, names: &Names, number: usize, content: &'a Content) -> Result<(), DefFault>
         ensures { Finds (holds names.now (held_of self.old) number content.now) (λ done. held_of self.new) result }
     {
@@ -128,6 +141,24 @@ impl<'a, 'b> Scope<'a, 'b> {
         Ok(())
     }
 
+    // For each field of a struct, which content of a block names it.
+    fn holders(
+        &self,
+        alloc: Global,
+        info: &StructInfo,
+        block: &'a Block,
+    ) -> Result<Vec<Option<usize>>, DefFault>
+        requires { self.now.own ≡ [] }
+        ensures { Finds (holders (scope_of self.now) info.now block.now) (λ fields. fields.items) result }
+    {
+        let texts = texts_of(alloc, info.fields.as_slice())?;
+        let names = names_of(alloc, &texts)?;
+        let mut held = Held::new(alloc, self.front, info)?;
+        held.hold_all(&names, block.contents.as_slice())?;
+        let Held { fields, .. } = held;
+        Ok(fields)
+    }
+
     /// The names of a block of this struct.
     pub fn block(
         &mut self,
@@ -138,15 +169,7 @@ impl<'a, 'b> Scope<'a, 'b> {
         requires { self.old.own ≡ [] }
         ensures { Finds (block_of (scope_of self.old) info.now block.now) (λ done. scope_of self.new) result }
     {
-        let fields = info.fields.as_slice();
-        let texts = texts_of(alloc, fields)?;
-        let names = names_of(alloc, &texts)?;
-        let mut held = Held {
-            front: self.front,
-            own: Names::new(alloc),
-            fields: vec![in alloc; None; fields.len()]?,
-        };
-        held.hold_all(&names, block.contents.as_slice())?;
-        self.place_all(block, fields, held.fields.as_slice())
+        let held = self.holders(alloc, info, block)?;
+        self.place_all(block, info.fields.as_slice(), &held)
     }
 }

@@ -2,6 +2,7 @@
 ghost use Rattle.mc_defread.specs.Readings.{ReadsAs, IsFault, place_of, syntax_fault};
 ghost use Rattle.mc_defread.specs.Judging.{Judged, judged, Finds};
 ghost use Rattle.mc_defparse.specs.Grammar.{IsFile};
+ghost use Rattle.mc_defparse.specs.declared.tree.DefText.{DefText};
 ghost use Rattle.mc_ast.specs.Names.{Tokens};
 ghost use Rattle.mc_defs.specs.Conditions.{DefsFit};
 ghost use Rattle.mc_defs.specs.declared.rules.Def.{Def as OneDef};
@@ -52,12 +53,19 @@ fn tokens(alloc: Global, text: &[u8]) -> Result<Vec<Token>, DefFault>
     }
 }
 
-// What a file says of these structs, which it fits.
+// What a file says of structs fits them.
+fn files_fit()
+    ensures { (structs : List StructInfo) (file : List DefText) (tokens : Tokens) (defs : List OneDef)
+        → IsFile file tokens → judged structs file ≡ Ok defs → DefsFit structs defs }
+{}
+
+// The definitions of a file.
 fn definitions(alloc: Global, structs: &Structs, file: &[DefText]) -> Result<Defs, DefFault>
     requires { (tokens : Tokens) × IsFile file.now tokens }
     ensures found { Finds (judged structs.now.list file.now) (λ defs. defs) result }
     ensures fit { IfOk result (λ defs. DefsFit structs.now.list defs) }
 {
+    files_fit();
     let list = judge(alloc, structs.list.as_slice(), file)?;
     Ok(Defs::fitting(structs, list))
 }
