@@ -1,6 +1,6 @@
 -- How the reading of a text ends.
 use Rattle.std.proofs.Common.{◌≡◌, ◌≢◌, ℕ, List, refl, ap, sym, subst}
-use Rattle.std.specs.Prelude.{Result, Ok, Err, Some, None}
+use Rattle.std.specs.Prelude.{Result, Ok, Err, Some, None, MatchResult}
 use Rattle.mc_text.specs.declared.place.Place.{Place}
 use Rattle.mc_text.specs.declared.token.Token.{Token}
 use Rattle.mc_lex.specs.declared.fault.LexFault.{LexFault}
@@ -24,7 +24,7 @@ at_bytes text (Lexical.OpenComment place) told e h structs = rw e (by_bytes (Lex
 at_bytes text (Lexical.BadNumber place) told e h structs = rw e (by_bytes (Lexical.BadNumber place) place (h (λ none. cc)) refl)
 at_bytes text Lexical.NoMemory told e h structs = rw e tt
 
-with_cause : Place → Cause → Refusal
+abbrev with_cause : Place → Cause → Refusal
 with_cause place cause = record { cause = cause; place = place }
 
 is_syntax : (refusal : Refusal) → refusal.cause ≡ Cause.Syntax → syntax_at refusal.place ≡ refusal
@@ -39,5 +39,6 @@ pub at_item : {B : Type 0} (text : List ℕ) (structs : List StructInfo) (tokens
 at_item text structs tokens file of (Refused refusal) lexed only found = by_items tokens file lexed only found
 at_item text structs tokens file of NoMemory lexed only found = tt
 
-pub at_end : (text : List ℕ) (structs : List StructInfo) (tokens : List Token) (file : List DefText) (defs : List Def) → Lexes text (Ok tokens) → IsOnlyFile file tokens → judged structs file ≡ Ok defs → ReadsAs text structs (Ok defs)
-at_end text structs tokens file defs lexed only found = by_items tokens file lexed only found
+pub at_last : (text : List ℕ) (structs : List StructInfo) (tokens : List Token) (file : List DefText) (result : Result (List Def) DefFault) → Lexes text (Ok tokens) → IsOnlyFile file tokens → Finds (judged structs file) (λ defs. defs) result → MatchResult result (λ defs. ReadsAs text structs (Ok defs)) (λ fault. IsFault text structs fault)
+at_last text structs tokens file (Ok defs) lexed only found = by_items tokens file lexed only found
+at_last text structs tokens file (Err fault) lexed only found = at_item text structs tokens file (λ (defs : List Def). defs) fault lexed only found

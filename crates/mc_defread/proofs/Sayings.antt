@@ -81,6 +81,9 @@ placed_short b s fields fs held f e h = rw (e, h) refl
 abbrev names_of : StructInfo → List (List ℕ)
 names_of info = map (λ field. field.name) info.fields
 
+pub nothing_is : (front own : List (List ℕ)) (kinds : List Kind) (info : StructInfo) (held : Held) → own ≡ [] → held ≡ record { names = front ++ []; fields = replicate (length info.fields) None } → held ≡ nothing_held (record { names = front ++ own; kinds = kinds }) info
+nothing_is front own kinds info held e h = rw e h
+
 -- the contents of a block
 pub holders_are : (scope : Scope) (info : StructInfo) (b : Block) (names : List (List ℕ)) (held : Held) (list : List Content) (j : Judged Held) → contents names held 0 list ≡ j → names ≡ names_of info → held ≡ nothing_held scope info → list ≡ b.contents → holders scope info b ≡ (j >>= (λ (x : Held). Ok x.fields))
 holders_are scope info b names held list j f e h l =
