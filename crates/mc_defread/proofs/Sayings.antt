@@ -98,13 +98,3 @@ holders_fail scope info b names held list of of' (Refused r) f e h l = holders_a
 
 pub holders_end : (scope : Scope) (info : StructInfo) (b : Block) (names : List (List ℕ)) (held done : Held) (list : List Content) → contents names held 0 list ≡ Ok done → names ≡ names_of info → held ≡ nothing_held scope info → list ≡ b.contents → holders scope info b ≡ Ok done.fields
 holders_end scope info b names held done list f e h l = holders_are scope info b names held list (Ok done) f e h l
-
-pub block_fails : {B C : Type 0} (scope : Scope) (info : StructInfo) (b : Block) (of : B → List (Option ℕ)) (of' : C → Scope) (fault : DefFault) → Finds (holders scope info b) of (Err fault) → Finds (block_of scope info b) of' (Err fault)
-block_fails scope info b of of' NoMemory f = tt
-block_fails scope info b of of' (Refused r) f = ap (λ (i : Judged (List (Option ℕ))). i >>= (λ held. placed b scope info.fields held)) f
-
-pub block_goes : {C : Type 0} (scope : Scope) (info : StructInfo) (b : Block) (held : List (Option ℕ)) (fields : List FieldInfo) (given : List (Option ℕ)) (of : C → Scope) (result : Result C DefFault) → holders scope info b ≡ Ok held → fields ≡ info.fields → given ≡ held → Finds (placed b scope fields given) of result → Finds (block_of scope info b) of result
-block_goes scope info b held fields given of result f e g found =
-    let p = subst (λ (fs : List FieldInfo). Finds (placed b scope fs given) of result) e found in
-    let q = subst (λ (hs : List (Option ℕ)). Finds (placed b scope info.fields hs) of result) g p in
-    finds_same (block_of scope info b) (placed b scope info.fields held) of result (ap (λ (i : Judged (List (Option ℕ))). i >>= (λ hs. placed b scope info.fields hs)) f) q

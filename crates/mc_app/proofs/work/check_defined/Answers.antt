@@ -14,6 +14,6 @@ returns-in_ok-answer-in-Ok-clause-why g c =
     let answer = c.in_ok-answer-in-Ok.answer in
     let same = c.unit.ensures ∙ ap (λ (t : Typed). t.unit) (c.typed.ensures ∙ c.in-Ok.ensures.same_typed) in
     let why = subst (λ (u : Tree). IsWhyFitting holds c.args.document.now (unit_of u) answer) same c.in_ok-answer-in-Ok.ensures.why in
-    let fits_it = subst (λ (t : Typed). IsBound (unit_of t.unit) c.in-Ok.bound.defs) c.in-Ok.ensures.same_typed c.defs.ensures.fit.bound in
+    let fits_it = subst (λ (t : Typed). IsBound (unit_of t.unit) c.in-Ok.bound.defs) c.in-Ok.ensures.same_typed c.defs-defs.ensures.fit.bound in
     let fits = subst (λ (ds : List Def). IsBound (unit_of c.args.typed.unit) ds) c.in-Ok.ensures.same_defs fits_it in
     why_of_fitting holds c.args.document.now (unit_of c.args.typed.unit) c.args.defs answer fits why

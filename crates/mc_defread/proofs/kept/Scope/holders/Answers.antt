@@ -10,7 +10,7 @@ returns-in_err-hold_all c =
     let e = c.in_ok-names.ensures ∙ c.deref.ensures.value ∙ c.in_ok-texts.ensures ∙ ap (map (λ (field : FieldInfo). field.name)) c.as_slice.ensures in
     let h = nothing_is c.args.self.now.front.now c.args.self.now.own c.args.self.now.kinds.items c.args.info.now (held_of c.in_ok-held.held) c.requires c.in_ok-held.ensures in
     let p = err_from_is_err_and c.from_residual-in_err-hold_all.result c.from_residual-in_err-hold_all.ensures.1 in
-    rw (p.1, p.2) (holders_fail {B = Unit {0}} (scope_of c.args.self.now) c.args.info.now c.args.block.now c.in_ok-names.names (held_of c.in_ok-held.held) _ (λ u. held_of c.in_ok-held.held) (λ fields. fields.items) c.in_err-hold_all.field-0.0 c.in_err-hold_all.ensures e h c.as_slice-2.ensures)
+    rw (p.1, p.2) (holders_fail {B = Unit {0}} (scope_of c.args.self.now) c.args.info.now c.args.block.now c.in_ok-names.names (held_of c.in_ok-held.held) _ (λ u. held_of c.in_ok-held.held) _ c.in_err-hold_all.field-0.0 c.in_err-hold_all.ensures e h c.as_slice-2.ensures)
 
 pub returns : goal.returns
 returns c =
