@@ -1,4 +1,7 @@
-use Rattle.std.proofs.Common.{◌≡◌, ◌∙◌, ap, map}
+use Rattle.std.proofs.Common.{◌∙◌, ℕ, ap, map}
+use Rattle.std.specs.Prelude.{Option}
+use Rattle.std.specs.declared.alloc.Global.{Global}
+use Rattle.std.specs.declared.vec.Vec.{Vec}
 use Rattle.std.proofs.lemmas.Result.{err_from_is_err_and}
 use Rattle.mc_defs.specs.declared.shapes.FieldInfo.{FieldInfo}
 use Rattle.mc_defread.specs.Scopes.{scope_of, held_of}
@@ -10,7 +13,7 @@ returns-in_err-hold_all c =
     let e = c.in_ok-names.ensures ∙ c.deref.ensures.value ∙ c.in_ok-texts.ensures ∙ ap (map (λ (field : FieldInfo). field.name)) c.as_slice.ensures in
     let h = nothing_is c.args.self.now.front.now c.args.self.now.own c.args.self.now.kinds.items c.args.info.now (held_of c.in_ok-held.held) c.requires c.in_ok-held.ensures in
     let p = err_from_is_err_and c.from_residual-in_err-hold_all.result c.from_residual-in_err-hold_all.ensures.1 in
-    rw (p.1, p.2) (holders_fail {B = Unit {0}} (scope_of c.args.self.now) c.args.info.now c.args.block.now c.in_ok-names.names (held_of c.in_ok-held.held) _ (λ u. held_of c.in_ok-held.held) _ c.in_err-hold_all.field-0.0 c.in_err-hold_all.ensures e h c.as_slice-2.ensures)
+    rw (p.1, p.2) (holders_fail {B = Unit {0}} {C = Vec (Option ℕ) Global} (scope_of c.args.self.now) c.args.info.now c.args.block.now c.in_ok-names.names (held_of c.in_ok-held.held) _ (λ u. held_of c.in_ok-held.held) (λ (fields : Vec (Option ℕ) Global). fields.items) c.in_err-hold_all.field-0.0 c.in_err-hold_all.ensures e h c.as_slice-2.ensures)
 
 pub returns : goal.returns
 returns c =
