@@ -10,47 +10,64 @@ use Rattle.mc_app.specs.declared.answer.ProgramFault.TheVariants.{Unread, Misfit
 use Rattle.mc_read.specs.declared.cause.Refusal.{Refusal}
 use Rattle.mc_read.specs.declared.cause.ReadFault.{ReadFault}
 use Rattle.mc_read.specs.declared.cause.ReadFault.TheVariants.{Refused, NoMemory}
-use Rattle.mc_read.specs.Programs.{IsReadAs}
 use Rattle.mc_read.specs.Refusals.{IsFault, IsRefused}
-use Rattle.mc_app.specs.Programs.{IsProgramHere, IsProgramWith, IsCertified}
-use Rattle.mc_app.specs.Answers.{Holds, IsWhy, IsWhyPlain, IsWhyUnit}
+use Rattle.mc_defs.specs.declared.rules.Def.{Def}
+use Rattle.mc_defs.specs.declared.shapes.StructInfo.{StructInfo}
+use Rattle.mc_defparse.specs.declared.fault.DefFault.{DefFault}
+use Rattle.mc_defparse.specs.declared.fault.DefFault.TheVariants as definitions
+use Rattle.mc_defparse.specs.declared.fault.Refusal.{Refusal as DefRefusal}
+use Rattle.mc_defread.specs.Readings.{ReadsAs, IsFault as IsUnreadAs}
+use Rattle.mc_app.specs.Programs.{AreDefinitions, IsProgramHere}
+use Rattle.mc_types.specs.Shapes.{IsBound}
+use Rattle.mc_app.specs.Answers.{Holds, IsWhy, IsWhyBound, IsWhyDefined, IsWhyFitting, IsWhyUnit}
 
--- a text is one program at most
-abbrev pub ReadOnce : Type 0
-ReadOnce = (text : List ℕ) (one other : UnitTree) → IsReadAs text one → IsReadAs text other → one ≡ other
-
-not_certified : ReadOnce → (text document : List ℕ) (unit : UnitTree) → IsProgramHere text unit → (IsCertified document unit → ⊥) → IsProgramWith (IsCertified document) text → ⊥
-not_certified once text document unit here none reads =
-    none (subst (λ (u : UnitTree). IsCertified document u) (once text reads.0 unit reads.1.1.read here.1.read) reads.2)
+-- from the definitions as they were read
+pub why_of_defs : (holds : Holds) (d c : List ℕ) (unit : UnitTree) (defs : List Def) (a : Answer) → WhereTold (holds d) (AreDefinitions unit defs) → IsWhyBound holds c unit defs a → IsWhyUnit holds d c unit a
+why_of_defs holds d c unit defs Words read why = why
+why_of_defs holds d c unit defs (Definitions fault) read why = absurd why
+why_of_defs holds d c unit defs (Program fault) read why = (defs, read, why)
+why_of_defs holds d c unit defs Document read why = (defs, read, why)
+why_of_defs holds d c unit defs Good read why = (defs, read, why)
 
 -- from the program as it was read
-pub why_of_unit : ReadOnce → (holds : Holds) (p d c : List ℕ) (unit : UnitTree) (a : Answer) → WhereTold (holds p) (λ text. IsProgramHere text unit) → IsWhyUnit holds d c unit a → IsWhy holds p d c a
-why_of_unit once holds p d c unit Words read why = absurd why.1
-why_of_unit once holds p d c unit (Program (Unread cause)) read why = absurd why.1
-why_of_unit once holds p d c unit (Program (Misfit refusal)) read why = (why.0, λ text h. (unit, read text h, why.1))
-why_of_unit once holds p d c unit (Program NotYet) read why = (why.0, λ text h. (unit, read text h, why.1))
-why_of_unit once holds p d c unit Definitions read why = (λ text h. (unit, read text h, tt), why)
-why_of_unit once holds p d c unit Document read why = (why.0, λ text h. (unit, read text h, why.1.0), λ text h document k. not_certified once text document unit (read text h) (why.1.1 document k))
-why_of_unit once holds p d c unit Good read why = (why.0, λ text h. (unit, read text h, why.1.0), λ text h document k. (unit, read text h, why.1.1 document k))
+pub why_of_unit : (holds : Holds) (p d c : List ℕ) (unit : UnitTree) (a : Answer) → WhereTold (holds p) (λ text. IsProgramHere text unit) → IsWhyUnit holds d c unit a → IsWhy holds p d c a
+why_of_unit holds p d c unit Words read why = why
+why_of_unit holds p d c unit (Program (Unread cause)) read why = absurd why.2
+why_of_unit holds p d c unit (Program (Misfit refusal)) read why = (unit, read, why)
+why_of_unit holds p d c unit (Program NotYet) read why = (unit, read, why)
+why_of_unit holds p d c unit (Definitions fault) read why = (unit, read, why)
+why_of_unit holds p d c unit Document read why = (unit, read, why)
+why_of_unit holds p d c unit Good read why = (unit, read, why)
+
+-- from what is answered where the shape commands fit
+pub why_of_fitting : (holds : Holds) (c : List ℕ) (unit : UnitTree) (defs : List Def) (a : Answer) → IsBound unit defs → IsWhyFitting holds c unit a → IsWhyBound holds c unit defs a
+why_of_fitting holds c unit defs Words fits why = why
+why_of_fitting holds c unit defs (Definitions fault) fits why = why
+why_of_fitting holds c unit defs (Program (Unread cause)) fits why = why
+why_of_fitting holds c unit defs (Program (Misfit refusal)) fits why = absurd why
+why_of_fitting holds c unit defs (Program NotYet) fits why = (fits, why)
+why_of_fitting holds c unit defs Document fits why = (fits, why)
+why_of_fitting holds c unit defs Good fits why = (fits, why)
 
 -- what files hold has stayed
-pub stay_plain : (old new : Holds) (c : List ℕ) (unit : UnitTree) (a : Answer) → Stays old new → IsWhyPlain new c unit a → IsWhyPlain old c unit a
-stay_plain old new c unit Words stays why = why
-stay_plain old new c unit (Program (Unread cause)) stays why = why
-stay_plain old new c unit (Program (Misfit refusal)) stays why = why
-stay_plain old new c unit (Program NotYet) stays why = why
-stay_plain old new c unit Definitions stays why = why
-stay_plain old new c unit Document stays why = (why.0, λ document k. why.1 document (stays c ∙ k))
-stay_plain old new c unit Good stays why = (why.0, λ document k. why.1 document (stays c ∙ k))
+pub stay_bound : (old new : Holds) (c : List ℕ) (unit : UnitTree) (defs : List Def) (a : Answer) → Stays old new → IsWhyBound new c unit defs a → IsWhyBound old c unit defs a
+stay_bound old new c unit defs Words stays why = why
+stay_bound old new c unit defs (Definitions fault) stays why = why
+stay_bound old new c unit defs (Program (Unread cause)) stays why = why
+stay_bound old new c unit defs (Program (Misfit refusal)) stays why = why
+stay_bound old new c unit defs (Program NotYet) stays why = why
+stay_bound old new c unit defs Document stays why = (why.0, (why.1.0, λ document k. why.1.1 document (stays c ∙ k)))
+stay_bound old new c unit defs Good stays why = (why.0, (why.1.0, λ document k. why.1.1 document (stays c ∙ k)))
+
+stay_defined : (old new : Holds) (d c : List ℕ) (unit : UnitTree) (a : Answer) → Stays old new → IsWhyDefined new d c unit a → IsWhyDefined old d c unit a
+stay_defined old new d c unit a stays why = (why.0, λ text h. why.1 text (stays d ∙ h), stay_bound old new c unit why.0 a stays why.2)
 
 pub stay_unit : (old new : Holds) (d c : List ℕ) (unit : UnitTree) (a : Answer) → Stays old new → IsWhyUnit new d c unit a → IsWhyUnit old d c unit a
-stay_unit old new d c unit Words stays why = absurd why.1
-stay_unit old new d c unit (Program (Unread cause)) stays why = absurd why.1
-stay_unit old new d c unit (Program (Misfit refusal)) stays why = (λ text h. why.0 text (stays d ∙ h), why.1)
-stay_unit old new d c unit (Program NotYet) stays why = (λ text h. why.0 text (stays d ∙ h), why.1)
-stay_unit old new d c unit Definitions stays why = λ text h. why text (stays d ∙ h)
-stay_unit old new d c unit Document stays why = (λ text h. why.0 text (stays d ∙ h), stay_plain old new c unit Document stays why.1)
-stay_unit old new d c unit Good stays why = (λ text h. why.0 text (stays d ∙ h), stay_plain old new c unit Good stays why.1)
+stay_unit old new d c unit Words stays why = why
+stay_unit old new d c unit (Definitions fault) stays why = λ text h. why text (stays d ∙ h)
+stay_unit old new d c unit (Program fault) stays why = stay_defined old new d c unit (Program fault) stays why
+stay_unit old new d c unit Document stays why = stay_defined old new d c unit Document stays why
+stay_unit old new d c unit Good stays why = stay_defined old new d c unit Good stays why
 
 pub four : (ws : List (String Global)) (a b c d : String Global) → length ws ≡ 4 → a ≡ get_or ws 0 a → b ≡ get_or ws 1 b → c ≡ get_or ws 2 c → d ≡ get_or ws 3 d → ws ≡ a ∷ b ∷ c ∷ d ∷ []
 four [] a b c d h i j k l = absurd (omega arith)
@@ -79,3 +96,7 @@ at_err (Err x) y P Q e m = let same : x ≡ y = cc in subst Q same m
 pub refused_of : (text name : List ℕ) (told : ReadFault) (refusal : Refusal) → told ≡ Refused refusal → IsFault text name told → IsRefused text name refusal
 refused_of text name (Refused other) refusal e is = let same : other ≡ refusal = cc in subst (λ (r : Refusal). IsRefused text name r) same is
 refused_of text name NoMemory refusal e is = cc
+
+pub undefined_of : (text : List ℕ) (structs : List StructInfo) (told : DefFault) (refusal : DefRefusal) → told ≡ definitions.Refused refusal → IsUnreadAs text structs told → ReadsAs text structs (Err refusal)
+undefined_of text structs (definitions.Refused other) refusal e is = let same : other ≡ refusal = cc in subst (λ (r : DefRefusal). ReadsAs text structs (Err r)) same is
+undefined_of text structs definitions.NoMemory refusal e is = cc

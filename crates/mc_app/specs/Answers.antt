@@ -2,7 +2,9 @@
 use Rattle.std.specs.Prelude.{◌≡◌, ◌++◌, ◌⊎◌, ℕ, List, [], ◌∷◌, Option, Some, Ok, codes, take}
 use Rattle.mc_ast.specs.Trees.{UnitTree}
 use Rattle.mc_outside.specs.Outside.{WhereTold, AddsIfTold}
-use Rattle.mc_app.specs.Programs.{IsProgramWith, IsProgram, IsUnread, HasMisfit, IsStraightUnit, IsNotStraight, IsCertified, HasNoDefinitions}
+use Rattle.mc_types.specs.Shapes.{IsBound}
+use Rattle.mc_defs.specs.declared.rules.Def.{Def}
+use Rattle.mc_app.specs.Programs.{IsProgramHere, IsUnread, AreDefinitions, IsUndefined, HasMisfit, IsStraightUnit, IsNotStraight, IsCertified}
 use Rattle.mc_app.specs.Printing.{text_of}
 use Rattle.mc_app.specs.declared.answer.Answer.{Answer}
 use Rattle.mc_app.specs.declared.answer.Answer.TheVariants.{Good, Words, Program, Definitions, Document}
@@ -26,31 +28,51 @@ pub record Asks (words : List (List ℕ)) (program definitions document : List �
 abbrev pub Holds : Type 0
 Holds = List ℕ → Option (List ℕ)
 
--- why this is answered for a program without definitions
-abbrev pub IsWhyPlain : Holds → List ℕ → UnitTree → Answer → Type 0
-IsWhyPlain holds c unit Words = ⊥
-IsWhyPlain holds c unit Definitions = ⊥
-IsWhyPlain holds c unit (Program (Unread cause)) = ⊥
-IsWhyPlain holds c unit (Program (Misfit refusal)) = HasMisfit refusal unit
-IsWhyPlain holds c unit (Program NotYet) = IsNotStraight unit
-IsWhyPlain holds c unit Document = IsStraightUnit unit × WhereTold (holds c) (λ document. IsCertified document unit → ⊥)
-IsWhyPlain holds c unit Good = IsStraightUnit unit × WhereTold (holds c) (λ document. IsCertified document unit)
+-- why this is answered for a program whose shape commands fit
+abbrev pub IsWhyFitting : Holds → List ℕ → UnitTree → Answer → Type 0
+IsWhyFitting holds c unit Words = ⊥
+IsWhyFitting holds c unit (Definitions fault) = ⊥
+IsWhyFitting holds c unit (Program (Unread cause)) = ⊥
+IsWhyFitting holds c unit (Program (Misfit refusal)) = ⊥
+IsWhyFitting holds c unit (Program NotYet) = IsNotStraight unit
+IsWhyFitting holds c unit Document = IsStraightUnit unit × WhereTold (holds c) (λ document. IsCertified document unit → ⊥)
+IsWhyFitting holds c unit Good = IsStraightUnit unit × WhereTold (holds c) (λ document. IsCertified document unit)
 
--- the same, where the definitions are read first
+-- why this is answered for a program with definitions
+abbrev pub IsWhyBound : Holds → List ℕ → UnitTree → List Def → Answer → Type 0
+IsWhyBound holds c unit defs Words = ⊥
+IsWhyBound holds c unit defs (Definitions fault) = ⊥
+IsWhyBound holds c unit defs (Program (Unread cause)) = ⊥
+IsWhyBound holds c unit defs (Program (Misfit refusal)) = HasMisfit refusal unit defs
+IsWhyBound holds c unit defs (Program NotYet) = IsBound unit defs × IsWhyFitting holds c unit (Program NotYet)
+IsWhyBound holds c unit defs Document = IsBound unit defs × IsWhyFitting holds c unit Document
+IsWhyBound holds c unit defs Good = IsBound unit defs × IsWhyFitting holds c unit Good
+
+-- there are definitions that the file is, where it is told, and with them this is answered
+abbrev pub IsWhyDefined : Holds → List ℕ → List ℕ → UnitTree → Answer → Type 0
+IsWhyDefined holds d c unit answer = (defs : List Def) × WhereTold (holds d) (AreDefinitions unit defs) × IsWhyBound holds c unit defs answer
+
+-- why this is answered for a program, whose definitions are read first
 abbrev pub IsWhyUnit : Holds → List ℕ → List ℕ → UnitTree → Answer → Type 0
-IsWhyUnit holds d c unit Definitions = WhereTold (holds d) (λ text. HasNoDefinitions text → ⊥)
-IsWhyUnit holds d c unit answer = WhereTold (holds d) HasNoDefinitions × IsWhyPlain holds c unit answer
+IsWhyUnit holds d c unit Words = ⊥
+IsWhyUnit holds d c unit (Definitions fault) = WhereTold (holds d) (IsUndefined unit fault)
+IsWhyUnit holds d c unit (Program fault) = IsWhyDefined holds d c unit (Program fault)
+IsWhyUnit holds d c unit Document = IsWhyDefined holds d c unit Document
+IsWhyUnit holds d c unit Good = IsWhyDefined holds d c unit Good
+
+-- there is a program that the file is, where it is told, and for it this is answered
+abbrev pub IsWhyRead : Holds → List ℕ → List ℕ → List ℕ → Answer → Type 0
+IsWhyRead holds p d c answer = (unit : UnitTree) × WhereTold (holds p) (λ text. IsProgramHere text unit) × IsWhyUnit holds d c unit answer
 
 -- why this is answered for files of these names
 abbrev pub IsWhy : Holds → List ℕ → List ℕ → List ℕ → Answer → Type 0
 IsWhy holds p d c Words = ⊥
 IsWhy holds p d c (Program (Unread cause)) = WhereTold (holds p) (λ text. IsUnread text cause)
-IsWhy holds p d c Definitions = WhereTold (holds p) IsProgram × WhereTold (holds d) (λ text. HasNoDefinitions text → ⊥)
-IsWhy holds p d c (Program (Misfit refusal)) = WhereTold (holds d) HasNoDefinitions × WhereTold (holds p) (IsProgramWith (HasMisfit refusal))
-IsWhy holds p d c (Program NotYet) = WhereTold (holds d) HasNoDefinitions × WhereTold (holds p) (IsProgramWith IsNotStraight)
-IsWhy holds p d c Document = WhereTold (holds d) HasNoDefinitions × WhereTold (holds p) (IsProgramWith IsStraightUnit)
-    × WhereTold (holds p) (λ text. WhereTold (holds c) (λ document. IsProgramWith (IsCertified document) text → ⊥))
-IsWhy holds p d c Good = WhereTold (holds d) HasNoDefinitions × WhereTold (holds p) (IsProgramWith IsStraightUnit) × WhereTold (holds p) (λ text. WhereTold (holds c) (λ document. IsProgramWith (IsCertified document) text))
+IsWhy holds p d c (Program (Misfit refusal)) = IsWhyRead holds p d c (Program (Misfit refusal))
+IsWhy holds p d c (Program NotYet) = IsWhyRead holds p d c (Program NotYet)
+IsWhy holds p d c (Definitions fault) = IsWhyRead holds p d c (Definitions fault)
+IsWhy holds p d c Document = IsWhyRead holds p d c Document
+IsWhy holds p d c Good = IsWhyRead holds p d c Good
 
 -- why this is answered for these words
 abbrev pub IsWhyWords : Holds → List (List ℕ) → Answer → Type 0
@@ -62,7 +84,7 @@ abbrev pub status_of : Answer → Status
 status_of Good = statuses.Good
 status_of Words = statuses.Words
 status_of (Program fault) = statuses.Program
-status_of Definitions = statuses.Definitions
+status_of (Definitions fault) = statuses.Definitions
 status_of Document = statuses.Document
 
 -- the number of a status

@@ -7,10 +7,17 @@ use std::test::Fail;
 
 const PROGRAM: &str = "int main(){return 0;}";
 
+// Lists, and lists with their length.
+const LIST: &str =
+    "def list(this) { rule { this = 0; } rule { this -> node { data: _, next: n }; list(n); } }";
+
+const LEN: &str =
+    "def lenlist(this, int k) { rule { this = 0; k = 0; } rule { this -> node { data: _, next: n }; int m = k - 1; k >= 1; lenlist(n, m); } }";
+
 const DOCUMENT: &str = "[\"memcad\",1,\"certificate\"]\n[\"S1\"]\n[\"S2\"]\n[\"S17\"]\n[\"end\"]\n";
 
 // Programs and definitions, and what a check prints beside the program's document.
-static TEXTS: [(&str, &str, &str); 22] = [
+static TEXTS: [(&str, &str, &str); 30] = [
     (PROGRAM, "", "safe"),
     ("int main(){}", "", "safe"),
     (
@@ -65,15 +72,47 @@ static TEXTS: [(&str, &str, &str); 22] = [
     (
         "int main() { int x; assume_shape(list, x); }",
         "list",
-        "definitions: NotYet",
+        "definitions: Syntax at 1:1",
     ),
     (
         "int main() { int x; return x; }",
         "list",
-        "definitions: NotYet",
+        "definitions: Syntax at 1:1",
     ),
-    (PROGRAM, "list", "definitions: NotYet"),
-    (PROGRAM, "\u{c}", "definitions: NotYet"),
+    (PROGRAM, "list", "definitions: Syntax at 1:1"),
+    (PROGRAM, "\u{c}", "definitions: Syntax at 1:1"),
+    (PROGRAM, LEN, "definitions: UnknownName at 1:69"),
+    (
+        PROGRAM,
+        "def bad(this) { rule { bad(this); } }",
+        "definitions: Unguarded at 1:24",
+    ),
+    (
+        PROGRAM,
+        "def bad(this) { rule { x = 0; } }",
+        "definitions: Undetermined at 1:24",
+    ),
+    (PROGRAM, "def null(this) { rule { this = 0; } }", "safe"),
+    (
+        "struct node { int data; struct node *next; };\nint main() { struct node *l; assume_shape(list, l); return 0; }",
+        LIST,
+        "program: NotYet",
+    ),
+    (
+        "struct node { int data; struct node *next; };\nint main() { struct node *l; assume_shape(lenlist, l); return 0; }",
+        LIST,
+        "program: Unknown at 2:43",
+    ),
+    (
+        "struct node { int data; struct node *next; };\nint main() { struct node *l; assume_shape(list, l, 1); return 0; }",
+        LIST,
+        "program: Arity at 2:43",
+    ),
+    (
+        "struct node { int data; struct node *next; };\nint main() { struct node *l; assume_shape(lenlist, l, l); return 0; }",
+        LEN,
+        "program: Mismatch at 2:55",
+    ),
 ];
 
 // Documents, and what a check of the program prints.
@@ -171,7 +210,7 @@ static WORDS: [(&str, &str); 20] = [
     ("check p d x", ""),
     ("check d x c", "program: NoEntry at 1:1"),
     ("check d x x", "program: NoEntry at 1:1"),
-    ("check p p x", "definitions: NotYet"),
+    ("check p p x", "definitions: Syntax at 1:1"),
     ("check p d p", "refused"),
 ];
 
@@ -197,7 +236,7 @@ static FAILING_CALLS: [(usize, u64, &str); 13] = [
 static LENGTHS: [(&str, usize, usize, &str); 6] = [
     (PROGRAM, 1_048_576, 262_144, "safe"),
     (PROGRAM, 1_048_577, 262_145, "program: TooBig"),
-    (PROGRAM, 1_048_576, 262_145, "definitions: NotYet"),
+    (PROGRAM, 1_048_576, 262_145, "definitions: TooBig"),
     (PROGRAM, 131_072, 65_537, "safe"),
     ("", 1_048_576, 0, "program: NoEntry at 1:1"),
     ("", 1_048_577, 0, "program: TooBig"),
@@ -208,7 +247,11 @@ fn code(printed: &str) -> u8 {
     match printed {
         "safe" => 0,
         "words: refused" => 2,
-        "definitions: NotYet" => 4,
+        "definitions: TooBig"
+        | "definitions: Syntax at 1:1"
+        | "definitions: UnknownName at 1:69"
+        | "definitions: Unguarded at 1:24"
+        | "definitions: Undetermined at 1:24" => 4,
         "refused" => 6,
         "" => 7,
         _ => 3,

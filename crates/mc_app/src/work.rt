@@ -1,25 +1,25 @@
 // Checks a certificate.
 ghost use Rattle.std.specs.Prelude.{◌≡◌, ◌↔◌, ◌≤◌, ◌^◌, [], IfOk, IsTrue, MatchResult, length};
-ghost use Rattle.std.specs.List.{list_all};
 ghost use Rattle.mc_ast.specs.Views.{unit_of};
 ghost use Rattle.mc_outside.specs.Outside.{HasCause, Stays, WhereTold};
 ghost use Rattle.mc_check.specs.Document.{IsValidDocument};
 ghost use Rattle.mc_flow.specs.Steps.{IsSafeFlow};
-ghost use Rattle.mc_straight.specs.Text.{is_blank};
 ghost use Rattle.mc_straight.specs.Typing.{IsTyped};
 ghost use Rattle.mc_straight.specs.Lowering.{flow_of};
-ghost use Rattle.mc_types.specs.Shapes.{IsBound};
-ghost use Rattle.mc_app.specs.Programs.{HasNoDefinitions, IsProgramHere, IsSafe, IsSafeUnit, IsWellFormed, IsUnread};
-ghost use Rattle.mc_app.specs.Answers.{IsWhy, IsWhyPlain, IsWhyUnit};
+ghost use Rattle.mc_types.specs.Tables.{struct_infos};
+ghost use Rattle.mc_defs.specs.Conditions.{DefsFit};
+ghost use Rattle.mc_app.specs.Programs.{AreDefinitions, IsProgramHere, IsSafe, IsSafeUnit, IsUndefined, IsUnread, IsWellFormed};
+ghost use Rattle.mc_app.specs.Answers.{IsWhy, IsWhyBound, IsWhyFitting, IsWhyUnit};
 
 use crate::contents::{text, whole};
 use crate::words::Command;
-use crate::{Answer, NoProgram, ProgramFault};
+use crate::{Answer, NoDefinitions, NoProgram, ProgramFault};
 use mc_ast::Unit;
-use mc_flow::Defs;
+use mc_defread::{DefFault, read_defs};
+use mc_defs::Defs;
 use mc_kernel::certified_is_safe;
 use mc_outside::{FileFault, Files};
-use mc_read::{ReadFault, Refusal, programs_have_distinct_places, texts_are_read_once};
+use mc_read::{ReadFault, Refusal, programs_have_distinct_places};
 use mc_straight::{Program, lower, straight, trees_are_read_once, trees_run_alike};
 use mc_typed::{Typed, bind};
 use mc_types::TypeFault;
@@ -27,6 +27,9 @@ use std::alloc::{AllocError, Global};
 
 // How many bytes a program may have.
 const PROGRAM_BYTES: u64 = 1_048_576;
+
+// How many bytes definitions may have.
+const DEFINITION_BYTES: u64 = 262_144;
 
 // The program of a text, or why there is none.
 fn read_program(alloc: Global, bytes: &[u8]) -> Result<Result<Typed, NoProgram>, AllocError>
@@ -61,24 +64,45 @@ fn program_in<F: Files>(
     }
 }
 
-fn all_blank(bytes: &[u8]) -> bool
-    ensures { result ≡ list_all is_blank bytes.now }
+// The definitions of a text over a program's structs, or why there are none.
+fn read_definitions(
+    alloc: Global,
+    bytes: &[u8],
+    typed: &Typed,
+) -> Result<Result<Defs, NoDefinitions>, AllocError>
+    requires { length bytes.now ≤ 2 ^ 18 }
+    ensures read { IfOk result (λ r. MatchResult r (λ defs. AreDefinitions (unit_of typed.now.unit) defs bytes.now) (λ fault. IsUndefined (unit_of typed.now.unit) fault bytes.now)) }
+    ensures fit { IfOk result (λ r. IfOk r (λ defs. DefsFit (struct_infos (unit_of typed.now.unit)) defs)) }
 {
-    bytes.iter().all(|b| mc_straight::is_blank(*b))
-}
-
-fn has_no_definitions<F: Files>(alloc: Global, files: &mut F, name: &str) -> Result<bool, FileFault>
-    ensures told { WhereTold (F.holds files.old name.now) (λ text. IfOk result (λ b. IsTrue b ↔ HasNoDefinitions text)) }
-    ensures same { Stays (F.holds files.old) (F.holds files.new) }
-    ensures cause { HasCause (F.faults files.old) (F.faults files.new) result }
-{
-    match text(alloc, files, name, 262_144)? {
-        None => Ok(false),
-        Some(bytes) => Ok(all_blank(&bytes)),
+    match read_defs(alloc, bytes, typed.structs()) {
+        Ok(defs) => Ok(Ok(defs)),
+        Err(DefFault::Refused(refusal)) => Ok(Err(NoDefinitions::Refused(refusal))),
+        Err(DefFault::NoMemory) => Err(AllocError),
     }
 }
 
-// Whether a document is valid for the flow graph of a straight program without definitions, which is safe then.
+fn definitions_in<F: Files>(
+    alloc: Global,
+    files: &mut F,
+    name: &str,
+    typed: &Typed,
+) -> Result<Result<Defs, NoDefinitions>, FileFault>
+    ensures told { WhereTold (F.holds files.old name.now) (λ text. IfOk result (λ r. MatchResult r (λ defs. AreDefinitions (unit_of typed.now.unit) defs text) (λ fault. IsUndefined (unit_of typed.now.unit) fault text))) }
+    ensures fit { IfOk result (λ r. IfOk r (λ defs. DefsFit (struct_infos (unit_of typed.now.unit)) defs)) }
+    ensures same { Stays (F.holds files.old) (F.holds files.new) }
+    ensures cause { HasCause (F.faults files.old) (F.faults files.new) result }
+{
+    match text(alloc, files, name, DEFINITION_BYTES)? {
+        None => Ok(Err(NoDefinitions::TooBig)),
+        Some(bytes) => {
+            let read = read_definitions(alloc, &bytes, typed)?;
+            Ok(read)
+        }
+    }
+}
+
+// Whether a document is valid for the flow graph of a straight program, which is safe then. It has no shape commands, so
+// its definitions play no part.
 fn is_certificate(alloc: Global, short: &Program, document: &[u8]) -> Result<bool, AllocError>
     requires { IsTyped short.now }
     ensures valid { IfOk result (λ b. IsTrue b ↔ IsValidDocument (flow_of short.now) document.now) }
@@ -108,15 +132,14 @@ fn is_certificate_in<F: Files>(
 }
 
 // Checks a certificate of a program whose shape commands fit.
-fn check_bound<F: Files>(
+fn check_fitting<F: Files>(
     alloc: Global,
     files: &mut F,
     document: &str,
     unit: &Unit,
 ) -> Result<Answer, FileFault>
-    requires well_formed { IsWellFormed (unit_of unit.now) }
-    requires bound { IsBound (unit_of unit.now) [] }
-    ensures why { IfOk result (λ a. IsWhyPlain (F.holds files.old) document.now (unit_of unit.now) a) }
+    requires { IsWellFormed (unit_of unit.now) }
+    ensures why { IfOk result (λ a. IsWhyFitting (F.holds files.old) document.now (unit_of unit.now) a) }
     ensures safe { IfOk result (λ a. a ≡ Answer.Good → IsSafeUnit (unit_of unit.now)) }
     ensures same { Stays (F.holds files.old) (F.holds files.new) }
     ensures cause { HasCause (F.faults files.old) (F.faults files.new) result }
@@ -133,22 +156,26 @@ fn check_bound<F: Files>(
     }
 }
 
-// Checks a certificate of a program without definitions.
-fn check_without_definitions<F: Files>(
+// Checks a certificate of a program with definitions.
+fn check_defined<F: Files>(
     alloc: Global,
     files: &mut F,
     document: &str,
     typed: Typed,
+    defs: Defs,
 ) -> Result<Answer, FileFault>
-    requires { IsWellFormed (unit_of typed.unit) }
-    ensures why { IfOk result (λ a. IsWhyPlain (F.holds files.old) document.now (unit_of typed.unit) a) }
+    requires well_formed { IsWellFormed (unit_of typed.unit) }
+    requires fit { DefsFit (struct_infos (unit_of typed.unit)) defs }
+    ensures why { IfOk result (λ a. IsWhyBound (F.holds files.old) document.now (unit_of typed.unit) defs a) }
     ensures safe { IfOk result (λ a. a ≡ Answer.Good → IsSafeUnit (unit_of typed.unit)) }
     ensures same { Stays (F.holds files.old) (F.holds files.new) }
     ensures cause { HasCause (F.faults files.old) (F.faults files.new) result }
 {
-    match bind(alloc, typed, Defs::new(alloc)) {
+    match bind(alloc, typed, defs) {
         Ok(bound) => {
-            let answer = check_bound(alloc, files, document, bound.typed().unit())?;
+            // Its shape commands fit these.
+            let _defs = bound.defs();
+            let answer = check_fitting(alloc, files, document, bound.typed().unit())?;
             Ok(answer)
         }
         Err(TypeFault::Refused(fault)) => {
@@ -159,7 +186,7 @@ fn check_without_definitions<F: Files>(
     }
 }
 
-// Checks a certificate of a program.
+// Checks a certificate of a program, whose definitions are read first.
 fn check_program<F: Files>(
     alloc: Global,
     files: &mut F,
@@ -173,11 +200,13 @@ fn check_program<F: Files>(
     ensures same { Stays (F.holds files.old) (F.holds files.new) }
     ensures cause { HasCause (F.faults files.old) (F.faults files.new) result }
 {
-    if !has_no_definitions(alloc, files, definitions)? {
-        return Ok(Answer::Definitions);
+    match definitions_in(alloc, files, definitions, &typed)? {
+        Err(fault) => Ok(Answer::Definitions(fault)),
+        Ok(defs) => {
+            let answer = check_defined(alloc, files, document, typed, defs)?;
+            Ok(answer)
+        }
     }
-    let answer = check_without_definitions(alloc, files, document, typed)?;
-    Ok(answer)
 }
 
 /// Checks the certificate that a command names.
@@ -191,7 +220,6 @@ pub fn answer<F: Files>(
     ensures same { Stays (F.holds files.old) (F.holds files.new) }
     ensures cause { HasCause (F.faults files.old) (F.faults files.new) result }
 {
-    texts_are_read_once();
     match program_in(alloc, files, command.program)? {
         Err(fault) => Ok(Answer::Program(ProgramFault::Unread(fault))),
         Ok(typed) => {

@@ -51,7 +51,8 @@ block_of_rule know at es rule (Some shape) =
 -- the first rule whose block is there, with it
 abbrev pub first_block : Test → Term → Edges → List Rule → Option BlockFor
 first_block know at es [] = None
-first_block know at es (rule ∷ rules) = or_else (block_of_rule know at es rule rule.block) (first_block know at es rules)
+first_block know at es (rule ∷ rules) =
+    or_else (block_of_rule know at es rule rule.block) (first_block know at es rules)
 
 -- the rule, if it has no block
 abbrev pub if_empty : Rule → Option StructId → Option Rule

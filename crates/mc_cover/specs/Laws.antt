@@ -17,7 +17,8 @@ use Rattle.mc_cover.specs.Guessed.{guess}
 -- the first cover is a cover
 abbrev pub FirstIsCover : Type 0
 FirstIsCover =
-    (know : Test) (defs : List Def) (s : State) (pred : PredId) (at : Term) (args : List Term) (es : Edges) (found : Choice)
+    (know : Test) (defs : List Def) (s : State) (pred : PredId) (at : Term) (args : List Term) (es : Edges)
+    (found : Choice)
     → IsDefs defs → Tells know s
     → first_cover know defs pred at args es ≡ Some found → Cover defs s pred at args es found.left
 
@@ -27,7 +28,8 @@ FirstIsSegCover =
     (know : Test) (defs : List Def) (s : State) (pred : PredId) (at : Term) (args : List Term)
     («end» : Term) (ends : List Term) (es : Edges) (found : Choice)
     → IsDefs defs → Tells know s
-    → first_seg_cover know defs pred at args end ends es ≡ Some found → SegCover defs s pred at args end ends es found.left
+    → first_seg_cover know defs pred at args end ends es ≡ Some found
+    → SegCover defs s pred at args end ends es found.left
 
 -- the edges of the first way to meet a goal are there, each once, and the others are left
 abbrev pub FirstTakesEdges : Type 0

@@ -76,7 +76,8 @@ fits w g (by_call place block call) = is_some g.stop && on_some (has_call g.pred
 
 -- what a call asks for, with a stop or none
 abbrev pub goal_of : List Term → Option Stop → Call → Goal
-goal_of names stop call = record { pred = call.pred; at = term_of names call.at; args = map (term_of names) call.args; stop = stop }
+goal_of names stop call =
+    record { pred = call.pred; at = term_of names call.at; args = map (term_of names) call.args; stop = stop }
 
 -- what calls ask for, where the one at a place goes on to the stop
 abbrev pub goals_to : List Term → Option Stop → ℕ → List Call → List Goal

@@ -1,8 +1,8 @@
-pub mod Steps
-pub mod Numbers
-pub mod ItemLemmas
-pub mod BlockLemmas
-pub mod FileLemmas
-pub mod Ends
-pub mod Viable
-pub mod WholeLemmas
+pub mod Positions
+pub mod Whole
+pub mod Fits
+pub mod OneReading
+pub mod Numbering
+pub mod Folds
+pub mod Sayings
+pub mod Exits

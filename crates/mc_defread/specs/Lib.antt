@@ -1,8 +1,3 @@
-pub mod Symbols
-pub mod Grammar
-pub mod Steps
-pub mod Readers
-pub mod Blocks
-pub mod Heads
-pub mod Files
-pub mod Faults
+pub mod Judging
+pub mod Scopes
+pub mod Readings

@@ -1,24 +1,12 @@
-//! Definition files: their texts to checked definitions, or the first fault.
+//! Checked definitions: the items of a definition file judged in their order over a program's structs, or the first fault.
 #![tactic(auto)]
 
-mod block;
-mod fault;
-mod file;
-mod front;
-mod item;
-mod parser;
-mod step;
-mod symbols;
-mod tree;
+mod body;
+mod held;
+mod judged;
+mod kept;
+mod reading;
+mod scope;
 
-pub use block::{BlockReader, BlockStep};
-pub use fault::{Cause, DefFault, Refusal};
-pub use file::{At, FileReader, FileTook};
-pub use front::{HeadReader, HeadStep};
-pub use item::{ItemReader, ItemStep};
-pub use parser::parse;
-pub use step::{Step, Took};
-pub use symbols::{Symbol, classify, number};
-pub use tree::{
-    Block, Bound, Content, DefText, Head, Item, Number, Parameter, Relation, RuleText, Sum,
-};
+pub use mc_defparse::{Cause, DefFault, Refusal};
+pub use reading::{read_defs, texts_are_read_once};

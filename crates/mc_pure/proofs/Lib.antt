@@ -14,3 +14,4 @@ pub mod Removing
 pub mod Asking
 pub mod Growing
 pub mod Inserting
+pub mod Placed

@@ -9,3 +9,4 @@ pub mod Steps
 pub mod Nodes
 pub mod Known
 pub mod Firsts
+pub mod Classes

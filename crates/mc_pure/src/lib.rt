@@ -7,9 +7,11 @@ ghost use Rattle.mc_base.specs.declared.plain.Atom.{Atom as Fact};
 ghost use Rattle.mc_pure.specs.Pure.{Base};
 ghost use Rattle.mc_pure.specs.Derived.{Follows, IsFalse};
 ghost use Rattle.mc_pure.specs.Laws.{IsTrue, DerivedIsTrue, TrueIsNotFalse, FollowsFromMore, FalseFromMore, BlocksAtOneNode, BlockAtNull, EmptyRange};
+ghost use Rattle.mc_pure.specs.Classes.{NormalSaysAll};
 ghost use Rattle.mc_pure.specs.Examples.{node, known, values, at_one, at_null, between};
 
 mod ask;
+mod classes;
 mod close;
 mod known;
 mod nodes;
@@ -18,6 +20,7 @@ mod steps;
 mod whole;
 
 pub use ask::Term;
+pub use classes::ClassPlace;
 pub use whole::Pure;
 
 /// What is derived is true where what is known is, and then nothing false follows.
@@ -30,6 +33,11 @@ pub fn derived_is_true()
 pub fn derived_grows()
     ensures atoms { FollowsFromMore }
     ensures false_stays { FalseFromMore }
+{}
+
+/// A normal form says all that follows.
+pub fn normal_forms_say_all()
+    ensures { NormalSaysAll }
 {}
 
 /// What no number can meet: blocks at one node, a block at null, an empty range.

@@ -2,11 +2,14 @@
 ghost use Rattle.std.specs.Prelude.{◌≡◌, ◌↔◌, ◌-ℤ◌, IsTrue, true, false, IfOk, OnOk, OnErr};
 ghost use Rattle.mc_base.specs.declared.plain.Atom.TheVariants.{Eq, Ne, In};
 ghost use Rattle.mc_pure.specs.Pure.{IsNode, AreOfOneKind, IsOffset, IsBound, IsWellFormed, kind_of};
-ghost use Rattle.mc_pure.specs.Derived.{Derived, IsFalse, HasRange};
+ghost use Rattle.mc_pure.specs.Canonical.{IsLeast};
+ghost use Rattle.mc_pure.specs.Classes.{HasNormalForm};
+ghost use Rattle.mc_pure.specs.Derived.{Derived, Follows, IsFalse, HasRange};
 ghost use Rattle.mc_pure.specs.Rows.{nodes_of};
 ghost use Rattle.mc_pure.specs.Known.{nothing, with_node, with_atom, with_start, without_start};
 
 use crate::ask::{self, Term, distance, span_less};
+use crate::classes::{ClassPlace, place_of};
 use crate::close::{address, close, finish, include, include_tie, row_of, start, start_row};
 use crate::known::{Known, remove_first};
 use crate::nodes::Nodes;
@@ -197,6 +200,24 @@ impl Pure {
         ensures { HasRange self.now node result.lo result.hi }
     {
         own_range(&row_of(&self.known, self.rows.as_slice(), node))
+    }
+
+    /// The least node of the node's class, and how much more the node is, where what is known can be true.
+    pub fn class_of(&self, node: NodeId) -> ClassPlace
+        requires there { IsNode self.now.kinds node }
+        requires not_false { IsFalse self.now → ⊥ }
+        ensures least { IsLeast self.now result.least }
+        ensures equal { Follows self.now (Eq node result.least result.offset) }
+    {
+        place_of(&row_of(&self.known, self.rows.as_slice(), node))
+    }
+
+    /// What can be true has a normal form.
+    pub fn has_normal_form(&self)
+        requires { IsFalse self.now → ⊥ }
+        ensures { HasNormalForm self.now }
+    {
+        let _known = &self.known;
     }
 
     /// Whether what is known can't be true.

@@ -15,7 +15,8 @@ AreMetBy {G} {M} R (g ∷ gs) log after = (mid : List M) × R g log mid × AreMe
 -- a goal is met by a mark and the goals that the mark leaves; at most so many marks stand one within the other
 abbrev pub IsMet : {G M : Type 0} → Space G M → ℕ → G → List M → List M → Type 0
 IsMet w zero g log after = ⊥
-IsMet {G} {M} w (suc k) g log after = (m : M) × (applies w g log m ≡ true) × AreMetBy (IsMet w k) (w.calls g m) (log ++ m ∷ []) after
+IsMet {G} {M} w (suc k) g log after =
+    (m : M) × (applies w g log m ≡ true) × AreMetBy (IsMet w k) (w.calls g m) (log ++ m ∷ []) after
 
 -- marks one after the other meet the goals, at most so many, and the search may end
 abbrev pub Leads : {G M : Type 0} → Space G M → ℕ → List G → List M → List M → Type 0

@@ -7,7 +7,9 @@ use Rattle.mc_base.specs.declared.plain.Atom.TheVariants.{Eq, In}
 use Rattle.mc_base.specs.declared.plain.Kind.TheVariants.{Ptr}
 use Rattle.mc_base.specs.Nodes.{null}
 use Rattle.mc_heap.specs.Heap.{region_of}
-use Rattle.mc_defs.specs.Examples.{defs}
+use Rattle.mc_defs.specs.Examples.{defs, cell_id}
+use Rattle.mc_premises.specs.BackExamples as back
+use Rattle.mc_premises.specs.Laws.{BackIsTold}
 use Rattle.mc_premises.specs.Known.{Test, Tells, is_false, equal}
 use Rattle.mc_premises.proofs.Tests.{is_sound, equal_from, equal_to}
 use Rattle.mc_pure.specs.Derived.{itself}
@@ -15,10 +17,11 @@ use Rattle.mc_pure.specs.Examples.{node}
 use Rattle.mc_state.specs.Laws.{DerivedIsTrue, NoneStandsForFalse}
 use Rattle.mc_state.specs.State.{with_var}
 use Rattle.mc_step.specs.Examples as ex
-use Rattle.mc_step.specs.JudgedExamples.{Gives, GivesByRanges, IsFirstUnmet, without_x, without_y, known_result, only, greatest, least}
+use Rattle.mc_step.specs.JudgedExamples.{Gives, GivesByRanges, IsFirstUnmet, with_segment, without_x, without_y, known_result, only, greatest, least}
 use Rattle.mc_step.specs.Judges as rule
 use Rattle.mc_step.specs.Steps.{moved_to}
 use Rattle.mc_step.specs.Sums.{sum, difference}
+use Rattle.mc_step.specs.Unmet.{LacksBlock}
 use Rattle.mc_step.proofs.ExampleStates.{heap_addresses, one_cell_stands}
 use Rattle.mc_step.proofs.ExampleSteps.{one_cell_sound, no_cell_sound, not_whole_sound}
 
@@ -145,3 +148,9 @@ wraps_down = refl
 pub either : known_result sum (only (pos 2)) (only (pos 3)) ≡ In (node 3) (pos 5) (pos 5) ∷ Eq (node 3) (node 1) (pos 3) ∷ Eq (node 3) (node 2) (pos 2) ∷ []
 unfolding int_wrap
 either = refl
+
+-- ---- a segment that may be unfolded from its end
+
+pub from_end : BackIsTold → LacksBlock back.defs (with_segment (back.predicate 0)) (node 1) cell_id → ⊥
+from_end law l =
+    l.back 0 (record { 0 = 0 }) (node 3) null (null ∷ []) (node 1 ∷ []) (back.predicate 0) 0 (node 1) refl ((law back.defs (back.predicate 0) 0).0 refl) refl (inl (itself (Ptr, inr refl)))

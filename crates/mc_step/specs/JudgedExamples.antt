@@ -2,7 +2,11 @@
 use Rattle.std.specs.Prelude.{◌≡◌, ℕ, ℤ, pos, negsuc, List, [], ◌∷◌, ◌++◌, Option, Some, None, Ok, Err}
 use Rattle.mc_base.specs.declared.ids.NodeId.{NodeId}
 use Rattle.mc_base.specs.declared.ids.PointId.{PointId}
+use Rattle.mc_base.specs.declared.ids.PredId.{PredId}
+use Rattle.mc_base.specs.declared.plain.Kind.TheVariants.{Int, Ptr}
 use Rattle.mc_base.specs.declared.plain.Atom.{Atom}
+use Rattle.mc_base.specs.Nodes.{null}
+use Rattle.mc_graph.specs.declared.edge.Edge.TheVariants.{Seg}
 use Rattle.mc_premises.specs.Known.{Test, Tells}
 use Rattle.mc_pure.specs.Examples.{node}
 use Rattle.mc_state.specs.State.{State}
@@ -64,3 +68,12 @@ known_at_most left right = at_most_atoms (node 1) (node 2) left right
 -- and where it is greater
 abbrev pub known_above : Ends → Ends → List Atom
 known_above left right = above_atoms (node 1) (node 2) left right
+
+-- x is node 1, and a segment from node 3 to null has node 1 as the argument of its end, which is the node before it
+abbrev pub with_segment : PredId → State
+with_segment pred =
+    record one_cell {
+      kinds = (node 1, Ptr) ∷ (node 2, Int) ∷ (node 3, Ptr) ∷ [];
+      graph = record { edges = (record { 0 = 0 }, Seg (node 3) (null ∷ []) pred null (node 1 ∷ [])) ∷ []; next = 1 };
+      next = 4;
+    }

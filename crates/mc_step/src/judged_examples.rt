@@ -2,14 +2,18 @@
 ghost use Rattle.std.specs.Prelude.{◌≡◌, pos, negsuc, Some, [], ◌∷◌};
 ghost use Rattle.mc_base.specs.declared.plain.Atom.TheVariants.{Eq, Ne, In};
 ghost use Rattle.mc_base.specs.Nodes.{null};
+ghost use Rattle.mc_defs.specs.Examples.{cell_id};
+ghost use Rattle.mc_premises.specs.BackExamples.{defs, predicate};
 ghost use Rattle.mc_pure.specs.Examples.{node};
 ghost use Rattle.mc_state.specs.State.{with_var};
 ghost use Rattle.mc_step.specs.Examples as ex;
 ghost use Rattle.mc_step.specs.JudgedExamples.{Gives, GivesByRanges, IsFirstUnmet, without_x, without_y, from_to, only, greatest, least};
 ghost use Rattle.mc_step.specs.JudgedExamples.{known_result, known_at_most, known_above};
 ghost use Rattle.mc_step.specs.Judges as rule;
+ghost use Rattle.mc_step.specs.JudgedExamples.{with_segment};
 ghost use Rattle.mc_step.specs.Steps.{moved_to};
 ghost use Rattle.mc_step.specs.Sums.{sum, difference, product};
+ghost use Rattle.mc_step.specs.Unmet.{LacksBlock};
 
 use mc_state::derived_is_true;
 
@@ -80,3 +84,11 @@ pub fn example_comparisons()
     ensures apart { known_at_most (from_to (pos 5) (pos 6)) (from_to (pos 1) (pos 2)) ≡ In (node 1) (pos 5) (pos 2) ∷ In (node 2) (pos 5) (pos 2) ∷ [] }
     ensures apart_above { known_above (from_to (pos 5) (pos 6)) (from_to (pos 1) (pos 2)) ≡ In (node 1) (pos 5) (pos 6) ∷ In (node 2) (pos 1) (pos 2) ∷ Ne (node 1) (node 2) (pos 0) ∷ [] }
 {}
+
+/// A block may come of a segment whose end has the node as its argument at a back position, and then none is lacked.
+/// (Predicate 0 has a back position.)
+pub fn example_of_back_position()
+    ensures from_end { ¬ LacksBlock defs (with_segment (predicate 0)) (node 1) cell_id }
+{
+    mc_premises::back_is_told();
+}

@@ -12,7 +12,8 @@ mod wrong_rules;
 pub use examples::{example_blocks, example_gaps, example_numbers, example_premises, example_runs};
 pub use gap::Gap;
 pub use judged_examples::{
-    example_comparisons, example_given, example_results, example_unmet_blocks, example_unmet_moves,
+    example_comparisons, example_given, example_of_back_position, example_results,
+    example_unmet_blocks, example_unmet_moves,
 };
 pub use judged_laws::{
     causes_are_one, fields_are_there, least_ranges_are_known, operands_tell_nothing,

@@ -4,19 +4,19 @@ use mc_pure::{Pure, Term};
 use std::alloc::Global;
 use std::test::Fail;
 
-const A: NodeId = NodeId(1);
+pub const A: NodeId = NodeId(1);
 
-const B: NodeId = NodeId(2);
+pub const B: NodeId = NodeId(2);
 
-const C: NodeId = NodeId(3);
+pub const C: NodeId = NodeId(3);
 
-const D: NodeId = NodeId(4);
+pub const D: NodeId = NodeId(4);
 
-const P: NodeId = NodeId(5);
+pub const P: NodeId = NodeId(5);
 
-const Q: NodeId = NodeId(6);
+pub const Q: NodeId = NodeId(6);
 
-const NULL: NodeId = NodeId(0);
+pub const NULL: NodeId = NodeId(0);
 
 const FAR: i64 = 4_611_686_022_722_355_200;
 
@@ -58,7 +58,7 @@ fn block_all(pure: &mut Pure, starts: &[NodeId]) -> Result<(), NoMemory> {
 }
 
 /// The six nodes with atoms written and blocks started.
-fn state(alloc: Global, atoms: &[Atom], starts: &[NodeId]) -> Result<Pure, NoMemory> {
+pub fn state(alloc: Global, atoms: &[Atom], starts: &[NodeId]) -> Result<Pure, NoMemory> {
     let mut pure = Pure::new(alloc)?;
     add_nodes(&mut pure)?;
     assume_all(&mut pure, atoms)?;

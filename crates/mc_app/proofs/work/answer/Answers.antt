@@ -17,7 +17,7 @@ returns-in_ok-answer-in-Ok-clause-why g c =
     let t = c.args.command.document.now in
     let answer = c.in_ok-answer-in-Ok.answer in
     let read : WhereTold (old p) (λ text. IsProgramHere text unit) = λ text h. at_ok c.in_ok-fault.field-0 c.in-Ok.typed _ _ c.in-Ok.is (c.in_ok-fault.ensures.told text h) in
-    why_of_unit c.texts_are_read_once.ensures old p d t unit answer read (stay_unit old new d t unit answer c.program_in.ensures.same c.in_ok-answer-in-Ok.ensures.why)
+    why_of_unit old p d t unit answer read (stay_unit old new d t unit answer c.program_in.ensures.same c.in_ok-answer-in-Ok.ensures.why)
 
 pub returns-in_ok-answer-in-Ok-clause-safe : goal.returns-in_ok-answer-in-Ok-clause-safe
 returns-in_ok-answer-in-Ok-clause-safe g c = λ good text h.

@@ -1,0 +1,14 @@
+pub mod Lists
+pub mod Nodes
+pub mod Moving
+pub mod Plain
+pub mod Exact
+pub mod Within
+pub mod Listing
+pub mod Whole
+pub mod Single
+pub mod Clean
+pub mod Others
+pub mod Forgets
+pub mod Heirs
+pub mod Taken

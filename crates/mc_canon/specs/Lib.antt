@@ -1,0 +1,4 @@
+pub mod Order
+pub mod Left
+pub mod Gaps
+pub mod Forgotten

@@ -1,0 +1,45 @@
+-- What completes what has been read of a block.
+use Rattle.std.specs.Prelude.{◌≡◌, List, [], ◌∷◌, ◌++◌}
+use Rattle.mc_text.specs.declared.token.Token.{Token}
+use Rattle.mc_ast.specs.declared.trees.Name.{Name}
+use Rattle.mc_ast.specs.Names.{Tokens, name_of}
+use Rattle.mc_defparse.specs.declared.symbols.Symbol.TheVariants as Symbol
+use Rattle.mc_defparse.specs.declared.tree.Content.{Content}
+use Rattle.mc_defparse.specs.declared.tree.Block.{Block}
+use Rattle.mc_defparse.specs.declared.block.BlockReader.{BlockReader}
+use Rattle.mc_defparse.specs.declared.step.Step.{Step}
+use Rattle.mc_defparse.specs.Grammar.{Is, MoreContents}
+use Rattle.mc_defparse.specs.Steps.{StepIs, First}
+use Rattle.mc_defparse.specs.Readers.{Stops}
+
+-- behind the first contents: more of them, `}` and `;`
+abbrev pub ContentsStop : Name → List Content → Tokens → Tokens → Block → Type 0
+ContentsStop shape cs tokens rest block = (all : List Content) × (close : Token) × (stop : Token)
+    × MoreContents cs tokens all (close ∷ stop ∷ rest) × Is Symbol.CloseBrace close × Is Symbol.Semicolon stop
+    × (block ≡ record { shape = shape; contents = all; end = close.place })
+
+-- one more, and the same: from the name of what the field holds, from the `:`, from the field
+abbrev pub ContentStops : Name → List Content → Name → Tokens → Tokens → Block → Type 0
+ContentStops shape cs f = First (Is Symbol.Name) (λ x. ContentsStop shape (cs ++ record { field = f; name = name_of x } ∷ []))
+
+abbrev pub ColonStops : Name → List Content → Name → Tokens → Tokens → Block → Type 0
+ColonStops shape cs f = First (Is Symbol.Colon) (λ colon. ContentStops shape cs f)
+
+abbrev pub FieldStops : Name → List Content → Tokens → Tokens → Block → Type 0
+FieldStops shape cs = First (Is Symbol.Name) (λ f. ColonStops shape cs (name_of f))
+
+abbrev pub OpeningStops : Name → Tokens → Tokens → Block → Type 0
+OpeningStops shape = First (Is Symbol.OpenBrace) (λ opening. FieldStops shape [])
+
+-- the tokens, up to the rest, complete what the reader has read to this block
+abbrev pub CompletesBlock : BlockReader → Tokens → Tokens → Block → Type 0
+CompletesBlock BlockReader.Shape = First (Is Symbol.Name) (λ shape. OpeningStops (name_of shape))
+CompletesBlock (BlockReader.Opening shape) = OpeningStops shape
+CompletesBlock (BlockReader.Field shape cs) = FieldStops shape cs
+CompletesBlock (BlockReader.Colon shape cs f) = ColonStops shape cs f
+CompletesBlock (BlockReader.Content shape cs f) = ContentStops shape cs f
+CompletesBlock (BlockReader.Contents shape cs) = ContentsStop shape cs
+CompletesBlock (BlockReader.Whole block) = Stops block
+
+abbrev pub BlockStepIs : BlockReader → Token → Step BlockReader Block → Type 0
+BlockStepIs reader token step = StepIs CompletesBlock (CompletesBlock reader) token step

@@ -1,0 +1,25 @@
+//! Definition files: their tokens to trees, or the first token that no file can have there.
+#![tactic(auto)]
+
+mod block;
+mod fault;
+mod file;
+mod front;
+mod item;
+mod parser;
+mod print;
+mod step;
+mod symbols;
+mod tree;
+
+pub use block::{BlockReader, BlockStep};
+pub use fault::{Cause, DefFault, Refusal};
+pub use file::{At, FileReader, FileTook};
+pub use front::{HeadReader, HeadStep};
+pub use item::{ItemReader, ItemStep};
+pub use parser::parse;
+pub use step::{Step, Took};
+pub use symbols::{Symbol, classify, number};
+pub use tree::{
+    Block, Bound, Content, DefText, Head, Item, Number, Parameter, Relation, RuleText, Sum,
+};

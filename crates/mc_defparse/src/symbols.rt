@@ -1,0 +1,95 @@
+// What a token is to the grammar of definition files.
+ghost use Rattle.mc_ast.specs.Names.{IsNumber};
+ghost use Rattle.mc_defparse.specs.Symbols.{beside, mark_symbol, symbol_of, mark_texts, mark_symbols, word_symbol};
+ghost use Rattle.mc_text.specs.declared.token.TokenKind.TheVariants as TokenKind;
+ghost use Rattle.std.specs.Prelude.{◌≡◌, ℕ, MatchOption, map};
+
+use mc_ast::is_reserved;
+use mc_text::{Token, TokenKind, number_value};
+
+/// What a token is to the grammar of definition files. `Other` stands nowhere.
+#[derive(Clone, Copy, Debug, PartialEq, Eq)]
+pub enum Symbol {
+    Name,
+    Int,
+    Number,
+    End,
+    Open,
+    Close,
+    OpenBrace,
+    CloseBrace,
+    Comma,
+    Semicolon,
+    Colon,
+    Arrow,
+    Equal,
+    Unequal,
+    AtMost,
+    AtLeast,
+    Plus,
+    Minus,
+    Other,
+}
+
+static MARKS: [(&[u8], Symbol); 14] = [
+    (b";", Symbol::Semicolon),
+    (b"=", Symbol::Equal),
+    (b"(", Symbol::Open),
+    (b")", Symbol::Close),
+    (b",", Symbol::Comma),
+    (b"{", Symbol::OpenBrace),
+    (b"}", Symbol::CloseBrace),
+    (b":", Symbol::Colon),
+    (b"->", Symbol::Arrow),
+    (b"!=", Symbol::Unequal),
+    (b"<=", Symbol::AtMost),
+    (b">=", Symbol::AtLeast),
+    (b"+", Symbol::Plus),
+    (b"-", Symbol::Minus),
+];
+
+/// What a token is to the grammar.
+pub fn classify(token: &Token) -> Symbol
+    ensures { result ≡ symbol_of token.now }
+{
+    match token.kind {
+        TokenKind::End => Symbol::End,
+        TokenKind::Number => Symbol::Number,
+        TokenKind::Mark => among(&MARKS, token.text.as_slice()),
+        TokenKind::Name => word(token.text.as_slice()),
+    }
+}
+
+fn word(text: &[u8]) -> Symbol
+    ensures { result ≡ word_symbol text.now }
+{
+    if !is_reserved(text) {
+        Symbol::Name
+    } else if text == b"int".as_slice() {
+        Symbol::Int
+    } else {
+        Symbol::Other
+    }
+}
+
+// The symbol that stands beside a text, and the other one beside none.
+fn among(table: &[(&[u8], Symbol)], text: &[u8]) -> Symbol
+    ensures { result ≡ beside (map (λ entry. entry.0.now) table.now) (map (λ entry. entry.1) table.now) text.now }
+{
+    for (known, symbol) in table {
+        if text == *known {
+            return *symbol;
+        }
+    }
+    Symbol::Other
+}
+
+/// The number that a token is.
+pub fn number(token: &Token) -> Option<u32>
+    ensures { MatchOption result ((n : ℕ) → ¬ IsNumber token.now n) (λ n. IsNumber token.now n) }
+{
+    match token.kind {
+        TokenKind::Number => number_value(token.text.as_slice()),
+        TokenKind::End | TokenKind::Mark | TokenKind::Name => None,
+    }
+}

@@ -1,0 +1,57 @@
+-- First places in lists, and what stands at a place.
+use native.Mathlib.Omega.{arith}
+use Rattle.std.proofs.Common.{◌≡◌, ℕ, zero, suc, List, [], ◌∷◌, ◌++◌, ◌+◌, refl, ap, Bool, true, false, cond, not, length, nat_lt}
+use Rattle.std.specs.List.{prefix_len}
+use Rattle.std.specs.Prelude.{Option, Some, None, map, position, option_map, slice_get}
+
+later_place : (n len : ℕ) (b c : Bool) → nat_lt (1 + n) (suc len) ≡ b → nat_lt n len ≡ c → cond b (Some (1 + n)) None ≡ option_map (λ i. suc i) (cond c (Some n) None)
+later_place n len true true p q = ap (λ i. Some i) (omega arith)
+later_place n len false false p q = refl
+later_place n len true false p q = grind arith
+later_place n len false true p q = grind arith
+
+position_step : (b : Bool) (n len : ℕ)
+    → cond (nat_lt (cond (not b) (1 + n) 0) (suc len)) (Some (cond (not b) (1 + n) 0)) None ≡ cond b (Some 0) (option_map (λ i. suc i) (cond (nat_lt n len) (Some n) None))
+position_step true n len = let first : nat_lt 0 (suc len) ≡ true = grind arith in rw first refl
+position_step false n len = later_place n len _ _ refl refl
+
+-- the first place, at the head or behind it
+position-cons : {X : Type 0} (p : X → Bool) (x : X) (xs : List X) → position p (x ∷ xs) ≡ cond (p x) (Some 0) (option_map (λ i. suc i) (position p xs))
+position-cons p x xs = position_step (p x) (prefix_len (λ y. not (p y)) xs) (length xs)
+
+front_step : (b : Bool) (o o' : Option ℕ) (i : ℕ) → ((j : ℕ) → o ≡ Some j → o' ≡ Some j) → cond b (Some 0) (option_map (λ k. suc k) o) ≡ Some i → cond b (Some 0) (option_map (λ k. suc k) o') ≡ Some i
+front_step true o o' i h e = e
+front_step false None o' i h e = absurd (cc)
+front_step false (Some j) o' i h e = rw (h j refl) e
+
+-- a place among the first is one among all
+pub position_front : {X : Type 0} (p : X → Bool) (xs ys : List X) (i : ℕ) → position p xs ≡ Some i → position p (xs ++ ys) ≡ Some i
+position_front p [] ys i e = absurd (cc)
+position_front p (x ∷ xs) ys i e = rw (position-cons p x (xs ++ ys)) (front_step (p x) (position p xs) (position p (xs ++ ys)) i (λ j h. position_front p xs ys j h) (rw (position-cons p x xs) at e))
+
+behind_step : (b : Bool) (o o' : Option ℕ) (i : ℕ) → (o ≡ None → o' ≡ Some i) → cond b (Some 0) (option_map (λ k. suc k) o) ≡ None → cond b (Some 0) (option_map (λ k. suc k) o') ≡ Some (suc i)
+behind_step true o o' i h e = absurd (cc)
+behind_step false None o' i h e = rw (h refl) refl
+behind_step false (Some j) o' i h e = absurd (cc)
+
+-- and one among the others comes behind the first
+pub position_behind : {X : Type 0} (p : X → Bool) (xs ys : List X) (j : ℕ) → position p xs ≡ None → position p ys ≡ Some j → position p (xs ++ ys) ≡ Some (length xs + j)
+position_behind p [] ys j e f = let none : 0 + j ≡ j = omega arith in rw none f
+position_behind p (x ∷ xs) ys j e f =
+    let sum : suc (length xs) + j ≡ suc (length xs + j) = omega arith in
+    rw (position-cons p x (xs ++ ys), sum) (behind_step (p x) (position p xs) (position p (xs ++ ys)) (length xs + j) (λ none. position_behind p xs ys j none f) (rw (position-cons p x xs) at e))
+
+none_step : (b : Bool) (o o' : Option ℕ) → (o ≡ None → o' ≡ None) → cond b (Some 0) (option_map (λ k. suc k) o) ≡ None → cond b (Some 0) (option_map (λ k. suc k) o') ≡ None
+none_step true o o' h e = absurd (cc)
+none_step false None o' h e = rw (h refl) refl
+none_step false (Some j) o' h e = absurd (cc)
+
+pub position_none : {X : Type 0} (p : X → Bool) (xs ys : List X) → position p xs ≡ None → position p ys ≡ None → position p (xs ++ ys) ≡ None
+position_none p [] ys e f = f
+position_none p (x ∷ xs) ys e f = rw (position-cons p x (xs ++ ys)) (none_step (p x) (position p xs) (position p (xs ++ ys)) (λ none. position_none p xs ys none f) (rw (position-cons p x xs) at e))
+
+-- what stands at a place stands there with more behind
+pub get_front : {X : Type 0} (xs ys : List X) (i : ℕ) (x : X) → slice_get xs i ≡ Some x → slice_get (xs ++ ys) i ≡ Some x
+get_front [] ys i x e = absurd (cc)
+get_front (y ∷ xs) ys zero x e = e
+get_front (y ∷ xs) ys (suc i) x e = get_front xs ys i x e

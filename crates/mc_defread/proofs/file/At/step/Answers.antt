@@ -1,4 +1,0 @@
-use Rattle.mc_defread.proofs.file.At.step.Goals as goal
-
-pub returns-in-Brace : goal.returns-in-Brace
-returns-in-Brace c = rw c.in-Brace.is c.before_brace.ensures

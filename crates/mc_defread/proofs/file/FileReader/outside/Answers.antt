@@ -1,5 +1,0 @@
-use Rattle.mc_defread.proofs.FileLemmas.{outside_end}
-use Rattle.mc_defread.proofs.file.FileReader.outside.Goals as goal
-
-pub returns-in-End : goal.returns-in-End
-returns-in-End c = rw c.replace.ensures.value (outside_end _ c.in-End.is, c.in-End.is)

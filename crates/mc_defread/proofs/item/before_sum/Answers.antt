@@ -1,9 +1,0 @@
-use Rattle.std.proofs.Common.{◌∙◌, sym}
-use Rattle.mc_defread.proofs.ItemLemmas.{sum_minus, sum_base}
-use Rattle.mc_defread.proofs.item.before_sum.Goals as goal
-
-pub returns-in-Minus : goal.returns-in-Minus
-returns-in-Minus c = sum_minus _ _ (sym c.requires ∙ c.in-Minus.is)
-
-pub returns-in_ok-base-in-Name : goal.returns-in_ok-base-in-Name
-returns-in_ok-base-in-Name c = rw c.in_ok-base-in-Name.ensures (sum_base _ _ (sym c.requires ∙ c.in-Name.is))

@@ -1,0 +1,23 @@
+-- Normal forms, and what they are for.
+use Rattle.std.specs.Prelude.{ℤ, pos, negsuc, ◌≤ℤ◌}
+use Rattle.mc_base.specs.declared.ids.NodeId.{NodeId}
+use Rattle.mc_base.specs.declared.plain.Atom.{Atom}
+use Rattle.mc_pure.specs.declared.rows.Row.{Row}
+use Rattle.mc_pure.specs.Pure.{Pure, IsNode}
+use Rattle.mc_pure.specs.Derived.{Follows}
+use Rattle.mc_pure.specs.Canonical.{IsLeast}
+use Rattle.mc_pure.specs.Normal.{Holds, IsNormal}
+
+-- within 2 to the 63
+abbrev pub IsLong : ℤ → Type 0
+IsLong x = (negsuc 9223372036854775807 ≤ℤ x) × (x ≤ℤ pos 9223372036854775807)
+
+-- what is known has a normal form, in which the least node of each class stands for the class
+pub record HasNormalForm (p : Pure) : Type 0 where
+  pub nf : NodeId → Row
+  pub normal : IsNormal p nf
+  pub least : (a : NodeId) → IsNode p.kinds a → IsLeast p (nf a).rep
+
+-- a normal form says all that follows
+abbrev pub NormalSaysAll : Type 0
+NormalSaysAll = (p : Pure) (nf : NodeId → Row) → IsNormal p nf → (f : Atom) → Follows p f → Holds p nf f
