@@ -69,8 +69,8 @@ tie_need k test P j I says tie a = (
 
 tie_then : {A B : Type 0} (f : A → B) (j : Judged A) (I : A → Type 0) → IsJudged j I → IsJudged (then_give f j) (λ b. (a : A) × I a × (b ≡ f a))
 tie_then f j I tie b = (
-  λ e. let given = then_ok f j b e in (given.0, ((tie given.0).0 given.1, given.2)),
-  λ i. ap (then_give f) ((tie i.0).1 i.1.0) ∙ ap (λ b. Ok b) (sym i.1.1),
+  λ e. let given = then_ok f j b e in (given.0, (tie given.0).0 given.1, given.2),
+  λ i. ap (then_give f) ((tie i.0).1 i.1) ∙ ap (λ b. Ok b) (sym i.2),
 )
 
 tie_and : {A : Type 0} (k : ℕ) (test : Bool) (P : Type 0) (j : Judged A) (I : A → Type 0) → Says test P → IsJudged j I → IsJudged (and_need k test j) (λ a. P × I a)
@@ -102,11 +102,11 @@ same_point p q e = ap (λ (n : ℕ). let r : PointId = record { 0 = n } in r) e
 
 cut_from : (cuts : List PointId) (p : PointId) → is_cut cuts p ≡ true → Contains cuts p
 cut_from [] p e = absurd (cc e)
-cut_from (q ∷ cuts) p e = at (q.0 == p.0) refl e
+cut_from (q ∷ cuts) p e = at (λ f. cut_from cuts p f) (q.0 == p.0) refl e
   where
-    at : (here : Bool) → (q.0 == p.0) ≡ here → (here || is_cut cuts p) ≡ true → Contains (q ∷ cuts) p
-    at true is e = subst (λ (r : PointId). Contains (q ∷ cuts) r) (same_point q p (eqb-true q.0 p.0 is)) (contains_here q cuts)
-    at false is e = contains_later p q cuts (cut_from cuts p e)
+    at : (is_cut cuts p ≡ true → Contains cuts p) → (here : Bool) → (q.0 == p.0) ≡ here → (here || is_cut cuts p) ≡ true → Contains (q ∷ cuts) p
+    at rest true is e = subst (λ (r : PointId). Contains (q ∷ cuts) r) (same_point q p (eqb-true q.0 p.0 is)) (contains_here q cuts)
+    at rest false is e = contains_later p q cuts (rest e)
 
 contains_case : (cuts : List PointId) (p q : PointId) → Contains (q ∷ cuts) p → (q ≡ p) ⊎ Contains cuts p
 contains_case cuts p q (zero, less, e) = inl e
@@ -182,11 +182,11 @@ chain_says Chain = (λ e. refl, λ e. refl)
 
 node_among_from : (n : NodeId) (ns : List NodeId) → is_one_of n ns ≡ true → Contains ns n
 node_among_from n [] e = absurd (cc e)
-node_among_from n (m ∷ ns) e = at (m.0 == n.0) refl e
+node_among_from n (m ∷ ns) e = at (λ f. node_among_from n ns f) (m.0 == n.0) refl e
   where
-    at : (here : Bool) → (m.0 == n.0) ≡ here → (here || is_one_of n ns) ≡ true → Contains (m ∷ ns) n
-    at true is e = subst (λ (r : NodeId). Contains (m ∷ ns) r) (ap (λ (j : ℕ). let r : NodeId = record { 0 = j } in r) (eqb-true m.0 n.0 is)) (contains_here m ns)
-    at false is e = contains_later n m ns (node_among_from n ns e)
+    at : (is_one_of n ns ≡ true → Contains ns n) → (here : Bool) → (m.0 == n.0) ≡ here → (here || is_one_of n ns) ≡ true → Contains (m ∷ ns) n
+    at rest true is e = subst (λ (r : NodeId). Contains (m ∷ ns) r) (ap (λ (j : ℕ). let r : NodeId = record { 0 = j } in r) (eqb-true m.0 n.0 is)) (contains_here m ns)
+    at rest false is e = contains_later n m ns (rest e)
 
 node_case : (ns : List NodeId) (n m : NodeId) → Contains (m ∷ ns) n → (m ≡ n) ⊎ Contains ns n
 node_case ns n m (zero, less, e) = inl e
@@ -238,10 +238,13 @@ module _ (ties : Ties) (k : Knowledge) (flow : Flow) (defs : List Def) (g : Sett
     λ e.
         let one = need_ok 1 (not b.closing) _ next e in
         let two = need_ok 2 (is_false know) _ next one.1 in
-        ((no_yes b.closing).0 one.0, (false_says.0 two.0, cc two.1)),
+        let is : ◌≡◌ {A = List Path} [] next = cc two.1 in
+        ((no_yes b.closing).0 one.0, false_says.0 two.0, sym is),
     λ i.
-        need_yes 1 (not b.closing) (need 2 (is_false know) (Ok [])) ((no_yes b.closing).1 i.0)
-        ∙ need_yes 2 (is_false know) (Ok []) (false_says.1 i.1.0) ∙ ap (λ n. Ok n) (sym i.1.1),
+        let open_still : not b.closing ≡ true = (no_yes b.closing).1 i.0 in
+        let wrong : is_false know ≡ true = false_says.1 i.1 in
+        let gives : ◌≡◌ {A = Judged (List Path)} (Ok []) (Ok next) = ap (λ n. Ok n) (sym i.2) in
+        rw open_still (rw wrong gives),
   )
 
   met : (edge : _) → IsJudged (have 1 b.goal (λ goal. then_give ends (meeting_goal know goal edge b.state))) (EndsSide edge b)
