@@ -1,14 +1,15 @@
 -- A stack of names with one more, and with one less.
 use Rattle.std.proofs.Common.{◌≡◌, ℕ, zero, suc, List, [], ◌∷◌, ◌++◌, ◌<◌, ◌≤◌, ◌⊎◌, inl, inr, refl, ap, sym, subst, ◌∙◌, Bool, true, false, cond, length, map, take, arith, Bor}
-use Rattle.std.proofs.lemmas.List.{length-map, map-append, take-append-le, take_at}
-use Rattle.std.proofs.lemmas.Option.{none-some, same_Some, slice_get_within}
+use Rattle.std.proofs.lemmas.List.{length-map, length-take, map-append, take-append-le, take_at}
+use Rattle.std.proofs.lemmas.Option.{none-some, same_Some, slice_get-map, slice_get_within}
 use Rattle.std.specs.Cmp.Lexicographic.{bytes_decides}
-use Rattle.std.specs.Prelude.{Option, Some, None, slice_get}
+use Rattle.std.specs.Option.{unwrap_or}
+use Rattle.std.specs.Prelude.{Option, Some, None, option_map, slice_get}
 use Rattle.indexmap.specs.IndexMap.{IndexMap, Updates, UpdatesBy, get_by}
 use Rattle.mc_visible.specs.Lasts.{is_same, last_place}
 use Rattle.mc_visible.specs.Stacks.{AreLasts, HideRight, Places, at_most, last_in, names_in}
 use Rattle.mc_visible.specs.declared.stack.Entry.{Entry}
-use Rattle.mc_visible.proofs.Lasts.{last_place-push, same_is}
+use Rattle.mc_visible.proofs.Lasts.{last_place-below, last_place-push, last_place-same, same_is}
 
 chosen : (b : Bool) (last : Option ℕ) (o : Option (Option ℕ)) → at_most (cond b (Some last) o) ≡ cond b last (at_most o)
 chosen true last o = refl
@@ -119,3 +120,29 @@ fewer_hidden entries less e held right = HideRight-pop less e (subst HideRight h
 pub last_stands : {S : Type 0} (entries less : List Entry) (e : Entry) (lasts : IndexMap (Bor (List ℕ)) (Option ℕ) S) → entries ≡ less ++ e ∷ []
     → AreLasts (names_in entries) lasts → last_in lasts e.name.now ≡ Some (length (names_in less))
 last_stands entries less e lasts held are = last_there (names_in less) lasts e.name.now (subst (λ ns. AreLasts ns lasts) (ap names_in held ∙ names_push less e) are)
+
+-- ---- from an entry to the one that it hides
+first_get : {X : Type 0} (xs : List X) (k i : ℕ) (x : X) → i < k → slice_get xs i ≡ Some x → slice_get (take k xs) i ≡ Some x
+first_get [] k i x below e = absurd (none-some x e)
+first_get (y ∷ xs) zero i x below e = grind arith
+first_get (y ∷ xs) (suc k) zero x below e = e
+first_get (y ∷ xs) (suc k) (suc i) x below e = first_get xs k i x (omega arith) e
+
+pub place_within : (entries : List Entry) (name : List ℕ) (k place : ℕ) → last_place (take k (names_in entries)) name ≡ Some place → (place < k) × (place < length entries)
+place_within entries name k place found =
+    let below = last_place-below (take k (names_in entries)) name place found in
+    (omega (arith, below, length-take k (names_in entries)), omega (arith, below, length-take k (names_in entries), length-map entries (λ (x : Entry). x.name.now)))
+
+pub hidden_of : (entries : List Entry) (name : List ℕ) (k place : ℕ) (e : Entry) → HideRight entries → last_place (take k (names_in entries)) name ≡ Some place → slice_get entries place ≡ Some e
+    → e.hidden ≡ last_place (take place (names_in entries)) name
+hidden_of entries name k place e right found at =
+    let named : slice_get (names_in entries) place ≡ Some e.name.now = slice_get-map (λ (x : Entry). x.name.now) entries place ∙ ap (option_map (λ (x : Entry). x.name.now)) at in
+    right place e at
+    ∙ ap (last_place (take place (names_in entries)))
+      (same_is e.name.now name
+      (last_place-same (take k (names_in entries)) name place e.name.now found
+      (first_get (names_in entries) k place e.name.now (place_within entries name k place found).0 named)))
+
+pub steps_back : (names : List (List ℕ)) (name : List ℕ) (place : ℕ) (o : Option ℕ) → o ≡ last_place (take place names) name → unwrap_or (option_map (λ i. suc i) o) 0 < suc place
+steps_back names name place None is = omega arith
+steps_back names name place (Some i) is = let below = last_place-below (take place names) name i (sym is) in omega (arith, below, length-take place names)

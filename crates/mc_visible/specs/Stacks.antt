@@ -29,3 +29,8 @@ Places before after name place = (other : List ℕ) → last_in after other ≡ 
 -- each entry has the last place of its name among the entries before it
 abbrev pub HideRight : List Entry → Type 0
 HideRight entries = (i : ℕ) (e : Entry) → slice_get entries i ≡ Some e → e.hidden ≡ last_place (take i (names_in entries)) e.name.now
+
+-- the map and the entries tell the last places of names
+pub record TellLasts {S : Type 0} (entries : List Entry) (lasts : IndexMap (Bor (List ℕ)) (Option ℕ) S) : Type 0 where
+  pub places : AreLasts (names_in entries) lasts
+  pub hidden : HideRight entries

@@ -18,7 +18,7 @@ struct Entry<'a> {
 
 /// Gives a name the place that its last entry hides.
 fn uncover<'a>(lasts: &mut IndexMap<&'a [u8], Option<usize>>, entry: Entry<'a>)
-    requires { IsSome (last_in lasts.old entry.entry.name.now) }
+    requires { IsSome (last_in lasts.old entry.name.now) }
     ensures { Places lasts.old lasts.new entry.entry.name.now entry.entry.hidden }
 {
     match lasts.get_mut(entry.name.as_slice()) {
@@ -37,13 +37,13 @@ pub struct NameStack<'a> {
 
 impl<'a> Model for NameStack<'a> {
     ghost use Rattle.std.specs.Prelude.{List, ℕ};
-    ghost use Rattle.mc_visible.specs.Stacks.{AreLasts, HideRight, names_in};
+    ghost use Rattle.mc_visible.specs.Stacks.{TellLasts, names_in};
 
     ghost Value = { List (List ℕ) };
 
     ghost view = { λ s. names_in s.entries.items };
 
-    ghost invariant = { λ s. record { lasts : AreLasts (names_in s.entries.items) s.lasts; hidden : HideRight s.entries.items } };
+    ghost invariant = { λ s. TellLasts s.entries.items s.lasts };
 }
 
 impl<'a> NameStack<'a> {
@@ -130,16 +130,17 @@ impl<'a> NameStack<'a> {
     {
         let mut above = Stack::new(self.alloc);
         while self.len() > kept {
-            if let Some(name) = self.pop() {
-                above.push(name)?;
-            }
+            let Some(name) = self.pop() else {
+                return Ok(above);
+            };
+            above.push(name)?;
         }
         Ok(above)
     }
 
     /// Adds several names at the end.
     fn push_all(&mut self, mut names: Stack<&'a Text>) -> Result<(), AllocError>
-        ensures { OnOk result (self.new ≡ self.old ++ names_held names) }
+        ensures { OnOk result (self.new ≡ self.old ++ names_held names.entry) }
     {
         while let Some(name) = names.pop() {
             self.push(name)?;

@@ -1,0 +1,20 @@
+use Rattle.std.proofs.Common.{ap, refl, ◌∙◌, None, Some}
+use Rattle.mc_types.specs.Held.{variables_held}
+use Rattle.mc_types.specs.Tables.{type_in}
+use Rattle.mc_types.proofs.Latest.{type_found}
+use Rattle.mc_types.proofs.scope.Visible.type_in.Goals as goal
+
+pub returns-in-None : goal.returns-in-None
+returns-in-None c =
+    type_found c.self.inside.variables.items c.self.inside.names c.args.name.now None None c.self.invariant c.in-None.ensures refl
+    ∙ ap (λ vs. type_in (variables_held vs) c.args.name.now) c.self.view_is
+
+pub returns-in-Some-in-None : goal.returns-in-Some-in-None
+returns-in-Some-in-None c =
+    type_found c.self.inside.variables.items c.self.inside.names c.args.name.now (Some c.in-Some.place) None c.self.invariant c.in-Some.ensures c.in-None.ensures
+    ∙ ap (λ vs. type_in (variables_held vs) c.args.name.now) c.self.view_is
+
+pub returns-in-Some-in-Some : goal.returns-in-Some-in-Some
+returns-in-Some-in-Some c =
+    type_found c.self.inside.variables.items c.self.inside.names c.args.name.now (Some c.in-Some.place) (Some c.in-Some-found.found.now) c.self.invariant c.in-Some.ensures c.in-Some-found.ensures
+    ∙ ap (λ vs. type_in (variables_held vs) c.args.name.now) c.self.view_is
