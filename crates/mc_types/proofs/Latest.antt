@@ -69,7 +69,7 @@ has_type vs name =
       below_mapped i below = rw (length-map vs (λ (v : Named). v.name.now)) at below
 
 -- ---- between two places
-no_more : {X : Type 0} (n : ℕ) → take n ([] : List X) ≡ []
+no_more : {X : Type 0} (n : ℕ) → take {A = X} n [] ≡ []
 no_more zero = refl
 no_more (suc n) = refl
 

@@ -25,7 +25,7 @@ pub struct Visible<'a> {
 }
 
 impl<'a> Model for Visible<'a> {
-    ghost use Rattle.std.specs.Prelude.{List, map};
+    ghost use Rattle.std.specs.Prelude.{◌≡◌, List, map};
     ghost use Rattle.mc_types.specs.declared.scope.Named.{Named};
 
     ghost Value = { List Named };

@@ -81,12 +81,13 @@ impl<'a> Variables<'a> {
         ensures { OnOk result (self.new ≡ declare self.old (variable_held variable.entry)) }
     {
         let end = self.variables.len() - self.heads;
+        let outer = end - self.own;
         if let Err(fault) = self.variables.insert(end, variable) {
             self.heads = 0;
             self.own = 0;
             return Err(fault);
         }
-        self.own += 1;
+        self.own = self.variables.len() - self.heads - outer;
         Ok(())
     }
 
