@@ -70,9 +70,9 @@ left_out t seen others x fs named repeat =
     rw (reverse-append seen (x ∷ []))
     (same_faults t (map tree_of (reverse seen)) (tree_of x ∷ map tree_of (reverse seen)) fs
     (λ h. nothing_new (is_other t h (tree_of x)) (list_any (is_other t h) (map tree_of (reverse seen)))
-      (λ other. any_seen (is_other t h) tree_of seen
-        ∙ any_kept (λ g. is_other t h (tree_of g)) (λ f. is_same f.now.name.text x.now.name.text) seen
-          (subst (λ gs. list_any (λ g. is_other t h (tree_of g)) gs ≡ true) named (sym (any_mapped (is_other t h) tree_of others) ∙ repeat h other)))))
+    (λ other. any_seen (is_other t h) tree_of seen
+    ∙ any_kept (λ g. is_other t h (tree_of g)) (λ f. is_same f.now.name.text x.now.name.text) seen
+    (subst (λ gs. list_any (λ g. is_other t h (tree_of g)) gs ≡ true) named (sym (any_mapped (is_other t h) tree_of others) ∙ repeat h other)))))
 
 -- ---- what is told already
 behind_step : (told fault : Fault) (b : Bool) → is_told told fault ≡ true → told_of (Some told) [] ≡ told_of (Some told) (unless b fault.name fault.place)

@@ -98,11 +98,7 @@ fn check_prototype(
     if is_behind(told, fault) {
         return;
     }
-    told.unless(
-        !differs(tables, function, others),
-        fault.name,
-        fault.place,
-    );
+    told.unless(!differs(tables, function, others), fault.name, fault.place);
 }
 
 /// Whether two types are one. Where they are not, nothing is known.

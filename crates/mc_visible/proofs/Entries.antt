@@ -82,10 +82,10 @@ all_names entries e i is =
 
 pub HideRight-push : (entries : List Entry) (e : Entry) → HideRight entries → e.hidden ≡ last_place (names_in entries) e.name.now → HideRight (entries ++ e ∷ [])
 HideRight-push entries e right is i x at = elim (get_push entries e x i at) [
-    | inl p ↦ right i x p.1 ∙ ap (λ ns. last_place ns x.name.now) (sym (first_names entries e i (omega (arith, p.0))))
-    | inr p ↦ subst (λ (y : Entry). y.hidden ≡ last_place (take i (names_in (entries ++ e ∷ []))) y.name.now) p.1
-        (is ∙ ap (λ ns. last_place ns e.name.now) (sym (all_names entries e i p.0)))
-  ]
+  | inl p ↦ right i x p.1 ∙ ap (λ ns. last_place ns x.name.now) (sym (first_names entries e i (omega (arith, p.0))))
+  | inr p ↦ subst (λ (y : Entry). y.hidden ≡ last_place (take i (names_in (entries ++ e ∷ []))) y.name.now) p.1
+      (is ∙ ap (λ ns. last_place ns e.name.now) (sym (all_names entries e i p.0)))
+]
 
 pub HideRight-pop : (entries : List Entry) (e : Entry) → HideRight (entries ++ e ∷ []) → HideRight entries
 HideRight-pop entries e right i x at =
@@ -139,9 +139,9 @@ hidden_of entries name k place e right found at =
     let named : slice_get (names_in entries) place ≡ Some e.name.now = slice_get-map (λ (x : Entry). x.name.now) entries place ∙ ap (option_map (λ (x : Entry). x.name.now)) at in
     right place e at
     ∙ ap (last_place (take place (names_in entries)))
-      (same_is e.name.now name
-      (last_place-same (take k (names_in entries)) name place e.name.now found
-      (first_get (names_in entries) k place e.name.now (place_within entries name k place found).0 named)))
+    (same_is e.name.now name
+    (last_place-same (take k (names_in entries)) name place e.name.now found
+    (first_get (names_in entries) k place e.name.now (place_within entries name k place found).0 named)))
 
 pub steps_back : (names : List (List ℕ)) (name : List ℕ) (place : ℕ) (o : Option ℕ) → o ≡ last_place (take place names) name → unwrap_or (option_map (λ i. suc i) o) 0 < suc place
 steps_back names name place None is = omega arith
