@@ -8,4 +8,6 @@ mod documents;
 #[cfg(test)]
 mod numbers;
 #[cfg(test)]
+mod resolved;
+#[cfg(test)]
 mod trees;
