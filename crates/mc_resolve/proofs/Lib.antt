@@ -1,8 +1,9 @@
-mod Seeing
-mod FieldNumbers
-mod FunctionNumbers
-mod Parted
-mod Keeps
-mod Frames
-mod Numbers
-mod Variables
+pub mod Seeing
+pub mod FieldNumbers
+pub mod FunctionNumbers
+pub mod Parted
+pub mod Keeps
+pub mod Frames
+pub mod Numbers
+pub mod Variables
+pub mod Functions

@@ -1,8 +1,8 @@
 -- The numbers of variables by their places, where one more is added.
-use Rattle.std.proofs.Common.{◌≡◌, ℕ, suc, List, [], ◌∷◌, ◌++◌, ◌+◌, refl, ap, sym, subst, ◌∙◌, Bool, true, false, cond, not, length, is_some, true≢false, arith, nat_lt}
+use Rattle.std.proofs.Common.{◌≡◌, ℕ, suc, List, [], ◌∷◌, ◌++◌, ◌+◌, refl, ap, ap₂, sym, subst, ◌∙◌, Bool, true, false, ◌&&◌, cond, not, length, is_some, true≢false, eqb-true, arith, nat_lt}
 use Rattle.std.specs.List.{prefix_len}
 use Rattle.std.specs.Option.{option_or}
-use Rattle.std.specs.Prelude.{Option, Some, None, position, option_map, ◌==◌, ◌&&◌}
+use Rattle.std.specs.Prelude.{Option, Some, None, position, option_map, ◌==◌}
 use Rattle.indexmap.specs.IndexMap.{IndexMap, Updates}
 use Rattle.mc_text.specs.declared.place.Place.{Place}
 use Rattle.mc_meaning.specs.Configs.{is_place}
@@ -38,16 +38,14 @@ position_push p (x ∷ xs) y =
     rw (position_cons p x (xs ++ y ∷ [])) (rw (position_cons p x xs) (rw (position_push p xs y) (push_step (p x) (position p xs) (p y) (length xs))))
 
 -- ---- places that are the same
-both_true : (a b : Bool) → a && b ≡ true → (a ≡ true) × (b ≡ true)
-both_true true true e = (refl, refl)
-both_true true false e = absurd (true≢false (sym e))
+both_true : (a b : Bool) → (a && b) ≡ true → (a ≡ true) × (b ≡ true)
+both_true true b e = (refl, e)
 both_true false b e = absurd (true≢false (sym e))
 
-pub same_place : (p q : Place) → is_place p q ≡ true → p ≡ q
-same_place p q same =
-    let lines : p.line ≡ q.line = grind (arith, (both_true (p.line == q.line) (p.column == q.column) same).0) in
-    let columns : p.column ≡ q.column = grind (arith, (both_true (p.line == q.line) (p.column == q.column) same).1) in
-    ap (λ (l : ℕ). let r : Place = record { line = l; column = p.column } in r) lines ∙ ap (λ (k : ℕ). let r : Place = record { line = q.line; column = k } in r) columns
+same_place : (p q : Place) → is_place p q ≡ true → p ≡ q
+same_place p q e =
+    let sides = both_true _ _ e in
+    ap₂ (λ (l c : ℕ). let r : Place = record { line = l; column = c } in r) (eqb-true p.line q.line sides.0) (eqb-true p.column q.column sides.1)
 
 -- the number of the first variable at a place, if one is there
 abbrev pub number_at : List Named → Place → Option ℕ

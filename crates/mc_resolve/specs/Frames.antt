@@ -50,6 +50,7 @@ finished n s frames (Next.Enter a) =
 finished n s frames (Next.Made a) = plugged n s frames (statement_of a)
 
 -- ---- how many steps it takes
+-- the steps that a frame takes when it has its statement
 abbrev pub frame_steps : Frame → ℕ
 frame_steps (Frame.Block rest done marks) = statements_steps (tree.stmts_of (map named.statement_of rest.now)) + 1
 frame_steps (Frame.If p c) = 1
@@ -59,10 +60,12 @@ frame_steps (Frame.While p c) = 1
 frame_steps (Frame.Do p c) = 1
 frame_steps (Frame.For head kept) = 1
 
+-- those of all frames
 abbrev pub frames_steps : List Frame → ℕ
 frames_steps [] = 0
 frames_steps (frame ∷ frames) = frame_steps frame + frames_steps frames
 
+-- those that are left in all
 abbrev pub left_steps : List Frame → Next → ℕ
 left_steps frames (Next.Enter a) = statement_steps (named.statement_of a.now) + frames_steps frames
 left_steps frames (Next.Made a) = frames_steps frames

@@ -12,6 +12,7 @@ use Rattle.mc_resolve.specs.declared.naming.NamesHere.{NamesHere}
 abbrev pub naming_held : NamingCode → Naming
 naming_held n = record { tables = tables_held n.tables.now; defs = n.defs.now; locals = map variable_held n.locals.now }
 
+-- the same at the point
 abbrev pub naming_at : NamesHere → Naming
 naming_at names = naming_held names.naming
 
@@ -19,10 +20,11 @@ naming_at names = naming_held names.naming
 abbrev pub visible_at : NamesHere → List Variable
 visible_at names = visible names.scope.now
 
--- the names of the fields of a struct, and of all structs
+-- the names of the fields of a struct
 abbrev pub declared_names : StructTree → List (List ℕ)
 declared_names s = flat_map (λ field. map (λ d. d.name.text) field.declarators) s.fields
 
+-- the names of the fields of each struct
 abbrev pub field_names : Tables → List (List (List ℕ))
 field_names t = map declared_names t.structs
 

@@ -13,7 +13,7 @@ abbrev pub AreNumbers : {S : Type 0} → List Named → IndexMap PlaceKey ℕ S 
 AreNumbers variables numbers =
     (place : Place) → get_by (λ key. place.line == key.line && place.column == key.column) numbers ≡ position (λ v. is_place v.place place) variables
 
--- the variable that a part of a body declares, and that one where it stands
+-- the variable that a part of a body declares, if it declares one
 abbrev pub part_variables : Tables → PartTree → List Variable
 part_variables t (declared base d) = variable_of t base d ∷ []
 part_variables t (valued base d value) = []
@@ -25,5 +25,6 @@ part_variables t (asserted p predicate a args) = []
 part_variables t (loop_exit p in_loop) = []
 part_variables t (returning p value) = []
 
+-- the variable that a part declares where it stands
 abbrev pub visit_variables : Tables → Visit → List Variable
 visit_variables t v = part_variables t v.part

@@ -33,6 +33,7 @@ pub fn base_place(base: &Base) -> Place
 }
 
 /// The numbers of variables, of which later ones stand last, in the other order.
+#[tactic(auto, using(crate::proofs::Seeing::numbers_held))]
 pub fn numbers_of(
     alloc: Global,
     naming: Naming,
@@ -95,7 +96,7 @@ fn resolve_maybe_simple(
 /// The declarators of a declaration, each visible from its own value on.
 pub fn resolve_items<'a>(
     alloc: Global,
-    naming: Naming,
+    naming: Naming<'_, 'a>,
     scope: &mut Scope<'a>,
     base: &Base,
     items: &'a [tree::Initial],
@@ -117,9 +118,10 @@ pub fn resolve_items<'a>(
 }
 
 /// What a `for` begins with, and the variables that it declares.
+#[tactic(auto, using(crate::proofs::Keeps::outside_start))]
 fn resolve_start<'a>(
     alloc: Global,
-    naming: Naming,
+    naming: Naming<'_, 'a>,
     scope: &mut Scope<'a>,
     start: &'a tree::ForStart,
 ) -> Result<(ForStart, Vec<usize>), AllocError>
@@ -150,7 +152,7 @@ fn resolve_start<'a>(
 /// What stands in the parentheses of a `for`.
 pub fn resolve_head<'a>(
     alloc: Global,
-    naming: Naming,
+    naming: Naming<'_, 'a>,
     scope: &mut Scope<'a>,
     head: &'a tree::ForHead,
 ) -> Result<ForHead, AllocError>

@@ -15,6 +15,3 @@ mod shapes;
 mod statements;
 
 pub use program::resolve;
-
-#[cfg(test)]
-mod tests;

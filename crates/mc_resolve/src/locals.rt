@@ -145,6 +145,7 @@ impl<'a> Locals<'a> {
     }
 
     /// The variables of the body of a function come to the end.
+    #[tactic(auto, using(crate::proofs::Variables::next_variables, crate::proofs::Variables::body_variables))]
     fn add_body(
         &mut self,
         alloc: Global,

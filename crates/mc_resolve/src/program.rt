@@ -125,10 +125,10 @@ fn resolve_function<'a>(
 }
 
 /// The functions of a program that are defined, with their names put away.
-fn resolve_functions(
+fn resolve_functions<'a>(
     alloc: Global,
-    tables: &NameTables,
-    functions: &FunctionNames,
+    tables: &NameTables<'a>,
+    functions: &FunctionNames<'a>,
     defs: &[Def],
 ) -> Result<Vec<Function>, AllocError>
     requires { functions.now.names ≡ defined_names (tables_held tables.now) }

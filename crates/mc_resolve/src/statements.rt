@@ -50,9 +50,10 @@ pub enum Next<'a> {
 }
 
 /// The next statement of a block is entered, or the block ends.
+#[tactic(auto, using(crate::proofs::Frames::before_end))]
 fn go_on<'a>(
     alloc: Global,
-    naming: Naming,
+    naming: Naming<'_, 'a>,
     scope: &mut Scope<'a>,
     frames: &mut Stack<Frame<'a>>,
     rest: &'a [tree::Statement],
@@ -78,9 +79,10 @@ fn go_on<'a>(
 }
 
 /// A block is entered.
+#[tactic(auto, using(crate::proofs::Frames::block_entered))]
 fn enter_block<'a>(
     alloc: Global,
-    naming: Naming,
+    naming: Naming<'_, 'a>,
     scope: &mut Scope<'a>,
     frames: &mut Stack<Frame<'a>>,
     statements: &'a [tree::Statement],
@@ -96,9 +98,10 @@ fn enter_block<'a>(
 }
 
 /// A `for` is entered.
+#[tactic(auto, using(crate::proofs::Frames::for_left))]
 fn enter_for<'a>(
     alloc: Global,
-    naming: Naming,
+    naming: Naming<'_, 'a>,
     scope: &mut Scope<'a>,
     frames: &mut Stack<Frame<'a>>,
     head: &'a tree::ForHead,
@@ -117,7 +120,7 @@ fn enter_for<'a>(
 /// A declaration.
 fn resolve_declaration<'a>(
     alloc: Global,
-    naming: Naming,
+    naming: Naming<'_, 'a>,
     scope: &mut Scope<'a>,
     declaration: &'a tree::Declaration,
 ) -> Result<Statement, AllocError>
@@ -134,7 +137,7 @@ fn resolve_declaration<'a>(
 /// A statement is entered, or made where no other one stands in it.
 fn enter<'a>(
     alloc: Global,
-    naming: Naming,
+    naming: Naming<'_, 'a>,
     scope: &mut Scope<'a>,
     frames: &mut Stack<Frame<'a>>,
     statement: &'a tree::Statement,
@@ -207,9 +210,10 @@ fn enter<'a>(
 }
 
 /// A frame gets the statement that it waits for.
+#[tactic(auto, using(crate::proofs::Frames::before_push))]
 fn close<'a>(
     alloc: Global,
-    naming: Naming,
+    naming: Naming<'_, 'a>,
     scope: &mut Scope<'a>,
     frames: &mut Stack<Frame<'a>>,
     frame: Frame<'a>,
@@ -252,7 +256,7 @@ fn close<'a>(
 /// The statement with its names put away; the scope is the one behind it then.
 fn resolve_statement<'a>(
     alloc: Global,
-    naming: Naming,
+    naming: Naming<'_, 'a>,
     scope: &mut Scope<'a>,
     statement: &'a tree::Statement,
 ) -> Result<Statement, AllocError>
@@ -274,9 +278,10 @@ fn resolve_statement<'a>(
 }
 
 /// The statements of a body with their names put away.
+#[tactic(auto, using(crate::proofs::Frames::before_end, crate::proofs::Frames::before_push))]
 pub fn resolve_body<'a>(
     alloc: Global,
-    naming: Naming,
+    naming: Naming<'_, 'a>,
     mut scope: Scope<'a>,
     statements: &'a [tree::Statement],
 ) -> Result<Vec<Statement>, AllocError>
