@@ -45,7 +45,7 @@ fn maybe_kind(variable_type: Option<VariableType>) -> Option<Kind>
 }
 
 /// A variable of a function.
-fn local(alloc: Global, variable: Named) -> Result<Local, AllocError>
+fn resolve_local(alloc: Global, variable: Named) -> Result<Local, AllocError>
     ensures { IfOk result (λ local. local_of local ≡ resolved_local (variable_held variable.entry)) }
 {
     Ok(Local {
@@ -61,7 +61,7 @@ fn list_locals(alloc: Global, variables: &[Named]) -> Result<Vec<Local>, AllocEr
 {
     let mut locals = Vec::new(alloc);
     for variable in variables {
-        locals.push(local(alloc, *variable)?)?;
+        locals.push(resolve_local(alloc, *variable)?)?;
     }
     Ok(locals)
 }
@@ -149,6 +149,7 @@ fn resolve_functions<'a>(
 /// # Errors
 ///
 /// Memory runs out.
+#[tactic(auto, using(crate::proofs::FunctionNumbers::function_number_of))]
 pub fn resolve(alloc: Global, bound: &Bound) -> Result<Resolved, AllocError>
     ensures { IfOk result (λ made. program_of made bound.now.defs ≡ resolved_program (tables_of (unit_of bound.now.typed.unit)) bound.now.defs bound.now.typed.entry) }
 {
