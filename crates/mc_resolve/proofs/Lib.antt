@@ -6,4 +6,4 @@ pub mod Keeps
 pub mod Frames
 pub mod Numbers
 pub mod Variables
-pub mod Functions
+pub mod WholeFunctions
