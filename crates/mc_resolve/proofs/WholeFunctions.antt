@@ -23,10 +23,10 @@ function_resolved t defs f vs s ss name locals parameters result body is around 
     ap (λ (x : List ℕ). function_with x locals parameters result body) named
     ∙ ap (λ (x : List Local). function_with f.name.text x parameters result body) (held ∙ ap (λ (xs : List Variable). map local_of xs) is)
     ∙ ap (λ (x : ℕ). function_with f.name.text (map local_of (function_variables t f)) x result body)
-      (counted ∙ sym (length-map (listed_parameters f.parameters) (λ p. variable_of t p.base p.declarator)))
+    (counted ∙ sym (length-map (listed_parameters f.parameters) (λ p. variable_of t p.base p.declarator)))
     ∙ ap (λ (x : Option Kind). function_with f.name.text (map local_of (function_variables t f)) (resolved_function t defs f).parameters x body) kind
     ∙ ap (λ (x : Stmts). function_with f.name.text (map local_of (function_variables t f)) (resolved_function t defs f).parameters (resolved_function t defs f).result x)
-      (made
-      ∙ ap (λ (xs : List Variable). resolved_statements (record { tables = t; defs = defs; locals = xs }) s ss) is
-      ∙ ap (λ (x : Scope). resolved_statements (naming_of t defs f) x ss) around
-      ∙ ap (λ (x : tree.Stmts). resolved_statements (naming_of t defs f) (parameter_scope t f) x) rest)
+    (made
+    ∙ ap (λ (xs : List Variable). resolved_statements (record { tables = t; defs = defs; locals = xs }) s ss) is
+    ∙ ap (λ (x : Scope). resolved_statements (naming_of t defs f) x ss) around
+    ∙ ap (λ (x : tree.Stmts). resolved_statements (naming_of t defs f) (parameter_scope t f) x) rest)

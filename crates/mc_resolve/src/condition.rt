@@ -12,9 +12,9 @@ ghost use Rattle.mc_resolve.specs.declared.condition.Part.TheVariants as Part;
 use crate::expression::resolve_expression;
 use crate::naming::NamesHere;
 use mc_ast as tree;
-use mc_text::Place;
 use mc_resolved::{Condition, Expression};
 use mc_stack::Stack;
+use mc_text::Place;
 use std::alloc::{AllocError, Global};
 
 /// How two conditions are linked.

@@ -110,7 +110,12 @@ fn enter<'a>(
         tree::Expression::Parens(_, inner) => work.push(Work::Whole(inner))?,
         tree::Expression::Times(left, right) => enter_join(work, How::Times, left, right)?,
         tree::Expression::Plus(left, right) => enter_join(work, How::Plus, left, right)?,
-        tree::Expression::Difference(left, right) => enter_join(work, How::Difference, left, right)?,
+        tree::Expression::Difference(left, right) => enter_join(
+            work,
+            How::Difference,
+            left,
+            right,
+        )?,
     }
     Ok(())
 }

@@ -1,7 +1,7 @@
 // The fields of structs, found by name in constant time.
 use mc_ast::{Declarator, Struct};
-use mc_text::Text;
 use mc_names::Names;
+use mc_text::Text;
 use mc_types::NameTables;
 use std::alloc::{AllocError, Global};
 

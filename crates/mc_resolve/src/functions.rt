@@ -5,8 +5,8 @@ ghost use Rattle.mc_ast.specs.Names.{is_same};
 ghost use Rattle.mc_resolve.specs.Named.{defined_names};
 ghost use Rattle.mc_types.specs.Held.{tables_held};
 
-use mc_text::Text;
 use mc_names::Names;
+use mc_text::Text;
 use mc_types::NameTables;
 use std::alloc::{AllocError, Global};
 

@@ -5,7 +5,6 @@ ghost use Rattle.mc_meaning.specs.Configs.{is_place};
 ghost use Rattle.mc_resolved.specs.Resolving.{body_statements, function_variables, number_in, statements_variables};
 ghost use Rattle.mc_types.specs.Held.{tables_held, variable_held};
 ghost use Rattle.mc_types.specs.Tables.{variable_of};
-
 ghost use Rattle.mc_walk.specs.Parts.{part_of};
 ghost use Rattle.mc_resolve.specs.Numbered.{part_variables};
 

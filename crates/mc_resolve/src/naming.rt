@@ -50,7 +50,10 @@ ghost use Rattle.mc_meaning.specs.Steps.{predicate_of};
 fn predicate_in(defs: &[Def], name: &Name) -> PredId
     ensures { result ≡ predicate_of defs.now name.now }
 {
-    match defs.iter().position(|d| d.name.as_slice() == name.text.as_slice()) {
+    match defs
+        .iter()
+        .position(|d| d.name.as_slice() == name.text.as_slice())
+    {
         None => PredId(0),
         Some(place) => PredId(place as u64),
     }

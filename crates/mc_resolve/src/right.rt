@@ -12,8 +12,8 @@ use crate::expression::resolve_expression;
 use crate::naming::NamesHere;
 use mc_ast as tree;
 use mc_base::StructId;
-use mc_text::Place;
 use mc_resolved::{Action, Call, Expression, RightSide, Simple};
+use mc_text::Place;
 use mc_types::BaseType;
 use std::alloc::{AllocError, Global};
 
@@ -105,7 +105,11 @@ fn simple_place(simple: &tree::Simple) -> Place
 }
 
 /// What a simple statement does.
-fn resolve_action(alloc: Global, names: NamesHere, simple: &tree::Simple) -> Result<Action, AllocError>
+fn resolve_action(
+    alloc: Global,
+    names: NamesHere,
+    simple: &tree::Simple,
+) -> Result<Action, AllocError>
     requires { IsNumbered names.naming }
     ensures { IfOk result (λ made. action_of made ≡ resolved_action (naming_at names.entry) (visible_at names.entry) (named_simple simple.now)) }
 {

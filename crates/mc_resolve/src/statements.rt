@@ -94,7 +94,15 @@ fn enter_block<'a>(
 {
     let marks = scope.marks();
     scope.enter();
-    Ok(go_on(alloc, naming, scope, frames, statements, Vec::new(alloc), marks)?)
+    Ok(go_on(
+        alloc,
+        naming,
+        scope,
+        frames,
+        statements,
+        Vec::new(alloc),
+        marks,
+    )?)
 }
 
 /// A `for` is entered.

@@ -4,8 +4,8 @@ ghost use Rattle.std.specs.Prelude.{◌<◌, length};
 use mc_defs::Defs;
 use mc_resolve::resolve;
 use mc_resolved::{
-    Action, Call, Condition, Expression, ForHead, ForStart, Initial, LeftValue, Resolved, RightSide, Simple,
-    Statement,
+    Action, Call, Condition, Expression, ForHead, ForStart, Initial, LeftValue, Resolved,
+    RightSide, Simple, Statement,
 };
 use mc_typed::bind;
 use std::alloc::{AllocError, Global};
