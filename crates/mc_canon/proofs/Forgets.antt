@@ -21,7 +21,8 @@ use Rattle.mc_canon.specs.declared.gaps.Gap.{Gap}
 use Rattle.mc_canon.specs.Order.{Among, IsBefore, Added}
 use Rattle.mc_canon.specs.Left.{IsLeft, IsLeastLeft, IsPlace, IsLeftOut, LeavesOut, IsRangeLeft, IsClassLeft}
 use Rattle.mc_canon.specs.Gaps.{ArePair, IsPlain, IsTurned, gap_atom, turned_gap, DifferenceLeft}
-use Rattle.mc_canon.specs.Forgotten.{kinds_without, without_node, IsInside, IsWholeList, IsForgotten}
+use Rattle.mc_canon.specs.Forgotten.{without_node, IsForgotten}
+use Rattle.mc_pure.specs.Whole.{kinds_without, IsInside, IsWholeList}
 use Rattle.mc_canon.proofs.Lists.{same_node, added_as}
 use Rattle.mc_canon.proofs.Nodes.{decide, eq_as, ne_as, place_of_kind, place_kept, place_heir}
 use Rattle.mc_canon.proofs.Others as others

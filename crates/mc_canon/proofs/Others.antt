@@ -8,7 +8,7 @@ use Rattle.mc_base.specs.Nodes.{null}
 use Rattle.mc_pure.specs.Pure.{Pure, Kinds, IsNode, Base, kind_of}
 use Rattle.mc_pure.specs.Derived.{Follows, base, itself, turned, chained, shifted, met, widened, fixed, differs, differs_along, raised, lowered, disjoint}
 use Rattle.mc_pure.specs.Rows.{Over}
-use Rattle.mc_canon.specs.Forgotten.{kinds_without}
+use Rattle.mc_pure.specs.Whole.{kinds_without}
 use Rattle.mc_canon.proofs.Nodes.{Entry, decide, same_true, same_false, here_kind, later_kind, some_entry}
 
 drop_here : (k : Entry) (kinds : Kinds) (g : NodeId) → k.0 ≡ g → kinds_without (k ∷ kinds) g ≡ kinds_without kinds g

@@ -6,32 +6,14 @@ use Rattle.mc_base.specs.declared.plain.Atom.TheVariants.{Eq, Ne, In}
 use Rattle.mc_base.specs.Nodes.{null}
 use Rattle.mc_pure.specs.Pure.{Pure, Kinds, IsNode}
 use Rattle.mc_pure.specs.Derived.{Follows, IsFalse}
-use Rattle.mc_pure.specs.Canonical.{IsLeast, IsListOf, AreListed, plainly}
+use Rattle.mc_pure.specs.Canonical.{IsLeast}
+use Rattle.mc_pure.specs.Whole.{kinds_without, IsWholeList}
 use Rattle.mc_pure.specs.declared.classes.ClassPlace.{ClassPlace}
 use Rattle.mc_canon.specs.Left.{IsHeir, LeavesOut}
-
--- the kinds of the other nodes
-abbrev pub kinds_without : Kinds → NodeId → Kinds
-kinds_without [] n = []
-kinds_without (k ∷ kinds) n = if k.0.0 == n.0 then kinds_without kinds n else k ∷ kinds_without kinds n
 
 -- the other nodes with these atoms, and no blocks
 abbrev pub without_node : Pure → NodeId → List Atom → Pure
 without_node p lost atoms = record { kinds = kinds_without p.kinds lost; written = atoms; starts = [] }
-
--- a disequality inside one class, of its least node by a positive number, that does not follow from those ranges and equalities
-abbrev pub IsInside : Pure → Pure → Atom → Type 0
-IsInside p plain (Ne i j c) = IsLeast p i × (i ≡ j) × (pos 0 <ℤ c) × Follows p (Ne i j c) × (Follows plain (Ne i j c) → ⊥)
-IsInside p plain (Eq a b c) = ⊥
-IsInside p plain (In n lo hi) = ⊥
-
--- the canonical list, and behind it the disequalities inside one class
-pub record IsWholeList (p : Pure) (atoms : List Atom) : Type 0 where
-  pub list : List Atom
-  pub inner : List Atom
-  pub together : atoms ≡ list ++ inner
-  pub canonical : IsListOf p list
-  pub inner_listed : AreListed (IsInside p (plainly p (canonical.ranges ++ canonical.equalities))) inner
 
 -- the atoms derive of the other nodes, without blocks, exactly what was derived of them, and are listed canonically
 pub record IsForgotten (p : Pure) (lost : NodeId) (atoms : List Atom) : Type 0 where

@@ -31,23 +31,6 @@ pub enum Symbol {
     Other,
 }
 
-static MARKS: [(&[u8], Symbol); 14] = [
-    (b";", Symbol::Semicolon),
-    (b"=", Symbol::Equal),
-    (b"(", Symbol::Open),
-    (b")", Symbol::Close),
-    (b",", Symbol::Comma),
-    (b"{", Symbol::OpenBrace),
-    (b"}", Symbol::CloseBrace),
-    (b":", Symbol::Colon),
-    (b"->", Symbol::Arrow),
-    (b"!=", Symbol::Unequal),
-    (b"<=", Symbol::AtMost),
-    (b">=", Symbol::AtLeast),
-    (b"+", Symbol::Plus),
-    (b"-", Symbol::Minus),
-];
-
 /// What a token is to the grammar.
 pub fn classify(token: &Token) -> Symbol
     ensures { result ≡ symbol_of token.now }
@@ -55,7 +38,7 @@ pub fn classify(token: &Token) -> Symbol
     match token.kind {
         TokenKind::End => Symbol::End,
         TokenKind::Number => Symbol::Number,
-        TokenKind::Mark => among(&MARKS, token.text.as_slice()),
+        TokenKind::Mark => mark(token.text.as_slice()),
         TokenKind::Name => word(token.text.as_slice()),
     }
 }
@@ -72,16 +55,27 @@ fn word(text: &[u8]) -> Symbol
     }
 }
 
-// The symbol that stands beside a text, and the other one beside none.
-fn among(table: &[(&[u8], Symbol)], text: &[u8]) -> Symbol
-    ensures { result ≡ beside (map (λ entry. entry.0.now) table.now) (map (λ entry. entry.1) table.now) text.now }
+#[tactic(auto, unfolding(crate::specs::Symbols::mark_symbol))]
+fn mark(text: &[u8]) -> Symbol
+    ensures { result ≡ mark_symbol text.now }
 {
-    for (known, symbol) in table {
-        if text == *known {
-            return *symbol;
-        }
+    match text {
+        [b';'] => Symbol::Semicolon,
+        [b'='] => Symbol::Equal,
+        [b'('] => Symbol::Open,
+        [b')'] => Symbol::Close,
+        [b','] => Symbol::Comma,
+        [b'{'] => Symbol::OpenBrace,
+        [b'}'] => Symbol::CloseBrace,
+        [b':'] => Symbol::Colon,
+        [b'-', b'>'] => Symbol::Arrow,
+        [b'!', b'='] => Symbol::Unequal,
+        [b'<', b'='] => Symbol::AtMost,
+        [b'>', b'='] => Symbol::AtLeast,
+        [b'+'] => Symbol::Plus,
+        [b'-'] => Symbol::Minus,
+        _ => Symbol::Other,
     }
-    Symbol::Other
 }
 
 /// The number that a token is.

@@ -25,7 +25,7 @@ use Rattle.mc_state.specs.Stands.{StandsBy}
 use Rattle.mc_state.specs.State.{pure_of}
 use Rattle.mc_fold.specs.Changed.{alone, ForgetsNode}
 use Rattle.mc_fold.specs.Examples.{valued, pointer, no_pointer}
-use Rattle.mc_fold.specs.Written.{IsGap, IsFullListOf}
+use Rattle.mc_pure.specs.Whole.{IsInside, IsWholeList}
 use Rattle.mc_fold.proofs.Names.{listed}
 use Rattle.mc_fold.proofs.Ordered.{among_none}
 
@@ -146,7 +146,7 @@ no_difference (Ne i j c) r =
 null_gap : (c : ℤ) → pos 0 <ℤ c → Follows (plainly (alone no_pointer) []) (Ne null null c)
 null_gap c less = disjoint (base known.zero) (base known.zero) (inl (omega (arith, ints)))
 
-no_gap : (f : Atom) → IsGap (alone no_pointer) (plainly (alone no_pointer) []) f → ⊥
+no_gap : (f : Atom) → IsInside (alone no_pointer) (plainly (alone no_pointer) []) f → ⊥
 no_gap (Eq a b c) r = r
 no_gap (In n lo hi) r = r
 no_gap (Ne i j c) r =
@@ -154,11 +154,11 @@ no_gap (Ne i j c) r =
     let second : j ≡ null = sym r.1 ∙ first in
     r.4 (rw (first, second) (null_gap c r.2))
 
-pub nothing_written : IsFullListOf (alone no_pointer) []
+pub nothing_written : IsWholeList (alone no_pointer) []
 nothing_written =
     record {
       list = [];
-      gaps = [];
+      inner = [];
       together = refl;
       canonical = record {
         ranges = [];
@@ -169,7 +169,7 @@ nothing_written =
         equalities_listed = nothing_listed (IsClassAtom (alone no_pointer)) no_class;
         differences_listed = nothing_listed (IsDifference (alone no_pointer) (plainly (alone no_pointer) [])) no_difference;
       };
-      gaps_listed = nothing_listed (IsGap (alone no_pointer) (plainly (alone no_pointer) [])) no_gap;
+      inner_listed = nothing_listed (IsInside (alone no_pointer) (plainly (alone no_pointer) [])) no_gap;
     }
 
 module _ (truth : DerivedIsTrue) (not_false : NoneStandsForFalse) (grows : FollowsFromMore) (addresses : IsAtAddresses (blocks [])) (st : StandsBy defs (valued []) [] (blocks []) pointer) where

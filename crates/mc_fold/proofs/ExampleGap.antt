@@ -19,7 +19,7 @@ use Rattle.mc_state.specs.Fits.{AreNodes}
 use Rattle.mc_state.specs.State.{pure_of}
 use Rattle.mc_fold.specs.Changed.{alone, Forgets, ForgetsNode}
 use Rattle.mc_fold.specs.Examples.{valued, gap_beside, gap_left}
-use Rattle.mc_fold.specs.Written.{IsGap, IsFullListOf}
+use Rattle.mc_pure.specs.Whole.{IsInside, IsWholeList}
 use Rattle.mc_fold.proofs.ExampleForgets.{named, nothing_listed}
 use Rattle.mc_fold.proofs.ExampleWritten.{follows_moved, two_to, atom_not_moved, one_node, its_kind, null_not_one, null_not_two, not_two}
 use Rattle.mc_fold.proofs.Ordered.{among_cases, among_none}
@@ -237,13 +237,13 @@ one_least = ((Int, inr refl), λ m d h. least m (no_more (node 1) m d h))
     least : (m : NodeId) → node 1 ≡ m → 1 ≤ m.0
     least m same = let number : 1 ≡ m.0 = ap (λ (n : NodeId). n.0) same in omega arith
 
-gap_is : (f : Atom) → Contains (gap ∷ []) f → IsGap (alone gap_left) bare f
+gap_is : (f : Atom) → Contains (gap ∷ []) f → IsInside (alone gap_left) bare f
 gap_is f c = elim (among_cases gap [] f c) [
-  | inl e ↦ subst (IsGap (alone gap_left) bare) e (one_least, refl, omega (arith, ints), base (known.written 0 refl), not_bare)
+  | inl e ↦ subst (IsInside (alone gap_left) bare) e (one_least, refl, omega (arith, ints), base (known.written 0 refl), not_bare)
   | inr d ↦ absurd (among_none f d)
 ]
 
-is_gap : (f : Atom) → IsGap (alone gap_left) bare f → Contains (gap ∷ []) f
+is_gap : (f : Atom) → IsInside (alone gap_left) bare f → Contains (gap ∷ []) f
 is_gap (Eq a b c) r = absurd r
 is_gap (In n lo hi) r = absurd r
 is_gap (Ne i j c) r =
@@ -265,11 +265,11 @@ is_gap (Ne i j c) r =
       below : pos 0 <ℤ c → c ≡ negsuc 4 → ⊥
       below more minus = omega (arith, ints)
 
-left_listed : IsFullListOf (alone gap_left) gap_left.atoms
+left_listed : IsWholeList (alone gap_left) gap_left.atoms
 left_listed =
     record {
       list = [];
-      gaps = gap ∷ [];
+      inner = gap ∷ [];
       together = refl;
       canonical = record {
         ranges = [];
@@ -280,7 +280,7 @@ left_listed =
         equalities_listed = nothing_listed (IsClassAtom (alone gap_left)) left_class;
         differences_listed = nothing_listed (IsDifference (alone gap_left) bare) left_difference;
       };
-      gaps_listed = record { order = tt; exact = λ f. (gap_is f, is_gap f) };
+      inner_listed = record { order = tt; exact = λ f. (gap_is f, is_gap f) };
     }
 
 -- ---- the node that is forgotten

@@ -26,7 +26,7 @@ use Rattle.mc_state.specs.Fits.{AreNodes}
 use Rattle.mc_state.specs.State.{pure_of}
 use Rattle.mc_fold.specs.Changed.{alone, Forgets, ForgetsNode}
 use Rattle.mc_fold.specs.Examples.{valued, block_beside, block_left}
-use Rattle.mc_fold.specs.Written.{IsGap, IsFullListOf}
+use Rattle.mc_pure.specs.Whole.{IsInside, IsWholeList}
 use Rattle.mc_fold.proofs.ExampleForgets.{named, nothing_listed}
 use Rattle.mc_fold.proofs.Ordered.{among_cases, among_none}
 use Rattle.mc_fold.proofs.Reaching.{Among, among_to, among_from, among_all}
@@ -234,16 +234,16 @@ module _ (truth : DerivedIsTrue) (false_not : TrueIsNotFalse) (grows : FollowsFr
   block_difference (In n lo hi) r = r
   block_difference (Ne i j c) r = r.4 r.3
 
-  block_gap : (f : Atom) → IsGap (alone block_left) (plainly (alone block_left) (In (node 1) (pos 1) (pos 4611686018427387903) ∷ [])) f → ⊥
+  block_gap : (f : Atom) → IsInside (alone block_left) (plainly (alone block_left) (In (node 1) (pos 1) (pos 4611686018427387903) ∷ [])) f → ⊥
   block_gap (Eq a b c) r = r
   block_gap (In n lo hi) r = r
   block_gap (Ne i j c) r = r.4 r.3
 
-  block_listed : IsFullListOf (alone block_left) block_left.atoms
+  block_listed : IsWholeList (alone block_left) block_left.atoms
   block_listed =
       record {
         list = In (node 1) (pos 1) (pos 4611686018427387903) ∷ [];
-        gaps = [];
+        inner = [];
         together = refl;
         canonical = record {
           ranges = In (node 1) (pos 1) (pos 4611686018427387903) ∷ [];
@@ -254,7 +254,7 @@ module _ (truth : DerivedIsTrue) (false_not : TrueIsNotFalse) (grows : FollowsFr
           equalities_listed = nothing_listed (IsClassAtom (alone block_left)) block_class;
           differences_listed = nothing_listed (IsDifference (alone block_left) (plainly (alone block_left) (In (node 1) (pos 1) (pos 4611686018427387903) ∷ []))) block_difference;
         };
-        gaps_listed = nothing_listed (IsGap (alone block_left) (plainly (alone block_left) (In (node 1) (pos 1) (pos 4611686018427387903) ∷ []))) block_gap;
+        inner_listed = nothing_listed (IsInside (alone block_left) (plainly (alone block_left) (In (node 1) (pos 1) (pos 4611686018427387903) ∷ []))) block_gap;
       }
 
   block_sound : IsFalse (pure_of block_beside) → ⊥

@@ -23,13 +23,14 @@ use Rattle.mc_pure.specs.Derived.{Follows, IsFalse, HasRange}
 use Rattle.mc_pure.specs.Pure as known
 use Rattle.mc_pure.specs.Pure.{Kinds, Pure, HasKind, IsNode, AreOfOneKind, IsOffset, IsBound, IsWellFormed, kind_of, low_of, high_of}
 use Rattle.mc_state.specs.State.{State, pure_of}
-use Rattle.mc_state.specs.Facts.{IsUnnamed, kinds_without}
+use Rattle.mc_state.specs.Facts.{IsUnnamed}
+use Rattle.mc_pure.specs.Whole.{kinds_without}
 use Rattle.mc_state.specs.Facts as facts
 use Rattle.mc_state.specs.Fits.{IsBounded, EdgeFitsDefs, EdgeFitsStructs, IsWellMade}
 use Rattle.mc_fold.specs.Changed.{alone, left_over, Forgets}
 use Rattle.mc_fold.specs.Laws.{LawOfForget}
 use Rattle.mc_fold.specs.MadeLaws.{ForgetStaysMade}
-use Rattle.mc_fold.specs.Written.{IsGap}
+use Rattle.mc_pure.specs.Whole.{IsInside}
 use Rattle.mc_premises.proofs.Tests.{not_no}
 use Rattle.mc_fold.proofs.ChangeJudging.{known_var, differ_to}
 use Rattle.mc_fold.proofs.KindsAgree.{Parted, IsNumber, KindsAgree, number_back, agree, base_agrees}
@@ -280,7 +281,7 @@ module _ (defs : List Def) (vars : List VarInfo) (structs : List StructInfo) (no
       difference_offset after sound ranges equalities listed i j x.0.0.0 x.1.0.0 c x.0.0.1 x.1.0.1 x.4,
     )
 
-    gap_well : (a : Atom) → IsGap after (plainly after (ranges ++ equalities)) a → IsWellFormed t.kinds a
+    gap_well : (a : Atom) → IsInside after (plainly after (ranges ++ equalities)) a → IsWellFormed t.kinds a
     gap_well (Eq a b c) x = absurd x
     gap_well (In n lo hi) x = absurd x
     gap_well (Ne i j c) x =
@@ -298,10 +299,10 @@ module _ (defs : List Def) (vars : List VarInfo) (structs : List StructInfo) (no
       let ranges = all_listed (IsRangeAtom after) well list.ranges list.ranges_listed range_well in
       let equalities = all_listed (IsClassAtom after) well list.equalities list.equalities_listed class_well in
       let differences = all_listed (IsDifference after plain) well list.differences list.differences_listed (difference_well list.ranges list.equalities listed) in
-      let gaps = all_listed (IsGap after plain) well full.gaps full.gaps_listed (gap_well list.ranges list.equalities listed) in
+      let gaps = all_listed (IsInside after plain) well full.inner full.inner_listed (gap_well list.ranges list.equalities listed) in
       let most = all_append well list.ranges (list.equalities ++ list.differences) ranges (all_append well list.equalities list.differences equalities differences) in
       let canonical : AllByRecursion well full.list = subst (AllByRecursion well) (sym list.together) most in
-      subst (AllByRecursion well) (sym full.together) (all_append well full.list full.gaps canonical gaps)
+      subst (AllByRecursion well) (sym full.together) (all_append well full.list full.inner canonical gaps)
 
 pub forget_made : LawOfForget → ForgetStaysMade
 forget_made law defs vars structs node s next i w =

@@ -23,7 +23,8 @@ use Rattle.mc_pure.specs.Derived.{Follows, IsFalse}
 use Rattle.mc_pure.specs.Pure as known
 use Rattle.mc_pure.specs.Pure.{Kinds, Pure, HasKind, IsNode, IsOffset, IsWellFormed, kind_of, low_of, high_of}
 use Rattle.mc_state.specs.State.{State, next_node, pure_of, with_nodes}
-use Rattle.mc_state.specs.Facts.{CanMerge, instead, kinds_without}
+use Rattle.mc_state.specs.Facts.{CanMerge, instead}
+use Rattle.mc_pure.specs.Whole.{kinds_without}
 use Rattle.mc_state.specs.Fits.{IsBounded, HaveKinds, MayHaveKinds, EdgeFitsDefs, EdgeFitsStructs, FitsProgram}
 use Rattle.mc_state.specs.Laws.{NewNodesHaveKinds}
 use Rattle.mc_fold.specs.Laws.{LawOfSpare, LawOfMerge}

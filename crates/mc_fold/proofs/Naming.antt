@@ -14,7 +14,8 @@ use Rattle.mc_graph.specs.Graph.{without}
 use Rattle.mc_pure.specs.Derived as pure
 use Rattle.mc_pure.specs.Pure as known
 use Rattle.mc_pure.specs.Pure.{IsNode, low_of, high_of}
-use Rattle.mc_state.specs.Facts.{Derives, kinds_without, merged}
+use Rattle.mc_state.specs.Facts.{Derives, merged}
+use Rattle.mc_pure.specs.Whole.{kinds_without}
 use Rattle.mc_state.specs.Fits.{AreNodes, IsBounded}
 use Rattle.mc_state.specs.Laws.{DerivedIsTrue, EqualNodesAreOne, NodesAreAdded, NodesHaveValues, AtomsAreAdded, AtomsAreDropped, EdgesAreDropped, NodeIsDropped, StandsMerged, NodesStayBounded, NewNodesAreThere, AtomsStayBounded, FewerEdgesStayBounded, MergedStaysBounded, DroppedStaysBounded}
 use Rattle.mc_state.specs.Stands.{StandsBy, extended}

@@ -9,7 +9,7 @@ use Rattle.mc_pure.specs.Pure.{Kinds, Pure, IsNode, kind_of}
 use Rattle.mc_state.specs.State.{State}
 use Rattle.mc_fold.specs.Changed.{alone, left_over, Forgets}
 use Rattle.mc_fold.specs.Laws.{ForgetIsDetermined}
-use Rattle.mc_fold.specs.Written.{IsGap, IsFullListOf}
+use Rattle.mc_pure.specs.Whole.{IsInside, IsWholeList}
 use Rattle.mc_fold.proofs.Naming.{after_is}
 use Rattle.mc_fold.proofs.Ordered.{same_listed}
 
@@ -39,13 +39,13 @@ module _ (p q : Pure) (kinds : p.kinds ≡ q.kinds) (there : (f : Atom) → Foll
   difference_moves plain (Ne i j c) r = (least_moves i r.0, least_moves j r.1, r.2, there (Ne i j c) r.3, r.4)
   difference_moves plain (In n lo hi) r = absurd r
 
-  gap_moves : (plain : Pure) (f : Atom) → IsGap p plain f → IsGap q plain f
+  gap_moves : (plain : Pure) (f : Atom) → IsInside p plain f → IsInside q plain f
   gap_moves plain (Eq a b c) r = absurd r
   gap_moves plain (Ne i j c) r = (least_moves i r.0, r.1, r.2, there (Ne i j c) r.3, r.4)
   gap_moves plain (In n lo hi) r = absurd r
 
 module _ (p q : Pure) (kinds : p.kinds ≡ q.kinds) (starts : p.starts ≡ q.starts) (there : (f : Atom) → Follows p f → Follows q f) (back : (f : Atom) → Follows q f → Follows p f) where
-  pub one_written : (atoms others : List Atom) → IsFullListOf p atoms → IsFullListOf q others → atoms ≡ others
+  pub one_written : (atoms others : List Atom) → IsWholeList p atoms → IsWholeList q others → atoms ≡ others
   one_written atoms others w v =
       let a = w.canonical in
       let b = v.canonical in
@@ -64,11 +64,11 @@ module _ (p q : Pure) (kinds : p.kinds ≡ q.kinds) (starts : p.starts ≡ q.sta
       (λ f d. subst (λ (x : Pure). IsDifference q x f) plain (difference_moves p q kinds there back plain_p f d))
       (λ f d. subst (λ (x : Pure). IsDifference p x f) (sym plain) (difference_moves q p (sym kinds) back there plain_q f d))
       a.differences b.differences a.differences_listed b.differences_listed in
-      let gaps : w.gaps ≡ v.gaps =
-      same_listed (IsGap p plain_p) (IsGap q plain_q)
-      (λ f d. subst (λ (x : Pure). IsGap q x f) plain (gap_moves p q kinds there back plain_p f d))
-      (λ f d. subst (λ (x : Pure). IsGap p x f) (sym plain) (gap_moves q p (sym kinds) back there plain_q f d))
-      w.gaps v.gaps w.gaps_listed v.gaps_listed in
+      let gaps : w.inner ≡ v.inner =
+      same_listed (IsInside p plain_p) (IsInside q plain_q)
+      (λ f d. subst (λ (x : Pure). IsInside q x f) plain (gap_moves p q kinds there back plain_p f d))
+      (λ f d. subst (λ (x : Pure). IsInside p x f) (sym plain) (gap_moves q p (sym kinds) back there plain_q f d))
+      w.inner v.inner w.inner_listed v.inner_listed in
       let lists : w.list ≡ v.list = a.together ∙ ap₂ (λ r m. r ++ m) ranges (ap₂ (λ e d. e ++ d) equalities differences) ∙ sym b.together in
       w.together ∙ ap₂ (λ l g. l ++ g) lists gaps ∙ sym v.together
 

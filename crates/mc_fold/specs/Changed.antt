@@ -14,9 +14,10 @@ use Rattle.mc_graph.specs.Graph.{edge_with, without}
 use Rattle.mc_pure.specs.Pure.{Pure, HasKind, IsNode}
 use Rattle.mc_pure.specs.Derived.{Follows, LiesIn}
 use Rattle.mc_state.specs.State.{State, pure_of, next_node, with_nodes, with_atoms, with_only_edges}
-use Rattle.mc_state.specs.Facts.{IsFalse, Derives, AreEqual, IsReached, IsUnnamed, CanMerge, kinds_without, merged}
+use Rattle.mc_state.specs.Facts.{IsFalse, Derives, AreEqual, IsReached, IsUnnamed, CanMerge, merged}
+use Rattle.mc_pure.specs.Whole.{kinds_without}
 use Rattle.mc_state.specs.Fits.{AreNodes}
-use Rattle.mc_fold.specs.Written.{IsFullListOf}
+use Rattle.mc_pure.specs.Whole.{IsWholeList}
 
 -- L8: a new node of a kind is another node and a number more; it lies in the kind's range, and is of the node's kind, or the node is 0
 pub record NamesSpare (node : NodeId) (add : ℤ) (kind : Kind) (s : State) (next : List State) : Type 0 where
@@ -59,7 +60,7 @@ pub record Forgets (node : NodeId) (s t : State) : Type 0 where
   pub kinds : t.kinds ≡ kinds_without s.kinds node
   pub named : AllByRecursion (λ f. AreNodes t.kinds (nodes_of_atom f)) t.atoms
   pub derived : (f : Atom) → Follows (alone t) f ↔ (Derives s f × (Contains (nodes_of_atom f) node → ⊥))
-  pub listed : IsFullListOf (alone t) t.atoms
+  pub listed : IsWholeList (alone t) t.atoms
 
 -- L11: a node that stands in no variable and in no edge is forgotten
 pub record ForgetsNode (node : NodeId) (s : State) (next : List State) : Type 0 where

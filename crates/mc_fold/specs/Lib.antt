@@ -7,5 +7,4 @@ pub mod JudgedLaws
 pub mod Judges
 pub mod Laws
 pub mod MadeLaws
-pub mod Written
 pub mod WrongRules

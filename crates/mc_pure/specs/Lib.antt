@@ -6,6 +6,7 @@ pub mod Pure
 pub mod Normal
 pub mod Rows
 pub mod Steps
+pub mod Whole
 pub mod Nodes
 pub mod Known
 pub mod Firsts

@@ -14,7 +14,8 @@ use Rattle.mc_graph.specs.declared.edge.Edge.TheVariants.{Block, Ind, Seg}
 use Rattle.mc_graph.specs.Edges.{known_nodes, nodes_of, moved_edge}
 use Rattle.mc_graph.specs.Graph.{Edges, IdsAscend}
 use Rattle.mc_pure.specs.Pure.{Kinds, IsNode}
-use Rattle.mc_state.specs.Facts.{instead, kinds_without}
+use Rattle.mc_state.specs.Facts.{instead}
+use Rattle.mc_pure.specs.Whole.{kinds_without}
 use Rattle.mc_state.specs.Fits.{AreNodes}
 use Rattle.mc_state.specs.Laws.{RenamedStaysBounded, MergedStaysBounded, DroppedStaysBounded}
 use Rattle.mc_state.proofs.Lists.{all_append, all_left, all_right, all_map, all_of_map}

@@ -11,7 +11,8 @@ use Rattle.mc_base.specs.declared.plain.Kind.TheVariants.{Int, Ptr}
 use Rattle.mc_base.specs.Kinds.{InKind}
 use Rattle.mc_base.specs.Nodes.{Valuation, null, moved}
 use Rattle.mc_pure.specs.Pure.{Kinds, HasKind, IsNode, kind_of}
-use Rattle.mc_state.specs.Facts.{CanMerge, instead, kinds_without}
+use Rattle.mc_state.specs.Facts.{CanMerge, instead}
+use Rattle.mc_pure.specs.Whole.{kinds_without}
 use Rattle.mc_state.specs.Stands.{StandsBy}
 use Rattle.mc_state.specs.Laws.{StandsRenamed, StandsMerged, MergedStands, moved_kinds}
 use Rattle.mc_state.proofs.Lists.{all_map, all_of_map}

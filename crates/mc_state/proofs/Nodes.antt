@@ -9,7 +9,7 @@ use Rattle.mc_base.specs.declared.plain.Kind.TheVariants.{Ptr}
 use Rattle.mc_base.specs.Nodes.{null}
 use Rattle.mc_pure.specs.Pure.{Kinds, HasKind, IsNode, kind_of}
 use Rattle.mc_state.specs.State.{numbered_kinds, numbered_nodes}
-use Rattle.mc_state.specs.Facts.{kinds_without}
+use Rattle.mc_pure.specs.Whole.{kinds_without}
 use Rattle.mc_state.specs.Fits.{NodesAscend, HaveKinds}
 use Rattle.mc_state.proofs.Lists.{all_map, all_both}
 

@@ -8,6 +8,7 @@ use Rattle.mc_graph.specs.declared.edge.Edge.{Edge}
 use Rattle.mc_graph.specs.Edges.{start_of, nodes_of}
 use Rattle.mc_pure.specs.Pure.{Kinds, IsNode, AreOfOneKind}
 use Rattle.mc_pure.specs.Derived as pure
+use Rattle.mc_pure.specs.Whole.{kinds_without}
 use Rattle.mc_state.specs.State.{State, pure_of, renamed}
 
 -- the atom is derived in the state
@@ -58,11 +59,6 @@ pub record IsTidy (s : State) : Type 0 where
 -- one number in place of another
 abbrev pub instead : ℕ → ℕ → ℕ → ℕ
 instead keep gone n = if n == gone then keep else n
-
--- the kinds of the other nodes
-abbrev pub kinds_without : Kinds → NodeId → Kinds
-kinds_without [] n = []
-kinds_without (k ∷ kinds) n = if k.0.0 == n.0 then kinds_without kinds n else k ∷ kinds_without kinds n
 
 -- one node in place of another everywhere
 abbrev pub merged : NodeId → NodeId → State → State

@@ -19,7 +19,8 @@ use Rattle.mc_graph.specs.Graph.{Edges, Picks, edge_with, replaced}
 use Rattle.mc_pure.specs.Pure.{Kinds, HasKind, IsNode}
 use Rattle.mc_pure.specs.Derived.{LiesIn}
 use Rattle.mc_state.specs.State.{State, unknown, pure_of, var_node, with_var, with_nodes, with_atoms, with_edges, with_only_edges, numbered_nodes, renamed}
-use Rattle.mc_state.specs.Facts.{Derives, IsFalse, AreEqual, AreAllEqual, CanMerge, IsUnnamed, kinds_without, merged}
+use Rattle.mc_state.specs.Facts.{Derives, IsFalse, AreEqual, AreAllEqual, CanMerge, IsUnnamed, merged}
+use Rattle.mc_pure.specs.Whole.{kinds_without}
 use Rattle.mc_state.specs.Fits.{NodesAscend, AreNodes, HaveKinds, IsBounded}
 use Rattle.mc_state.specs.Stands.{EdgeMeets, StandsBy, Stands, AgreeBelow, extended}
 
