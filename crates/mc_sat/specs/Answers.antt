@@ -8,7 +8,7 @@ use Rattle.mc_defs.specs.Meaning.{Sat}
 
 -- what a region has at these addresses, and nothing else
 abbrev pub region_at : Region → List ℕ → Region
-region_at region addresses at = if list_any (nat_eq at) addresses then region at else None
+region_at region addresses at = if list_any (λ own. own == at) addresses then region at else None
 
 -- these addresses have blocks, none stands twice, and the predicate holds on what they have
 pub record AreMeeting (defs : List Def) (pred : PredId) (value : ℤ) (args : List ℤ) (heap : Heap) (addresses : List ℕ) : Type 0 where

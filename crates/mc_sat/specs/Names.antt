@@ -41,3 +41,10 @@ with_fixed names (Eq left base add true ∷ atoms) = with_fixed (names ++ (base_
 with_fixed names (Eq left base add false ∷ atoms) = with_fixed names atoms
 with_fixed names (Ne left base add ∷ atoms) = with_fixed names atoms
 with_fixed names (In left lo hi ∷ atoms) = with_fixed names atoms
+
+-- the atom introduces a name whose value is far from the ranges of all kinds
+abbrev pub IntroducesFar : List ℤ → DefAtom → Type 0
+IntroducesFar names (Eq left base add true) = IsFar (base_of names base +ℤ add)
+IntroducesFar names (Eq left base add false) = ⊥
+IntroducesFar names (Ne left base add) = ⊥
+IntroducesFar names (In left lo hi) = ⊥

@@ -2,8 +2,9 @@
 ghost use Rattle.std.specs.Prelude.{◌≡◌, ◌+ℤ◌, ◌++◌, ◌∷◌, ℤ, List, Some, None, IfOk, IsTrue, MatchOption, false, length, option_map, if◌then◌else◌};
 ghost use Rattle.mc_defs.specs.Values.{value_of, base_of};
 ghost use Rattle.mc_base.specs.declared.plain.Kind as kind;
+ghost use Rattle.mc_defs.specs.declared.rules.DefAtom.{DefAtom};
 ghost use Rattle.std.specs.Ordering.{int_eq};
-ghost use Rattle.mc_sat.specs.Names.{IsFar, in_kind, all_in_kinds, is_true, all_true, with_fixed};
+ghost use Rattle.mc_sat.specs.Names.{IsFar, IntroducesFar, in_kind, all_in_kinds, is_true, all_true, with_fixed};
 ghost use Rattle.mc_sat.specs.Marks.{address_of, all_defined, contents_at, names_with, names_for};
 
 use crate::Goal;
@@ -66,9 +67,10 @@ fn all_in_kinds(kinds: &[Kind], names: &[i64]) -> bool
 fn equals(names: &[i64], left: u64, base: Option<u64>, add: i64) -> bool
     ensures { result ≡ int_eq (value_of names.now left) (base_of names.now base +ℤ add) }
 {
+    let value = value(names, left);
     match sum(names, base, add) {
         None => false,
-        Some(sum) => value(names, left) == sum,
+        Some(sum) => value == sum,
     }
 }
 
@@ -101,23 +103,37 @@ fn all_true(names: &[i64], atoms: &[DefAtom]) -> bool
     true
 }
 
-// Adds the names that atoms introduce. With false one of them has a value that is far from its kind's range.
+// Adds the name that an atom introduces, if it does. With false its value is far from the range of its kind.
+fn push_sum(names: &mut Vec<i64>, atom: DefAtom) -> Result<bool, NoMemory>
+    ensures made { IfOk result (λ near. IsTrue near → (rest : List DefAtom) → with_fixed names.new.items rest ≡ with_fixed names.old.items (atom ∷ rest)) }
+    ensures far { IfOk result (λ near. near ≡ false → IntroducesFar names.old.items atom) }
+{
+    let DefAtom::Eq {
+        base,
+        add,
+        fixes: true,
+        ..
+    } = atom
+    else {
+        return Ok(true);
+    };
+    match sum(names, base, add) {
+        None => Ok(false),
+        Some(value) => {
+            names.push(value)?;
+            Ok(true)
+        }
+    }
+}
+
+// Adds the names that atoms introduce. With false one of them has a value that is far from the range of its kind.
 fn push_fixed(names: &mut Vec<i64>, atoms: &[DefAtom]) -> Result<bool, NoMemory>
     ensures made { IfOk result (λ near. IsTrue near → names.new.items ≡ with_fixed names.old.items atoms.now) }
     ensures far { IfOk result (λ near. near ≡ false → (kinds : List kind.Kind) → all_in_kinds kinds (with_fixed names.old.items atoms.now) ≡ false) }
 {
     for atom in atoms {
-        if let DefAtom::Eq {
-            base,
-            add,
-            fixes: true,
-            ..
-        } = *atom
-        {
-            match sum(names, base, add) {
-                None => return Ok(false),
-                Some(value) => names.push(value)?,
-            }
+        if !push_sum(names, *atom)? {
+            return Ok(false);
         }
     }
     Ok(true)

@@ -1,5 +1,5 @@
 // Both questions, as searches.
-ghost use Rattle.std.specs.Prelude.{¬◌, ◌↔◌, IfOk, IsTrue, MatchOption};
+ghost use Rattle.std.specs.Prelude.{◌↔◌, IfOk, IsTrue, MatchOption};
 ghost use Rattle.mc_heap.specs.Heap.{region_of};
 ghost use Rattle.mc_defs.specs.Meaning.{Sat, HoldsSomewhere};
 ghost use Rattle.mc_sat.specs.Answers.{AreMeeting};
