@@ -1,5 +1,6 @@
 -- Values for names: those that atoms introduce are given by a fold, and tests say what the meaning asks.
-use Rattle.std.proofs.Common.{◌≡◌, ◌≢◌, ◌⊎◌, inl, inr, ◌<◌, ◌≤◌, ◌+◌, ℕ, zero, suc, ℤ, pos, negsuc, Bool, true, false, not, ◌&&◌, Option, Some, None, List, [], ◌∷◌, ◌++◌, length, map, take, drop, refl, sym, ◌∙◌, ap, subst, arith, append-nil, append_assoc, length-append}
+use Rattle.std.proofs.Common.{◌≡◌, ◌≢◌, ◌⊎◌, inl, inr, ◌<◌, ◌≤◌, ◌+◌, ℕ, zero, suc, ℤ, pos, negsuc, Bool, true, false, not, ◌&&◌, Option, Some, None, List, [], ◌∷◌, ◌++◌, length, map, take, drop, get_or, refl, sym, ◌∙◌, ap, subst, arith, append-nil, append_assoc, length-append}
+use Rattle.std.proofs.Math.Seq.{drop-cons}
 use Rattle.std.specs.Prelude.{◌+ℤ◌, ◌≤ℤ◌, ◌<ℤ◌, int_le}
 use lib.Signed.{mag}
 use Rattle.std.specs.Ordering.{int_eq}
@@ -182,3 +183,6 @@ known_within kinds n (Eq left base add true ∷ atoms) fit = let r = known_withi
 known_within kinds n (Eq left base add false ∷ atoms) fit = known_within kinds n atoms fit.1
 known_within kinds n (Ne left base add ∷ atoms) fit = known_within kinds n atoms fit.1
 known_within kinds n (In left lo hi ∷ atoms) fit = known_within kinds n atoms fit.1
+
+pub far_rest : (kinds : List Kind) (names : List ℤ) (atoms : List DefAtom) (k : ℕ) (d : DefAtom) → k < length atoms → IntroducesFar names (get_or atoms k d) → all_in_kinds kinds (with_fixed names (drop k atoms)) ≡ false
+far_rest kinds names atoms k d l far = rw (drop-cons atoms k d l) (far_out names (get_or atoms k d) (drop (suc k) atoms) kinds far)

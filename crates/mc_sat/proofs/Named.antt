@@ -270,8 +270,7 @@ block_at heap value contents numbers names None taken c b r v = record { none = 
 block_at heap value contents numbers names (Some shape) taken c b r v =
     let h = held_is heap value shape contents c in
     let t : taken ≡ Some h.at = sym b ∙ ap address_of h.is in
-    let fields : map (λ n. Some (value_of names n)) numbers ≡ map (λ v. Some v) contents = map_both (value_of names) numbers ∙ ap (map (λ v. Some v)) r in
-    (
+    let fields : map (λ n. Some (value_of names n)) numbers ≡ map (λ v. Some v) contents = map_both (value_of names) numbers ∙ ap (map (λ v. Some v)) r in (
       h.at,
       v ∙ h.is,
       record {
@@ -352,3 +351,15 @@ named_back structs heap defs fit g by block meets within =
       named = named_from heap defs g m by.def by.rule contents by.defined by.listed refl held (parts_fit g by.def by.rule contents (names_at g by.rule contents) p) ∙ ap (λ l. Some (record { rule = by.rule; names = l })) (sym same);
       takes = block_takes g.at by.rule.contents by.names block by.rule.block meets first;
     }
+
+block_there : (heap : Heap) (value : ℤ) (contents : List ℤ) (o : Option StructId) (taken : Option ℕ) → contents_at heap value o ≡ Some contents → block_for o value ≡ taken → (at : ℕ) → taken ≡ Some at → (b : Block) × (map.get heap at ≡ Some b)
+block_there heap value contents None taken c e at t = cc
+block_there heap value contents (Some shape) taken c e at t =
+    let h = held_is heap value shape contents c in
+    let same : Some h.at ≡ Some at = sym (ap address_of h.is) ∙ (e ∙ t) in
+    let own : at ≡ h.at = cc in
+    (record { shape = shape.0; fields = map (λ v. Some v) contents }, ap (map.get heap) own ∙ h.block)
+
+-- what a mark takes is a block
+pub taken_block : (heap : Heap) (defs : List Def) (g : Goal) (m : Mark) → Parts heap defs g m → (at : ℕ) → m.block ≡ Some at → (b : Block) × (map.get heap at ≡ Some b)
+taken_block heap defs g m p at e = block_there heap g.at p.contents p.rule.block m.block p.held p.block at e

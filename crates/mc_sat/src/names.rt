@@ -156,11 +156,7 @@ fn push_defined(names: &mut Vec<i64>, fields: &[Option<i64>]) -> Result<bool, No
 pub fn address_of(value: i64) -> Option<u64>
     ensures { result ≡ address_of value }
 {
-    if value < 0 {
-        None
-    } else {
-        Some(value as u64)
-    }
+    if value < 0 { None } else { Some(value as u64) }
 }
 
 // Adds what the block of a rule holds at a value, and answers whether it is there with every field defined.

@@ -111,16 +111,24 @@ fn push_rule(
     }
 }
 
-// The marks of rules at a value.
-fn marks_of(alloc: Global, rules: &[Rule], value: i64) -> Result<Vec<Mark>, NoMemory>
-    ensures { IfOk result (λ all. all.items ≡ marks_from value 0 rules.now) }
+// The mark of a rule at a goal.
+fn mark_of(place: usize, rule: &Rule, goal: &Goal) -> Mark
+    ensures { result ≡ record { rule = place; block = block_for rule.now.block goal.now.at } }
+{
+    Mark {
+        rule: place,
+        block: block_for(rule.block, goal.at),
+    }
+}
+
+// The marks of rules at a goal.
+#[tactic(auto, using(crate::proofs::Listed::marks_more))]
+fn marks_of(alloc: Global, rules: &[Rule], goal: &Goal) -> Result<Vec<Mark>, NoMemory>
+    ensures { IfOk result (λ all. all.items ≡ marks_from goal.now.at 0 rules.now) }
 {
     let mut all = Vec::new(alloc);
     for (place, rule) in rules.iter().enumerate() {
-        all.push(Mark {
-            rule: place,
-            block: block_for(rule.block, value),
-        })?;
+        all.push(mark_of(place, rule, goal))?;
     }
     Ok(all)
 }
@@ -177,7 +185,7 @@ impl<'a> Problem for HeapSearch<'a> {
     fn marks(&self, alloc: Global, goal: &Goal) -> Result<Vec<Mark>, NoMemory> {
         match self.defs.get(goal.pred.0 as usize) {
             None => Ok(Vec::new(alloc)),
-            Some(def) => marks_of(alloc, def.rules.as_slice(), goal.at),
+            Some(def) => marks_of(alloc, def.rules.as_slice(), goal),
         }
     }
 
