@@ -1,5 +1,5 @@
 -- What is read and written in a heap.
-use Rattle.std.specs.Prelude.{ℕ, ℤ, Option, Some, None, slice_get, slice_set, replicate, nat_eq, if◌then◌else◌}
+use Rattle.std.specs.Prelude.{ℕ, ℤ, List, Option, Some, None, slice_get, slice_set, replicate, nat_eq, if◌then◌else◌}
 use Rattle.mc_heap.specs.Heap.{Block}
 use Rattle.mc_heap.specs.declared.blocks.Read.{Read}
 use Rattle.mc_heap.specs.declared.blocks.Read.TheVariants.{Value, Undefined, Absent}
@@ -12,6 +12,11 @@ block_field block shape field = if nat_eq block.shape shape then slice_get block
 abbrev pub field_at : Option Block → ℕ → ℕ → Option (Option ℤ)
 field_at None shape field = None
 field_at (Some block) shape field = block_field block shape field
+
+-- the fields of the block at an address: none where that address is not allocated as this struct
+abbrev pub fields_at : Option Block → ℕ → Option (List (Option ℤ))
+fields_at None shape = None
+fields_at (Some block) shape = if nat_eq block.shape shape then Some block.fields else None
 
 -- how a field is answered
 abbrev pub read_of : Option (Option ℤ) → Read

@@ -1,7 +1,7 @@
 // Blocks at addresses, which are read, written, made and freed.
-ghost use Rattle.std.specs.Prelude.{◌≡◌, ◌↔◌, IsTrue, IsSome, IsNone, IsSomeAnd, IfOk, OnErr, true, false, None, replicate};
+ghost use Rattle.std.specs.Prelude.{◌≡◌, ◌↔◌, IsTrue, IsSome, IsNone, IsSomeAnd, IfOk, OnErr, true, false, None, Some, replicate, option_map};
 ghost use Rattle.std.specs.FinMap as map;
-ghost use Rattle.mc_heap.specs.Access.{block_field, field_at, read_of, with_field, fresh_block};
+ghost use Rattle.mc_heap.specs.Access.{block_field, field_at, read_of, with_field, fresh_block, fields_at};
 ghost use Rattle.mc_heap.specs.Heap.{IsAddress, HasAddresses};
 
 use std::alloc::Global;
@@ -56,6 +56,15 @@ impl Cell {
             Some(None) => Read::Undefined,
             Some(Some(value)) => Read::Value(*value),
         }
+    }
+
+    fn fields(&self, shape: u64) -> Option<&[Option<i64>]>
+        ensures { option_map (λ fields. fields.now) result ≡ fields_at (Some self.now) shape }
+    {
+        if self.shape != shape {
+            return None;
+        }
+        Some(self.fields.as_slice())
     }
 
     fn write(&mut self, shape: u64, field: u64, value: i64) -> bool
@@ -119,6 +128,16 @@ impl Heap {
             return Read::Absent;
         };
         cell.read(shape, field)
+    }
+
+    /// The fields of a block. None exactly where the address is not allocated as that struct.
+    pub fn fields(&self, address: u64, shape: u64) -> Option<&[Option<i64>]>
+        ensures { option_map (λ fields. fields.now) result ≡ fields_at (map.get self.now address) shape }
+    {
+        let Some(cell) = self.blocks.get(&address) else {
+            return None;
+        };
+        cell.fields(shape)
     }
 
     /// Writes a field, and answers whether it is there. With false nothing changes.
