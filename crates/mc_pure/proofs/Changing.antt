@@ -474,3 +474,12 @@ module _ (facts : Pure) (rows : List Row) (s : IsSound facts rows) (gone keep : 
       let eh = ap (λ (z : Row). high z) ea in
       (x.0, omega (arith, ints, x.1, k.0, el), omega (arith, ints, x.2, k.1, eh))
   put_keeps (Ne a b c) t x = absurd t
+
+  -- a row that differs is of the class that is kept
+  pub put_within : (a : NodeId) → IsNode facts.kinds a → (row_at (map (changed gone keep by lo hi) rows) a ≡ row_at rows a) ⊎ ((row_at (map (changed gone keep by lo hi) rows) a).rep ≡ keep)
+  put_within a n =
+      let e = row_after a n in
+      elim (cases gone keep by lo hi (row_at rows a)) [
+        | inl g ↦ inr (ap (λ (z : Row). z.rep) e ∙ g.rep)
+        | inr g ↦ elim g [ inl h ↦ inr (ap (λ (z : Row). z.rep) e ∙ h.rep) | inr h ↦ inl (e ∙ h.is) ]
+      ]

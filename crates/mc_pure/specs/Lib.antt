@@ -5,6 +5,7 @@ pub mod Laws
 pub mod Pure
 pub mod Normal
 pub mod Rows
+pub mod Scopes
 pub mod Steps
 pub mod Nodes
 pub mod Known

@@ -16,6 +16,7 @@ mod close;
 mod known;
 mod nodes;
 mod rows;
+mod scope;
 mod steps;
 mod whole;
 

@@ -31,11 +31,11 @@ pub struct Span {
     pub hi: i128,
 }
 
-/// What a step did. `False` says that what is known can't be true.
+/// What a step did: which class it changed, if any. `False` says that what is known can't be true.
 #[derive(Clone, Copy)]
 pub enum Outcome {
     Same,
-    Changed,
+    Changed(NodeId),
     False,
 }
 

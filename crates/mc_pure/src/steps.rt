@@ -258,7 +258,7 @@ pub fn act(rows: &mut [Row], step: &Step) -> Outcome
         Step::Empty => Outcome::False,
         Step::To(change) => {
             put(rows, change);
-            Outcome::Changed
+            Outcome::Changed(change.keep)
         }
     }
 }

@@ -10,7 +10,7 @@ ghost use Rattle.mc_pure.specs.Known.{nothing, with_node, with_atom, with_start,
 
 use crate::ask::{self, Term, distance, span_less};
 use crate::classes::{ClassPlace, place_of};
-use crate::close::{address, close, finish, include, include_tie, row_of, start, start_row};
+use crate::close::{close, finish, include, include_start, row_of, start, start_row};
 use crate::known::{Known, remove_first};
 use crate::nodes::Nodes;
 use crate::rows::Row;
@@ -173,8 +173,7 @@ impl Pure {
     {
         self.known.starts.push(at)?;
         if !self.wrong {
-            let atom = address(at);
-            self.wrong = include_tie(&self.known, self.rows.as_mut_slice(), &atom);
+            self.wrong = include_start(&self.known, self.rows.as_mut_slice(), at);
         }
         Ok(())
     }
