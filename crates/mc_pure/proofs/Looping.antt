@@ -15,6 +15,8 @@ use Rattle.mc_pure.specs.declared.rows.Outcome.{Outcome}
 use Rattle.mc_pure.specs.declared.rows.Outcome.TheVariants.{Same, Changed, False}
 use Rattle.mc_pure.specs.declared.scope.Scope.{Scope}
 use Rattle.mc_pure.specs.declared.scope.Scope.TheVariants.{All, Class}
+use Rattle.mc_pure.specs.Atoms.{apart_of}
+use Rattle.mc_pure.proofs.Parting.{from_apart, to_apart}
 use Rattle.mc_pure.specs.Scopes.{IsWithin, Touches, SettledElsewhere, SettledElsewhereBut}
 use Rattle.mc_pure.specs.Rows.{row_at, Over, IsSound, IsTie, Keeps, Settled, Lighter, Stepped}
 use Rattle.mc_pure.specs.Steps.{IsStable, HasTies, HasKinds, Enforced, TiesBelow, Ties, AddressesBelow, Addresses, WrittenBelow, Written, PairSettled, StartBelow, StartSettled, StartWithin, StartsBelow, Starts}
@@ -41,6 +43,11 @@ all xs P n le below i x g = let w = slice_get_within xs i x g in below i x (omeg
 pub base_at : (p : Pure) (xs : List Atom) (i : ℕ) (d : Atom) → xs ≡ p.written → i < length xs → Base p (get_or xs i d)
 base_at p xs i d e lt = written i (subst (λ (z : List Atom). slice_get z i ≡ Some (get_or xs i d)) e (slice_get-get_or xs i d lt))
 
+pub apart_base : (p : Pure) (xs : List Atom) (i : ℕ) (d : Atom) → xs ≡ apart_of p.written → i < length xs → Base p (get_or xs i d)
+apart_base p xs i d e lt =
+    let k = from_apart p.written i (get_or xs i d) (subst (λ (z : List Atom). slice_get z i ≡ Some (get_or xs i d)) e (slice_get-get_or xs i d lt)) in
+    written k.0 k.1
+
 pub start_at : (p : Pure) (xs : List NodeId) (i : ℕ) (d : NodeId) → xs ≡ p.starts → i < length xs → slice_get p.starts i ≡ Some (get_or xs i d)
 start_at p xs i d e lt = subst (λ (z : List NodeId). slice_get z i ≡ Some (get_or xs i d)) e (slice_get-get_or xs i d lt)
 
@@ -51,13 +58,13 @@ pub same_start : (p : Pure) (xs : List NodeId) (i : ℕ) (d x : NodeId) → xs �
 same_start p xs i d x e lt g = at_index xs i i x d lt refl (subst (λ (z : List NodeId). slice_get z i ≡ Some x) (sym e) g)
 
 -- loops that look
-pub written_more : (p : Pure) (rows now new : List Row) (xs : List Atom) (i : ℕ) (d : Atom) → xs ≡ p.written → i < length xs → (now ≡ rows) × WrittenBelow p rows i → (new ≡ now) × Settled p now (get_or xs i d) → (new ≡ rows) × WrittenBelow p rows (i + 1)
+pub written_more : (p : Pure) (rows now new : List Row) (xs : List Atom) (i : ℕ) (d : Atom) → xs ≡ apart_of p.written → i < length xs → (now ≡ rows) × WrittenBelow p rows i → (new ≡ now) × Settled p now (get_or xs i d) → (new ≡ rows) × WrittenBelow p rows (i + 1)
 written_more p rows now new xs i d e lt a b =
     let here : Settled p rows (get_or xs i d) = subst (λ (z : List Row). Settled p z (get_or xs i d)) a.0 b.1 in
     (b.0 ∙ a.0, subst (λ (z : List Atom). (k : ℕ) (f : Atom) → k < i + 1 → slice_get z k ≡ Some f → Settled p rows f) e (more xs (λ f. Settled p rows f) i d lt (subst (λ (z : List Atom). (k : ℕ) (f : Atom) → k < i → slice_get z k ≡ Some f → Settled p rows f) (sym e) a.1) here))
 
-pub written_all : (p : Pure) (rows now : List Row) (xs : List Atom) (i : ℕ) → xs ≡ p.written → length xs ≤ i → (now ≡ rows) × WrittenBelow p rows i → (now ≡ rows) × Written p rows
-written_all p rows now xs i e le a = (a.0, all p.written (λ f. Settled p rows f) i (subst (λ (z : List Atom). length z ≤ i) e le) a.1)
+pub written_all : (p : Pure) (rows now : List Row) (xs : List Atom) (i : ℕ) → xs ≡ apart_of p.written → length xs ≤ i → (now ≡ rows) × WrittenBelow p rows i → (now ≡ rows) × Written p rows
+written_all p rows now xs i e le a = (a.0, all (apart_of p.written) (λ f. Settled p rows f) i (subst (λ (z : List Atom). length z ≤ i) e le) a.1)
 
 pub pair_settled : (p : Pure) (rows : List Row) (xs : List NodeId) (i j : ℕ) (d : NodeId) → xs ≡ p.starts → i < length xs → j < length xs → Settled p rows (Ne (get_or xs i d) (get_or xs j d) (pos 0)) → PairSettled p rows i j
 pair_settled p rows xs i j d e li lj h a b ne f g =
@@ -109,8 +116,13 @@ module _ (p : Pure) (rows : List Row) (scope : Scope) (rest : SettledElsewhere p
   tied (In a l h) t x = elim (rest (In a l h) x) [ inl k ↦ k | inr k ↦ absurd k ]
   tied (Ne a b c) t x = absurd t
 
+  written_at : Written p rows → (place : ℕ) (f : Atom) → slice_get p.written place ≡ Some f → Settled p rows f
+  written_at w place (Eq a b c) e = tied (Eq a b c) tt (written place e)
+  written_at w place (In a l h) e = tied (In a l h) tt (written place e)
+  written_at w place (Ne a b c) e = let k = to_apart p.written place (Ne a b c) refl e in w k.0 (Ne a b c) k.1
+
   stable_at : Written p rows → (f : Atom) → Base p f → Settled p rows f
-  stable_at w f (written place e) = w place f e
+  stable_at w f (written place e) = written_at w place f e
   stable_at w _ begin.zero = tied (In null (pos 0) (pos 0)) tt begin.zero
   stable_at w _ (kind {n} {k} place e) = tied (kind_atom n k) tt (kind place e)
   stable_at w _ (block {a} place e) = tied (address_atom a) tt (block place e)

@@ -14,7 +14,7 @@ use Rattle.mc_pure.specs.Steps.{IsStable}
 
 -- what is known
 abbrev pub pure_of : Known → Pure
-pure_of k = record { kinds = k.nodes; written = k.written.items; starts = k.starts.items }
+pure_of k = record { kinds = k.nodes; written = k.written; starts = k.starts.items }
 
 -- the written atoms are well formed, and blocks start at nodes
 pub record IsFit (p : Pure) : Type 0 where

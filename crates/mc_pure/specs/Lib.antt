@@ -1,3 +1,4 @@
+pub mod Atoms
 pub mod Canonical
 pub mod Derived
 pub mod Examples

@@ -16,6 +16,7 @@ use Rattle.mc_pure.specs.declared.steps.Step.{Step}
 use Rattle.mc_pure.specs.declared.steps.Step.TheVariants.{Stay, Empty, To}
 use Rattle.mc_base.specs.declared.plain.Kind.{Kind}
 use Rattle.mc_pure.specs.declared.scope.Scope.{Scope}
+use Rattle.mc_pure.specs.Atoms.{apart_of}
 use Rattle.mc_pure.specs.Scopes.{IsWithin}
 use Rattle.mc_pure.specs.Pure.{Pure, Kinds, Base, low_of, high_of, kind_atom, address_atom}
 use Rattle.mc_pure.specs.Normal.{Apart}
@@ -166,12 +167,12 @@ AddressesBelow p rows n = (i : ℕ) (a : NodeId) → i < n → slice_get p.start
 abbrev pub Addresses : Pure → List Row → Type 0
 Addresses p rows = (i : ℕ) (a : NodeId) → slice_get p.starts i ≡ Some a → Settled p rows (address_atom a)
 
--- the first written atoms are settled
+-- the first written disequalities are settled
 abbrev pub WrittenBelow : Pure → List Row → ℕ → Type 0
-WrittenBelow p rows n = (i : ℕ) (f : Atom) → i < n → slice_get p.written i ≡ Some f → Settled p rows f
+WrittenBelow p rows n = (i : ℕ) (f : Atom) → i < n → slice_get (apart_of p.written) i ≡ Some f → Settled p rows f
 
 abbrev pub Written : Pure → List Row → Type 0
-Written p rows = (i : ℕ) (f : Atom) → slice_get p.written i ≡ Some f → Settled p rows f
+Written p rows = (i : ℕ) (f : Atom) → slice_get (apart_of p.written) i ≡ Some f → Settled p rows f
 
 -- two blocks start apart
 abbrev pub PairSettled : Pure → List Row → (i j : ℕ) → Type 0
@@ -201,9 +202,9 @@ Starts p rows scope = (i : ℕ) → StartWithin p rows scope i
 abbrev pub IsGiven : Pure → List Row → (a b : Row) (c : ℤ) → Type 0
 IsGiven p rows a b c = (f : Atom) × Base p f × MovedAtom rows f a b c
 
--- a written one does
+-- a written disequality does
 abbrev pub IsGivenByWritten : Pure → List Row → (a b : Row) (c : ℤ) → Type 0
-IsGivenByWritten p rows a b c = (i : ℕ) × (f : Atom) × (slice_get p.written i ≡ Some f) × MovedAtom rows f a b c
+IsGivenByWritten p rows a b c = (i : ℕ) × (f : Atom) × (slice_get (apart_of p.written) i ≡ Some f) × MovedAtom rows f a b c
 
 -- that of the starts of two blocks does
 abbrev pub IsGivenByPair : Pure → List Row → (i j : ℕ) → (a b : Row) (c : ℤ) → Type 0

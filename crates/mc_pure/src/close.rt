@@ -57,6 +57,18 @@ pub fn row_of(known: &Known, rows: &[Row], node: NodeId) -> Row
     }
 }
 
+/// The least node of the class of a node that is there.
+pub fn rep_of(known: &Known, rows: &[Row], node: NodeId) -> NodeId
+    requires sound { IsSound (pure_of known.now) rows.now }
+    requires there { IsNode known.now.nodes node }
+    ensures { result ≡ (row_at rows.now node).rep }
+{
+    match known.nodes.place(node) {
+        Some(place) => rows[place].rep,
+        None => node,
+    }
+}
+
 /// Meets a node's range with one that follows.
 pub fn restrict(known: &Known, rows: &mut [Row], node: NodeId, span: &Span) -> Outcome
     requires sound { IsSound (pure_of known.now) rows.old }
@@ -169,7 +181,7 @@ fn enforce_written(known: &Known, rows: &mut [Row]) -> bool
     ensures yes { result ≡ true → Enforced (pure_of known.now) rows.old rows.new (Ties (pure_of known.now) rows.new) }
     ensures no { result ≡ false → IsFalse (pure_of known.now) }
 {
-    for atom in known.written.as_slice() {
+    for atom in known.written.all() {
         if !enforce(known, rows, atom) {
             return false;
         }
@@ -240,7 +252,7 @@ fn recheck_written(known: &Known, rows: &mut [Row], scope: &Scope) -> Outcome
     requires rest { SettledElsewhere (pure_of known.now) rows.old scope.now }
     ensures { Stepped (pure_of known.now) rows.old rows.new (Written (pure_of known.now) rows.old) result }
 {
-    for atom in known.written.as_slice() {
+    for atom in known.written.apart() {
         match recheck(known, rows, atom, scope) {
             Outcome::Same => {}
             Outcome::Changed(class) => return Outcome::Changed(class),

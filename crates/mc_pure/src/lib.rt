@@ -11,6 +11,7 @@ ghost use Rattle.mc_pure.specs.Classes.{NormalSaysAll};
 ghost use Rattle.mc_pure.specs.Examples.{node, known, values, at_one, at_null, between};
 
 mod ask;
+mod atoms;
 mod classes;
 mod close;
 mod known;

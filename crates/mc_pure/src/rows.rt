@@ -1,5 +1,5 @@
 // Rows: what is known of each node, as an offset from the least node of its class.
-ghost use Rattle.std.specs.Prelude.{◌≡◌, map};
+ghost use Rattle.std.specs.Prelude.{◌≡◌, map, false};
 ghost use Rattle.mc_pure.specs.Rows.{At, IsSmall, changed_by};
 
 use mc_base::NodeId;
@@ -66,6 +66,24 @@ pub fn moved(row: Row, change: &Change) -> Row
     }
 }
 
+/// Whether a change concerns a row.
+fn concerns(change: &Change, row: &Row) -> bool
+    ensures no { result ≡ false → changed_by change.now row.now ≡ row.now }
+{
+    row.rep.0 == change.gone.0 || row.rep.0 == change.keep.0
+}
+
+/// Changes a row.
+fn change_row(row: &mut Row, change: &Change)
+    requires off { IsSmall row.old.off }
+    requires by { IsSmall change.now.by }
+    ensures { row.new ≡ changed_by change.now row.old }
+{
+    if concerns(change, row) {
+        *row = moved(*row, change);
+    }
+}
+
 /// Changes every row.
 pub fn put(rows: &mut [Row], change: &Change)
     requires offs { (r : _) → At rows.old r → IsSmall r.off }
@@ -73,6 +91,6 @@ pub fn put(rows: &mut [Row], change: &Change)
     ensures { rows.new ≡ map (changed_by change.now) rows.old }
 {
     for row in rows.iter_mut() {
-        *row = moved(*row, change);
+        change_row(row, change);
     }
 }

@@ -12,4 +12,4 @@ step f rows before i d r lt inv e =
 
 pub loop-row-preserved : goal.loop-row-preserved
 loop-row-preserved c =
-    step (changed_by c.args.change.now) c.loop-row.rows c.args.rows.now c.loop-row.row-index _ c.moved.result (omega (arith, c.loop-row.auto.rows, c.loop-row-test.true)) c.loop-row.invariant c.moved.ensures
+    step (changed_by c.args.change.now) c.loop-row.rows c.args.rows.now c.loop-row.row-index _ c.change_row.new.row (omega (arith, c.loop-row.auto.rows, c.loop-row-test.true)) c.loop-row.invariant c.change_row.ensures
