@@ -33,6 +33,7 @@ impl Model for Nodes {
 }
 
 /// The place of the node, or where it belongs.
+#[inline(never)]
 fn place_in(nodes: &[NodeId], node: NodeId) -> usize
     requires { DoRise nodes.now }
     ensures place { IsPlace nodes.now node result }
@@ -129,6 +130,7 @@ impl Nodes {
     }
 
     /// The place of a node among all.
+    #[inline(always)]
     pub fn place(&self, node: NodeId) -> Option<usize>
         ensures at { MatchOption result (IsNode self.now node → ⊥) (λ i. slice_get (nodes_of self.now) i ≡ Some node) }
         ensures there { IfSome result (λ _. IsNode self.now node) }
