@@ -417,6 +417,20 @@ there [] i d h = absurd (omega arith)
 there (q ∷ rows) zero d h = refl
 there (q ∷ rows) (suc i) d h = there rows i d (omega arith)
 
+-- the first rows stay as they are
+pub still_first : (f : Row → Row) (rows : List Row) (n : ℕ) → ((i : ℕ) (r : Row) → i < n → slice_get rows i ≡ Some r → f r ≡ r) → rows ≡ map f (take n rows) ++ drop n rows
+still_first f [] zero h = refl
+still_first f [] (suc n) h = refl
+still_first f (q ∷ rows) zero h = refl
+still_first f (q ∷ rows) (suc n) h =
+    let here : f q ≡ q = h zero q (omega arith) refl in
+    let rest : rows ≡ map f (take n rows) ++ drop n rows = still_first f rows n (λ i r l e. h (suc i) r (omega arith) e) in
+    cc
+
+-- a row of another class
+pub not_changed : (gone keep : NodeId) (by lo hi : ℤ) (q : Row) → q.rep ≢ gone → q.rep ≢ keep → changed gone keep by lo hi q ≡ q
+not_changed gone keep by lo hi q a b = elim (cases gone keep by lo hi q) [ inl g ↦ absurd (a g.was) | inr g ↦ elim g [ inl h ↦ absurd (b h.was) | inr h ↦ h.is ] ]
+
 -- what stays settled
 module _ (facts : Pure) (rows : List Row) (s : IsSound facts rows) (gone keep : NodeId) (by lo hi : ℤ) (p : CanPut facts rows gone keep by lo hi) where
   abbrev after : Row → Row

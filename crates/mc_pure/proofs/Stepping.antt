@@ -18,8 +18,8 @@ use Rattle.mc_pure.specs.Pure.{Pure, IsNode, Base}
 use Rattle.mc_pure.specs.Derived.{Follows, IsFalse, base, turned, chained, differs, differs_along, raised, lowered, apart}
 use Rattle.mc_pure.specs.Normal.{low, high}
 use Rattle.mc_pure.specs.Rows.{row_at, At, RowSound, Over, IsSound, IsSmall, IsShort, changed_by, CanPut, Settled, Stepped, Lighter}
-use Rattle.mc_pure.specs.Steps.{CutIs, JoinIs, ActIs, SmallStep, WithoutIs, SplitIs, IsTame, LinkIs}
-use Rattle.mc_pure.proofs.Changing.{has_row, put_sound, put_lighter, put_keeps, put_within, offset_small, restrict_empty, restrict_put, restrict_pin, merge_empty, merge_put, merge_pin, clash, eq_at, in_at}
+use Rattle.mc_pure.specs.Steps.{CutIs, JoinIs, ActIs, SmallStep, WithoutIs, SplitIs, IsTame, IsDownward, LinkIs}
+use Rattle.mc_pure.proofs.Changing.{has_row, number, put_sound, put_lighter, put_keeps, put_within, offset_small, restrict_empty, restrict_put, restrict_pin, merge_empty, merge_put, merge_pin, clash, eq_at, in_at}
 
 -- the row of a node
 pub here : (facts : Pure) (rows : List Row) (a : NodeId) → IsSound facts rows → IsNode facts.kinds a → At rows (row_at rows a) × ((row_at rows a).node ≡ a)
@@ -111,6 +111,27 @@ small_join up down b (To g) t s c =
       | inl x ↦ (let e = x.2.by_is in (omega (arith, ints, clamps), omega (arith, ints, clamps)))
       | inr x ↦ (let e = x.1.by_is in (omega (arith, ints), omega (arith, ints)))
     ]
+
+-- classes go downward
+pub cut_downward : (r : Row) (l h : ℤ) (step : Step) → CutIs r l h step → IsDownward step
+cut_downward r l h Stay c = tt
+cut_downward r l h Empty c = tt
+cut_downward r l h (To g) c = elim c.2 [
+  | inl x ↦ omega (arith, number x.1.keep_is)
+  | inr x ↦ omega (arith, number x.1.keep_is, number x.1.gone_is)
+]
+
+join_downward : (up down : Row) (b : ℤ) (g : Change) → down.rep.0 < up.rep.0 → JoinIs up down b (To g) → IsDownward (To g)
+join_downward up down b g w c = elim c.1 [
+  | inl x ↦ omega (arith, number x.2.keep_is)
+  | inr x ↦ omega (arith, w, number x.1.keep_is, number x.1.gone_is)
+]
+
+pub link_downward : (r t : Row) (c : ℤ) (step : Step) → LinkIs r t c step → IsDownward step
+link_downward r t c Stay k = tt
+link_downward r t c Empty k = tt
+link_downward r t c (To g) (inl k) = join_downward r t _ g k.0 k.1
+link_downward r t c (To g) (inr k) = join_downward t r _ g k.0 k.1
 
 -- the representatives' offset
 pub reps_offset : (facts : Pure) (rows : List Row) (a b : NodeId) (c : ℤ) (r t : Row) → IsSound facts rows → IsNode facts.kinds a → IsNode facts.kinds b → r ≡ row_at rows a → t ≡ row_at rows b → Follows facts (Eq a b c) → Follows facts (Eq r.rep t.rep ((t.off +ℤ c) -ℤ r.off))

@@ -80,6 +80,10 @@ changed gone keep by lo hi r =
 abbrev pub changed_by : Change → Row → Row
 changed_by c r = changed c.gone c.keep c.by c.lo c.hi r
 
+-- a change leaves the first rows as they are
+abbrev pub StayBelow : Change → List Row → ℕ → Type 0
+StayBelow c rows n = (i : ℕ) (r : Row) → i < n → slice_get rows i ≡ Some r → changed_by c r ≡ r
+
 abbrev pub span : ℤ → ℕ
 span (pos n) = n
 span (negsuc n) = 0

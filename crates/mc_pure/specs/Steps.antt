@@ -1,5 +1,5 @@
 -- What the small steps answer.
-use Rattle.std.specs.Prelude.{◌≡◌, ◌≢◌, ℕ, ℤ, pos, ◌+ℤ◌, ◌-ℤ◌, ◌≤ℤ◌, ◌<ℤ◌, ◌⊎◌, ◌<◌, neg_ℤ, List, ◌∷◌, Some, slice_get, map}
+use Rattle.std.specs.Prelude.{◌≡◌, ◌≢◌, ℕ, ℤ, pos, ◌+ℤ◌, ◌-ℤ◌, ◌≤ℤ◌, ◌<ℤ◌, ◌⊎◌, ◌<◌, ◌≤◌, neg_ℤ, List, ◌∷◌, Some, slice_get, map}
 use Rattle.std.specs.Int.{int_max, int_min}
 use Rattle.mc_base.specs.declared.ids.NodeId.{NodeId}
 use Rattle.mc_base.specs.declared.plain.Atom.{Atom}
@@ -70,6 +70,12 @@ abbrev pub SmallStep : Step → (ℤ → Type 0) → Type 0
 SmallStep Stay P = Unit {0}
 SmallStep Empty P = Unit {0}
 SmallStep (To c) P = P c.by
+
+-- a class goes into one whose least node is less
+abbrev pub IsDownward : Step → Type 0
+IsDownward Stay = Unit {0}
+IsDownward Empty = Unit {0}
+IsDownward (To c) = c.keep.0 ≤ c.gone.0
 
 abbrev pub ActIs : Step → (before now : List Row) → Outcome → Type 0
 ActIs Stay before now Same = now ≡ before

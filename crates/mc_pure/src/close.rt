@@ -1,19 +1,19 @@
 // Closing: rows that say all that follows from what is known.
-ghost use Rattle.std.specs.Prelude.{◌≡◌, ◌⊎◌, ℤ, ℕ, ◌<◌, MatchOption, IfOk, length, true, false, Some, slice_get, pos};
+ghost use Rattle.std.specs.Prelude.{◌≡◌, ◌⊎◌, ℤ, ℕ, ◌<◌, ◌≤◌, MatchOption, IfOk, length, true, false, Some, slice_get, pos};
 ghost use Rattle.mc_base.specs.declared.plain.Atom.TheVariants.{Eq, Ne, In};
 ghost use Rattle.mc_pure.specs.Pure.{IsNode, Base, address_atom, low_of, high_of};
 ghost use Rattle.mc_pure.specs.Derived.{Follows, IsFalse};
-ghost use Rattle.mc_pure.specs.Rows.{row_at, lone_row, IsSmall, IsShort, IsSound, Settled, Stepped, Keeps};
+ghost use Rattle.mc_pure.specs.Rows.{At, row_at, lone_row, StayBelow, IsSmall, IsShort, IsSound, Settled, Stepped, Keeps};
 ghost use Rattle.mc_pure.specs.Nodes.{RiseFrom};
-ghost use Rattle.mc_pure.specs.Steps.{IsTame, IsStable, HasTies, HasKinds, Enforced, Ties, Addresses, Written, Starts, StartSettled, StartWithin, PairSettled, start_rows, kind_row};
+ghost use Rattle.mc_pure.specs.Steps.{ActIs, SmallStep, IsDownward, IsTame, IsStable, HasTies, HasKinds, Enforced, Ties, Addresses, Written, Starts, StartSettled, StartWithin, PairSettled, start_rows, kind_row};
 ghost use Rattle.mc_pure.specs.Scopes.{IsWithin, SettledElsewhere, SettledElsewhereBut};
 ghost use Rattle.mc_pure.specs.declared.scope.Scope.TheVariants.{Class};
 ghost use Rattle.mc_pure.specs.Known.{IsFit, IsClosed, SettledBut, pure_of};
 
 use crate::known::Known;
-use crate::rows::{Outcome, Row, Span};
+use crate::rows::{Change, Outcome, Row, Span, put};
 use crate::scope::{Scope, is_within, widened};
-use crate::steps::{Split, act, cut, link, split_of};
+use crate::steps::{Split, Step, cut, link, split_of};
 use mc_base::{Atom, Kind, NoMemory, NodeId};
 use std::alloc::Global;
 
@@ -69,6 +69,37 @@ pub fn rep_of(known: &Known, rows: &[Row], node: NodeId) -> NodeId
     }
 }
 
+/// The place of the first row that a change may concern.
+fn first_of(known: &Known, rows: &[Row], change: &Change) -> usize
+    requires sound { IsSound (pure_of known.now) rows.now }
+    requires order { change.now.keep.0 ≤ change.now.gone.0 }
+    ensures { StayBelow change.now rows.now result }
+{
+    match known.nodes.place(change.keep) {
+        Some(place) => place,
+        None => 0,
+    }
+}
+
+/// Does a step.
+fn act(known: &Known, rows: &mut [Row], step: &Step) -> Outcome
+    requires sound { IsSound (pure_of known.now) rows.old }
+    requires offs { (r : _) → At rows.old r → IsSmall r.off }
+    requires by { SmallStep step.now (λ b. IsSmall b) }
+    requires order { IsDownward step.now }
+    ensures { ActIs step.now rows.old rows.new result }
+{
+    match step {
+        Step::Stay => Outcome::Same,
+        Step::Empty => Outcome::False,
+        Step::To(change) => {
+            let first = first_of(known, rows, change);
+            put(rows, first, change);
+            Outcome::Changed(change.keep)
+        }
+    }
+}
+
 /// Meets a node's range with one that follows.
 pub fn restrict(known: &Known, rows: &mut [Row], node: NodeId, span: &Span) -> Outcome
     requires sound { IsSound (pure_of known.now) rows.old }
@@ -80,7 +111,7 @@ pub fn restrict(known: &Known, rows: &mut [Row], node: NodeId, span: &Span) -> O
 {
     let row = row_of(known, rows, node);
     let step = cut(&row, span);
-    act(rows, &step)
+    act(known, rows, &step)
 }
 
 /// Makes two nodes one class, at an offset that follows.
@@ -95,7 +126,7 @@ pub fn equate(known: &Known, rows: &mut [Row], a: NodeId, b: NodeId, c: i128) ->
     let left = row_of(known, rows, a);
     let right = row_of(known, rows, b);
     let step = link(&left, &right, c);
-    act(rows, &step)
+    act(known, rows, &step)
 }
 
 /// Narrows where a disequality that follows asks for it.

@@ -134,6 +134,7 @@ impl Nodes {
     pub fn place(&self, node: NodeId) -> Option<usize>
         ensures at { MatchOption result (IsNode self.now node → ⊥) (λ i. slice_get (nodes_of self.now) i ≡ Some node) }
         ensures there { IfSome result (λ _. IsNode self.now node) }
+        ensures rise { DoRise (nodes_of self.now) }
     {
         let nodes = self.nodes.as_slice();
         let near = node.0 as usize;

@@ -1,6 +1,6 @@
 // Rows: what is known of each node, as an offset from the least node of its class.
 ghost use Rattle.std.specs.Prelude.{◌≡◌, map, false};
-ghost use Rattle.mc_pure.specs.Rows.{At, IsSmall, changed_by};
+ghost use Rattle.mc_pure.specs.Rows.{At, IsSmall, StayBelow, changed_by};
 
 use mc_base::NodeId;
 
@@ -84,13 +84,14 @@ fn change_row(row: &mut Row, change: &Change)
     }
 }
 
-/// Changes every row.
-pub fn put(rows: &mut [Row], change: &Change)
+/// Changes every row, where the first ones stay as they are.
+pub fn put(rows: &mut [Row], first: usize, change: &Change)
     requires offs { (r : _) → At rows.old r → IsSmall r.off }
     requires by { IsSmall change.now.by }
+    requires stay { StayBelow change.now rows.old first }
     ensures { rows.new ≡ map (changed_by change.now) rows.old }
 {
-    for row in rows.iter_mut() {
-        change_row(row, change);
+    for i in first..rows.len() {
+        change_row(&mut rows[i], change);
     }
 }
