@@ -99,10 +99,10 @@ pub record Other (gone keep : NodeId) (q r : Row) : Type 0 where
   pub not_keep : q.rep ≢ keep
   pub is : r ≡ q
 
-abbrev Case : NodeId → NodeId → ℤ → ℤ → ℤ → Row → Row → Type 0
+abbrev pub Case : NodeId → NodeId → ℤ → ℤ → ℤ → Row → Row → Type 0
 Case gone keep by lo hi q r = Gone gone keep by lo hi q r ⊎ (Kept gone keep lo hi q r ⊎ Other gone keep q r)
 
-cases : (gone keep : NodeId) (by lo hi : ℤ) (q : Row) → Case gone keep by lo hi q (changed gone keep by lo hi q)
+pub cases : (gone keep : NodeId) (by lo hi : ℤ) (q : Row) → Case gone keep by lo hi q (changed gone keep by lo hi q)
 cases gone keep by lo hi q =
     let whole : Row = record { node = q.node; rep = keep; off = q.off +ℤ by; lo = lo; hi = hi } in
     let part : Row = record { node = q.node; rep = q.rep; off = q.off; lo = lo; hi = hi } in

@@ -113,25 +113,36 @@ small_join up down b (To g) t s c =
     ]
 
 -- classes go downward
-pub cut_downward : (r : Row) (l h : ℤ) (step : Step) → CutIs r l h step → IsDownward step
-cut_downward r l h Stay c = tt
-cut_downward r l h Empty c = tt
-cut_downward r l h (To g) c = elim c.2 [
-  | inl x ↦ omega (arith, number x.1.keep_is)
-  | inr x ↦ omega (arith, number x.1.keep_is, number x.1.gone_is)
+abbrev IsZero : Row → Type 0
+IsZero r = r.rep ≡ null → (r.lo ≡ pos 0) × (r.hi ≡ pos 0)
+
+pub node_zero : (facts : Pure) (rows : List Row) (a : NodeId) (r : Row) → IsSound facts rows → IsNode facts.kinds a → r ≡ row_at rows a → IsZero r
+node_zero facts rows a r s n e = let o : RowSound facts r = rw e (s.each (row_at rows a) (here facts rows a s n).0) in o.zero
+
+pub cut_downward : (r : Row) (l h : ℤ) (step : Step) → IsZero r → CutIs r l h step → IsDownward step
+cut_downward r l h Stay z c = tt
+cut_downward r l h Empty z c = tt
+cut_downward r l h (To g) z c = elim c.2 [
+  | inl x ↦ (omega (arith, number x.1.keep_is), λ e. (x.1.lo_is, x.1.hi_is))
+  | inr x ↦
+      let full = c.0 in
+      let wide = c.1 in
+      (omega (arith, number x.1.keep_is, number x.1.gone_is), λ e. let k = z (sym x.1.keep_is ∙ e) in (omega (arith, ints, clamps, k.0, k.1, x.1.lo_is), omega (arith, ints, clamps, k.0, k.1, x.1.hi_is)))
 ]
 
-join_downward : (up down : Row) (b : ℤ) (g : Change) → down.rep.0 < up.rep.0 → JoinIs up down b (To g) → IsDownward (To g)
-join_downward up down b g w c = elim c.1 [
-  | inl x ↦ omega (arith, number x.2.keep_is)
-  | inr x ↦ omega (arith, w, number x.1.keep_is, number x.1.gone_is)
+join_downward : (up down : Row) (b : ℤ) (g : Change) → IsZero down → down.rep.0 < up.rep.0 → JoinIs up down b (To g) → IsDownward (To g)
+join_downward up down b g z w c = elim c.1 [
+  | inl x ↦ (omega (arith, number x.2.keep_is), λ e. (x.2.lo_is, x.2.hi_is))
+  | inr x ↦
+      let full = c.0 in
+      (omega (arith, w, number x.1.keep_is, number x.1.gone_is), λ e. let k = z (sym x.1.keep_is ∙ e) in (omega (arith, ints, clamps, k.0, k.1, x.1.lo_is), omega (arith, ints, clamps, k.0, k.1, x.1.hi_is)))
 ]
 
-pub link_downward : (r t : Row) (c : ℤ) (step : Step) → LinkIs r t c step → IsDownward step
-link_downward r t c Stay k = tt
-link_downward r t c Empty k = tt
-link_downward r t c (To g) (inl k) = join_downward r t _ g k.0 k.1
-link_downward r t c (To g) (inr k) = join_downward t r _ g k.0 k.1
+pub link_downward : (r t : Row) (c : ℤ) (step : Step) → IsZero r → IsZero t → LinkIs r t c step → IsDownward step
+link_downward r t c Stay z y k = tt
+link_downward r t c Empty z y k = tt
+link_downward r t c (To g) z y (inl k) = join_downward r t _ g y k.0 k.1
+link_downward r t c (To g) z y (inr k) = join_downward t r _ g z k.0 k.1
 
 -- the representatives' offset
 pub reps_offset : (facts : Pure) (rows : List Row) (a b : NodeId) (c : ℤ) (r t : Row) → IsSound facts rows → IsNode facts.kinds a → IsNode facts.kinds b → r ≡ row_at rows a → t ≡ row_at rows b → Follows facts (Eq a b c) → Follows facts (Eq r.rep t.rep ((t.off +ℤ c) -ℤ r.off))

@@ -71,11 +71,11 @@ SmallStep Stay P = Unit {0}
 SmallStep Empty P = Unit {0}
 SmallStep (To c) P = P c.by
 
--- a class goes into one whose least node is less
+-- a class goes into one whose least node is not greater, and null's class stays 0
 abbrev pub IsDownward : Step → Type 0
 IsDownward Stay = Unit {0}
 IsDownward Empty = Unit {0}
-IsDownward (To c) = c.keep.0 ≤ c.gone.0
+IsDownward (To c) = (c.keep.0 ≤ c.gone.0) × (c.keep ≡ null → (c.lo ≡ pos 0) × (c.hi ≡ pos 0))
 
 abbrev pub ActIs : Step → (before now : List Row) → Outcome → Type 0
 ActIs Stay before now Same = now ≡ before

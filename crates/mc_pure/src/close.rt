@@ -1,6 +1,7 @@
 // Closing: rows that say all that follows from what is known.
 ghost use Rattle.std.specs.Prelude.{◌≡◌, ◌⊎◌, ℤ, ℕ, ◌<◌, ◌≤◌, MatchOption, IfOk, length, true, false, Some, slice_get, pos};
 ghost use Rattle.mc_base.specs.declared.plain.Atom.TheVariants.{Eq, Ne, In};
+ghost use Rattle.mc_base.specs.Nodes.{null};
 ghost use Rattle.mc_pure.specs.Pure.{IsNode, Base, address_atom, low_of, high_of};
 ghost use Rattle.mc_pure.specs.Derived.{Follows, IsFalse};
 ghost use Rattle.mc_pure.specs.Rows.{At, row_at, lone_row, StayBelow, IsSmall, IsShort, IsSound, Settled, Stepped, Keeps};
@@ -69,13 +70,25 @@ pub fn rep_of(known: &Known, rows: &[Row], node: NodeId) -> NodeId
     }
 }
 
+/// The least node of the first class in which rows change. Those of null's class stay as they are.
+fn least_of(change: &Change) -> NodeId
+    ensures { (result ≡ change.now.keep) ⊎ ((result ≡ change.now.gone) × (change.now.keep ≡ null)) }
+{
+    if change.keep.0 == 0 {
+        change.gone
+    } else {
+        change.keep
+    }
+}
+
 /// The place of the first row that a change may concern.
 fn first_of(known: &Known, rows: &[Row], change: &Change) -> usize
     requires sound { IsSound (pure_of known.now) rows.now }
     requires order { change.now.keep.0 ≤ change.now.gone.0 }
+    requires zero { change.now.keep ≡ null → (change.now.lo ≡ pos 0) × (change.now.hi ≡ pos 0) }
     ensures { StayBelow change.now rows.now result }
 {
-    match known.nodes.place(change.keep) {
+    match known.nodes.place(least_of(change)) {
         Some(place) => place,
         None => 0,
     }

@@ -1,9 +1,7 @@
-use Rattle.std.proofs.Common.{refl, sym, subst, length, List, ◌<◌, pos}
+use Rattle.std.proofs.Common.{refl, sym, subst, length, List, ◌<◌}
 use Rattle.mc_base.specs.declared.ids.NodeId.{NodeId}
-use Rattle.mc_base.specs.declared.plain.Atom.TheVariants.{Ne}
 use Rattle.mc_pure.specs.Known.{pure_of}
 use Rattle.mc_pure.specs.Derived.{base}
-use Rattle.mc_pure.specs.Rows.{Settled}
 use Rattle.mc_pure.specs.Steps.{PairSettled}
 use Rattle.mc_pure.proofs.Looping.{pair_at, pair_settled, stepped_map}
 use Rattle.mc_pure.proofs.close.recheck_pair.Goals as goal
