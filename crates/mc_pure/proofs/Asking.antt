@@ -1,5 +1,5 @@
 -- What answers to questions say.
-use Rattle.std.proofs.Common.{◌≡◌, ◌≢◌, ℕ, ℤ, pos, ◌+ℤ◌, neg_ℤ, ◌≤ℤ◌, ◌<ℤ◌, ◌<◌, ◌≤◌, ◌+◌, ◌⊎◌, List, Some, slice_get, get_or, length, refl, sym, ◌∙◌, ap, subst, inl, inr, arith}
+use Rattle.std.proofs.Common.{◌≡◌, ◌≢◌, ℕ, ℤ, pos, ◌+ℤ◌, neg_ℤ, ◌≤ℤ◌, ◌<ℤ◌, ◌<◌, ◌≤◌, ◌+◌, ◌⊎◌, List, Some, slice_get, get_or, length, true, refl, sym, ◌∙◌, ap, subst, inl, inr, arith}
 use Rattle.std.proofs.lemmas.Int.{ints}
 use Rattle.std.proofs.lemmas.Option.{slice_get_within, slice_get-get_or}
 use Rattle.mc_base.specs.declared.ids.NodeId.{NodeId}
@@ -13,23 +13,25 @@ use Rattle.mc_pure.specs.Derived.{Follows}
 use Rattle.mc_pure.specs.Normal.{low, high, Apart}
 use Rattle.mc_pure.specs.Rows.{row_at, IsSound}
 use Rattle.mc_pure.specs.Steps.{IsStable, MovedRows, MovedAtom, IsGiven, IsGivenByWritten, IsGivenByPair, IsGivenByStart, IsGivenByStarts, DiffersAt}
+use Rattle.mc_pure.specs.Atoms.{is_apart, apart_of}
+use Rattle.mc_pure.proofs.Parting.{from_apart, to_apart}
 use Rattle.mc_pure.proofs.Looping.{split, at_index, start_at}
 use Rattle.mc_pure.proofs.Deciding.{follows, holds, listed_to, listed_from}
 
 -- written atoms
-pub written_at : (p : Pure) (rows : List Row) (xs : List Atom) (i : ℕ) (d : Atom) (a b : Row) (c : ℤ) → xs ≡ p.written → i < length xs → MovedAtom rows (get_or xs i d) a b c → IsGivenByWritten p rows a b c
+pub written_at : (p : Pure) (rows : List Row) (xs : List Atom) (i : ℕ) (d : Atom) (a b : Row) (c : ℤ) → xs ≡ apart_of p.written → i < length xs → MovedAtom rows (get_or xs i d) a b c → IsGivenByWritten p rows a b c
 written_at p rows xs i d a b c e lt m = (i, get_or xs i d, subst (λ (z : List Atom). slice_get z i ≡ Some (get_or xs i d)) e (slice_get-get_or xs i d lt), m)
 
-pub none_more : (p : Pure) (rows : List Row) (xs : List Atom) (i : ℕ) (d : Atom) (a b : Row) (c : ℤ) → xs ≡ p.written → i < length xs → ((k : ℕ) (f : Atom) → k < i → slice_get p.written k ≡ Some f → MovedAtom rows f a b c → ⊥) → (MovedAtom rows (get_or xs i d) a b c → ⊥) → (k : ℕ) (f : Atom) → k < i + 1 → slice_get p.written k ≡ Some f → MovedAtom rows f a b c → ⊥
+pub none_more : (p : Pure) (rows : List Row) (xs : List Atom) (i : ℕ) (d : Atom) (a b : Row) (c : ℤ) → xs ≡ apart_of p.written → i < length xs → ((k : ℕ) (f : Atom) → k < i → slice_get (apart_of p.written) k ≡ Some f → MovedAtom rows f a b c → ⊥) → (MovedAtom rows (get_or xs i d) a b c → ⊥) → (k : ℕ) (f : Atom) → k < i + 1 → slice_get (apart_of p.written) k ≡ Some f → MovedAtom rows f a b c → ⊥
 none_more p rows xs i d a b c e lt below here k f l g m = elim (split k i l) [
   | inl y ↦ below k f y g m
   | inr y ↦ here (subst (λ (z : Atom). MovedAtom rows z a b c) (sym (at_index xs k i f d lt y (subst (λ (z : List Atom). slice_get z k ≡ Some f) (sym e) g))) m)
 ]
 
-pub none_all : (p : Pure) (rows : List Row) (xs : List Atom) (i : ℕ) (a b : Row) (c : ℤ) → xs ≡ p.written → length xs ≤ i → ((k : ℕ) (f : Atom) → k < i → slice_get p.written k ≡ Some f → MovedAtom rows f a b c → ⊥) → IsGivenByWritten p rows a b c → ⊥
+pub none_all : (p : Pure) (rows : List Row) (xs : List Atom) (i : ℕ) (a b : Row) (c : ℤ) → xs ≡ apart_of p.written → length xs ≤ i → ((k : ℕ) (f : Atom) → k < i → slice_get (apart_of p.written) k ≡ Some f → MovedAtom rows f a b c → ⊥) → IsGivenByWritten p rows a b c → ⊥
 none_all p rows xs i a b c e le below g =
-    let w = slice_get_within p.written g.0 g.1 g.2 in
-    let l : length p.written ≤ i = subst (λ (z : List Atom). length z ≤ i) e le in
+    let w = slice_get_within (apart_of p.written) g.0 g.1 g.2 in
+    let l : length (apart_of p.written) ≤ i = subst (λ (z : List Atom). length z ≤ i) e le in
     below g.0 g.1 (omega arith) g.2 g.3
 
 -- pairs of blocks
@@ -48,10 +50,10 @@ pair_no p rows xs i j d q r a b c e li lj eq er none g =
     let y = same_start p xs j d g.1 e lj g.4 in
     none (rw (eq, er, x, y) g.5)
 
-pub class_no : (p : Pure) (rows : List Row) (xs : List NodeId) (i : ℕ) (d : NodeId) (q a : Row) → xs ≡ p.starts → i < length xs → q ≡ row_at rows (get_or xs i d) → (q.rep ≡ a.rep → ⊥) → (x : NodeId) → slice_get p.starts i ≡ Some x → (row_at rows x).rep ≢ a.rep
-class_no p rows xs i d q a e li eq none x g h =
+pub class_no : (p : Pure) (rows : List Row) (xs : List NodeId) (i : ℕ) (d rep : NodeId) (a : Row) → xs ≡ p.starts → i < length xs → rep ≡ (row_at rows (get_or xs i d)).rep → (rep ≡ a.rep → ⊥) → (x : NodeId) → slice_get p.starts i ≡ Some x → (row_at rows x).rep ≢ a.rep
+class_no p rows xs i d rep a e li eq none x g h =
     let s = same_start p xs i d x e li g in
-    none (ap (λ (z : Row). z.rep) eq ∙ ap (λ (z : NodeId). (row_at rows z).rep) s ∙ h)
+    none (eq ∙ ap (λ (z : NodeId). (row_at rows z).rep) s ∙ h)
 
 pub start_none : (p : Pure) (rows : List Row) (i : ℕ) (a b : Row) (c : ℤ) → ((x : NodeId) → slice_get p.starts i ≡ Some x → (row_at rows x).rep ≢ a.rep) → IsGivenByStart p rows i a b c → ⊥
 start_none p rows i a b c none g = none g.1.0 g.1.3 g.1.5.0
@@ -70,7 +72,7 @@ starts_all p rows n a b c le below g = let w = slice_get_within p.starts g.0 g.1
 
 -- both together
 pub by_written : (p : Pure) (rows : List Row) (a b : Row) (c : ℤ) → IsGivenByWritten p rows a b c → IsGiven p rows a b c
-by_written p rows a b c g = (g.1, written g.0 g.2, g.3)
+by_written p rows a b c g = let k = from_apart p.written g.0 g.1 g.2 in (g.1, written k.0 k.1, g.3)
 
 pub by_starts : (p : Pure) (rows : List Row) (a b : Row) (c : ℤ) → IsGivenByStarts p rows a b c → IsGiven p rows a b c
 by_starts p rows a b c g =
@@ -80,8 +82,13 @@ by_starts p rows a b c g =
 turned_rows : (x y a b : Row) (c : ℤ) → MovedRows x y (pos 0) b a (neg_ℤ c) → MovedRows y x (pos 0) a b c
 turned_rows x y a b c m = (m.1, m.0, omega (arith, ints, m.2))
 
+moved_apart : (rows : List Row) (f : Atom) (a b : Row) (c : ℤ) → MovedAtom rows f a b c → is_apart f ≡ true
+moved_apart rows (Ne x y d) a b c m = refl
+moved_apart rows (Eq x y d) a b c m = absurd m
+moved_apart rows (In x l h) a b c m = absurd m
+
 given_at : (p : Pure) (rows : List Row) (a b : Row) (c : ℤ) → (f : Atom) → Base p f → MovedAtom rows f a b c → IsGivenByWritten p rows a b c ⊎ IsGivenByStarts p rows a b c
-given_at p rows a b c f (written place e) m = inl (place, f, e, m)
+given_at p rows a b c f (written place e) m = let k = to_apart p.written place f (moved_apart rows f a b c m) e in inl (k.0, f, k.1, m)
 given_at p rows a b c _ begin.zero m = absurd m
 given_at p rows a b c _ (kind place e) m = absurd m
 given_at p rows a b c _ (block place e) m = absurd m

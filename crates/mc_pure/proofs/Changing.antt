@@ -99,10 +99,10 @@ pub record Other (gone keep : NodeId) (q r : Row) : Type 0 where
   pub not_keep : q.rep ≢ keep
   pub is : r ≡ q
 
-abbrev Case : NodeId → NodeId → ℤ → ℤ → ℤ → Row → Row → Type 0
+abbrev pub Case : NodeId → NodeId → ℤ → ℤ → ℤ → Row → Row → Type 0
 Case gone keep by lo hi q r = Gone gone keep by lo hi q r ⊎ (Kept gone keep lo hi q r ⊎ Other gone keep q r)
 
-cases : (gone keep : NodeId) (by lo hi : ℤ) (q : Row) → Case gone keep by lo hi q (changed gone keep by lo hi q)
+pub cases : (gone keep : NodeId) (by lo hi : ℤ) (q : Row) → Case gone keep by lo hi q (changed gone keep by lo hi q)
 cases gone keep by lo hi q =
     let whole : Row = record { node = q.node; rep = keep; off = q.off +ℤ by; lo = lo; hi = hi } in
     let part : Row = record { node = q.node; rep = q.rep; off = q.off; lo = lo; hi = hi } in
@@ -417,6 +417,20 @@ there [] i d h = absurd (omega arith)
 there (q ∷ rows) zero d h = refl
 there (q ∷ rows) (suc i) d h = there rows i d (omega arith)
 
+-- the first rows stay as they are
+pub still_first : (f : Row → Row) (rows : List Row) (n : ℕ) → ((i : ℕ) (r : Row) → i < n → slice_get rows i ≡ Some r → f r ≡ r) → rows ≡ map f (take n rows) ++ drop n rows
+still_first f [] zero h = refl
+still_first f [] (suc n) h = refl
+still_first f (q ∷ rows) zero h = refl
+still_first f (q ∷ rows) (suc n) h =
+    let here : f q ≡ q = h zero q (omega arith) refl in
+    let rest : rows ≡ map f (take n rows) ++ drop n rows = still_first f rows n (λ i r l e. h (suc i) r (omega arith) e) in
+    cc
+
+-- a row of another class
+pub not_changed : (gone keep : NodeId) (by lo hi : ℤ) (q : Row) → q.rep ≢ gone → q.rep ≢ keep → changed gone keep by lo hi q ≡ q
+not_changed gone keep by lo hi q a b = elim (cases gone keep by lo hi q) [ inl g ↦ absurd (a g.was) | inr g ↦ elim g [ inl h ↦ absurd (b h.was) | inr h ↦ h.is ] ]
+
 -- what stays settled
 module _ (facts : Pure) (rows : List Row) (s : IsSound facts rows) (gone keep : NodeId) (by lo hi : ℤ) (p : CanPut facts rows gone keep by lo hi) where
   abbrev after : Row → Row
@@ -474,3 +488,12 @@ module _ (facts : Pure) (rows : List Row) (s : IsSound facts rows) (gone keep : 
       let eh = ap (λ (z : Row). high z) ea in
       (x.0, omega (arith, ints, x.1, k.0, el), omega (arith, ints, x.2, k.1, eh))
   put_keeps (Ne a b c) t x = absurd t
+
+  -- a row that differs is of the class that is kept
+  pub put_within : (a : NodeId) → IsNode facts.kinds a → (row_at (map (changed gone keep by lo hi) rows) a ≡ row_at rows a) ⊎ ((row_at (map (changed gone keep by lo hi) rows) a).rep ≡ keep)
+  put_within a n =
+      let e = row_after a n in
+      elim (cases gone keep by lo hi (row_at rows a)) [
+        | inl g ↦ inr (ap (λ (z : Row). z.rep) e ∙ g.rep)
+        | inr g ↦ elim g [ inl h ↦ inr (ap (λ (z : Row). z.rep) e ∙ h.rep) | inr h ↦ inl (e ∙ h.is) ]
+      ]

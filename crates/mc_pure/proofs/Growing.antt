@@ -1,5 +1,5 @@
 -- What is known grows.
-use Rattle.std.proofs.Common.{◌≡◌, ◌↔◌, ℕ, zero, suc, ◌⊎◌, List, [], ◌∷◌, ◌++◌, Some, slice_get, length, take, drop, Bool, true, false, IsTrue, pos, refl, sym, ap, subst, inl, inr, arith}
+use Rattle.std.proofs.Common.{◌≡◌, ◌≢◌, ◌↔◌, ℕ, zero, suc, ◌⊎◌, List, [], ◌∷◌, ◌++◌, Some, slice_get, length, take, drop, Bool, true, false, IsTrue, pos, refl, sym, ap, subst, inl, inr, arith}
 use Rattle.std.proofs.lemmas.Int.{ints}
 use Rattle.mc_base.specs.declared.ids.NodeId.{NodeId}
 use Rattle.mc_base.specs.declared.plain.Atom.{Atom}
@@ -11,7 +11,9 @@ use Rattle.mc_pure.specs.Pure.{Pure, Kinds, IsNode, IsWellFormed, Base, written,
 use Rattle.mc_pure.specs.Derived.{Follows, IsFalse, Derived, HasRange, base}
 use Rattle.mc_pure.specs.Rows.{row_at, RowSound, IsSound, Settled, Over}
 use Rattle.mc_pure.specs.Steps.{IsStable}
-use Rattle.mc_pure.specs.Known.{IsFit, IsClosed, SettledBut, TiesBut}
+use Rattle.mc_pure.specs.Known.{IsFit, IsClosed, SettledBut}
+use Rattle.mc_pure.specs.declared.scope.Scope.TheVariants.{Class}
+use Rattle.mc_pure.specs.Scopes.{Touches, SettledElsewhereBut}
 use Rattle.mc_pure.proofs.True.{follows_from_more, false_from_more}
 use Rattle.mc_ranges.specs.Ends.{IsEnd}
 use Rattle.mc_pure.specs.Normal.{low, high}
@@ -166,15 +168,21 @@ module _ (kinds : Kinds) (w : List Atom) (s : List NodeId) (start : NodeId) wher
       over _ (block {a} place e) = one place a e nodes
       over _ (apart {a} {b} i j ne x y) = (one i a x nodes, one j b y nodes)
 
-  pub start_rest : (rows : List Row) → IsStable without rows → TiesBut with rows (address_atom start)
-  start_rest rows t f tie (written place e) = inl (settled_still kinds w w s (s ++ start ∷ []) rows f (t f (written place e)))
-  start_rest rows t _ tie begin.zero = inl (settled_still kinds w w s (s ++ start ∷ []) rows (In null (pos 0) (pos 0)) (t (In null (pos 0) (pos 0)) begin.zero))
-  start_rest rows t _ tie (kind {n} {k} place e) = inl (settled_still kinds w w s (s ++ start ∷ []) rows (kind_atom n k) (t (kind_atom n k) (kind place e)))
-  start_rest rows t _ tie (block {a} place e) = elim (pushed s start place a e) [
+  -- a pair of blocks, of which the last may be one
+  start_pair : (rows : List Row) → IsStable without rows → (i j : ℕ) (a b : NodeId) → i ≢ j → (slice_get s i ≡ Some a) ⊎ ((i ≡ length s) × (a ≡ start)) → (slice_get s j ≡ Some b) ⊎ ((j ≡ length s) × (b ≡ start)) → Settled with rows (Ne a b (pos 0)) ⊎ (Touches rows (Class (row_at rows start).rep) (Ne a b (pos 0)) ⊎ (Ne a b (pos 0) ≡ address_atom start))
+  start_pair rows t i j a b ne (inl x) (inl y) = inl (settled_still kinds w w s (s ++ start ∷ []) rows (Ne a b (pos 0)) (t (Ne a b (pos 0)) (apart i j ne x y)))
+  start_pair rows t i j a b ne (inr x) y = inr (inl (inl (ap (λ (z : NodeId). (row_at rows z).rep) x.1)))
+  start_pair rows t i j a b ne (inl x) (inr y) = inr (inl (inr (ap (λ (z : NodeId). (row_at rows z).rep) y.1)))
+
+  pub start_rest : (rows : List Row) → IsStable without rows → SettledElsewhereBut with rows (Class (row_at rows start).rep) (address_atom start)
+  start_rest rows t f (written place e) = inl (settled_still kinds w w s (s ++ start ∷ []) rows f (t f (written place e)))
+  start_rest rows t _ begin.zero = inl (settled_still kinds w w s (s ++ start ∷ []) rows (In null (pos 0) (pos 0)) (t (In null (pos 0) (pos 0)) begin.zero))
+  start_rest rows t _ (kind {n} {k} place e) = inl (settled_still kinds w w s (s ++ start ∷ []) rows (kind_atom n k) (t (kind_atom n k) (kind place e)))
+  start_rest rows t _ (block {a} place e) = elim (pushed s start place a e) [
     | inl k ↦ inl (settled_still kinds w w s (s ++ start ∷ []) rows (address_atom a) (t (address_atom a) (block place k)))
-    | inr k ↦ inr (ap (λ (z : NodeId). address_atom z) k.1)
+    | inr k ↦ inr (inr (ap (λ (z : NodeId). address_atom z) k.1))
   ]
-  start_rest rows t _ tie (apart i j ne x y) = absurd tie
+  start_rest rows t _ (apart {a} {b} i j ne x y) = start_pair rows t i j a b ne (pushed s start i a x) (pushed s start j b y)
 
   pub start_false : IsFalse without → IsFalse with
   start_false d = false_still kinds w w s (s ++ start ∷ []) start_grows d

@@ -2,6 +2,7 @@ pub mod True
 pub mod FourNodes
 pub mod Changing
 pub mod Clean
+pub mod Parting
 pub mod Stepping
 pub mod Placing
 pub mod Finding

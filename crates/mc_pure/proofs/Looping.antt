@@ -4,15 +4,22 @@ use Rattle.std.proofs.lemmas.Int.{ints}
 use Rattle.std.proofs.lemmas.Option.{slice_get_within, slice_get-get_or}
 use Rattle.mc_base.specs.declared.ids.NodeId.{NodeId}
 use Rattle.mc_base.specs.declared.plain.Atom.{Atom}
-use Rattle.mc_base.specs.declared.plain.Atom.TheVariants.{Ne, In}
+use Rattle.mc_base.specs.declared.plain.Atom.TheVariants.{Eq, Ne, In}
 use Rattle.mc_base.specs.Nodes.{null}
 use Rattle.mc_pure.specs.declared.rows.Row.{Row}
 use Rattle.mc_pure.specs.Pure as begin
 use Rattle.mc_pure.specs.Pure.{Pure, IsNode, Base, written, kind, block, apart, kind_atom, address_atom}
 use Rattle.mc_pure.specs.Derived.{IsFalse}
-use Rattle.mc_pure.specs.Known.{IsClosed, SettledBut, TiesBut}
-use Rattle.mc_pure.specs.Rows.{IsSound, IsTie, Keeps, Settled, Lighter}
-use Rattle.mc_pure.specs.Steps.{IsStable, HasTies, HasKinds, Enforced, TiesBelow, Ties, AddressesBelow, Addresses, WrittenBelow, Written, StartBelow, StartsBelow, Starts}
+use Rattle.mc_pure.specs.Known.{IsClosed, SettledBut}
+use Rattle.mc_pure.specs.declared.rows.Outcome.{Outcome}
+use Rattle.mc_pure.specs.declared.rows.Outcome.TheVariants.{Same, Changed, False}
+use Rattle.mc_pure.specs.declared.scope.Scope.{Scope}
+use Rattle.mc_pure.specs.declared.scope.Scope.TheVariants.{All, Class}
+use Rattle.mc_pure.specs.Atoms.{apart_of}
+use Rattle.mc_pure.proofs.Parting.{from_apart, to_apart}
+use Rattle.mc_pure.specs.Scopes.{IsWithin, Touches, SettledElsewhere, SettledElsewhereBut}
+use Rattle.mc_pure.specs.Rows.{row_at, Over, IsSound, IsTie, Keeps, Settled, Lighter, Stepped}
+use Rattle.mc_pure.specs.Steps.{IsStable, HasTies, HasKinds, Enforced, TiesBelow, Ties, AddressesBelow, Addresses, WrittenBelow, Written, PairSettled, StartBelow, StartSettled, StartWithin, StartsBelow, Starts}
 
 pub split : (i n : ℕ) → i < n + 1 → (i < n) ⊎ (i ≡ n)
 split i n l = grind arith
@@ -36,47 +43,63 @@ all xs P n le below i x g = let w = slice_get_within xs i x g in below i x (omeg
 pub base_at : (p : Pure) (xs : List Atom) (i : ℕ) (d : Atom) → xs ≡ p.written → i < length xs → Base p (get_or xs i d)
 base_at p xs i d e lt = written i (subst (λ (z : List Atom). slice_get z i ≡ Some (get_or xs i d)) e (slice_get-get_or xs i d lt))
 
+pub apart_base : (p : Pure) (xs : List Atom) (i : ℕ) (d : Atom) → xs ≡ apart_of p.written → i < length xs → Base p (get_or xs i d)
+apart_base p xs i d e lt =
+    let k = from_apart p.written i (get_or xs i d) (subst (λ (z : List Atom). slice_get z i ≡ Some (get_or xs i d)) e (slice_get-get_or xs i d lt)) in
+    written k.0 k.1
+
 pub start_at : (p : Pure) (xs : List NodeId) (i : ℕ) (d : NodeId) → xs ≡ p.starts → i < length xs → slice_get p.starts i ≡ Some (get_or xs i d)
 start_at p xs i d e lt = subst (λ (z : List NodeId). slice_get z i ≡ Some (get_or xs i d)) e (slice_get-get_or xs i d lt)
 
-pub pair_at : (p : Pure) (xs : List NodeId) (i j : ℕ) (d : NodeId) → xs ≡ p.starts → i < length xs → j < i → Base p (Ne (get_or xs i d) (get_or xs j d) (pos 0))
-pair_at p xs i j d e lt l = apart i j (λ z. omega arith) (start_at p xs i d e lt) (start_at p xs j d e (omega arith))
+pub pair_at : (p : Pure) (xs : List NodeId) (i j : ℕ) (d : NodeId) → xs ≡ p.starts → i < length xs → j < length xs → i ≢ j → Base p (Ne (get_or xs i d) (get_or xs j d) (pos 0))
+pair_at p xs i j d e li lj ne = apart i j ne (start_at p xs i d e li) (start_at p xs j d e lj)
+
+pub same_start : (p : Pure) (xs : List NodeId) (i : ℕ) (d x : NodeId) → xs ≡ p.starts → i < length xs → slice_get p.starts i ≡ Some x → get_or xs i d ≡ x
+same_start p xs i d x e lt g = at_index xs i i x d lt refl (subst (λ (z : List NodeId). slice_get z i ≡ Some x) (sym e) g)
 
 -- loops that look
-pub written_more : (p : Pure) (rows now new : List Row) (xs : List Atom) (i : ℕ) (d : Atom) → xs ≡ p.written → i < length xs → (now ≡ rows) × WrittenBelow p rows i → (new ≡ now) × Settled p now (get_or xs i d) → (new ≡ rows) × WrittenBelow p rows (i + 1)
+pub written_more : (p : Pure) (rows now new : List Row) (xs : List Atom) (i : ℕ) (d : Atom) → xs ≡ apart_of p.written → i < length xs → (now ≡ rows) × WrittenBelow p rows i → (new ≡ now) × Settled p now (get_or xs i d) → (new ≡ rows) × WrittenBelow p rows (i + 1)
 written_more p rows now new xs i d e lt a b =
     let here : Settled p rows (get_or xs i d) = subst (λ (z : List Row). Settled p z (get_or xs i d)) a.0 b.1 in
     (b.0 ∙ a.0, subst (λ (z : List Atom). (k : ℕ) (f : Atom) → k < i + 1 → slice_get z k ≡ Some f → Settled p rows f) e (more xs (λ f. Settled p rows f) i d lt (subst (λ (z : List Atom). (k : ℕ) (f : Atom) → k < i → slice_get z k ≡ Some f → Settled p rows f) (sym e) a.1) here))
 
-pub written_all : (p : Pure) (rows now : List Row) (xs : List Atom) (i : ℕ) → xs ≡ p.written → length xs ≤ i → (now ≡ rows) × WrittenBelow p rows i → (now ≡ rows) × Written p rows
-written_all p rows now xs i e le a = (a.0, all p.written (λ f. Settled p rows f) i (subst (λ (z : List Atom). length z ≤ i) e le) a.1)
+pub written_all : (p : Pure) (rows now : List Row) (xs : List Atom) (i : ℕ) → xs ≡ apart_of p.written → length xs ≤ i → (now ≡ rows) × WrittenBelow p rows i → (now ≡ rows) × Written p rows
+written_all p rows now xs i e le a = (a.0, all (apart_of p.written) (λ f. Settled p rows f) i (subst (λ (z : List Atom). length z ≤ i) e le) a.1)
 
-pub start_more : (p : Pure) (rows now new : List Row) (xs : List NodeId) (i j : ℕ) (d : NodeId) → xs ≡ p.starts → i < length xs → j < i → (now ≡ rows) × StartBelow p rows i j → (new ≡ now) × Settled p now (Ne (get_or xs i d) (get_or xs j d) (pos 0)) → (new ≡ rows) × StartBelow p rows i (j + 1)
-start_more p rows now new xs i j d e lt l a b =
-    let here : Settled p rows (Ne (get_or xs i d) (get_or xs j d) (pos 0)) = subst (λ (z : List Row). Settled p z (Ne (get_or xs i d) (get_or xs j d) (pos 0))) a.0 b.1 in
-    (b.0 ∙ a.0, at here)
-  where
-    at : Settled p rows (Ne (get_or xs i d) (get_or xs j d) (pos 0)) → StartBelow p rows i (j + 1)
-    at here k x y m f g =
-        let s : get_or xs i d ≡ x = at_index xs i i x d lt refl (subst (λ (z : List NodeId). slice_get z i ≡ Some x) (sym e) f) in
-        elim (split k j m) [
-          | inl z ↦ a.1 k x y z f g
-          | inr z ↦
-              let t : get_or xs j d ≡ y = at_index xs k j y d (omega arith) z (subst (λ (z : List NodeId). slice_get z k ≡ Some y) (sym e) g) in
-              rw (← s, ← t) here
-        ]
+pub pair_settled : (p : Pure) (rows : List Row) (xs : List NodeId) (i j : ℕ) (d : NodeId) → xs ≡ p.starts → i < length xs → j < length xs → Settled p rows (Ne (get_or xs i d) (get_or xs j d) (pos 0)) → PairSettled p rows i j
+pair_settled p rows xs i j d e li lj h a b ne f g =
+    let s = same_start p xs i d a e li f in
+    let t = same_start p xs j d b e lj g in
+    rw (← s, ← t) h
 
-pub starts_more : (p : Pure) (rows now new : List Row) (i : ℕ) → (now ≡ rows) × StartsBelow p rows i → (new ≡ now) × StartBelow p now i i → (new ≡ rows) × StartsBelow p rows (i + 1)
-starts_more p rows now new i a b = (b.0 ∙ a.0, at)
+pub pair_more : (p : Pure) (rows now new : List Row) (i j : ℕ) → (now ≡ rows) × StartBelow p rows i j → (new ≡ now) × PairSettled p now i j → (new ≡ rows) × StartBelow p rows i (j + 1)
+pair_more p rows now new i j a b = (b.0 ∙ a.0, at)
   where
-    at : StartsBelow p rows (i + 1)
-    at k l = elim (split k i l) [
+    at : StartBelow p rows i (j + 1)
+    at k l = elim (split k j l) [
       | inl z ↦ a.1 k z
-      | inr z ↦ subst (λ (n : ℕ). StartBelow p rows n n) (sym z) (subst (λ (r : List Row). StartBelow p r i i) a.0 b.1)
+      | inr z ↦ subst (λ (n : ℕ). PairSettled p rows i n) (sym z) (subst (λ (r : List Row). PairSettled p r i j) a.0 b.1)
     ]
 
-pub starts_all : (p : Pure) (rows now : List Row) (i : ℕ) → length p.starts ≤ i → (now ≡ rows) × StartsBelow p rows i → (now ≡ rows) × Starts p rows
-starts_all p rows now i le a = (a.0, λ k j x y l f g. let w = slice_get_within p.starts k x f in a.1 k (omega arith) j x y l f g)
+pub pairs_all : (p : Pure) (rows now : List Row) (i j : ℕ) → length p.starts ≤ j → (now ≡ rows) × StartBelow p rows i j → (now ≡ rows) × StartSettled p rows i
+pairs_all p rows now i j le a = (a.0, λ k x y ne f g. let w = slice_get_within p.starts k y g in a.1 k (omega arith) x y ne f g)
+
+pub start_outside : (p : Pure) (rows : List Row) (scope : Scope) (xs : List NodeId) (i : ℕ) (d : NodeId) (q : Row) → xs ≡ p.starts → i < length xs → q ≡ row_at rows (get_or xs i d) → (IsWithin scope q → ⊥) → StartWithin p rows scope i
+start_outside p rows scope xs i d q e lt eq none a f w =
+    let s = same_start p xs i d a e lt f in
+    absurd (none (rw (eq, s) w))
+
+pub starts_more : (p : Pure) (rows now new : List Row) (scope : Scope) (i : ℕ) → (now ≡ rows) × StartsBelow p rows scope i → (new ≡ now) × StartWithin p now scope i → (new ≡ rows) × StartsBelow p rows scope (i + 1)
+starts_more p rows now new scope i a b = (b.0 ∙ a.0, at)
+  where
+    at : StartsBelow p rows scope (i + 1)
+    at k l = elim (split k i l) [
+      | inl z ↦ a.1 k z
+      | inr z ↦ subst (λ (n : ℕ). StartWithin p rows scope n) (sym z) (subst (λ (r : List Row). StartWithin p r scope i) a.0 b.1)
+    ]
+
+pub starts_all : (p : Pure) (rows now : List Row) (scope : Scope) (i : ℕ) → length p.starts ≤ i → (now ≡ rows) × StartsBelow p rows scope i → (now ≡ rows) × Starts p rows scope
+starts_all p rows now scope i le a = (a.0, λ k x f w. let l = slice_get_within p.starts k x f in a.1 k (omega arith) x f w)
 
 -- a disequality without a number, turned round
 swapped : (p : Pure) (rows : List Row) (a b : NodeId) → Settled p rows (Ne a b (pos 0)) → Settled p rows (Ne b a (pos 0))
@@ -86,23 +109,80 @@ swapped p rows a b h = (
   λ e. let k = h.1 e in ((λ o. k.0 (omega (arith, ints))), (λ o. k.1 (omega (arith, ints)))),
 )
 
-stable_at : (p : Pure) (rows : List Row) → HasTies p rows → Written p rows → Starts p rows → (f : Atom) → Base p f → Settled p rows f
-stable_at p rows t w s f (written place e) = w place f e
-stable_at p rows t w s _ begin.zero = t (In null (pos 0) (pos 0)) tt begin.zero
-stable_at p rows t w s _ (kind {n} {k} place e) = t (kind_atom n k) tt (kind place e)
-stable_at p rows t w s _ (block {a} place e) = t (address_atom a) tt (block place e)
-stable_at p rows t w s _ (apart {a} {b} i j ne x y) = elim (order i j ne) [
-  | inl l ↦ s i j a b l x y
-  | inr l ↦ swapped p rows b a (s j i b a l y x)
-]
-  where
-    order : (i j : ℕ) → i ≢ j → (j < i) ⊎ (i < j)
-    order i j h = grind arith
+-- what is settled where a disequality that is looked at is
+module _ (p : Pure) (rows : List Row) (scope : Scope) (rest : SettledElsewhere p rows scope) (s : Starts p rows scope) where
+  tied : (f : Atom) → IsTie f → Base p f → Settled p rows f
+  tied (Eq a b c) t x = elim (rest (Eq a b c) x) [ inl k ↦ k | inr k ↦ absurd k ]
+  tied (In a l h) t x = elim (rest (In a l h) x) [ inl k ↦ k | inr k ↦ absurd k ]
+  tied (Ne a b c) t x = absurd t
 
-pub stable : (p : Pure) (rows now new : List Row) → IsSound p rows → HasTies p rows → (now ≡ rows) × Written p rows → (new ≡ now) × Starts p now → IsSound p new × IsStable p new
-stable p rows now new s t a b =
-    let st = subst (λ (z : List Row). Starts p z) a.0 b.1 in
-    subst (λ (z : List Row). IsSound p z × IsStable p z) (sym a.0 ∙ sym b.0) (s, stable_at p rows t a.1 st)
+  written_at : Written p rows → (place : ℕ) (f : Atom) → slice_get p.written place ≡ Some f → Settled p rows f
+  written_at w place (Eq a b c) e = tied (Eq a b c) tt (written place e)
+  written_at w place (In a l h) e = tied (In a l h) tt (written place e)
+  written_at w place (Ne a b c) e = let k = to_apart p.written place (Ne a b c) refl e in w k.0 (Ne a b c) k.1
+
+  stable_at : Written p rows → (f : Atom) → Base p f → Settled p rows f
+  stable_at w f (written place e) = written_at w place f e
+  stable_at w _ begin.zero = tied (In null (pos 0) (pos 0)) tt begin.zero
+  stable_at w _ (kind {n} {k} place e) = tied (kind_atom n k) tt (kind place e)
+  stable_at w _ (block {a} place e) = tied (address_atom a) tt (block place e)
+  stable_at w _ (apart {a} {b} i j ne x y) = elim (rest (Ne a b (pos 0)) (apart i j ne x y)) [
+    | inl k ↦ k
+    | inr k ↦ elim k [
+      | inl l ↦ s i a x l j a b ne x y
+      | inr l ↦ swapped p rows b a (s j b y l i b a (λ z. ne (sym z)) y x)
+    ]
+  ]
+
+pub stepped_map : (p : Pure) (rows now : List Row) (P Q : Type 0) (out : Outcome) → (P → Q) → Stepped p rows now P out → Stepped p rows now Q out
+stepped_map p rows now P Q Same f k = (k.0, f k.1)
+stepped_map p rows now P Q (Changed class) f k = k
+stepped_map p rows now P Q False f k = k
+
+pub all_done : (p : Pure) (rows now new : List Row) (scope : Scope) (out : Outcome) → SettledElsewhere p rows scope → (now ≡ rows) × Written p rows → Stepped p now new (Starts p now scope) out → Stepped p rows new (IsStable p rows) out
+all_done p rows now new scope out rest a b = stepped_map p rows new (Starts p rows scope) (IsStable p rows) out (λ s. stable_at p rows scope rest s a.1) (subst (λ (z : List Row). Stepped p z new (Starts p z scope) out) a.0 b)
+
+pub stable_by : (p : Pure) (rows now : List Row) → IsSound p rows → (now ≡ rows) × IsStable p rows → IsSound p now × IsStable p now
+stable_by p rows now s k = subst (λ (z : List Row). IsSound p z × IsStable p z) (sym k.0) (s, k.1)
+
+-- a change leaves what does not touch its class as it was
+module _ (p : Pure) (rows now : List Row) (class : NodeId) (scope scope' : Scope) (s : IsSound p rows) (l : Lighter p rows now class) (before : (r : Row) → IsWithin scope r → IsWithin scope' r) (more : (r : Row) → r.rep ≡ class → IsWithin scope' r) where
+  touch_step : (f : Atom) → Over (IsNode p.kinds) f → Settled p rows f ⊎ Touches rows scope f → Settled p now f ⊎ Touches now scope' f
+  touch_step (Eq a b c) n (inl k) = inl (l.keeps (Eq a b c) tt k)
+  touch_step (Eq a b c) n (inr k) = absurd k
+  touch_step (In a x y) n (inl k) = inl (l.keeps (In a x y) tt k)
+  touch_step (In a x y) n (inr k) = absurd k
+  touch_step (Ne a b c) n k = elim (l.within a n.0) [
+    | inr x ↦ inr (inl (more (row_at now a) x))
+    | inl x ↦ elim (l.within b n.1) [
+      | inr y ↦ inr (inr (more (row_at now b) y))
+      | inl y ↦ elim k [
+        | inl h ↦ inl (rw (x, y) h)
+        | inr h ↦ inr (elim h [ inl u ↦ inl (rw x (before (row_at rows a) u)) | inr u ↦ inr (rw y (before (row_at rows b) u)) ])
+      ]
+    ]
+  ]
+
+  pub elsewhere_step : SettledElsewhere p rows scope → SettledElsewhere p now scope'
+  elsewhere_step rest f b = touch_step f (s.known f b) (rest f b)
+
+  pub but_step : (g : Atom) → SettledElsewhereBut p rows scope g → SettledElsewhereBut p now scope' g
+  but_step g rest f b = elim (rest f b) [
+    | inl k ↦ split_step (touch_step f (s.known f b) (inl k))
+    | inr k ↦ elim k [
+      | inl h ↦ split_step (touch_step f (s.known f b) (inr h))
+      | inr h ↦ inr (inr h)
+    ]
+  ]
+    where
+      split_step : Settled p now f ⊎ Touches now scope' f → Settled p now f ⊎ (Touches now scope' f ⊎ (f ≡ g))
+      split_step (inl k) = inl k
+      split_step (inr k) = inr (inl k)
+
+pub all_looked_at : (p : Pure) (rows : List Row) → HasTies p rows → SettledElsewhere p rows All
+all_looked_at p rows t (Eq a b c) x = inl (t (Eq a b c) tt x)
+all_looked_at p rows t (In a l h) x = inl (t (In a l h) tt x)
+all_looked_at p rows t (Ne a b c) x = inr (inl tt)
 
 -- loops that change
 pub keeps_both : (p : Pure) (a b c : List Row) → Keeps p a b → Keeps p b c → Keeps p a c
@@ -149,19 +229,17 @@ settled_or : (p : Pure) (rows : List Row) (f g : Atom) → Settled p rows g → 
 settled_or p rows f g h (inl k) = k
 settled_or p rows f g h (inr e) = subst (λ (z : Atom). Settled p rows z) (sym e) h
 
-pub ties_with : (p : Pure) (rows now : List Row) (g : Atom) → TiesBut p rows g → Enforced p rows now (Settled p now g) → HasTies p now
-ties_with p rows now g t e f tie b = settled_or p now f g e.settled (kept (t f tie b))
+pub but_settled : (p : Pure) (rows now : List Row) (scope : Scope) (g : Atom) → SettledElsewhereBut p rows scope g → (now ≡ rows) × Settled p rows g → SettledElsewhere p now scope
+but_settled p rows now scope g rest k = subst (λ (z : List Row). SettledElsewhere p z scope) (sym k.0) at
   where
-    kept : Settled p rows f ⊎ (f ≡ g) → Settled p now f ⊎ (f ≡ g)
-    kept (inl k) = inl (e.keeps f tie k)
-    kept (inr k) = inr k
+    at : SettledElsewhere p rows scope
+    at f b = elim (rest f b) [
+      | inl h ↦ inl h
+      | inr h ↦ elim h [ inl t ↦ inr t | inr e ↦ inl (subst (λ (z : Atom). Settled p rows z) (sym e) k.1) ]
+    ]
 
 pub all_settled : (p : Pure) (rows now : List Row) (g : Atom) → IsSound p rows → SettledBut p rows g → (now ≡ rows) × Settled p rows g → IsSound p now × IsStable p now
 all_settled p rows now g s t k = subst (λ (z : List Row). IsSound p z × IsStable p z) (sym k.0) (s, (λ f b. settled_or p rows f g k.1 (t f b)))
 
-pub ties_but : (p : Pure) (rows now : List Row) (g : Atom) → SettledBut p rows g → Lighter p rows now → TiesBut p now g
-ties_but p rows now g t l f tie b = kept (t f b)
-  where
-    kept : Settled p rows f ⊎ (f ≡ g) → Settled p now f ⊎ (f ≡ g)
-    kept (inl k) = inl (l.keeps f tie k)
-    kept (inr k) = inr k
+pub class_but : (p : Pure) (rows now : List Row) (g : Atom) (class : NodeId) → IsSound p rows → SettledBut p rows g → Lighter p rows now class → SettledElsewhereBut p now (Class class) g
+class_but p rows now g class s t l = but_step p rows now class (Class class) (Class class) s l (λ r h. h) (λ r h. h) g (λ f b. elim (t f b) [ inl k ↦ inl k | inr k ↦ inr (inr k) ])

@@ -1,5 +1,5 @@
 -- The place of a node in its class.
-use Rattle.std.proofs.Common.{◌≡◌, ℤ, ◌∙◌, List, refl, sym, ap, arith}
+use Rattle.std.proofs.Common.{◌≡◌, ◌∙◌, List, refl, arith}
 use Rattle.std.proofs.lemmas.Int.{ints}
 use Rattle.mc_base.specs.declared.ids.NodeId.{NodeId}
 use Rattle.mc_base.specs.declared.plain.Atom.TheVariants.{Eq}

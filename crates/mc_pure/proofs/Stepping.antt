@@ -18,8 +18,8 @@ use Rattle.mc_pure.specs.Pure.{Pure, IsNode, Base}
 use Rattle.mc_pure.specs.Derived.{Follows, IsFalse, base, turned, chained, differs, differs_along, raised, lowered, apart}
 use Rattle.mc_pure.specs.Normal.{low, high}
 use Rattle.mc_pure.specs.Rows.{row_at, At, RowSound, Over, IsSound, IsSmall, IsShort, changed_by, CanPut, Settled, Stepped, Lighter}
-use Rattle.mc_pure.specs.Steps.{CutIs, JoinIs, ActIs, SmallStep, WithoutIs, SplitIs, IsTame, LinkIs}
-use Rattle.mc_pure.proofs.Changing.{has_row, put_sound, put_lighter, put_keeps, offset_small, restrict_empty, restrict_put, restrict_pin, merge_empty, merge_put, merge_pin, clash, eq_at, in_at}
+use Rattle.mc_pure.specs.Steps.{CutIs, JoinIs, ActIs, SmallStep, WithoutIs, SplitIs, IsTame, IsDownward, LinkIs}
+use Rattle.mc_pure.proofs.Changing.{has_row, number, put_sound, put_lighter, put_keeps, put_within, offset_small, restrict_empty, restrict_put, restrict_pin, merge_empty, merge_put, merge_pin, clash, eq_at, in_at}
 
 -- the row of a node
 pub here : (facts : Pure) (rows : List Row) (a : NodeId) → IsSound facts rows → IsNode facts.kinds a → At rows (row_at rows a) × ((row_at rows a).node ≡ a)
@@ -38,9 +38,9 @@ pub node_hi : (facts : Pure) (rows : List Row) (a : NodeId) (r : Row) → IsSoun
 node_hi facts rows a r s n e = rw e (let o = s.each (row_at rows a) (here facts rows a s n).0 in (omega (arith, ints, o.above, o.below, o.full), omega (arith, ints, o.above, o.below, o.full)))
 
 -- a legal change was made
-change_done : (facts : Pure) (rows now : List Row) (c : Change) → IsSound facts rows → CanPut facts rows c.gone c.keep c.by c.lo c.hi → now ≡ map (changed_by c) rows → Lighter facts rows now
-change_done facts rows now c s p e =
-    rw e (record { sound = put_sound facts rows s c.gone c.keep c.by c.lo c.hi p; less = put_lighter facts rows s c.gone c.keep c.by c.lo c.hi p; keeps = put_keeps facts rows s c.gone c.keep c.by c.lo c.hi p })
+change_done : (facts : Pure) (rows now : List Row) (c : Change) (class : NodeId) → IsSound facts rows → CanPut facts rows c.gone c.keep c.by c.lo c.hi → (now ≡ map (changed_by c) rows) × (class ≡ c.keep) → Lighter facts rows now class
+change_done facts rows now c class s p e =
+    rw (e.0, e.1) (record { sound = put_sound facts rows s c.gone c.keep c.by c.lo c.hi p; less = put_lighter facts rows s c.gone c.keep c.by c.lo c.hi p; keeps = put_keeps facts rows s c.gone c.keep c.by c.lo c.hi p; within = put_within facts rows s c.gone c.keep c.by c.lo c.hi p })
 
 can_at : (facts : Pure) (rows : List Row) (gone gone' keep keep' : NodeId) (by by' lo lo' hi hi' : ℤ) → gone' ≡ gone → keep' ≡ keep → by' ≡ by → lo' ≡ lo → hi' ≡ hi → CanPut facts rows gone keep by lo hi → CanPut facts rows gone' keep' by' lo' hi'
 can_at facts rows gone gone' keep keep' by by' lo lo' hi hi' a b c d e p = rw (a, b, c, d, e) p
@@ -50,10 +50,10 @@ cut_done facts rows now a l h r Stay Same s d n e small c t =
     let low_in : l ≤ℤ low r = omega (arith, ints, clamps, c.0) in
     let high_in : high r ≤ℤ h = omega (arith, ints, clamps, c.1) in
     (t, (n, rw (← e) low_in, rw (← e) high_in))
-cut_done facts rows now a l h r Stay Changed s d n e small c t = absurd t
+cut_done facts rows now a l h r Stay (Changed class) s d n e small c t = absurd t
 cut_done facts rows now a l h r Stay False s d n e small c t = absurd t
 cut_done facts rows now a l h r Empty Same s d n e small c t = absurd t
-cut_done facts rows now a l h r Empty Changed s d n e small c t = absurd t
+cut_done facts rows now a l h r Empty (Changed class) s d n e small c t = absurd t
 cut_done facts rows now a l h r Empty False s d n e small c t =
     let k = here facts rows a s n in
     let at : At rows r = rw e k.0 in
@@ -61,7 +61,7 @@ cut_done facts rows now a l h r Empty False s d n e small c t =
     restrict_empty facts rows s r at l h (in_at facts d (sym is) refl refl) _ _ refl refl c
 cut_done facts rows now a l h r (To g) Same s d n e small c t = absurd t
 cut_done facts rows now a l h r (To g) False s d n e small c t = absurd t
-cut_done facts rows now a l h r (To g) Changed s d n e small c t =
+cut_done facts rows now a l h r (To g) (Changed class) s d n e small c t =
     let k = here facts rows a s n in
     let at : At rows r = rw e k.0 in
     let is : r.node ≡ a = ap (λ (x : Row). x.node) e ∙ k.1 in
@@ -69,23 +69,23 @@ cut_done facts rows now a l h r (To g) Changed s d n e small c t =
     let lo = int_max r.lo (l -ℤ r.off) in
     let hi = int_min r.hi (h -ℤ r.off) in
     elim c.2 [
-      | inl x ↦ change_done facts rows now g s (can_at facts rows r.rep g.gone null g.keep lo g.by (pos 0) g.lo (pos 0) g.hi x.1.gone_is x.1.keep_is x.1.by_is x.1.lo_is x.1.hi_is (restrict_pin facts rows s r at l h d' lo hi refl refl c.0 c.1 x.0)) t
-      | inr x ↦ change_done facts rows now g s (can_at facts rows r.rep g.gone r.rep g.keep (pos 0) g.by lo g.lo hi g.hi x.1.gone_is x.1.keep_is x.1.by_is x.1.lo_is x.1.hi_is (restrict_put facts rows s r at l h d' lo hi refl refl c.0 c.1 x.0)) t
+      | inl x ↦ change_done facts rows now g class s (can_at facts rows r.rep g.gone null g.keep lo g.by (pos 0) g.lo (pos 0) g.hi x.1.gone_is x.1.keep_is x.1.by_is x.1.lo_is x.1.hi_is (restrict_pin facts rows s r at l h d' lo hi refl refl c.0 c.1 x.0)) t
+      | inr x ↦ change_done facts rows now g class s (can_at facts rows r.rep g.gone r.rep g.keep (pos 0) g.by lo g.lo hi g.hi x.1.gone_is x.1.keep_is x.1.by_is x.1.lo_is x.1.hi_is (restrict_put facts rows s r at l h d' lo hi refl refl c.0 c.1 x.0)) t
     ]
 
 pub join_done : (facts : Pure) (rows now : List Row) (up down : Row) (b : ℤ) (P : Type 0) (step : Step) (out : Outcome) → IsSound facts rows → Follows facts (Eq up.rep down.rep b) → At rows up → At rows down → down.rep.0 < up.rep.0 → JoinIs up down b step → ActIs step rows now out → Stepped facts rows now P out
 join_done facts rows now up down b P Stay out s d au ad w c t = absurd c
 join_done facts rows now up down b P Empty Same s d au ad w c t = absurd t
-join_done facts rows now up down b P Empty Changed s d au ad w c t = absurd t
+join_done facts rows now up down b P Empty (Changed class) s d au ad w c t = absurd t
 join_done facts rows now up down b P Empty False s d au ad w c t = merge_empty facts rows s up down au ad b d _ _ refl refl c
 join_done facts rows now up down b P (To g) Same s d au ad w c t = absurd t
 join_done facts rows now up down b P (To g) False s d au ad w c t = absurd t
-join_done facts rows now up down b P (To g) Changed s d au ad w c t =
+join_done facts rows now up down b P (To g) (Changed class) s d au ad w c t =
     let lo = int_max down.lo (up.lo -ℤ b) in
     let hi = int_min down.hi (up.hi -ℤ b) in
     elim c.1 [
-      | inl x ↦ change_done facts rows now g s (can_at facts rows up.rep g.gone null g.keep (lo +ℤ b) g.by (pos 0) g.lo (pos 0) g.hi x.2.gone_is x.2.keep_is x.2.by_is x.2.lo_is x.2.hi_is (merge_pin facts rows s up down au ad b d lo hi refl refl c.0 x.0 w)) t
-      | inr x ↦ change_done facts rows now g s (can_at facts rows up.rep g.gone down.rep g.keep b g.by lo g.lo hi g.hi x.1.gone_is x.1.keep_is x.1.by_is x.1.lo_is x.1.hi_is (merge_put facts rows s up down au ad b d lo hi refl refl c.0 x.0 w)) t
+      | inl x ↦ change_done facts rows now g class s (can_at facts rows up.rep g.gone null g.keep (lo +ℤ b) g.by (pos 0) g.lo (pos 0) g.hi x.2.gone_is x.2.keep_is x.2.by_is x.2.lo_is x.2.hi_is (merge_pin facts rows s up down au ad b d lo hi refl refl c.0 x.0 w)) t
+      | inr x ↦ change_done facts rows now g class s (can_at facts rows up.rep g.gone down.rep g.keep b g.by lo g.lo hi g.hi x.1.gone_is x.1.keep_is x.1.by_is x.1.lo_is x.1.hi_is (merge_put facts rows s up down au ad b d lo hi refl refl c.0 x.0 w)) t
     ]
 
 pub small_cut : (r : Row) (l h : ℤ) (step : Step) → IsTame r → CutIs r l h step → SmallStep step (λ b. IsSmall b)
@@ -111,6 +111,38 @@ small_join up down b (To g) t s c =
       | inl x ↦ (let e = x.2.by_is in (omega (arith, ints, clamps), omega (arith, ints, clamps)))
       | inr x ↦ (let e = x.1.by_is in (omega (arith, ints), omega (arith, ints)))
     ]
+
+-- classes go downward
+abbrev IsZero : Row → Type 0
+IsZero r = r.rep ≡ null → (r.lo ≡ pos 0) × (r.hi ≡ pos 0)
+
+pub node_zero : (facts : Pure) (rows : List Row) (a : NodeId) (r : Row) → IsSound facts rows → IsNode facts.kinds a → r ≡ row_at rows a → IsZero r
+node_zero facts rows a r s n e = let o : RowSound facts r = rw e (s.each (row_at rows a) (here facts rows a s n).0) in o.zero
+
+pub cut_downward : (r : Row) (l h : ℤ) (step : Step) → IsZero r → CutIs r l h step → IsDownward step
+cut_downward r l h Stay z c = tt
+cut_downward r l h Empty z c = tt
+cut_downward r l h (To g) z c = elim c.2 [
+  | inl x ↦ (omega (arith, number x.1.keep_is), λ e. (x.1.lo_is, x.1.hi_is))
+  | inr x ↦
+      let full = c.0 in
+      let wide = c.1 in
+      (omega (arith, number x.1.keep_is, number x.1.gone_is), λ e. let k = z (sym x.1.keep_is ∙ e) in (omega (arith, ints, clamps, k.0, k.1, x.1.lo_is), omega (arith, ints, clamps, k.0, k.1, x.1.hi_is)))
+]
+
+join_downward : (up down : Row) (b : ℤ) (g : Change) → IsZero down → down.rep.0 < up.rep.0 → JoinIs up down b (To g) → IsDownward (To g)
+join_downward up down b g z w c = elim c.1 [
+  | inl x ↦ (omega (arith, number x.2.keep_is), λ e. (x.2.lo_is, x.2.hi_is))
+  | inr x ↦
+      let full = c.0 in
+      (omega (arith, w, number x.1.keep_is, number x.1.gone_is), λ e. let k = z (sym x.1.keep_is ∙ e) in (omega (arith, ints, clamps, k.0, k.1, x.1.lo_is), omega (arith, ints, clamps, k.0, k.1, x.1.hi_is)))
+]
+
+pub link_downward : (r t : Row) (c : ℤ) (step : Step) → IsZero r → IsZero t → LinkIs r t c step → IsDownward step
+link_downward r t c Stay z y k = tt
+link_downward r t c Empty z y k = tt
+link_downward r t c (To g) z y (inl k) = join_downward r t _ g y k.0 k.1
+link_downward r t c (To g) z y (inr k) = join_downward t r _ g z k.0 k.1
 
 -- the representatives' offset
 pub reps_offset : (facts : Pure) (rows : List Row) (a b : NodeId) (c : ℤ) (r t : Row) → IsSound facts rows → IsNode facts.kinds a → IsNode facts.kinds b → r ≡ row_at rows a → t ≡ row_at rows b → Follows facts (Eq a b c) → Follows facts (Eq r.rep t.rep ((t.off +ℤ c) -ℤ r.off))
@@ -153,10 +185,10 @@ module _ (facts : Pure) (rows now : List Row) (a b : NodeId) (c : ℤ) (r t : Ro
 
   pub link_done : (step : Step) (out : Outcome) → LinkIs r t c step → ActIs step rows now out → Stepped facts rows now (Settled facts rows (Eq a b c)) out
   link_done Stay Same k x = (x, (na, nb, ap (λ (z : Row). z.rep) (sym e) ∙ k.0 ∙ ap (λ (z : Row). z.rep) f, rw (← e, ← f) k.1))
-  link_done Stay Changed k x = absurd x
+  link_done Stay (Changed class) k x = absurd x
   link_done Stay False k x = absurd x
   link_done Empty Same k x = absurd x
-  link_done Empty Changed k x = absurd x
+  link_done Empty (Changed class) k x = absurd x
   link_done Empty False k x = elim k [
     | inl y ↦ link_clash y
     | inr y ↦ elim y [
@@ -166,15 +198,10 @@ module _ (facts : Pure) (rows now : List Row) (a b : NodeId) (c : ℤ) (r t : Ro
   ]
   link_done (To g) Same k x = absurd x
   link_done (To g) False k x = absurd x
-  link_done (To g) Changed k x = elim k [
-    | inl y ↦ join_done facts rows now r t ((t.off +ℤ c) -ℤ r.off) (Unit {0}) (To g) Changed s link_far link_at.0 link_at.1 y.0 y.1 x
-    | inr y ↦ join_done facts rows now t r (neg_ℤ ((t.off +ℤ c) -ℤ r.off)) (Unit {0}) (To g) Changed s (turned link_far) link_at.1 link_at.0 y.0 y.1 x
+  link_done (To g) (Changed class) k x = elim k [
+    | inl y ↦ join_done facts rows now r t ((t.off +ℤ c) -ℤ r.off) (Unit {0}) (To g) (Changed class) s link_far link_at.0 link_at.1 y.0 y.1 x
+    | inr y ↦ join_done facts rows now t r (neg_ℤ ((t.off +ℤ c) -ℤ r.off)) (Unit {0}) (To g) (Changed class) s (turned link_far) link_at.1 link_at.0 y.0 y.1 x
   ]
-
-pub stepped_map : (facts : Pure) (rows now : List Row) (P Q : Type 0) (out : Outcome) → (P → Q) → Stepped facts rows now P out → Stepped facts rows now Q out
-stepped_map facts rows now P Q Same f k = (k.0, f k.1)
-stepped_map facts rows now P Q Changed f k = k
-stepped_map facts rows now P Q False f k = k
 
 pub without_at : (m s : Span) (v w l h : ℤ) → m.lo ≡ l → m.hi ≡ h → w ≡ v → WithoutIs m w s → WithoutIs (record { lo = l; hi = h }) v s
 without_at m s v w l h p q e (inl k) = inl (sym e ∙ k.0 ∙ p, omega (arith, ints, k.1, p), k.2 ∙ q)

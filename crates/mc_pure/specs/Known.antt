@@ -9,12 +9,12 @@ use Rattle.mc_pure.specs.Pure.{Pure, IsNode, Base, IsWellFormed}
 use Rattle.mc_pure.specs.Derived.{IsFalse}
 use Rattle.mc_pure.specs.Firsts.{without_first}
 use Rattle.mc_pure.specs.Nodes.{with_kind}
-use Rattle.mc_pure.specs.Rows.{IsSound, IsTie, Settled}
+use Rattle.mc_pure.specs.Rows.{IsSound, Settled}
 use Rattle.mc_pure.specs.Steps.{IsStable}
 
 -- what is known
 abbrev pub pure_of : Known → Pure
-pure_of k = record { kinds = k.nodes; written = k.written.items; starts = k.starts.items }
+pure_of k = record { kinds = k.nodes; written = k.written; starts = k.starts.items }
 
 -- the written atoms are well formed, and blocks start at nodes
 pub record IsFit (p : Pure) : Type 0 where
@@ -47,6 +47,3 @@ without_start p a = record { kinds = p.kinds; written = p.written; starts = with
 -- all that is known is settled, but for one atom
 abbrev pub SettledBut : Pure → List Row → Atom → Type 0
 SettledBut p rows atom = (f : Atom) → Base p f → Settled p rows f ⊎ (f ≡ atom)
-
-abbrev pub TiesBut : Pure → List Row → Atom → Type 0
-TiesBut p rows atom = (f : Atom) → IsTie f → Base p f → Settled p rows f ⊎ (f ≡ atom)

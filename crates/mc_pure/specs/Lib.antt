@@ -1,3 +1,4 @@
+pub mod Atoms
 pub mod Canonical
 pub mod Derived
 pub mod Examples
@@ -5,6 +6,7 @@ pub mod Laws
 pub mod Pure
 pub mod Normal
 pub mod Rows
+pub mod Scopes
 pub mod Steps
 pub mod Whole
 pub mod Nodes

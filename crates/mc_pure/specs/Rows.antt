@@ -80,6 +80,10 @@ changed gone keep by lo hi r =
 abbrev pub changed_by : Change → Row → Row
 changed_by c r = changed c.gone c.keep c.by c.lo c.hi r
 
+-- a change leaves the first rows as they are
+abbrev pub StayBelow : Change → List Row → ℕ → Type 0
+StayBelow c rows n = (i : ℕ) (r : Row) → i < n → slice_get rows i ≡ Some r → changed_by c r ≡ r
+
 abbrev pub span : ℤ → ℕ
 span (pos n) = n
 span (negsuc n) = 0
@@ -124,14 +128,15 @@ IsTie (Ne a b c) = ⊥
 abbrev pub Keeps : Pure → (before now : List Row) → Type 0
 Keeps p before now = (f : Atom) → IsTie f → Settled p before f → Settled p now f
 
--- one change
-pub record Lighter (p : Pure) (before now : List Row) : Type 0 where
+-- one change, after which each row that differs is of one class
+pub record Lighter (p : Pure) (before now : List Row) (class : NodeId) : Type 0 where
   pub sound : IsSound p now
   pub less : weight now < weight before
   pub keeps : Keeps p before now
+  pub within : (a : NodeId) → IsNode p.kinds a → (row_at now a ≡ row_at before a) ⊎ ((row_at now a).rep ≡ class)
 
 -- one step that settles P
 abbrev pub Stepped : (p : Pure) (before now : List Row) (P : Type 0) → Outcome → Type 0
 Stepped p before now P Same = (now ≡ before) × P
-Stepped p before now P Changed = Lighter p before now
+Stepped p before now P (Changed class) = Lighter p before now class
 Stepped p before now P False = IsFalse p

@@ -1,5 +1,5 @@
 -- What the small steps answer.
-use Rattle.std.specs.Prelude.{◌≡◌, ◌≢◌, ℕ, ℤ, pos, ◌+ℤ◌, ◌-ℤ◌, ◌≤ℤ◌, ◌<ℤ◌, ◌⊎◌, ◌<◌, neg_ℤ, List, ◌∷◌, Some, slice_get, map}
+use Rattle.std.specs.Prelude.{◌≡◌, ◌≢◌, ℕ, ℤ, pos, ◌+ℤ◌, ◌-ℤ◌, ◌≤ℤ◌, ◌<ℤ◌, ◌⊎◌, ◌<◌, ◌≤◌, neg_ℤ, List, ◌∷◌, Some, slice_get, map}
 use Rattle.std.specs.Int.{int_max, int_min}
 use Rattle.mc_base.specs.declared.ids.NodeId.{NodeId}
 use Rattle.mc_base.specs.declared.plain.Atom.{Atom}
@@ -15,6 +15,9 @@ use Rattle.mc_pure.specs.declared.steps.Split.TheVariants.{Nothing, Clash, Left,
 use Rattle.mc_pure.specs.declared.steps.Step.{Step}
 use Rattle.mc_pure.specs.declared.steps.Step.TheVariants.{Stay, Empty, To}
 use Rattle.mc_base.specs.declared.plain.Kind.{Kind}
+use Rattle.mc_pure.specs.declared.scope.Scope.{Scope}
+use Rattle.mc_pure.specs.Atoms.{apart_of}
+use Rattle.mc_pure.specs.Scopes.{IsWithin}
 use Rattle.mc_pure.specs.Pure.{Pure, Kinds, Base, low_of, high_of, kind_atom, address_atom}
 use Rattle.mc_pure.specs.Normal.{Apart}
 use Rattle.mc_pure.specs.Rows.{changed_by, row_at, lone_row, IsSound, IsTight, IsTie, Keeps, Settled}
@@ -68,15 +71,21 @@ SmallStep Stay P = Unit {0}
 SmallStep Empty P = Unit {0}
 SmallStep (To c) P = P c.by
 
+-- a class goes into one whose least node is not greater, and null's class stays 0
+abbrev pub IsDownward : Step → Type 0
+IsDownward Stay = Unit {0}
+IsDownward Empty = Unit {0}
+IsDownward (To c) = (c.keep.0 ≤ c.gone.0) × (c.keep ≡ null → (c.lo ≡ pos 0) × (c.hi ≡ pos 0))
+
 abbrev pub ActIs : Step → (before now : List Row) → Outcome → Type 0
 ActIs Stay before now Same = now ≡ before
-ActIs Stay before now Changed = ⊥
+ActIs Stay before now (Changed class) = ⊥
 ActIs Stay before now False = ⊥
 ActIs Empty before now Same = ⊥
-ActIs Empty before now Changed = ⊥
+ActIs Empty before now (Changed class) = ⊥
 ActIs Empty before now False = Unit {0}
 ActIs (To c) before now Same = ⊥
-ActIs (To c) before now Changed = now ≡ map (changed_by c) before
+ActIs (To c) before now (Changed class) = (now ≡ map (changed_by c) before) × (class ≡ c.keep)
 ActIs (To c) before now False = ⊥
 
 -- the range without one number, where that is an end
@@ -164,32 +173,44 @@ AddressesBelow p rows n = (i : ℕ) (a : NodeId) → i < n → slice_get p.start
 abbrev pub Addresses : Pure → List Row → Type 0
 Addresses p rows = (i : ℕ) (a : NodeId) → slice_get p.starts i ≡ Some a → Settled p rows (address_atom a)
 
--- the first written atoms are settled
+-- the first written disequalities are settled
 abbrev pub WrittenBelow : Pure → List Row → ℕ → Type 0
-WrittenBelow p rows n = (i : ℕ) (f : Atom) → i < n → slice_get p.written i ≡ Some f → Settled p rows f
+WrittenBelow p rows n = (i : ℕ) (f : Atom) → i < n → slice_get (apart_of p.written) i ≡ Some f → Settled p rows f
 
 abbrev pub Written : Pure → List Row → Type 0
-Written p rows = (i : ℕ) (f : Atom) → slice_get p.written i ≡ Some f → Settled p rows f
+Written p rows = (i : ℕ) (f : Atom) → slice_get (apart_of p.written) i ≡ Some f → Settled p rows f
+
+-- two blocks start apart
+abbrev pub PairSettled : Pure → List Row → (i j : ℕ) → Type 0
+PairSettled p rows i j =
+    (a b : NodeId) → i ≢ j → slice_get p.starts i ≡ Some a → slice_get p.starts j ≡ Some b → Settled p rows (Ne a b (pos 0))
 
 -- a block starts apart from the first others
 abbrev pub StartBelow : Pure → List Row → (i n : ℕ) → Type 0
-StartBelow p rows i n =
-    (j : ℕ) (a b : NodeId) → j < n → slice_get p.starts i ≡ Some a → slice_get p.starts j ≡ Some b → Settled p rows (Ne a b (pos 0))
+StartBelow p rows i n = (j : ℕ) → j < n → PairSettled p rows i j
 
--- the first blocks start apart
-abbrev pub StartsBelow : Pure → List Row → ℕ → Type 0
-StartsBelow p rows n = (i : ℕ) → i < n → StartBelow p rows i i
+-- a block starts apart from all others
+abbrev pub StartSettled : Pure → List Row → ℕ → Type 0
+StartSettled p rows i = (j : ℕ) → PairSettled p rows i j
 
-abbrev pub Starts : Pure → List Row → Type 0
-Starts p rows = (i : ℕ) → StartBelow p rows i i
+-- where it is looked at
+abbrev pub StartWithin : Pure → List Row → Scope → ℕ → Type 0
+StartWithin p rows scope i = (a : NodeId) → slice_get p.starts i ≡ Some a → IsWithin scope (row_at rows a) → StartSettled p rows i
+
+-- the first blocks that are looked at start apart from all others
+abbrev pub StartsBelow : Pure → List Row → Scope → ℕ → Type 0
+StartsBelow p rows scope n = (i : ℕ) → i < n → StartWithin p rows scope i
+
+abbrev pub Starts : Pure → List Row → Scope → Type 0
+Starts p rows scope = (i : ℕ) → StartWithin p rows scope i
 
 -- an atom known from the beginning gives the disequality of two rows
 abbrev pub IsGiven : Pure → List Row → (a b : Row) (c : ℤ) → Type 0
 IsGiven p rows a b c = (f : Atom) × Base p f × MovedAtom rows f a b c
 
--- a written one does
+-- a written disequality does
 abbrev pub IsGivenByWritten : Pure → List Row → (a b : Row) (c : ℤ) → Type 0
-IsGivenByWritten p rows a b c = (i : ℕ) × (f : Atom) × (slice_get p.written i ≡ Some f) × MovedAtom rows f a b c
+IsGivenByWritten p rows a b c = (i : ℕ) × (f : Atom) × (slice_get (apart_of p.written) i ≡ Some f) × MovedAtom rows f a b c
 
 -- that of the starts of two blocks does
 abbrev pub IsGivenByPair : Pure → List Row → (i j : ℕ) → (a b : Row) (c : ℤ) → Type 0

@@ -1,13 +1,13 @@
 // Questions to rows that say all that follows.
 ghost use Rattle.std.specs.Prelude.{◌≡◌, ◌≢◌, ◌⊎◌, ◌<◌, ◌≤ℤ◌, ◌<ℤ◌, ◌+ℤ◌, ◌-ℤ◌, length, Some, slice_get, true, false};
 ghost use Rattle.mc_base.specs.declared.plain.Atom.TheVariants.{Eq, Ne, In};
-ghost use Rattle.mc_pure.specs.Pure.{Base};
+ghost use Rattle.mc_pure.specs.Pure.{IsNode, Base};
 ghost use Rattle.mc_pure.specs.Derived.{Follows};
 ghost use Rattle.mc_pure.specs.Rows.{row_at, IsSmall, IsShort, IsSound};
 ghost use Rattle.mc_pure.specs.Steps.{IsTame, IsStable, MovedRows, MovedAtom, IsGivenByWritten, IsGivenByPair, IsGivenByStart, IsGivenByStarts, DiffersAt};
 ghost use Rattle.mc_pure.specs.Known.{pure_of};
 
-use crate::close::{find, row_of, span_from, wide};
+use crate::close::{find, rep_of, row_of, span_from, wide};
 use crate::known::Known;
 use crate::rows::{Row, Span};
 use crate::steps::{difference, is_zero, negated, own_span};
@@ -80,6 +80,22 @@ fn is_moved(x: &Row, y: &Row, d: i128, a: &Row, b: &Row, c: i128) -> bool
     is_same(mine, other)
 }
 
+/// Whether a node is of the class of one of two rows.
+fn is_near(known: &Known, rows: &[Row], node: NodeId, left: &Row, right: &Row) -> bool
+    requires sound { IsSound (pure_of known.now) rows.now }
+    requires there { IsNode known.now.nodes node }
+    ensures no { result ≡ false → ((row_at rows.now node).rep ≡ left.now.rep → ⊥) × ((row_at rows.now node).rep ≡ right.now.rep → ⊥) }
+{
+    let rep = rep_of(known, rows, node);
+    if rep.0 == left.rep.0 {
+        return true;
+    }
+    if rep.0 == right.rep.0 {
+        return true;
+    }
+    false
+}
+
 /// Whether an atom gives the disequality of two rows.
 fn gives(known: &Known, rows: &[Row], atom: &Atom, left: &Row, right: &Row, c: i128) -> bool
     requires sound { IsSound (pure_of known.now) rows.now }
@@ -92,6 +108,9 @@ fn gives(known: &Known, rows: &[Row], atom: &Atom, left: &Row, right: &Row, c: i
 {
     match atom {
         Atom::Ne(x, y, d) => {
+            if !is_near(known, rows, *x, left, right) {
+                return false;
+            }
             let offset = wide(*d);
             let first = row_of(known, rows, *x);
             let second = row_of(known, rows, *y);
@@ -116,7 +135,7 @@ fn is_written(known: &Known, rows: &[Row], left: &Row, right: &Row, c: i128) -> 
     ensures yes { result ≡ true → IsGivenByWritten (pure_of known.now) rows.now left.now right.now c }
     ensures no { result ≡ false → IsGivenByWritten (pure_of known.now) rows.now left.now right.now c → ⊥ }
 {
-    for atom in known.written.as_slice() {
+    for atom in known.written.apart() {
         if gives(known, rows, atom, left, right, c) {
             return true;
         }
@@ -159,8 +178,8 @@ fn is_in_class(known: &Known, rows: &[Row], i: usize, left: &Row) -> bool
     ensures no { result ≡ false → (x : _) → slice_get known.now.starts.items i ≡ Some x → (row_at rows.now x).rep ≢ left.now.rep }
 {
     let starts = known.starts.as_slice();
-    let first = row_of(known, rows, starts[i]);
-    if first.rep.0 != left.rep.0 {
+    let first = rep_of(known, rows, starts[i]);
+    if first.0 != left.rep.0 {
         return false;
     }
     true

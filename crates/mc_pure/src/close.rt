@@ -1,16 +1,20 @@
 // Closing: rows that say all that follows from what is known.
-ghost use Rattle.std.specs.Prelude.{◌≡◌, ℤ, ℕ, ◌<◌, MatchOption, IfOk, length, true, false, Some, slice_get, pos};
+ghost use Rattle.std.specs.Prelude.{◌≡◌, ◌⊎◌, ℤ, ℕ, ◌<◌, ◌≤◌, MatchOption, IfOk, length, true, false, Some, slice_get, pos};
 ghost use Rattle.mc_base.specs.declared.plain.Atom.TheVariants.{Eq, Ne, In};
+ghost use Rattle.mc_base.specs.Nodes.{null};
 ghost use Rattle.mc_pure.specs.Pure.{IsNode, Base, address_atom, low_of, high_of};
 ghost use Rattle.mc_pure.specs.Derived.{Follows, IsFalse};
-ghost use Rattle.mc_pure.specs.Rows.{row_at, lone_row, IsSmall, IsShort, IsSound, Settled, Stepped, Keeps};
+ghost use Rattle.mc_pure.specs.Rows.{At, row_at, lone_row, StayBelow, IsSmall, IsShort, IsSound, Settled, Stepped, Keeps};
 ghost use Rattle.mc_pure.specs.Nodes.{RiseFrom};
-ghost use Rattle.mc_pure.specs.Steps.{IsTame, IsStable, HasTies, HasKinds, Enforced, Ties, Addresses, Written, Starts, StartBelow, start_rows, kind_row};
-ghost use Rattle.mc_pure.specs.Known.{IsFit, IsClosed, SettledBut, TiesBut, pure_of};
+ghost use Rattle.mc_pure.specs.Steps.{ActIs, SmallStep, IsDownward, IsTame, IsStable, HasTies, HasKinds, Enforced, Ties, Addresses, Written, Starts, StartSettled, StartWithin, PairSettled, start_rows, kind_row};
+ghost use Rattle.mc_pure.specs.Scopes.{IsWithin, SettledElsewhere, SettledElsewhereBut};
+ghost use Rattle.mc_pure.specs.declared.scope.Scope.TheVariants.{Class};
+ghost use Rattle.mc_pure.specs.Known.{IsFit, IsClosed, SettledBut, pure_of};
 
 use crate::known::Known;
-use crate::rows::{Outcome, Row, Span};
-use crate::steps::{Split, act, cut, link, split_of};
+use crate::rows::{Change, Outcome, Row, Span, put};
+use crate::scope::{Scope, is_within, widened};
+use crate::steps::{Split, Step, cut, link, split_of};
 use mc_base::{Atom, Kind, NoMemory, NodeId};
 use std::alloc::Global;
 
@@ -54,6 +58,61 @@ pub fn row_of(known: &Known, rows: &[Row], node: NodeId) -> Row
     }
 }
 
+/// The least node of the class of a node that is there.
+pub fn rep_of(known: &Known, rows: &[Row], node: NodeId) -> NodeId
+    requires sound { IsSound (pure_of known.now) rows.now }
+    requires there { IsNode known.now.nodes node }
+    ensures { result ≡ (row_at rows.now node).rep }
+{
+    match known.nodes.place(node) {
+        Some(place) => rows[place].rep,
+        None => node,
+    }
+}
+
+/// The least node of the first class in which rows change. Those of null's class stay as they are.
+fn least_of(change: &Change) -> NodeId
+    ensures { (result ≡ change.now.keep) ⊎ ((result ≡ change.now.gone) × (change.now.keep ≡ null)) }
+{
+    if change.keep.0 == 0 {
+        change.gone
+    } else {
+        change.keep
+    }
+}
+
+/// The place of the first row that a change may concern.
+fn first_of(known: &Known, rows: &[Row], change: &Change) -> usize
+    requires sound { IsSound (pure_of known.now) rows.now }
+    requires order { change.now.keep.0 ≤ change.now.gone.0 }
+    requires zero { change.now.keep ≡ null → (change.now.lo ≡ pos 0) × (change.now.hi ≡ pos 0) }
+    ensures { StayBelow change.now rows.now result }
+{
+    match known.nodes.place(least_of(change)) {
+        Some(place) => place,
+        None => 0,
+    }
+}
+
+/// Does a step.
+fn act(known: &Known, rows: &mut [Row], step: &Step) -> Outcome
+    requires sound { IsSound (pure_of known.now) rows.old }
+    requires offs { (r : _) → At rows.old r → IsSmall r.off }
+    requires by { SmallStep step.now (λ b. IsSmall b) }
+    requires order { IsDownward step.now }
+    ensures { ActIs step.now rows.old rows.new result }
+{
+    match step {
+        Step::Stay => Outcome::Same,
+        Step::Empty => Outcome::False,
+        Step::To(change) => {
+            let first = first_of(known, rows, change);
+            put(rows, first, change);
+            Outcome::Changed(change.keep)
+        }
+    }
+}
+
 /// Meets a node's range with one that follows.
 pub fn restrict(known: &Known, rows: &mut [Row], node: NodeId, span: &Span) -> Outcome
     requires sound { IsSound (pure_of known.now) rows.old }
@@ -65,7 +124,7 @@ pub fn restrict(known: &Known, rows: &mut [Row], node: NodeId, span: &Span) -> O
 {
     let row = row_of(known, rows, node);
     let step = cut(&row, span);
-    act(rows, &step)
+    act(known, rows, &step)
 }
 
 /// Makes two nodes one class, at an offset that follows.
@@ -80,7 +139,7 @@ pub fn equate(known: &Known, rows: &mut [Row], a: NodeId, b: NodeId, c: i128) ->
     let left = row_of(known, rows, a);
     let right = row_of(known, rows, b);
     let step = link(&left, &right, c);
-    act(rows, &step)
+    act(known, rows, &step)
 }
 
 /// Narrows where a disequality that follows asks for it.
@@ -154,7 +213,7 @@ pub fn enforce(known: &Known, rows: &mut [Row], atom: &Atom) -> bool
     loop {
         match apply(known, rows, atom) {
             Outcome::Same => return true,
-            Outcome::Changed => {}
+            Outcome::Changed(_class) => {}
             Outcome::False => return false,
         }
     }
@@ -166,7 +225,7 @@ fn enforce_written(known: &Known, rows: &mut [Row]) -> bool
     ensures yes { result ≡ true → Enforced (pure_of known.now) rows.old rows.new (Ties (pure_of known.now) rows.new) }
     ensures no { result ≡ false → IsFalse (pure_of known.now) }
 {
-    for atom in known.written.as_slice() {
+    for atom in known.written.all() {
         if !enforce(known, rows, atom) {
             return false;
         }
@@ -196,84 +255,144 @@ fn enforce_starts(known: &Known, rows: &mut [Row]) -> bool
     true
 }
 
-/// Does what one atom asks where ranges and equalities ask nothing.
-fn recheck(known: &Known, rows: &mut [Row], atom: &Atom) -> Outcome
+/// Whether one of two nodes is of a class that is looked at.
+fn touches(known: &Known, rows: &[Row], a: NodeId, b: NodeId, scope: &Scope) -> bool
+    requires sound { IsSound (pure_of known.now) rows.now }
+    requires left { IsNode known.now.nodes a }
+    requires right { IsNode known.now.nodes b }
+    ensures no { result ≡ false → (IsWithin scope.now (row_at rows.now a) ⊎ IsWithin scope.now (row_at rows.now b)) → ⊥ }
+{
+    let left = row_of(known, rows, a);
+    if is_within(scope, &left) {
+        return true;
+    }
+    let right = row_of(known, rows, b);
+    is_within(scope, &right)
+}
+
+/// Does what one atom asks, where all else is settled but disequalities that are looked at.
+fn recheck(known: &Known, rows: &mut [Row], atom: &Atom, scope: &Scope) -> Outcome
     requires sound { IsSound (pure_of known.now) rows.old }
-    requires ties { HasTies (pure_of known.now) rows.old }
+    requires rest { SettledElsewhere (pure_of known.now) rows.old scope.now }
     requires base { Base (pure_of known.now) atom.now }
     ensures { Stepped (pure_of known.now) rows.old rows.new (Settled (pure_of known.now) rows.old atom.now) result }
 {
     match atom {
-        Atom::Ne(_, _, _) => apply(known, rows, atom),
+        Atom::Ne(a, b, _) => {
+            if touches(known, rows, *a, *b, scope) {
+                apply(known, rows, atom)
+            } else {
+                Outcome::Same
+            }
+        }
         Atom::Eq(_, _, _) => Outcome::Same,
         Atom::In(_, _, _) => Outcome::Same,
     }
 }
 
-/// Does what the written disequalities ask, up to the first that changes something.
-fn recheck_written(known: &Known, rows: &mut [Row]) -> Outcome
+/// Does what the written disequalities that are looked at ask, up to the first that changes something.
+fn recheck_written(known: &Known, rows: &mut [Row], scope: &Scope) -> Outcome
     requires sound { IsSound (pure_of known.now) rows.old }
-    requires ties { HasTies (pure_of known.now) rows.old }
+    requires rest { SettledElsewhere (pure_of known.now) rows.old scope.now }
     ensures { Stepped (pure_of known.now) rows.old rows.new (Written (pure_of known.now) rows.old) result }
 {
-    for atom in known.written.as_slice() {
-        match recheck(known, rows, atom) {
+    for atom in known.written.apart() {
+        match recheck(known, rows, atom, scope) {
             Outcome::Same => {}
-            Outcome::Changed => return Outcome::Changed,
+            Outcome::Changed(class) => return Outcome::Changed(class),
             Outcome::False => return Outcome::False,
         }
     }
     Outcome::Same
 }
 
-/// Does what a block's start asks beside those before it.
-fn recheck_start(known: &Known, rows: &mut [Row], i: usize) -> Outcome
+/// Does what the starts of two blocks ask.
+fn recheck_pair(known: &Known, rows: &mut [Row], i: usize, j: usize) -> Outcome
+    requires sound { IsSound (pure_of known.now) rows.old }
+    requires first { i < length known.now.starts.items }
+    requires second { j < length known.now.starts.items }
+    ensures { Stepped (pure_of known.now) rows.old rows.new (PairSettled (pure_of known.now) rows.old i j) result }
+{
+    if i == j {
+        return Outcome::Same;
+    }
+    let starts = known.starts.as_slice();
+    part(known, rows, starts[i], starts[j], 0)
+}
+
+/// Does what a block's start asks beside all others.
+fn recheck_pairs(known: &Known, rows: &mut [Row], i: usize) -> Outcome
     requires sound { IsSound (pure_of known.now) rows.old }
     requires inside { i < length known.now.starts.items }
-    ensures { Stepped (pure_of known.now) rows.old rows.new (StartBelow (pure_of known.now) rows.old i i) result }
+    ensures { Stepped (pure_of known.now) rows.old rows.new (StartSettled (pure_of known.now) rows.old i) result }
+{
+    for j in 0..known.starts.len() {
+        match recheck_pair(known, rows, i, j) {
+            Outcome::Same => {}
+            Outcome::Changed(class) => return Outcome::Changed(class),
+            Outcome::False => return Outcome::False,
+        }
+    }
+    Outcome::Same
+}
+
+/// Does what a block's start asks where it is looked at.
+fn recheck_start(known: &Known, rows: &mut [Row], i: usize, scope: &Scope) -> Outcome
+    requires sound { IsSound (pure_of known.now) rows.old }
+    requires inside { i < length known.now.starts.items }
+    ensures { Stepped (pure_of known.now) rows.old rows.new (StartWithin (pure_of known.now) rows.old scope.now i) result }
 {
     let starts = known.starts.as_slice();
-    for j in 0..i {
-        match part(known, rows, starts[i], starts[j], 0) {
-            Outcome::Same => {}
-            Outcome::Changed => return Outcome::Changed,
-            Outcome::False => return Outcome::False,
-        }
+    let row = row_of(known, rows, starts[i]);
+    if is_within(scope, &row) {
+        recheck_pairs(known, rows, i)
+    } else {
+        Outcome::Same
     }
-    Outcome::Same
 }
 
-/// Does what the starts of blocks ask, up to the first that changes something.
-fn recheck_starts(known: &Known, rows: &mut [Row]) -> Outcome
+/// Does what the starts of blocks that are looked at ask, up to the first that changes something.
+fn recheck_starts(known: &Known, rows: &mut [Row], scope: &Scope) -> Outcome
     requires sound { IsSound (pure_of known.now) rows.old }
-    ensures { Stepped (pure_of known.now) rows.old rows.new (Starts (pure_of known.now) rows.old) result }
+    ensures { Stepped (pure_of known.now) rows.old rows.new (Starts (pure_of known.now) rows.old scope.now) result }
 {
     for i in 0..known.starts.len() {
-        match recheck_start(known, rows, i) {
+        match recheck_start(known, rows, i, scope) {
             Outcome::Same => {}
-            Outcome::Changed => return Outcome::Changed,
+            Outcome::Changed(class) => return Outcome::Changed(class),
             Outcome::False => return Outcome::False,
         }
     }
     Outcome::Same
 }
 
-/// Does what disequalities ask until they ask nothing more. False: what is known can't be true.
-pub fn settle(known: &Known, rows: &mut [Row]) -> bool
+/// Does what the disequalities that are looked at ask, up to the first that changes something.
+fn recheck_all(known: &Known, rows: &mut [Row], scope: &Scope) -> Outcome
     requires sound { IsSound (pure_of known.now) rows.old }
-    requires ties { HasTies (pure_of known.now) rows.old }
+    requires rest { SettledElsewhere (pure_of known.now) rows.old scope.now }
+    ensures { Stepped (pure_of known.now) rows.old rows.new (IsStable (pure_of known.now) rows.old) result }
+{
+    match recheck_written(known, rows, scope) {
+        Outcome::Changed(class) => Outcome::Changed(class),
+        Outcome::False => Outcome::False,
+        Outcome::Same => recheck_starts(known, rows, scope),
+    }
+}
+
+/// Does what disequalities ask until they ask nothing more, where all else is settled but those that are looked at.
+/// False: what is known can't be true.
+pub fn settle(known: &Known, rows: &mut [Row], first: Scope) -> bool
+    requires sound { IsSound (pure_of known.now) rows.old }
+    requires rest { SettledElsewhere (pure_of known.now) rows.old first }
     ensures yes { result ≡ true → (IsSound (pure_of known.now) rows.new × IsStable (pure_of known.now) rows.new) }
     ensures no { result ≡ false → IsFalse (pure_of known.now) }
 {
+    let mut scope = first;
     loop {
-        match recheck_written(known, rows) {
-            Outcome::Changed => continue,
+        match recheck_all(known, rows, &scope) {
+            Outcome::Same => return true,
+            Outcome::Changed(class) => scope = widened(&scope, class),
             Outcome::False => return false,
-            Outcome::Same => match recheck_starts(known, rows) {
-                Outcome::Changed => continue,
-                Outcome::False => return false,
-                Outcome::Same => return true,
-            },
         }
     }
 }
@@ -328,7 +447,7 @@ pub fn finish(known: &Known, rows: &mut [Row]) -> bool
     if !enforce_starts(known, rows) {
         return true;
     }
-    !settle(known, rows)
+    !settle(known, rows, Scope::All)
 }
 
 /// Does what one atom more asks, where what else is known is settled. Whether what is known can't be true.
@@ -341,21 +460,38 @@ pub fn include(known: &Known, rows: &mut [Row], atom: &Atom) -> bool
     match apply(known, rows, atom) {
         Outcome::Same => false,
         Outcome::False => true,
-        Outcome::Changed => include_tie(known, rows, atom),
+        Outcome::Changed(class) => include_within(known, rows, atom, Scope::Class(class)),
     }
 }
 
-/// The same once a step was done.
-pub fn include_tie(known: &Known, rows: &mut [Row], atom: &Atom) -> bool
+/// The same where disequalities that are looked at are not settled either.
+pub fn include_within(known: &Known, rows: &mut [Row], atom: &Atom, first: Scope) -> bool
     requires sound { IsSound (pure_of known.now) rows.old }
     requires base { Base (pure_of known.now) atom.now }
-    requires rest { TiesBut (pure_of known.now) rows.old atom.now }
+    requires rest { SettledElsewhereBut (pure_of known.now) rows.old first atom.now }
     ensures { IsClosed (pure_of known.now) rows.new result }
 {
-    if !enforce(known, rows, atom) {
-        return true;
+    let mut scope = first;
+    loop {
+        match apply(known, rows, atom) {
+            Outcome::Same => return !settle(known, rows, scope),
+            Outcome::Changed(class) => scope = widened(&scope, class),
+            Outcome::False => return true,
+        }
     }
-    !settle(known, rows)
+}
+
+/// The same for the start of a block more.
+pub fn include_start(known: &Known, rows: &mut [Row], at: NodeId) -> bool
+    requires sound { IsSound (pure_of known.now) rows.old }
+    requires there { IsNode known.now.nodes at }
+    requires base { Base (pure_of known.now) (address_atom at) }
+    requires rest { SettledElsewhereBut (pure_of known.now) rows.old (Class (row_at rows.old at).rep) (address_atom at) }
+    ensures { IsClosed (pure_of known.now) rows.new result }
+{
+    let row = row_of(known, rows, at);
+    let atom = address(at);
+    include_within(known, rows, &atom, Scope::Class(row.rep))
 }
 
 /// What was derived: the rows, and whether what is known can't be true.

@@ -3,14 +3,15 @@ ghost use Rattle.std.specs.Prelude.{◌≡◌, ◌<◌, IfOk, MatchOption, lengt
 ghost use Rattle.std.specs.List.{remove};
 ghost use Rattle.mc_pure.specs.Firsts.{without_first};
 
+use crate::atoms::Atoms;
 use crate::nodes::Nodes;
-use mc_base::{Atom, NoMemory, NodeId};
+use mc_base::{NoMemory, NodeId};
 
 /// Nodes with their kinds, the written atoms in order, and the nodes at which blocks start, each as often.
 #[derive(Drop)]
 pub struct Known {
     pub nodes: Nodes,
-    pub written: Vec<Atom>,
+    pub written: Atoms,
     pub starts: Vec<NodeId>,
 }
 
@@ -21,10 +22,10 @@ impl Known {
     pub fn copy(&self) -> Result<Known, NoMemory>
         ensures { IfOk result (λ known. pure_of known ≡ pure_of self.now) }
     {
-        let alloc = *self.written.allocator();
+        let alloc = *self.starts.allocator();
         Ok(Known {
             nodes: self.nodes.copy()?,
-            written: Vec::from_slice(alloc, self.written.as_slice())?,
+            written: self.written.copy()?,
             starts: Vec::from_slice(alloc, self.starts.as_slice())?,
         })
     }

@@ -11,11 +11,13 @@ ghost use Rattle.mc_pure.specs.Classes.{NormalSaysAll};
 ghost use Rattle.mc_pure.specs.Examples.{node, known, values, at_one, at_null, between};
 
 mod ask;
+mod atoms;
 mod classes;
 mod close;
 mod known;
 mod nodes;
 mod rows;
+mod scope;
 mod steps;
 mod whole;
 

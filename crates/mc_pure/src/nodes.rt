@@ -33,6 +33,7 @@ impl Model for Nodes {
 }
 
 /// The place of the node, or where it belongs.
+#[inline(never)]
 fn place_in(nodes: &[NodeId], node: NodeId) -> usize
     requires { DoRise nodes.now }
     ensures place { IsPlace nodes.now node result }
@@ -129,9 +130,11 @@ impl Nodes {
     }
 
     /// The place of a node among all.
+    #[inline(always)]
     pub fn place(&self, node: NodeId) -> Option<usize>
         ensures at { MatchOption result (IsNode self.now node → ⊥) (λ i. slice_get (nodes_of self.now) i ≡ Some node) }
         ensures there { IfSome result (λ _. IsNode self.now node) }
+        ensures rise { DoRise (nodes_of self.now) }
     {
         let nodes = self.nodes.as_slice();
         let near = node.0 as usize;

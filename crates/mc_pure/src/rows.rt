@@ -1,6 +1,6 @@
 // Rows: what is known of each node, as an offset from the least node of its class.
-ghost use Rattle.std.specs.Prelude.{◌≡◌, map};
-ghost use Rattle.mc_pure.specs.Rows.{At, IsSmall, changed_by};
+ghost use Rattle.std.specs.Prelude.{◌≡◌, map, false};
+ghost use Rattle.mc_pure.specs.Rows.{At, IsSmall, StayBelow, changed_by};
 
 use mc_base::NodeId;
 
@@ -31,11 +31,11 @@ pub struct Span {
     pub hi: i128,
 }
 
-/// What a step did. `False` says that what is known can't be true.
+/// What a step did: which class it changed, if any. `False` says that what is known can't be true.
 #[derive(Clone, Copy)]
 pub enum Outcome {
     Same,
-    Changed,
+    Changed(NodeId),
     False,
 }
 
@@ -66,13 +66,32 @@ pub fn moved(row: Row, change: &Change) -> Row
     }
 }
 
-/// Changes every row.
-pub fn put(rows: &mut [Row], change: &Change)
+/// Whether a change concerns a row.
+fn concerns(change: &Change, row: &Row) -> bool
+    ensures no { result ≡ false → changed_by change.now row.now ≡ row.now }
+{
+    row.rep.0 == change.gone.0 || row.rep.0 == change.keep.0
+}
+
+/// Changes a row.
+fn change_row(row: &mut Row, change: &Change)
+    requires off { IsSmall row.old.off }
+    requires by { IsSmall change.now.by }
+    ensures { row.new ≡ changed_by change.now row.old }
+{
+    if concerns(change, row) {
+        *row = moved(*row, change);
+    }
+}
+
+/// Changes every row, where the first ones stay as they are.
+pub fn put(rows: &mut [Row], first: usize, change: &Change)
     requires offs { (r : _) → At rows.old r → IsSmall r.off }
     requires by { IsSmall change.now.by }
+    requires stay { StayBelow change.now rows.old first }
     ensures { rows.new ≡ map (changed_by change.now) rows.old }
 {
-    for row in rows.iter_mut() {
-        *row = moved(*row, change);
+    for i in first..rows.len() {
+        change_row(&mut rows[i], change);
     }
 }

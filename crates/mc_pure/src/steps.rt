@@ -4,10 +4,10 @@ ghost use Rattle.std.specs.Int.{int_max, int_min};
 ghost use Rattle.mc_base.specs.Nodes.{null};
 ghost use Rattle.mc_ranges.specs.Ends.{IsEnd};
 ghost use Rattle.mc_pure.specs.Normal.{low, high};
-ghost use Rattle.mc_pure.specs.Rows.{At, IsSmall, IsShort};
-ghost use Rattle.mc_pure.specs.Steps.{CutIs, JoinIs, LinkIs, SplitIs, WithoutIs, ActIs, SmallStep, IsTame, IsPin};
+ghost use Rattle.mc_pure.specs.Rows.{IsSmall, IsShort};
+ghost use Rattle.mc_pure.specs.Steps.{CutIs, JoinIs, LinkIs, SplitIs, WithoutIs, IsTame, IsPin};
 
-use crate::rows::{Change, Outcome, Row, Span, put};
+use crate::rows::{Change, Row, Span};
 use mc_base::NodeId;
 use mc_ranges::Range;
 
@@ -244,22 +244,6 @@ pub fn link(left: &Row, right: &Row, c: i128) -> Step
         join(left, right, by)
     } else {
         join(right, left, negated(by))
-    }
-}
-
-/// Does a step.
-pub fn act(rows: &mut [Row], step: &Step) -> Outcome
-    requires offs { (r : _) → At rows.old r → IsSmall r.off }
-    requires by { SmallStep step.now (λ b. IsSmall b) }
-    ensures { ActIs step.now rows.old rows.new result }
-{
-    match step {
-        Step::Stay => Outcome::Same,
-        Step::Empty => Outcome::False,
-        Step::To(change) => {
-            put(rows, change);
-            Outcome::Changed
-        }
     }
 }
 

@@ -9,8 +9,9 @@ ghost use Rattle.mc_pure.specs.Rows.{nodes_of};
 ghost use Rattle.mc_pure.specs.Known.{nothing, with_node, with_atom, with_start, without_start};
 
 use crate::ask::{self, Term, distance, span_less};
+use crate::atoms::Atoms;
 use crate::classes::{ClassPlace, place_of};
-use crate::close::{address, close, finish, include, include_tie, row_of, start, start_row};
+use crate::close::{close, finish, include, include_start, row_of, start, start_row};
 use crate::known::{Known, remove_first};
 use crate::nodes::Nodes;
 use crate::rows::Row;
@@ -70,7 +71,7 @@ impl Pure {
     {
         let known = Known {
             nodes: Nodes::new(alloc)?,
-            written: Vec::new(alloc),
+            written: Atoms::new(alloc),
             starts: Vec::new(alloc),
         };
         let closed = close(alloc, &known)?;
@@ -158,7 +159,7 @@ impl Pure {
         ensures ok { OnOk result (self.new ≡ with_atom self.old atom.now) }
         ensures err { OnErr result (self.new ≡ self.old) }
     {
-        self.known.written.push(*atom)?;
+        self.known.written.push(atom)?;
         if !self.wrong {
             self.wrong = include(&self.known, self.rows.as_mut_slice(), atom);
         }
@@ -173,8 +174,7 @@ impl Pure {
     {
         self.known.starts.push(at)?;
         if !self.wrong {
-            let atom = address(at);
-            self.wrong = include_tie(&self.known, self.rows.as_mut_slice(), &atom);
+            self.wrong = include_start(&self.known, self.rows.as_mut_slice(), at);
         }
         Ok(())
     }
@@ -290,7 +290,7 @@ impl Pure {
     pub fn written(&self) -> &[Atom]
         ensures { result.now ≡ self.now.written }
     {
-        self.known.written.as_slice()
+        self.known.written.all()
     }
 
     /// The nodes at which blocks start, in the order in which they came.

@@ -13,6 +13,17 @@ use Rattle.mc_pure.proofs.Stepping.{known_ne}
 use Rattle.mc_pure.specs.Known.{pure_of}
 use Rattle.mc_pure.proofs.ask.gives.Goals as goal
 
+pub is_near-requires-clause-there : goal.is_near-requires-clause-there
+is_near-requires-clause-there c = (known_ne (pure_of c.args.known.now) c.args.rows.now c.args.atom.now c.in-Ne.x c.in-Ne.y c.in-Ne.d c.requires.sound c.requires.base c.in-Ne.is).0
+
+far_way : (rows : List Row) (f : Atom) (x y : NodeId) (d : ℤ) (l r : Row) (c : ℤ) → f ≡ Ne x y d → ((row_at rows x).rep ≡ l.rep → ⊥) × ((row_at rows x).rep ≡ r.rep → ⊥) → MovedAtom rows f l r c → ⊥
+far_way rows f x y d l r c e none m =
+    let m' : MovedAtom rows (Ne x y d) l r c = subst (λ (z : Atom). MovedAtom rows z l r c) e m in
+    elim m' [ inl k ↦ none.0 k.0 | inr k ↦ none.1 k.0 ]
+
+pub returns-then-not-is_near-clause-no : goal.returns-then-not-is_near-clause-no
+returns-then-not-is_near-clause-no c = λ _. far_way c.args.rows.now c.args.atom.now c.in-Ne.x c.in-Ne.y c.in-Ne.d c.args.left.now c.args.right.now _ c.in-Ne.is (c.is_near.ensures.no c.if-not-is_near.true)
+
 pub row_of-first-requires-clause-there : goal.row_of-first-requires-clause-there
 row_of-first-requires-clause-there c = (known_ne (pure_of c.args.known.now) c.args.rows.now c.args.atom.now c.in-Ne.x c.in-Ne.y c.in-Ne.d c.requires.sound c.requires.base c.in-Ne.is).0
 

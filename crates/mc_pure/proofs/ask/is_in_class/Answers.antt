@@ -5,8 +5,8 @@ use Rattle.mc_pure.proofs.Changing.{number}
 use Rattle.mc_pure.proofs.Asking.{start_node, class_no}
 use Rattle.mc_pure.proofs.ask.is_in_class.Goals as goal
 
-pub row_of-first-requires-clause-there : goal.row_of-first-requires-clause-there
-row_of-first-requires-clause-there c =
+pub rep_of-first-requires-clause-there : goal.rep_of-first-requires-clause-there
+rep_of-first-requires-clause-there c =
     let e = c.as_slice-starts.ensures.value in
     start_node (pure_of c.args.known.now) c.args.rows.now c.as_slice-starts.result.now c.args.i _ c.requires.sound e (subst (λ (z : List NodeId). c.args.i < length z) (sym e) c.requires.first)
 
@@ -14,5 +14,5 @@ pub returns-then-first-left : goal.returns-then-first-left
 returns-then-first-left c = record {
   no =
       let e = c.as_slice-starts.ensures.value in
-      λ _. class_no (pure_of c.args.known.now) c.args.rows.now c.as_slice-starts.result.now c.args.i _ c.row_of-first.result c.args.left.now e (subst (λ (z : List NodeId). c.args.i < length z) (sym e) c.requires.first) c.row_of-first.ensures.is (λ h. c.if-first-left.true (number h));
+      λ _. class_no (pure_of c.args.known.now) c.args.rows.now c.as_slice-starts.result.now c.args.i _ c.rep_of-first.result c.args.left.now e (subst (λ (z : List NodeId). c.args.i < length z) (sym e) c.requires.first) c.rep_of-first.ensures (λ h. c.if-first-left.true (number h));
 }

@@ -1,7 +1,7 @@
 use Rattle.std.proofs.Common.{arith}
 use Rattle.std.proofs.lemmas.Int.{ints}
 use Rattle.mc_pure.proofs.Clean.{same_cast, fits_small}
-use Rattle.mc_pure.proofs.Stepping.{offs, tame, small_link, link_done}
+use Rattle.mc_pure.proofs.Stepping.{offs, tame, small_link, node_zero, link_downward, link_done}
 use Rattle.mc_pure.specs.Known.{pure_of}
 use Rattle.mc_pure.proofs.close.equate.Goals as goal
 
@@ -22,6 +22,12 @@ act-requires-clause-by c =
     (tame (pure_of c.args.known.now) c.args.rows.now c.args.a c.row_of-left.result c.requires.sound c.requires.left c.row_of-left.ensures.is)
     (tame (pure_of c.args.known.now) c.args.rows.now c.args.b c.row_of-right.result c.requires.sound c.requires.right c.row_of-right.ensures.is)
     short (rw e at c.link-step.ensures)
+
+pub act-requires-clause-order : goal.act-requires-clause-order
+act-requires-clause-order c = link_downward c.row_of-left.result c.row_of-right.result _ c.link-step.result
+    (node_zero (pure_of c.args.known.now) c.args.rows.now c.args.a c.row_of-left.result c.requires.sound c.requires.left c.row_of-left.ensures.is)
+    (node_zero (pure_of c.args.known.now) c.args.rows.now c.args.b c.row_of-right.result c.requires.sound c.requires.right c.row_of-right.ensures.is)
+    c.link-step.ensures
 
 pub returns : goal.returns
 returns c =

@@ -1,9 +1,9 @@
 use Rattle.mc_pure.specs.Known.{pure_of}
-use Rattle.mc_pure.proofs.Looping.{has_ties, closed_by}
+use Rattle.mc_pure.proofs.Looping.{has_ties, all_looked_at, closed_by}
 use Rattle.mc_pure.proofs.close.finish.Goals as goal
 
-pub settle-requires-clause-ties : goal.settle-requires-clause-ties
-settle-requires-clause-ties c = has_ties (pure_of c.args.known.now) c.args.rows.now c.enforce_written.new.rows c.enforce_starts.new.rows c.requires.kinds (c.enforce_written.ensures.yes c.if-not-enforce_written.false) (c.enforce_starts.ensures.yes c.if-not-enforce_starts.false)
+pub settle-requires-clause-rest : goal.settle-requires-clause-rest
+settle-requires-clause-rest c = all_looked_at (pure_of c.args.known.now) c.enforce_starts.new.rows (has_ties (pure_of c.args.known.now) c.args.rows.now c.enforce_written.new.rows c.enforce_starts.new.rows c.requires.kinds (c.enforce_written.ensures.yes c.if-not-enforce_written.false) (c.enforce_starts.ensures.yes c.if-not-enforce_starts.false))
 
 pub returns-then-not-enforce_written : goal.returns-then-not-enforce_written
 returns-then-not-enforce_written c = c.enforce_written.ensures.no c.if-not-enforce_written.true

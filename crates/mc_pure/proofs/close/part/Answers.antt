@@ -3,7 +3,8 @@ use Rattle.std.proofs.lemmas.Int.{ints}
 use Rattle.mc_base.specs.declared.plain.Atom.TheVariants.{Ne, In}
 use Rattle.mc_pure.specs.Rows.{Settled}
 use Rattle.mc_pure.proofs.Clean.{same_cast, fits_small}
-use Rattle.mc_pure.proofs.Stepping.{tame, stepped_map, part_nothing, part_clash, left_in, left_done, left_small, right_in, right_done, right_small}
+use Rattle.mc_pure.proofs.Looping.{stepped_map}
+use Rattle.mc_pure.proofs.Stepping.{tame, part_nothing, part_clash, left_in, left_done, left_small, right_in, right_done, right_small}
 use Rattle.mc_pure.specs.Known.{pure_of}
 use Rattle.mc_pure.proofs.close.part.Goals as goal
 

@@ -1,26 +1,20 @@
-use Rattle.std.proofs.Common.{length, List, ◌<◌, subst, sym}
+use Rattle.std.proofs.Common.{refl, sym, subst, length, List, ◌<◌}
 use Rattle.mc_base.specs.declared.ids.NodeId.{NodeId}
 use Rattle.mc_pure.specs.Known.{pure_of}
-use Rattle.mc_pure.specs.Derived.{base}
-use Rattle.mc_pure.proofs.Looping.{pair_at, start_more}
+use Rattle.mc_pure.specs.Steps.{StartSettled, StartWithin}
+use Rattle.mc_pure.proofs.Asking.{start_node}
+use Rattle.mc_pure.proofs.Looping.{start_outside, stepped_map}
 use Rattle.mc_pure.proofs.close.recheck_start.Goals as goal
 
-pub part-requires-clause-derived : goal.part-requires-clause-derived
-part-requires-clause-derived c =
+pub row_of-row-requires-clause-there : goal.row_of-row-requires-clause-there
+row_of-row-requires-clause-there c =
     let e = c.as_slice-starts.ensures.value in
-    base (pair_at (pure_of c.args.known.now) c.as_slice-starts.result.now c.args.i c.loop-j.j _ e (subst (λ (z : List NodeId). c.args.i < length z) (sym e) c.requires.inside) c.loop-j-test.true)
+    start_node (pure_of c.args.known.now) c.args.rows.now c.as_slice-starts.result.now c.args.i _ c.requires.sound e (subst (λ (z : List NodeId). c.args.i < length z) (sym e) c.requires.inside)
 
-pub part-requires-clause-left : goal.part-requires-clause-left
-part-requires-clause-left c =
-    let e = c.as_slice-starts.ensures.value in
-    (c.requires.sound.known _ (pair_at (pure_of c.args.known.now) c.as_slice-starts.result.now c.args.i c.loop-j.j _ e (subst (λ (z : List NodeId). c.args.i < length z) (sym e) c.requires.inside) c.loop-j-test.true)).0
+pub returns-then-is_within : goal.returns-then-is_within
+returns-then-is_within c = stepped_map (pure_of c.args.known.now) c.args.rows.now c.recheck_pairs.new.rows (StartSettled (pure_of c.args.known.now) c.args.rows.now c.args.i) (StartWithin (pure_of c.args.known.now) c.args.rows.now c.args.scope.now c.args.i) c.recheck_pairs.result (λ h a f w. h) c.recheck_pairs.ensures
 
-pub part-requires-clause-right : goal.part-requires-clause-right
-part-requires-clause-right c =
+pub returns-else-is_within : goal.returns-else-is_within
+returns-else-is_within c =
     let e = c.as_slice-starts.ensures.value in
-    (c.requires.sound.known _ (pair_at (pure_of c.args.known.now) c.as_slice-starts.result.now c.args.i c.loop-j.j _ e (subst (λ (z : List NodeId). c.args.i < length z) (sym e) c.requires.inside) c.loop-j-test.true)).1
-
-pub loop-j-preserved : goal.loop-j-preserved
-loop-j-preserved c =
-    let e = c.as_slice-starts.ensures.value in
-    start_more (pure_of c.args.known.now) c.args.rows.now c.loop-j.rows c.part.new.rows c.as_slice-starts.result.now c.args.i c.loop-j.j _ e (subst (λ (z : List NodeId). c.args.i < length z) (sym e) c.requires.inside) c.loop-j-test.true c.loop-j.invariant c.in-Same.ensures
+    (refl, start_outside (pure_of c.args.known.now) c.args.rows.now c.args.scope.now c.as_slice-starts.result.now c.args.i _ c.row_of-row.result e (subst (λ (z : List NodeId). c.args.i < length z) (sym e) c.requires.inside) c.row_of-row.ensures.is (c.is_within.ensures.no c.if-is_within.false))

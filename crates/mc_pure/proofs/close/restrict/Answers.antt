@@ -1,4 +1,4 @@
-use Rattle.mc_pure.proofs.Stepping.{offs, node_off, cut_done, small_cut}
+use Rattle.mc_pure.proofs.Stepping.{offs, node_off, cut_done, small_cut, node_zero, cut_downward}
 use Rattle.mc_pure.specs.Known.{pure_of}
 use Rattle.mc_pure.proofs.close.restrict.Goals as goal
 
@@ -10,6 +10,9 @@ act-requires-clause-offs c = offs (pure_of c.args.known.now) c.args.rows.now c.r
 
 pub act-requires-clause-by : goal.act-requires-clause-by
 act-requires-clause-by c = small_cut c.row_of-row.result c.args.span.now.lo c.args.span.now.hi c.cut-step.result c.row_of-row.ensures.tame c.cut-step.ensures
+
+pub act-requires-clause-order : goal.act-requires-clause-order
+act-requires-clause-order c = cut_downward c.row_of-row.result c.args.span.now.lo c.args.span.now.hi c.cut-step.result (node_zero (pure_of c.args.known.now) c.args.rows.now c.args.node c.row_of-row.result c.requires.sound c.requires.there c.row_of-row.ensures.is) c.cut-step.ensures
 
 pub returns : goal.returns
 returns c =

@@ -1,10 +1,10 @@
 use Rattle.mc_pure.specs.Known.{pure_of}
 use Rattle.mc_pure.specs.Rows.{IsSound, weight}
-use Rattle.mc_pure.specs.Steps.{HasTies}
+use Rattle.mc_pure.specs.Scopes.{SettledElsewhere}
 use Rattle.mc_pure.proofs.close.settle.Given as goal
 
-abbrev pub invariant-loop-rows : goal.invariant-loop-rows
-invariant-loop-rows l = record { sound : IsSound (pure_of l.known) l.rows; ties : HasTies (pure_of l.known) l.rows }
+abbrev pub invariant-loop-class : goal.invariant-loop-class
+invariant-loop-class l = record { sound : IsSound (pure_of l.known) l.rows; rest : SettledElsewhere (pure_of l.known) l.rows l.scope }
 
-abbrev pub decreases-loop-rows : goal.decreases-loop-rows
-decreases-loop-rows l = weight l.rows
+abbrev pub decreases-loop-class : goal.decreases-loop-class
+decreases-loop-class l = weight l.rows

@@ -3,25 +3,25 @@ use Rattle.mc_pure.specs.Known.{pure_of}
 use Rattle.mc_pure.proofs.Growing.{closed_true, closed_false, closed_as, start_base, start_sound, start_rest, start_false, start_fit, whole}
 use Rattle.mc_pure.proofs.whole.Pure.block.Goals as goal
 
-pub include_tie-self-inside-requires-clause-sound : goal.include_tie-self-inside-requires-clause-sound
-include_tie-self-inside-requires-clause-sound c =
+pub include_start-self-inside-requires-clause-sound : goal.include_start-self-inside-requires-clause-sound
+include_start-self-inside-requires-clause-sound c =
     let k = closed_false (pure_of c.self.inside.known) c.self.inside.rows.items c.self.inside.wrong c.self.invariant.1 c.if-not-self.true in
-    rw (c.in_ok-push.ensures.items, c.as_mut_slice.ensures.value) (start_sound c.self.inside.known.nodes c.self.inside.known.written.items c.self.inside.known.starts.items c.args.at c.self.inside.rows.items (rw (← c.self.view_is) at c.requires) k.0)
+    rw (c.in_ok-push.ensures.items, c.as_mut_slice.ensures.value) (start_sound c.self.inside.known.nodes c.self.inside.known.written c.self.inside.known.starts.items c.args.at c.self.inside.rows.items (rw (← c.self.view_is) at c.requires) k.0)
 
-pub include_tie-self-inside-requires-clause-base : goal.include_tie-self-inside-requires-clause-base
-include_tie-self-inside-requires-clause-base c = rw (c.in_ok-push.ensures.items, c.address-atom.ensures) (start_base c.self.inside.known.nodes c.self.inside.known.written.items c.self.inside.known.starts.items c.args.at)
+pub include_start-self-inside-requires-clause-base : goal.include_start-self-inside-requires-clause-base
+include_start-self-inside-requires-clause-base c = rw c.in_ok-push.ensures.items (start_base c.self.inside.known.nodes c.self.inside.known.written c.self.inside.known.starts.items c.args.at)
 
-pub include_tie-self-inside-requires-clause-rest : goal.include_tie-self-inside-requires-clause-rest
-include_tie-self-inside-requires-clause-rest c =
+pub include_start-self-inside-requires-clause-rest : goal.include_start-self-inside-requires-clause-rest
+include_start-self-inside-requires-clause-rest c =
     let k = closed_false (pure_of c.self.inside.known) c.self.inside.rows.items c.self.inside.wrong c.self.invariant.1 c.if-not-self.true in
-    rw (c.in_ok-push.ensures.items, c.address-atom.ensures, c.as_mut_slice.ensures.value) (start_rest c.self.inside.known.nodes c.self.inside.known.written.items c.self.inside.known.starts.items c.args.at c.self.inside.rows.items k.1)
+    rw (c.in_ok-push.ensures.items, c.as_mut_slice.ensures.value) (start_rest c.self.inside.known.nodes c.self.inside.known.written c.self.inside.known.starts.items c.args.at c.self.inside.rows.items k.1)
 
 pub invariant_of-self-then-not-self : goal.invariant_of-self-then-not-self
 invariant_of-self-then-not-self c =
-    let e = whole c.self.inside.rows.len c.include_tie-self-inside.new.rows c.self.inside.rows.items (omega (arith, c.include_tie-self-inside.auto.rows, c.as_mut_slice.ensures.len)) in
-    rw (e, c.in_ok-push.ensures.items) (start_fit c.self.inside.known.nodes c.self.inside.known.written.items c.self.inside.known.starts.items c.args.at (rw (← c.self.view_is) at c.requires) c.self.invariant.0, rw c.in_ok-push.ensures.items at c.include_tie-self-inside.ensures)
+    let e = whole c.self.inside.rows.len c.include_start-self-inside.new.rows c.self.inside.rows.items (omega (arith, c.include_start-self-inside.auto.rows, c.as_mut_slice.ensures.len)) in
+    rw (e, c.in_ok-push.ensures.items) (start_fit c.self.inside.known.nodes c.self.inside.known.written c.self.inside.known.starts.items c.args.at (rw (← c.self.view_is) at c.requires) c.self.invariant.0, rw c.in_ok-push.ensures.items at c.include_start-self-inside.ensures)
 
 pub invariant_of-self-else-not-self : goal.invariant_of-self-else-not-self
 invariant_of-self-else-not-self c =
     let k = closed_true (pure_of c.self.inside.known) c.self.inside.rows.items c.self.inside.wrong c.self.invariant.1 c.if-not-self.false in
-    rw c.in_ok-push.ensures.items (start_fit c.self.inside.known.nodes c.self.inside.known.written.items c.self.inside.known.starts.items c.args.at (rw (← c.self.view_is) at c.requires) c.self.invariant.0, closed_as _ c.self.inside.rows.items c.self.inside.wrong c.if-not-self.false (start_false c.self.inside.known.nodes c.self.inside.known.written.items c.self.inside.known.starts.items c.args.at k))
+    rw c.in_ok-push.ensures.items (start_fit c.self.inside.known.nodes c.self.inside.known.written c.self.inside.known.starts.items c.args.at (rw (← c.self.view_is) at c.requires) c.self.invariant.0, closed_as _ c.self.inside.rows.items c.self.inside.wrong c.if-not-self.false (start_false c.self.inside.known.nodes c.self.inside.known.written c.self.inside.known.starts.items c.args.at k))
