@@ -1,0 +1,5 @@
+pub mod Lists
+pub mod Made
+pub mod Rules
+pub mod Front
+pub mod Whole

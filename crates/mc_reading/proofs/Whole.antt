@@ -1,0 +1,138 @@
+-- Whole documents, read to their ends.
+use Rattle.std.proofs.Common.{◌≡◌, ℕ, suc, List, [], ◌∷◌, ◌++◌, Bool, true, false, map, refl, ap, sym, subst, ◌∙◌}
+use Rattle.std.specs.Prelude.{◌↔◌, Result, Ok, Err, Contains}
+use Rattle.std.specs.List.{AllByRecursion}
+use Rattle.mc_base.specs.declared.ids.PointId.{PointId}
+use Rattle.mc_cert.specs.declared.line.Line.{Line}
+use Rattle.mc_cert.specs.declared.line.Line.TheVariants as line
+use Rattle.mc_defs.specs.declared.rules.Def.{Def}
+use Rattle.mc_flow.specs.declared.graph.Flow.{Flow}
+use Rattle.mc_flow.specs.Valid.{IsValid}
+use Rattle.mc_premises.specs.Premises.{Judged, need, have}
+use Rattle.mc_premises.proofs.Numbered.{need_ok}
+use Rattle.mc_state.specs.declared.line.Form.{Form}
+use Rattle.mc_state.specs.declared.line.Form.TheVariants.{Certificate, Chain}
+use Rattle.mc_state.specs.declared.line.Version.TheVariants.{One}
+use Rattle.mc_state.specs.declared.raw_state.RawState.{RawState}
+use Rattle.mc_state.specs.RawStates.{state_of, IsWellFormedRaw}
+use Rattle.mc_kernel.specs.Branches.{Path, Setting, AreCuts, roots, begins, Head}
+use Rattle.mc_kernel.specs.Certificates.{WrittenHead, AreOrdered, IsValidCertificate, IsLastPass, states_of}
+use Rattle.mc_kernel.specs.Instances.{IsInstance, Reads, stuck_by}
+use Rattle.mc_kernel.specs.Judges.{Knowledge, is_chain}
+use Rattle.mc_kernel.specs.Readings.{Reading, Stage, cutting, heading, ruling, finished, behind, begun, has_all_heads, reading_pass, reading_line, reading_lines}
+use Rattle.mc_reading.specs.Documents.{IsMade, IsJudge, Ends, IsShortChain}
+use Rattle.mc_reading.specs.Laws.{CertificatesAreRead, ChainsAreRead, CertificatesStickNowhere}
+use Rattle.mc_reading.proofs.Lists.{heads_from_full, full_from_heads, each_contained, all_contained}
+use Rattle.mc_reading.proofs.Made.{entry_made}
+use Rattle.mc_reading.proofs.Rules.{Right, RulesOf, behind_ok, behind_yes, ended_at, rules_from, rules_to, ruling_at}
+use Rattle.mc_reading.proofs.Front.{CutsOf, HeadsOf, HeadFits, IsPoint, cuts_from, cuts_to, cutting_at, from_cuts, from_heads, full_of, head_line, heading_at, heads_from, heads_to, starts_cut, starts_head}
+
+-- a reading that is at another stage has not ended
+cutting_still : (form : Form) (cuts : List PointId) (last : Reading) → ◌≡◌ {A = Result Reading (ℕ × ℕ)} (Ok (cutting_at form cuts)) (Ok last) → last.stage ≡ finished → ⊥
+cutting_still form cuts last e f = let stage : cutting ≡ finished = ap (λ (r : Reading). r.stage) (cc e) ∙ f in cc stage
+
+heading_still : (cuts : List PointId) (heads : List WrittenHead) (last : Reading) → ◌≡◌ {A = Result Reading (ℕ × ℕ)} (Ok (heading_at cuts heads)) (Ok last) → last.stage ≡ finished → ⊥
+heading_still cuts heads last e f = let stage : heading ≡ finished = ap (λ (r : Reading). r.stage) (cc e) ∙ f in cc stage
+
+-- a certificate has no stuck branch
+pub never_stuck : (flow : Flow) (defs : List Def) (cuts : List PointId) (heads : List Head) (rules : List Line) (bs stuck : List Path)
+    → Reads flow defs (record { form = Certificate; cuts = cuts; heads = heads }) rules bs stuck → stuck ≡ []
+never_stuck flow defs cuts heads [] bs stuck r = r.1
+never_stuck flow defs cuts heads (l ∷ rules) [] stuck r = absurd r
+never_stuck flow defs cuts heads (l ∷ rules) (b ∷ bs) stuck (next, later, i, reads, e) =
+    e ∙ at l i (never_stuck flow defs cuts heads rules (next ++ bs) later reads)
+  where
+    at : (l : Line) → IsInstance flow defs (record { form = Certificate; cuts = cuts; heads = heads }) l b next → later ≡ [] → stuck_by l b later ≡ []
+    at line.C1 i none = let chain : Certificate ≡ Chain = i.chain in absurd (cc chain)
+    at l i none = none
+
+module _ (right : Right) (k : Knowledge) (well : RawState → Bool) (flow : Flow) (defs : List Def) (valid : IsValid flow defs) (judge : IsJudge k well flow defs) where
+  abbrev lines_at : ℕ → List Line → Reading → Result Reading (ℕ × ℕ)
+  lines_at = reading_lines k well flow defs
+
+  cuts_are : (cuts : List PointId) (c : (p : PointId) → Contains flow.heads p → Contains cuts p) → _ → AllByRecursion (IsPoint k well flow defs judge) cuts → AreCuts flow cuts
+  cuts_are cuts c ascend skips = record { ascend = ascend; skips = each_contained (IsPoint k well flow defs judge) cuts skips; all_heads = c }
+
+  heads_made : (heads : List WrittenHead) → AllByRecursion (λ (h : WrittenHead). IsWellFormedRaw defs flow.vars flow.structs.list h.1) heads
+      → AllByRecursion (IsMade flow defs) (map (λ (h : Head). begins h.0 h.1) (states_of heads))
+  heads_made [] a = tt
+  heads_made (h ∷ heads) a = (a.0.made, heads_made heads a.1)
+
+  only_formed : (cuts : List PointId) (heads : List WrittenHead) → AllByRecursion (HeadFits k well flow defs judge cuts) heads
+      → AllByRecursion (λ (h : WrittenHead). IsWellFormedRaw defs flow.vars flow.structs.list h.1) heads
+  only_formed cuts [] a = tt
+  only_formed cuts (h ∷ heads) a = (a.0.1, only_formed cuts heads a.1)
+
+  pub roots_made : (heads : List WrittenHead) → AllByRecursion (λ (h : WrittenHead). IsWellFormedRaw defs flow.vars flow.structs.list h.1) heads
+      → AllByRecursion (IsMade flow defs) (roots flow (states_of heads))
+  roots_made heads a = (entry_made right.makes flow defs, heads_made heads a)
+
+  -- ---- certificates
+
+  -- behind the cuts
+  rest_from : (cuts : List PointId) (n : ℕ) (lines : List Line) (last : Reading) → starts_cut lines ≡ false → lines_at n lines (cutting_at Certificate cuts) ≡ Ok last → last.stage ≡ finished
+      → (has_all_heads flow cuts ≡ true) × (lines_at n lines (heading_at cuts []) ≡ Ok last)
+  rest_from cuts n [] last starts e f = absurd (cutting_still Certificate cuts last e f)
+  rest_from cuts n (l ∷ lines) last starts e f =
+      let full = full_of k well flow defs judge cuts n lines l last starts e in
+      (full, sym (from_cuts k well flow defs judge cuts n lines l full starts) ∙ e)
+
+  -- behind the heads
+  roots_from : (cuts : List PointId) (heads : List WrittenHead) (n : ℕ) (lines : List Line) (last : Reading) → has_all_heads flow cuts ≡ true
+      → AllByRecursion (IsMade flow defs) (roots flow (states_of heads)) → starts_head lines ≡ false
+      → lines_at n lines (heading_at cuts heads) ≡ Ok last → last.stage ≡ finished
+      → RulesOf right k well flow defs valid judge Certificate cuts heads lines (roots flow (states_of heads)) [] last
+  roots_from cuts heads n [] last full made starts e f = absurd (heading_still cuts heads last e f)
+  roots_from cuts heads n (l ∷ lines) last full made starts e f =
+      rules_from right k well flow defs valid judge Certificate cuts heads n (l ∷ lines) (roots flow (states_of heads)) [] last made
+      (sym (from_heads k well flow defs judge cuts heads n lines l full starts) ∙ e) f
+
+  certificate_from : (lines : List Line) (stuck : List Path) → Ends k well flow defs Certificate lines stuck
+      → (v : IsValidCertificate flow defs (line.Header One Certificate ∷ lines)) × (stuck ≡ [])
+  certificate_from lines stuck ends =
+      let c = cuts_from k well flow defs judge Certificate 2 lines [] ends.last tt tt ends.read in
+      let front = rest_from c.all c.number c.rest ends.last c.starts c.read ends.ended in
+      let h = heads_from k well flow defs judge c.all c.number c.rest [] ends.last tt tt front.1 in
+      let r = roots_from c.all h.all h.number h.rest ends.last front.0 (roots_made h.all (only_formed c.all h.all h.fit)) h.starts h.read ends.ended in
+      let none : r.more ≡ [] = never_stuck flow defs c.all (states_of h.all) r.rules (roots flow (states_of h.all)) r.more r.reads in
+      let written : lines ≡ map line.Cut c.all ++ (map head_line h.all ++ (r.rules ++ line.End ∷ [])) =
+        c.spelled ∙ ap (λ (ls : List Line). map line.Cut c.more ++ ls) (h.spelled ∙ ap (λ (ls : List Line). map head_line h.more ++ ls) r.spelled)
+        ∙ ap (λ (ps : List PointId). map line.Cut ps ++ (map head_line h.more ++ (r.rules ++ line.End ∷ []))) (sym c.all_are)
+        ∙ ap (λ (hs : List WrittenHead). map line.Cut c.all ++ (map head_line hs ++ (r.rules ++ line.End ∷ []))) (sym h.all_are) in
+      (
+        record {
+          cuts = c.all;
+          heads = h.all;
+          rules = r.rules;
+          spelled = ap (λ (ls : List Line). line.Header One Certificate ∷ ls) written;
+          cuts_are = cuts_are c.all (heads_from_full flow c.all front.0) c.ascend c.skips;
+          ordered = h.ordered;
+          heads_are = h.fit;
+          reads = subst (λ (ps : List Path). Reads flow defs (record { form = Certificate; cuts = c.all; heads = states_of h.all }) r.rules (roots flow (states_of h.all)) ps) none r.reads;
+        },
+        sym ends.stuck_are ∙ ap (λ (t : Reading). t.stuck) r.ends ∙ none,
+      )
+
+  -- the rest behind the cuts and that behind the heads begin with neither
+  no_front : (cuts : List PointId) (heads : List WrittenHead) (rules : List Line) (bs stuck : List Path)
+      → Reads flow defs (record { form = Certificate; cuts = cuts; heads = states_of heads }) rules bs stuck → bs ≡ bs
+      → (starts_cut (rules ++ line.End ∷ []) ≡ false) × (starts_head (rules ++ line.End ∷ []) ≡ false)
+  no_front cuts heads [] bs stuck r e = (refl, refl)
+  no_front cuts heads (l ∷ rules) [] stuck r e = absurd r
+  no_front cuts heads (l ∷ rules) (b ∷ bs) stuck r e = at l r
+    where
+      at : (l : Line) → Reads flow defs (record { form = Certificate; cuts = cuts; heads = states_of heads }) (l ∷ rules) (b ∷ bs) stuck
+          → (starts_cut (l ∷ (rules ++ line.End ∷ [])) ≡ false) × (starts_head (l ∷ (rules ++ line.End ∷ [])) ≡ false)
+      at (line.Cut p) r = absurd r.2
+      at (line.Head p raw) r = absurd r.2
+      at l r = (refl, refl)
+
+  certificate_to : (lines : List Line) → IsValidCertificate flow defs (line.Header One Certificate ∷ lines) → Ends k well flow defs Certificate lines []
+  certificate_to lines v = ?
+
+pub certificates_are_read : Right → CertificatesAreRead
+certificates_are_read right k well flow defs lines valid judge =
+    (λ ends. (certificate_from right k well flow defs valid judge lines [] ends).0, certificate_to right k well flow defs valid judge lines)
+
+pub certificates_stick_nowhere : Right → CertificatesStickNowhere
+certificates_stick_nowhere right k well flow defs lines stuck valid judge ends = (certificate_from right k well flow defs valid judge lines stuck ends).1
