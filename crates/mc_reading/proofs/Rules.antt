@@ -35,6 +35,10 @@ behind_yes n j rest r e = ap (λ j. behind n j rest) e
 pub behind_err : (n k : ℕ) (rest : Reading → Result Reading (ℕ × ℕ)) (last : Reading) → behind n (Err k) rest ≡ Ok last → ⊥
 behind_err n k rest last e = cc e
 
+-- what is read is one
+pub same_reading : (r last : Reading) → ◌≡◌ {A = Result Reading (ℕ × ℕ)} (Ok r) (Ok last) → r ≡ last
+same_reading r last e = cc e
+
 -- a document of which the rule lines are read
 abbrev pub ruling_at : Form → List PointId → List WrittenHead → List Path → List Path → Reading
 ruling_at form cuts heads bs stuck = record { form = form; stage = ruling; cuts = cuts; heads = heads; branches = bs; stuck = stuck }
@@ -143,7 +147,7 @@ module _ (right : Right) (k : Knowledge) (well : RawState → Bool) (flow : Flow
         at Chain e = cc e
 
     pub rules_from : (n : ℕ) (lines : List Line) → From n lines
-    rules_from n [] bs stuck last made e f = let stage : ruling ≡ finished = ap (λ (r : Reading). r.stage) (cc e) ∙ f in absurd (cc stage)
+    rules_from n [] bs stuck last made e f = let stage : ruling ≡ finished = ap (λ (r : Reading). r.stage) (same_reading (ruled_at bs stuck) last e) ∙ f in absurd (cc stage)
     rules_from n (line.Header version form ∷ lines) bs stuck last made e f = absurd (cc e)
     rules_from n (line.Cut p ∷ lines) bs stuck last made e f = absurd (cc e)
     rules_from n (line.Head p raw ∷ lines) bs stuck last made e f = absurd (cc e)

@@ -15,7 +15,7 @@ use Rattle.mc_state.specs.declared.line.Form.TheVariants.{Certificate, Chain}
 use Rattle.mc_state.specs.declared.line.Version.TheVariants.{One}
 use Rattle.mc_state.specs.declared.raw_state.RawState.{RawState}
 use Rattle.mc_state.specs.RawStates.{state_of, IsWellFormedRaw}
-use Rattle.mc_kernel.specs.Branches.{Path, Setting, AreCuts, roots, begins, Head}
+use Rattle.mc_kernel.specs.Branches.{Path, AreCuts, Ascend, roots, begins, Head}
 use Rattle.mc_kernel.specs.Certificates.{WrittenHead, AreOrdered, IsValidCertificate, IsLastPass, states_of}
 use Rattle.mc_kernel.specs.Instances.{IsInstance, Reads, stuck_by}
 use Rattle.mc_kernel.specs.Judges.{Knowledge, is_chain}
@@ -24,15 +24,15 @@ use Rattle.mc_reading.specs.Documents.{IsMade, IsJudge, Ends, IsShortChain}
 use Rattle.mc_reading.specs.Laws.{CertificatesAreRead, ChainsAreRead, CertificatesStickNowhere}
 use Rattle.mc_reading.proofs.Lists.{heads_from_full, full_from_heads, each_contained, all_contained}
 use Rattle.mc_reading.proofs.Made.{entry_made}
-use Rattle.mc_reading.proofs.Rules.{Right, RulesOf, behind_ok, behind_yes, ended_at, rules_from, rules_to, ruling_at}
-use Rattle.mc_reading.proofs.Front.{CutsOf, HeadsOf, HeadFits, IsPoint, cuts_from, cuts_to, cutting_at, from_cuts, from_heads, full_of, head_line, heading_at, heads_from, heads_to, starts_cut, starts_head}
+use Rattle.mc_reading.proofs.Rules.{Right, RulesOf, behind_ok, behind_yes, ended_at, same_reading, rules_from, rules_to, ruling_at}
+use Rattle.mc_reading.proofs.Front.{CutsOf, HeadsOf, HeadFits, IsPoint, cuts_from, cuts_to, cutting_at, from_cuts, from_heads, full_of, head_line, heading_at, heads_from, heads_to, rooted_at, starts_cut, starts_head}
 
 -- a reading that is at another stage has not ended
 cutting_still : (form : Form) (cuts : List PointId) (last : Reading) → ◌≡◌ {A = Result Reading (ℕ × ℕ)} (Ok (cutting_at form cuts)) (Ok last) → last.stage ≡ finished → ⊥
-cutting_still form cuts last e f = let stage : cutting ≡ finished = ap (λ (r : Reading). r.stage) (cc e) ∙ f in cc stage
+cutting_still form cuts last e f = let stage : cutting ≡ finished = ap (λ (r : Reading). r.stage) (same_reading (cutting_at form cuts) last e) ∙ f in cc stage
 
 heading_still : (cuts : List PointId) (heads : List WrittenHead) (last : Reading) → ◌≡◌ {A = Result Reading (ℕ × ℕ)} (Ok (heading_at cuts heads)) (Ok last) → last.stage ≡ finished → ⊥
-heading_still cuts heads last e f = let stage : heading ≡ finished = ap (λ (r : Reading). r.stage) (cc e) ∙ f in cc stage
+heading_still cuts heads last e f = let stage : heading ≡ finished = ap (λ (r : Reading). r.stage) (same_reading (heading_at cuts heads) last e) ∙ f in cc stage
 
 -- a certificate has no stuck branch
 pub never_stuck : (flow : Flow) (defs : List Def) (cuts : List PointId) (heads : List Head) (rules : List Line) (bs stuck : List Path)
@@ -50,7 +50,7 @@ module _ (right : Right) (k : Knowledge) (well : RawState → Bool) (flow : Flow
   abbrev lines_at : ℕ → List Line → Reading → Result Reading (ℕ × ℕ)
   lines_at = reading_lines k well flow defs
 
-  cuts_are : (cuts : List PointId) (c : (p : PointId) → Contains flow.heads p → Contains cuts p) → _ → AllByRecursion (IsPoint k well flow defs judge) cuts → AreCuts flow cuts
+  cuts_are : (cuts : List PointId) (c : (p : PointId) → Contains flow.heads p → Contains cuts p) → Ascend cuts → AllByRecursion (IsPoint k well flow defs judge) cuts → AreCuts flow cuts
   cuts_are cuts c ascend skips = record { ascend = ascend; skips = each_contained (IsPoint k well flow defs judge) cuts skips; all_heads = c }
 
   heads_made : (heads : List WrittenHead) → AllByRecursion (λ (h : WrittenHead). IsWellFormedRaw defs flow.vars flow.structs.list h.1) heads
@@ -113,13 +113,21 @@ module _ (right : Right) (k : Knowledge) (well : RawState → Bool) (flow : Flow
         sym ends.stuck_are ∙ ap (λ (t : Reading). t.stuck) r.ends ∙ none,
       )
 
-  -- the rest behind the cuts and that behind the heads begin with neither
+  -- ---- and back
+
+  -- lines that end with another are some
+  ends_some : (ls ms : List Line) (l : Line) → ls ++ (ms ++ l ∷ []) ≡ [] → ⊥
+  ends_some [] [] l e = cc e
+  ends_some [] (m ∷ ms) l e = cc e
+  ends_some (x ∷ ls) ms l e = cc e
+
+  -- rule lines and the end begin with neither a cut nor a head
   no_front : (cuts : List PointId) (heads : List WrittenHead) (rules : List Line) (bs stuck : List Path)
-      → Reads flow defs (record { form = Certificate; cuts = cuts; heads = states_of heads }) rules bs stuck → bs ≡ bs
+      → Reads flow defs (record { form = Certificate; cuts = cuts; heads = states_of heads }) rules bs stuck
       → (starts_cut (rules ++ line.End ∷ []) ≡ false) × (starts_head (rules ++ line.End ∷ []) ≡ false)
-  no_front cuts heads [] bs stuck r e = (refl, refl)
-  no_front cuts heads (l ∷ rules) [] stuck r e = absurd r
-  no_front cuts heads (l ∷ rules) (b ∷ bs) stuck r e = at l r
+  no_front cuts heads [] bs stuck r = (refl, refl)
+  no_front cuts heads (l ∷ rules) [] stuck r = absurd r
+  no_front cuts heads (l ∷ rules) (b ∷ bs) stuck r = at l r
     where
       at : (l : Line) → Reads flow defs (record { form = Certificate; cuts = cuts; heads = states_of heads }) (l ∷ rules) (b ∷ bs) stuck
           → (starts_cut (l ∷ (rules ++ line.End ∷ [])) ≡ false) × (starts_head (l ∷ (rules ++ line.End ∷ [])) ≡ false)
@@ -127,8 +135,103 @@ module _ (right : Right) (k : Knowledge) (well : RawState → Bool) (flow : Flow
       at (line.Head p raw) r = absurd r.2
       at l r = (refl, refl)
 
+  no_cut : (heads : List WrittenHead) (rest : List Line) → starts_cut rest ≡ false → starts_cut (map head_line heads ++ rest) ≡ false
+  no_cut [] rest e = e
+  no_cut (h ∷ heads) rest e = refl
+
+  past_cuts : (cuts : List PointId) (n : ℕ) (lines : List Line) → has_all_heads flow cuts ≡ true → starts_cut lines ≡ false → (lines ≡ [] → ⊥)
+      → lines_at n lines (cutting_at Certificate cuts) ≡ lines_at n lines (heading_at cuts [])
+  past_cuts cuts n [] full starts some = absurd (some refl)
+  past_cuts cuts n (l ∷ lines) full starts some = from_cuts k well flow defs judge cuts n lines l full starts
+
+  past_heads : (cuts : List PointId) (heads : List WrittenHead) (n : ℕ) (lines : List Line) → has_all_heads flow cuts ≡ true → starts_head lines ≡ false → (lines ≡ [] → ⊥)
+      → lines_at n lines (heading_at cuts heads) ≡ lines_at n lines (rooted_at k well flow defs judge cuts heads)
+  past_heads cuts heads n [] full starts some = absurd (some refl)
+  past_heads cuts heads n (l ∷ lines) full starts some = from_heads k well flow defs judge cuts heads n lines l full starts
+
   certificate_to : (lines : List Line) → IsValidCertificate flow defs (line.Header One Certificate ∷ lines) → Ends k well flow defs Certificate lines []
-  certificate_to lines v = ?
+  certificate_to lines v =
+      let ending : List Line = v.rules ++ line.End ∷ [] in
+      let behind_cuts : List Line = map head_line v.heads ++ (v.rules ++ line.End ∷ []) in
+      let written : lines ≡ map line.Cut v.cuts ++ (map head_line v.heads ++ (v.rules ++ line.End ∷ [])) = cc v.spelled in
+      let front = no_front v.cuts v.heads v.rules (roots flow (states_of v.heads)) [] v.reads in
+      let full = full_from_heads flow v.cuts v.cuts_are.all_heads in
+      let c = cuts_to k well flow defs judge Certificate 2 [] v.cuts behind_cuts v.cuts_are.ascend (all_contained (IsPoint k well flow defs judge) v.cuts v.cuts_are.skips) in
+      let d = past_cuts v.cuts c.0 behind_cuts full (no_cut v.heads ending front.0) (ends_some (map head_line v.heads) v.rules line.End) in
+      let h = heads_to k well flow defs judge v.cuts c.0 [] v.heads ending v.ordered v.heads_are in
+      let t = past_heads v.cuts v.heads h.0 ending full front.1 (ends_some [] v.rules line.End) in
+      let r = rules_to right k well flow defs valid judge Certificate v.cuts v.heads h.0 v.rules (roots flow (states_of v.heads)) [] []
+        (roots_made v.heads (only_formed v.cuts v.heads v.heads_are)) v.reads in
+      record {
+        last = ended_at Certificate v.cuts v.heads [];
+        read = ap (λ (ls : List Line). lines_at 2 ls (begun Certificate)) written ∙ c.1 ∙ d ∙ h.1 ∙ t ∙ r;
+        ended = refl;
+        stuck_are = refl;
+      }
+
+  -- ---- chains of one pass
+
+  -- a pass opens the entry
+  pass_opens : (cuts : List PointId) (n : ℕ) (lines : List Line) → has_all_heads flow cuts ≡ true
+      → lines_at n (line.Pass ∷ lines) (cutting_at Chain cuts) ≡ lines_at (suc n) lines (ruling_at Chain cuts [] (roots flow []) [])
+  pass_opens cuts n lines full =
+      ap (λ (b : Bool). behind n (need 1 b (Ok (ruling_at Chain cuts [] (roots flow []) []))) (lines_at (suc n) lines)) full
+
+  -- what a chain has behind its cuts
+  record PassOf (cuts : List PointId) (n : ℕ) (lines : List Line) (last : Reading) : Type 0 where
+    pub rest : List Line
+    pub spelled : lines ≡ line.Pass ∷ rest
+    pub full : has_all_heads flow cuts ≡ true
+    pub read : lines_at (suc n) rest (ruling_at Chain cuts [] (roots flow []) []) ≡ Ok last
+
+  pass_from : (cuts : List PointId) (n : ℕ) (lines : List Line) (last : Reading) → starts_cut lines ≡ false → lines_at n lines (cutting_at Chain cuts) ≡ Ok last → last.stage ≡ finished
+      → PassOf cuts n lines last
+  pass_from cuts n [] last starts e f = absurd (cutting_still Chain cuts last e f)
+  pass_from cuts n (line.Header version form ∷ lines) last starts e f = absurd (cc e)
+  pass_from cuts n (line.Cut p ∷ lines) last starts e f = absurd (cc starts)
+  pass_from cuts n (line.Head p raw ∷ lines) last starts e f = absurd (cc e)
+  pass_from cuts n (line.Pass ∷ lines) last starts e f =
+      let read = behind_ok n (reading_pass flow (cutting_at Chain cuts)) (lines_at (suc n) lines) last e in
+      let full = (need_ok 1 (has_all_heads flow cuts) _ read.0 read.1).0 in
+      record { rest = lines; spelled = refl; full = full; read = sym (pass_opens cuts n lines full) ∙ e }
+  pass_from cuts n (line.End ∷ lines) last starts e f = absurd (cc e)
+  pass_from cuts n (l ∷ lines) last starts e f = absurd (cc e)
+
+  chain_from : (lines : List Line) (stuck : List Path) → Ends k well flow defs Chain lines stuck → IsShortChain flow defs (line.Header One Chain ∷ lines) stuck
+  chain_from lines stuck ends =
+      let c = cuts_from k well flow defs judge Chain 2 lines [] ends.last tt tt ends.read in
+      let p = pass_from c.all c.number c.rest ends.last c.starts c.read ends.ended in
+      let r = rules_from right k well flow defs valid judge Chain c.all [] (suc c.number) p.rest (roots flow []) [] ends.last (roots_made [] tt) p.read ends.ended in
+      let same : r.more ≡ stuck = sym (ap (λ (t : Reading). t.stuck) r.ends) ∙ ends.stuck_are in
+      let written : lines ≡ map line.Cut c.all ++ (line.Pass ∷ (r.rules ++ line.End ∷ [])) =
+        c.spelled ∙ ap (λ (ls : List Line). map line.Cut c.more ++ ls) (p.spelled ∙ ap (λ (ls : List Line). line.Pass ∷ ls) r.spelled)
+        ∙ ap (λ (ps : List PointId). map line.Cut ps ++ (line.Pass ∷ (r.rules ++ line.End ∷ []))) (sym c.all_are) in
+      record {
+        cuts = c.all;
+        rules = r.rules;
+        spelled = ap (λ (ls : List Line). line.Header One Chain ∷ ls) written;
+        pass = record {
+          cuts_are = cuts_are c.all (heads_from_full flow c.all p.full) c.ascend c.skips;
+          at_cuts = tt;
+          bounded = tt;
+          reads = subst (λ (ps : List Path). Reads flow defs (record { form = Chain; cuts = c.all; heads = [] }) r.rules (roots flow []) ps) same r.reads;
+        };
+      }
+
+  chain_to : (lines : List Line) (stuck : List Path) → IsShortChain flow defs (line.Header One Chain ∷ lines) stuck → Ends k well flow defs Chain lines stuck
+  chain_to lines stuck v =
+      let ending : List Line = v.rules ++ line.End ∷ [] in
+      let written : lines ≡ map line.Cut v.cuts ++ (line.Pass ∷ (v.rules ++ line.End ∷ [])) = cc v.spelled in
+      let c = cuts_to k well flow defs judge Chain 2 [] v.cuts (line.Pass ∷ ending) v.pass.cuts_are.ascend
+        (all_contained (IsPoint k well flow defs judge) v.cuts v.pass.cuts_are.skips) in
+      let p = pass_opens v.cuts c.0 ending (full_from_heads flow v.cuts v.pass.cuts_are.all_heads) in
+      let r = rules_to right k well flow defs valid judge Chain v.cuts [] (suc c.0) v.rules (roots flow []) [] stuck (roots_made [] tt) v.pass.reads in
+      record {
+        last = ended_at Chain v.cuts [] stuck;
+        read = ap (λ (ls : List Line). lines_at 2 ls (begun Chain)) written ∙ c.1 ∙ p ∙ r;
+        ended = refl;
+        stuck_are = refl;
+      }
 
 pub certificates_are_read : Right → CertificatesAreRead
 certificates_are_read right k well flow defs lines valid judge =
@@ -136,3 +239,6 @@ certificates_are_read right k well flow defs lines valid judge =
 
 pub certificates_stick_nowhere : Right → CertificatesStickNowhere
 certificates_stick_nowhere right k well flow defs lines stuck valid judge ends = (certificate_from right k well flow defs valid judge lines stuck ends).1
+
+pub chains_are_read : Right → ChainsAreRead
+chains_are_read right k well flow defs lines stuck valid judge = (chain_from right k well flow defs valid judge lines stuck, chain_to right k well flow defs valid judge lines stuck)
