@@ -3,3 +3,5 @@ pub mod Made
 pub mod Rules
 pub mod Front
 pub mod Whole
+pub mod Refused
+pub mod Kept
