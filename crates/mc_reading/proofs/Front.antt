@@ -97,13 +97,30 @@ module _ (k : Knowledge) (well : RawState → Bool) (flow : Flow) (defs : List D
   no_cuts : (form : Form) (n : ℕ) (lines : List Line) (cuts : List PointId) (last : Reading) → Ascend cuts → AllByRecursion IsPoint cuts
       → starts_cut lines ≡ false → lines_at n lines (cutting_at form cuts) ≡ Ok last → CutsOf form lines cuts last
   no_cuts form n lines cuts last ascend skips starts e = record {
-    more = []; rest = lines; spelled = refl; all = cuts; all_are = sym (append_none cuts); ascend = ascend; skips = skips; starts = starts; number = n; read = e;
+    more = [];
+    rest = lines;
+    spelled = refl;
+    all = cuts;
+    all_are = sym (append_none cuts);
+    ascend = ascend;
+    skips = skips;
+    starts = starts;
+    number = n;
+    read = e;
   }
 
   then_cut : (form : Form) (p : PointId) (lines : List Line) (cuts : List PointId) (last : Reading) → CutsOf form lines (cuts ++ p ∷ []) last → CutsOf form (line.Cut p ∷ lines) cuts last
   then_cut form p lines cuts last c = record {
-    more = p ∷ c.more; rest = c.rest; spelled = ap (λ (ls : List Line). line.Cut p ∷ ls) c.spelled;
-    all = c.all; all_are = c.all_are ∙ append_end cuts p c.more; ascend = c.ascend; skips = c.skips; starts = c.starts; number = c.number; read = c.read;
+    more = p ∷ c.more;
+    rest = c.rest;
+    spelled = ap (λ (ls : List Line). line.Cut p ∷ ls) c.spelled;
+    all = c.all;
+    all_are = c.all_are ∙ append_end cuts p c.more;
+    ascend = c.ascend;
+    skips = c.skips;
+    starts = c.starts;
+    number = c.number;
+    read = c.read;
   }
 
   pub cuts_from : (form : Form) (n : ℕ) (lines : List Line) (cuts : List PointId) (last : Reading) → Ascend cuts → AllByRecursion IsPoint cuts
@@ -122,11 +139,10 @@ module _ (k : Knowledge) (well : RawState → Bool) (flow : Flow) (defs : List D
   cuts_to form n cuts [] rest ascend skips = (n, ap (λ (cs : List PointId). lines_at n rest (cutting_at form cs)) (sym (append_none cuts)))
   cuts_to form n cuts (p ∷ more) rest ascend skips =
       let yes = cut_yes form cuts p skips.0 (ascend_after cuts p more ascend) in
-      let on = cuts_to form (suc n) (cuts ++ p ∷ []) more rest (subst Ascend (sym (append_end cuts p more)) ascend) skips.1 in
-      (
+      let on = cuts_to form (suc n) (cuts ++ p ∷ []) more rest (subst Ascend (sym (append_end cuts p more)) ascend) skips.1 in (
         on.0,
         behind_yes n (reading_cut flow p (cutting_at form cuts)) (lines_at (suc n) (map line.Cut more ++ rest)) (cutting_at form (cuts ++ p ∷ [])) yes
-        ∙ on.1 ∙ ap (λ (cs : List PointId). lines_at on.0 rest (cutting_at form cs)) (append_end cuts p more),
+            ∙ on.1 ∙ ap (λ (cs : List PointId). lines_at on.0 rest (cutting_at form cs)) (append_end cuts p more),
       )
 
   -- ---- heads
@@ -164,14 +180,31 @@ module _ (k : Knowledge) (well : RawState → Bool) (flow : Flow) (defs : List D
   no_heads : (cuts : List PointId) (n : ℕ) (lines : List Line) (heads : List WrittenHead) (last : Reading) → AreOrdered heads → AllByRecursion (HeadFits cuts) heads
       → starts_head lines ≡ false → lines_at n lines (heading_at cuts heads) ≡ Ok last → HeadsOf cuts lines heads last
   no_heads cuts n lines heads last ordered fit starts e = record {
-    more = []; rest = lines; spelled = refl; all = heads; all_are = sym (append_none heads); ordered = ordered; fit = fit; starts = starts; number = n; read = e;
+    more = [];
+    rest = lines;
+    spelled = refl;
+    all = heads;
+    all_are = sym (append_none heads);
+    ordered = ordered;
+    fit = fit;
+    starts = starts;
+    number = n;
+    read = e;
   }
 
   then_head : (cuts : List PointId) (h : WrittenHead) (lines : List Line) (heads : List WrittenHead) (last : Reading)
       → HeadsOf cuts lines (heads ++ h ∷ []) last → HeadsOf cuts (head_line h ∷ lines) heads last
   then_head cuts h lines heads last c = record {
-    more = h ∷ c.more; rest = c.rest; spelled = ap (λ (ls : List Line). head_line h ∷ ls) c.spelled;
-    all = c.all; all_are = c.all_are ∙ append_end heads h c.more; ordered = c.ordered; fit = c.fit; starts = c.starts; number = c.number; read = c.read;
+    more = h ∷ c.more;
+    rest = c.rest;
+    spelled = ap (λ (ls : List Line). head_line h ∷ ls) c.spelled;
+    all = c.all;
+    all_are = c.all_are ∙ append_end heads h c.more;
+    ordered = c.ordered;
+    fit = c.fit;
+    starts = c.starts;
+    number = c.number;
+    read = c.read;
   }
 
   pub heads_from : (cuts : List PointId) (n : ℕ) (lines : List Line) (heads : List WrittenHead) (last : Reading) → AreOrdered heads → AllByRecursion (HeadFits cuts) heads
@@ -190,11 +223,10 @@ module _ (k : Knowledge) (well : RawState → Bool) (flow : Flow) (defs : List D
   heads_to cuts n heads [] rest ordered fit = (n, ap (λ (hs : List WrittenHead). lines_at n rest (heading_at cuts hs)) (sym (append_none heads)))
   heads_to cuts n heads (h ∷ more) rest ordered fit =
       let yes = head_yes cuts heads h fit.0 (ordered_after heads h more ordered) in
-      let on = heads_to cuts (suc n) (heads ++ h ∷ []) more rest (subst AreOrdered (sym (append_end heads h more)) ordered) fit.1 in
-      (
+      let on = heads_to cuts (suc n) (heads ++ h ∷ []) more rest (subst AreOrdered (sym (append_end heads h more)) ordered) fit.1 in (
         on.0,
         behind_yes n (reading_head well flow h.0 h.1 (heading_at cuts heads)) (lines_at (suc n) (map head_line more ++ rest)) (heading_at cuts (heads ++ h ∷ [])) yes
-        ∙ on.1 ∙ ap (λ (hs : List WrittenHead). lines_at on.0 rest (heading_at cuts hs)) (append_end heads h more),
+            ∙ on.1 ∙ ap (λ (hs : List WrittenHead). lines_at on.0 rest (heading_at cuts hs)) (append_end heads h more),
       )
 
   -- ---- from one stage to the next

@@ -30,7 +30,7 @@ use Rattle.mc_reading.proofs.Whole.{roots_made}
 some_is : {A : Type 0} (a b : A) → ◌≡◌ {A = Option A} (Some a) (Some b) → a ≡ b
 some_is a b e = cc e
 
-first_is : (bs : List Path) (b : Path × List Path) → first_branch bs ≡ Some b → bs ≡ b.0 ∷ b.1
+pub first_is : (bs : List Path) (b : Path × List Path) → first_branch bs ≡ Some b → bs ≡ b.0 ∷ b.1
 first_is [] b e = absurd (cc e)
 first_is (c ∷ bs) b e =
     let pair : ◌≡◌ {A = Path × List Path} (c, bs) b = some_is (c, bs) b e in
@@ -57,7 +57,7 @@ module _ (right : Right) (k : Knowledge) (well : RawState → Bool) (flow : Flow
   ready_in r t ruling kept e = subst (IsKept flow defs) (some_is r t e) kept
   ready_in r t finished kept e = absurd (cc e)
 
-  ready_kept : (r t : Reading) → IsKept flow defs r → ready flow r r.stage ≡ Some t → IsKept flow defs t
+  pub ready_kept : (r t : Reading) → IsKept flow defs r → ready flow r r.stage ≡ Some t → IsKept flow defs t
   ready_kept r t kept e = ready_in r t r.stage kept e
 
   -- where the line of a rule is read

@@ -5,3 +5,4 @@ pub mod Front
 pub mod Whole
 pub mod Refused
 pub mod Kept
+pub mod Agree

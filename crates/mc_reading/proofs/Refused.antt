@@ -68,7 +68,7 @@ module _ (k : Knowledge) (well : RawState → Bool) (flow : Flow) (defs : List D
       here : (j : ℕ) → reading_line k well flow defs l r ≡ Err j → Split n (l ∷ lines) r number premise
       here j unmet =
           let both : ◌≡◌ {A = Result Reading (ℕ × ℕ)} (Err (n, j)) (Err (number, premise)) =
-            sym (ap (λ (x : Judged Reading). behind n x (lines_at (suc n) lines)) unmet) ∙ e in
+          sym (ap (λ (x : Judged Reading). behind n x (lines_at (suc n) lines)) unmet) ∙ e in
           let pair : ◌≡◌ {A = ℕ × ℕ} (n, j) (number, premise) = cc both in
           let first : n ≡ number = ap (λ (x : ℕ × ℕ). x.0) pair in
           let second : j ≡ premise = ap (λ (x : ℕ × ℕ). x.1) pair in
@@ -132,8 +132,8 @@ pub refused_is_never_valid : Right → RefusedIsNeverValid
 refused_is_never_valid right k well flow defs lines more n p valid judge i v =
     let ends = (certificates_are_read right k well flow defs (lines ++ more) valid judge).1 v in
     let written : lines ++ more ≡ i.before ++ i.line ∷ (i.later ++ more) =
-      ap (λ (ls : List Line). ls ++ more) i.spelled ∙ append_twice i.before (i.line ∷ i.later) more in
+    ap (λ (ls : List Line). ls ++ more) i.spelled ∙ append_twice i.before (i.line ∷ i.later) more in
     let wrong = refused_behind k well flow defs i.before (i.later ++ more) i.line (begun Certificate) i.reading 2 n p i.numbered i.read i.unmet in
     let both : ◌≡◌ {A = Result Reading (ℕ × ℕ)} (Ok ends.last) (Err (n, p)) =
-      sym ends.read ∙ ap (λ (ls : List Line). reading_lines k well flow defs 2 ls (begun Certificate)) written ∙ wrong in
+    sym ends.read ∙ ap (λ (ls : List Line). reading_lines k well flow defs 2 ls (begun Certificate)) written ∙ wrong in
     cc both

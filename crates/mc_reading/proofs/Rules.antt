@@ -174,7 +174,7 @@ module _ (right : Right) (k : Knowledge) (well : RawState → Bool) (flow : Flow
         behind_yes n (then_give come (judged_line k flow defs g l b)) (lines_at (suc n) (rules ++ line.End ∷ [])) (come next) given
         ∙ rest (next ++ bs) (stuck ++ marked l b) later (next_made l b bs next made i) reads
         ∙ ap (λ (ps : List Path). Ok (ended_at form cuts heads ps))
-          (append_twice stuck (marked l b) later ∙ ap (λ (ps : List Path). stuck ++ ps) (sym (stuck_marked l b later) ∙ sym e))
+        (append_twice stuck (marked l b) later ∙ ap (λ (ps : List Path). stuck ++ ps) (sym (stuck_marked l b later) ∙ sym e))
 
     line_to : (n : ℕ) (l : Line) (rules : List Line) → To (suc n) rules → To n (l ∷ rules)
     line_to n l rules rest [] stuck more made r = absurd r

@@ -96,10 +96,9 @@ module _ (right : Right) (k : Knowledge) (well : RawState → Bool) (flow : Flow
       let r = roots_from c.all h.all h.number h.rest ends.last front.0 (roots_made h.all (only_formed c.all h.all h.fit)) h.starts h.read ends.ended in
       let none : r.more ≡ [] = never_stuck flow defs c.all (states_of h.all) r.rules (roots flow (states_of h.all)) r.more r.reads in
       let written : lines ≡ map line.Cut c.all ++ (map head_line h.all ++ (r.rules ++ line.End ∷ [])) =
-        c.spelled ∙ ap (λ (ls : List Line). map line.Cut c.more ++ ls) (h.spelled ∙ ap (λ (ls : List Line). map head_line h.more ++ ls) r.spelled)
-        ∙ ap (λ (ps : List PointId). map line.Cut ps ++ (map head_line h.more ++ (r.rules ++ line.End ∷ []))) (sym c.all_are)
-        ∙ ap (λ (hs : List WrittenHead). map line.Cut c.all ++ (map head_line hs ++ (r.rules ++ line.End ∷ []))) (sym h.all_are) in
-      (
+      c.spelled ∙ ap (λ (ls : List Line). map line.Cut c.more ++ ls) (h.spelled ∙ ap (λ (ls : List Line). map head_line h.more ++ ls) r.spelled)
+      ∙ ap (λ (ps : List PointId). map line.Cut ps ++ (map head_line h.more ++ (r.rules ++ line.End ∷ []))) (sym c.all_are)
+      ∙ ap (λ (hs : List WrittenHead). map line.Cut c.all ++ (map head_line hs ++ (r.rules ++ line.End ∷ []))) (sym h.all_are) in (
         record {
           cuts = c.all;
           heads = h.all;
@@ -161,7 +160,7 @@ module _ (right : Right) (k : Knowledge) (well : RawState → Bool) (flow : Flow
       let h = heads_to k well flow defs judge v.cuts c.0 [] v.heads ending v.ordered v.heads_are in
       let t = past_heads v.cuts v.heads h.0 ending full front.1 (ends_some [] v.rules line.End) in
       let r = rules_to right k well flow defs valid judge Certificate v.cuts v.heads h.0 v.rules (roots flow (states_of v.heads)) [] []
-        (roots_made v.heads (only_formed v.cuts v.heads v.heads_are)) v.reads in
+      (roots_made v.heads (only_formed v.cuts v.heads v.heads_are)) v.reads in
       record {
         last = ended_at Certificate v.cuts v.heads [];
         read = ap (λ (ls : List Line). lines_at 2 ls (begun Certificate)) written ∙ c.1 ∙ d ∙ h.1 ∙ t ∙ r;
@@ -204,8 +203,8 @@ module _ (right : Right) (k : Knowledge) (well : RawState → Bool) (flow : Flow
       let r = rules_from right k well flow defs valid judge Chain c.all [] (suc c.number) p.rest (roots flow []) [] ends.last (roots_made [] tt) p.read ends.ended in
       let same : r.more ≡ stuck = sym (ap (λ (t : Reading). t.stuck) r.ends) ∙ ends.stuck_are in
       let written : lines ≡ map line.Cut c.all ++ (line.Pass ∷ (r.rules ++ line.End ∷ [])) =
-        c.spelled ∙ ap (λ (ls : List Line). map line.Cut c.more ++ ls) (p.spelled ∙ ap (λ (ls : List Line). line.Pass ∷ ls) r.spelled)
-        ∙ ap (λ (ps : List PointId). map line.Cut ps ++ (line.Pass ∷ (r.rules ++ line.End ∷ []))) (sym c.all_are) in
+      c.spelled ∙ ap (λ (ls : List Line). map line.Cut c.more ++ ls) (p.spelled ∙ ap (λ (ls : List Line). line.Pass ∷ ls) r.spelled)
+      ∙ ap (λ (ps : List PointId). map line.Cut ps ++ (line.Pass ∷ (r.rules ++ line.End ∷ []))) (sym c.all_are) in
       record {
         cuts = c.all;
         rules = r.rules;
@@ -223,7 +222,7 @@ module _ (right : Right) (k : Knowledge) (well : RawState → Bool) (flow : Flow
       let ending : List Line = v.rules ++ line.End ∷ [] in
       let written : lines ≡ map line.Cut v.cuts ++ (line.Pass ∷ (v.rules ++ line.End ∷ [])) = cc v.spelled in
       let c = cuts_to k well flow defs judge Chain 2 [] v.cuts (line.Pass ∷ ending) v.pass.cuts_are.ascend
-        (all_contained (IsPoint k well flow defs judge) v.cuts v.pass.cuts_are.skips) in
+      (all_contained (IsPoint k well flow defs judge) v.cuts v.pass.cuts_are.skips) in
       let p = pass_opens v.cuts c.0 ending (full_from_heads flow v.cuts v.pass.cuts_are.all_heads) in
       let r = rules_to right k well flow defs valid judge Chain v.cuts [] (suc c.0) v.rules (roots flow []) [] stuck (roots_made [] tt) v.pass.reads in
       record {

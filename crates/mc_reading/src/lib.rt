@@ -3,7 +3,7 @@
 
 ghost use Rattle.mc_reading.specs.Laws.{LinesMakeWellMade, BegunIsKept, LinesKeep, RulesAreRead};
 ghost use Rattle.mc_reading.specs.Laws.{CertificatesAreRead, ChainsAreRead, CertificatesStickNowhere};
-ghost use Rattle.mc_reading.specs.Laws.{RefusalsAreRead, RefusalIsOne, DocumentsAreDecided, ReadIsNotRefused, RefusedIsNeverValid};
+ghost use Rattle.mc_reading.specs.Laws.{RefusalsAreRead, RefusalIsOne, DocumentsAreDecided, ReadIsNotRefused, RefusedIsNeverValid, JudgesAgree};
 
 use mc_back::back_is_well_made;
 use mc_fold::{folding_makes_well, naming_makes_well, segments_make_well};
@@ -68,6 +68,20 @@ pub fn refusals_are_one()
     ensures decided { DocumentsAreDecided }
     ensures apart { ReadIsNotRefused }
     ensures never_valid { RefusedIsNeverValid }
+{
+    lines_are_judged();
+    steps_are_well_made();
+    unfolding_is_well_made();
+    back_is_well_made();
+    folding_makes_well();
+    segments_make_well();
+    naming_makes_well();
+    numbers_stay_bounded();
+}
+
+/// What judges rightly judges alike: which line is refused, and its premise, are the document's own.
+pub fn judges_agree()
+    ensures { JudgesAgree }
 {
     lines_are_judged();
     steps_are_well_made();

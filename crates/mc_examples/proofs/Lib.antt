@@ -1,0 +1,4 @@
+pub mod Numbers
+pub mod TidyStates
+pub mod HeadLines
+pub mod Jumping

@@ -1,0 +1,4 @@
+pub mod TidyStates
+pub mod Heads
+pub mod Jumps
+pub mod Lines
