@@ -2,3 +2,4 @@ pub mod Numbers
 pub mod TidyStates
 pub mod HeadLines
 pub mod Jumping
+pub mod Folding

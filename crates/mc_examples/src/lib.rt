@@ -1,12 +1,14 @@
-//! Worked examples of states, of lines out of place, of heads and of jumps: what is so, and what fails which premise.
+//! Worked examples of states, of lines out of place, of heads, of folds and of jumps: what is so, and what fails which premise.
 //! Each is what a function with no body ensures.
 #![tactic(auto)]
 
+mod folds;
 mod heads;
 mod jumps;
 mod lines;
 mod tidy;
 
+pub use folds::{goals_keep_their_nodes, segments_of_other_lengths};
 pub use heads::{
     example_of_head, malformed_atoms, malformed_blocks, malformed_kinds, malformed_lists,
     malformed_segments, malformed_variables,
