@@ -36,7 +36,7 @@ module _ (truth : DerivedIsTrue) (sound : TrueIsNotFalse) where
   not_joined know tells =
       let start : know (Eq (node 1) (node 1) (pos 0)) ≡ true = (tells (Eq (node 1) (node 1) (pos 0))).1 (inl (pure.itself (Ptr, inr refl))) in
       let differ : know (Eq (node 2) (node 3) (pos 0)) ≡ false =
-        unknown truth sound lengths_differ (valued (pos 7 ∷ pos 3 ∷ pos 2 ∷ [])) lengths_fit know tells (Eq (node 2) (node 3) (pos 0)) (λ t. let wrong : pos 3 ≡ pos 2 = t in cc wrong) in
+      unknown truth sound lengths_differ (valued (pos 7 ∷ pos 3 ∷ pos 2 ∷ [])) lengths_fit know tells (Eq (node 2) (node 3) (pos 0)) (λ t. let wrong : pos 3 ≡ pos 2 = t in cc wrong) in
       rw (passes truth sound lengths_differ (valued (pos 7 ∷ pos 3 ∷ pos 2 ∷ [])) lengths_fit know tells) (rw start (rw differ refl))
 
   pub absent : NotForgotten (side unnamed) (node 3) 3

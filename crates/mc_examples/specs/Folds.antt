@@ -23,12 +23,12 @@ lengths_differ =
       env = [];
       kinds = (node 1, Ptr) ∷ (node 2, Int) ∷ (node 3, Int) ∷ [];
       graph =
-        record {
-          edges =
-            (edge 0, Seg (node 1) (node 2 ∷ []) lenlist_id (node 1) (node 2 ∷ []))
-            ∷ (edge 1, Seg (node 1) (node 3 ∷ []) lenlist_id null (null ∷ [])) ∷ [];
-          next = 2;
-        };
+          record {
+            edges =
+                (edge 0, Seg (node 1) (node 2 ∷ []) lenlist_id (node 1) (node 2 ∷ []))
+                ∷ (edge 1, Seg (node 1) (node 3 ∷ []) lenlist_id null (null ∷ [])) ∷ [];
+            next = 2;
+          };
       atoms = [];
       next = 4;
       whole = true;
@@ -56,7 +56,8 @@ side s = record { point = at 1; state = s; goal = Some length_goal; moved = true
 
 -- ["L11",node] fails a premise at a branch, whatever tells what is derived there
 abbrev pub NotForgotten : Path → NodeId → ℕ → Type 0
-NotForgotten b n premise = (k : Knowledge) → Tells (k.know b.state) b.state → judged_line k flow defs setting (L11 n) b ≡ Err premise
+NotForgotten b n premise =
+    (k : Knowledge) → Tells (k.know b.state) b.state → judged_line k flow defs setting (L11 n) b ≡ Err premise
 
 -- the number lies from 5 to 4
 abbrev pub false_unnamed : State

@@ -42,7 +42,9 @@ FindsFormed well = (raw : RawState) → (well raw ≡ true) ↔ IsWellFormedRaw 
 
 -- ["head",1,state] is refused with premise 4
 abbrev pub IsMalformed : RawState → Type 0
-IsMalformed raw = (k : Knowledge) (well : RawState → Bool) → FindsFormed well → reading_line k well flow defs (line.Head (at 1) raw) behind_cut ≡ Err 4
+IsMalformed raw =
+    (k : Knowledge) (well : RawState → Bool) → FindsFormed well
+    → reading_line k well flow defs (line.Head (at 1) raw) behind_cut ≡ Err 4
 
 -- a state with these variables, kinds and edges
 abbrev pub written : List (Option NodeId) → List NodeKind → List Edge → List Atom → RawState
@@ -66,7 +68,8 @@ parts = cell ∷ Ind (node 3) lenlist_id (node 2 ∷ []) ∷ Seg (node 3) (node 
 
 -- [[2,1],["0","p","i","p"],[..],[["!",1,0,0],["r",2,0,9],["=",3,0,0]]]
 abbrev pub good : RawState
-good = written known kinds parts (Ne (node 1) null (pos 0) ∷ In (node 2) (pos 0) (pos 9) ∷ Eq (node 3) null (pos 0) ∷ [])
+good = written known kinds parts
+    (Ne (node 1) null (pos 0) ∷ In (node 2) (pos 0) (pos 9) ∷ Eq (node 3) null (pos 0) ∷ [])
 
 -- that state with other variables
 abbrev pub with_vars : List (Option NodeId) → RawState
@@ -86,7 +89,9 @@ with_kinds kinds = written (None ∷ None ∷ []) kinds [] []
 
 -- ["head",1,state] is read
 abbrev pub IsRead : RawState → Reading → Type 0
-IsRead raw new = (k : Knowledge) (well : RawState → Bool) → FindsFormed well → reading_line k well flow defs (line.Head (at 1) raw) behind_cut ≡ Ok new
+IsRead raw new =
+    (k : Knowledge) (well : RawState → Bool) → FindsFormed well
+    → reading_line k well flow defs (line.Head (at 1) raw) behind_cut ≡ Ok new
 
 -- and this comes of the document
 abbrev pub good_read : Reading

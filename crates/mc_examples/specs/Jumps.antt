@@ -37,7 +37,15 @@ bare_head = record one_name_head { graph = record { edges = []; next = 0 } }
 
 -- node 1 is a number, which no variable has
 abbrev pub number_head : State
-number_head = record one_name_head { env = None ∷ None ∷ []; kinds = (node 1, Int) ∷ []; graph = record { edges = []; next = 0 }; atoms = []; whole = false }
+number_head =
+    record {
+      env = None ∷ None ∷ [];
+      kinds = (node 1, Int) ∷ [];
+      graph = record { edges = []; next = 0 };
+      atoms = [];
+      next = 2;
+      whole = false;
+    }
 
 -- point 1 is a cut with these states
 abbrev pub setting : Setting
@@ -45,7 +53,8 @@ setting =
     record {
       form = Certificate;
       cuts = at 1 ∷ [];
-      heads = (at 1, one_name_head) ∷ (at 1, list_head) ∷ (at 1, near_head) ∷ (at 1, bare_head) ∷ (at 1, number_head) ∷ [];
+      heads =
+          (at 1, one_name_head) ∷ (at 1, list_head) ∷ (at 1, near_head) ∷ (at 1, bare_head) ∷ (at 1, number_head) ∷ [];
     }
 
 -- a branch that has come to the cut with a state
@@ -62,11 +71,14 @@ list_goal = record { pred = list_id; at = node 1; args = [] }
 
 -- ["L13",j,images,edges] fails a premise at a branch, whatever tells what is derived there
 abbrev pub FailsAt : Path → ℕ → List NodeId → List EdgeId → ℕ → Type 0
-FailsAt b j images edges premise = (k : Knowledge) → Tells (k.know b.state) b.state → judged_line k flow defs setting (L13 j images edges) b ≡ Err premise
+FailsAt b j images edges premise =
+    (k : Knowledge) → Tells (k.know b.state) b.state
+    → judged_line k flow defs setting (L13 j images edges) b ≡ Err premise
 
 -- ["L13",j,images,edges] ends a branch
 abbrev pub EndsBy : Path → ℕ → List NodeId → List EdgeId → Type 0
-EndsBy b j images edges = (k : Knowledge) → Tells (k.know b.state) b.state → judged_line k flow defs setting (L13 j images edges) b ≡ Ok []
+EndsBy b j images edges =
+    (k : Knowledge) → Tells (k.know b.state) b.state → judged_line k flow defs setting (L13 j images edges) b ≡ Ok []
 
 -- the second variable is unknown
 abbrev pub half_known : State

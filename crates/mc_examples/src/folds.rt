@@ -12,7 +12,8 @@ pub fn segments_of_other_lengths()
     mc_pure::derived_is_true();
 }
 
-/// On a side branch: a node of a false state, no such node, and then the node and the argument of what has to be shown.
+/// On a side branch: a node of a false state, no such node, and then the node and the argument of what has to be
+/// shown.
 pub fn goals_keep_their_nodes()
     ensures wrong { NotForgotten (side false_unnamed) (node 1) 2 }
     ensures absent { NotForgotten (side unnamed) (node 3) 3 }

@@ -6,7 +6,8 @@ ghost use Rattle.mc_defs.specs.Examples.{cell_id, list_id, lenlist_id};
 ghost use Rattle.mc_graph.specs.declared.edge.Edge.TheVariants.{Block, Ind, Seg};
 ghost use Rattle.mc_pure.specs.Examples.{node};
 ghost use Rattle.mc_state.specs.declared.raw_state.NodeKind.TheVariants.{Zero, Ptr};
-ghost use Rattle.mc_examples.specs.Heads.{good, good_read, IsRead, IsMalformed, with_vars, with_edge, with_written, with_kinds, no_struct, no_pred};
+ghost use Rattle.mc_examples.specs.Heads.{good, good_read, IsRead, IsMalformed, with_vars, with_edge, with_written};
+ghost use Rattle.mc_examples.specs.Heads.{with_kinds, no_struct, no_pred};
 
 /// A cell, a list of a length, a segment and three atoms.
 pub fn example_of_head()

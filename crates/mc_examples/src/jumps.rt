@@ -1,10 +1,12 @@
-// Jumps to the states of a cut: one that ends its branch, and for each premise jumps of which it is the first unmet one.
+// Jumps to the states of a cut: one that ends its branch, and for each premise jumps of which it is the first unmet
+// one.
 ghost use Rattle.std.specs.Prelude.{[], ◌∷◌};
 ghost use Rattle.mc_base.specs.Nodes.{null};
 ghost use Rattle.mc_pure.specs.Examples.{node};
 ghost use Rattle.mc_state.specs.Examples.{two_names, no_number};
 ghost use Rattle.mc_kernel.specs.Examples.{edge};
-ghost use Rattle.mc_examples.specs.Jumps.{arrived, before_step, on_side, elsewhere, not_whole, half_known, FailsAt, EndsBy};
+ghost use Rattle.mc_examples.specs.Jumps.{arrived, before_step, on_side, elsewhere, not_whole, half_known, FailsAt};
+ghost use Rattle.mc_examples.specs.Jumps.{EndsBy};
 
 /// A cell with two names is one with one name.
 pub fn example_of_jump()
@@ -13,8 +15,8 @@ pub fn example_of_jump()
     mc_pure::derived_is_true();
 }
 
-/// Before an instruction's line stands on the branch, on a side branch, and at a point that is no cut; from a false state;
-/// and to a state that the cut has not.
+/// Before an instruction's line stands on the branch, on a side branch, and at a point that is no cut; from a false
+/// state; and to a state that the cut has not.
 pub fn jumps_out_of_place()
     ensures before { FailsAt before_step 0 (null ∷ node 1 ∷ []) (edge 0 ∷ []) 1 }
     ensures side { FailsAt on_side 0 (null ∷ node 1 ∷ []) (edge 0 ∷ []) 1 }
@@ -40,8 +42,8 @@ pub fn jumps_of_images()
     mc_pure::derived_is_true();
 }
 
-/// No edge, and one twice; an edge that is not there, and a cell for a list; an atom that is not derived; from a state
-/// that is not whole to one that is, and with an edge left.
+/// No edge, and one twice; an edge that is not there, and a cell for a list; an atom that is not derived; from a
+/// state that is not whole to one that is, and with an edge left.
 pub fn jumps_of_parts()
     ensures few { FailsAt (arrived two_names) 0 (null ∷ node 1 ∷ []) [] 6 }
     ensures twice { FailsAt (arrived two_names) 0 (null ∷ node 1 ∷ []) (edge 0 ∷ edge 0 ∷ []) 6 }

@@ -1,5 +1,5 @@
-//! Worked examples of states, of lines out of place, of heads, of folds and of jumps: what is so, and what fails which premise.
-//! Each is what a function with no body ensures.
+//! Worked examples of states, of lines out of place, of heads, of folds and of jumps: what is so, and what fails
+//! which premise. Each is what a function with no body ensures.
 #![tactic(auto)]
 
 mod folds;

@@ -1,7 +1,7 @@
 -- What judges rightly judges alike.
-use Rattle.std.proofs.Common.{◌≡◌, ℕ, suc, List, [], ◌∷◌, ◌++◌, Bool, true, false, not, ◌⊎◌, inl, inr, Option, Some, None, map, refl, ap, sym, subst, ◌∙◌}
+use Rattle.std.proofs.Common.{◌≡◌, ℕ, suc, List, [], ◌∷◌, ◌++◌, Bool, true, false, not, inl, inr, Option, Some, None, map, refl, ap, sym, subst, ◌∙◌}
 use mathlib.Core.Path.{fun_ext}
-use Rattle.std.specs.Prelude.{Result, Ok, Err, ◌&&◌}
+use Rattle.std.specs.Prelude.{Ok, Err, ◌&&◌}
 use Rattle.std.specs.List.{AllByRecursion}
 use Rattle.mc_base.specs.declared.ids.NodeId.{NodeId}
 use Rattle.mc_base.specs.declared.ids.PointId.{PointId}
@@ -29,8 +29,8 @@ use Rattle.mc_step.specs.Steps.{moved_to}
 use Rattle.mc_step.specs.Sums.{Ranges, Operation, sum, difference, product, with_result, at_most_atoms, above_atoms}
 use Rattle.mc_kernel.specs.Branches.{Path, Setting, path_of, with_state, states_at}
 use Rattle.mc_kernel.specs.Instances.{accessed}
-use Rattle.mc_kernel.specs.Judges.{Knowledge, is_cut, may_step, may_cut, may_stick, by_step, by_unfolding, by_folding, by_merging, by_logic, by_forgetting, and_need, goal_is_free, ends, ending_false, jumping_to, stuck_at, judged_line}
-use Rattle.mc_kernel.specs.Readings.{Reading, heading, may_head, stands_after, behind, begun, ready, setting_of, first_branch, marked, reading_rule, reading_line, reading_lines}
+use Rattle.mc_kernel.specs.Judges.{Knowledge, is_cut, may_step, may_cut, may_stick, by_step, by_unfolding, by_folding, by_merging, by_logic, and_need, goal_is_free, ends, ending_false, jumping_to, judged_line}
+use Rattle.mc_kernel.specs.Readings.{Reading, heading, may_head, stands_after, behind, begun, ready, setting_of, first_branch, reading_rule, reading_line, reading_lines}
 use Rattle.mc_reading.specs.Documents.{IsMade, IsJudge, IsKept}
 use Rattle.mc_reading.specs.Laws.{JudgesAgree}
 use Rattle.mc_reading.proofs.Kept.{begun_is_kept, lines_keep, ready_kept, first_is}

@@ -1,6 +1,6 @@
 -- Cuts and heads, read in front of the lines of rules.
 use Rattle.std.proofs.Common.{◌≡◌, ℕ, suc, List, [], ◌∷◌, ◌++◌, Bool, true, false, Option, Some, None, map, refl, ap, sym, subst, ◌∙◌}
-use Rattle.std.specs.Prelude.{Result, Ok, Err, Contains, ◌&&◌, if◌then◌else◌}
+use Rattle.std.specs.Prelude.{Result, Ok, Contains, ◌&&◌, if◌then◌else◌}
 use Rattle.std.specs.List.{AllByRecursion}
 use Rattle.mc_base.specs.declared.ids.PointId.{PointId}
 use Rattle.mc_cert.specs.declared.line.Line.{Line}
@@ -9,19 +9,19 @@ use Rattle.mc_defs.specs.declared.rules.Def.{Def}
 use Rattle.mc_flow.specs.declared.graph.Flow.{Flow}
 use Rattle.mc_flow.specs.declared.instr.Instr.{Instr}
 use Rattle.mc_flow.specs.declared.instr.Instr.TheVariants as instr
-use Rattle.mc_flow.specs.Valid.{IsValid, IsSkip}
-use Rattle.mc_premises.specs.Premises.{Judged, need, have, then_give}
+use Rattle.mc_flow.specs.Valid.{IsSkip}
+use Rattle.mc_premises.specs.Premises.{Judged, need, have}
 use Rattle.mc_premises.proofs.Numbered.{need_ok, need_yes, have_ok}
 use Rattle.mc_premises.proofs.Tests.{and_both, and_yes}
 use Rattle.mc_state.specs.declared.line.Form.{Form}
-use Rattle.mc_state.specs.declared.line.Form.TheVariants.{Certificate, Chain}
+use Rattle.mc_state.specs.declared.line.Form.TheVariants.{Certificate}
 use Rattle.mc_state.specs.declared.raw_state.RawState.{RawState}
 use Rattle.mc_state.specs.RawStates.{IsWellFormedRaw}
 use Rattle.mc_step.specs.Operands.{code_at}
-use Rattle.mc_kernel.specs.Branches.{Path, Ascend, AreCuts, roots}
+use Rattle.mc_kernel.specs.Branches.{Ascend, roots}
 use Rattle.mc_kernel.specs.Certificates.{WrittenHead, AreOrdered, states_of}
-use Rattle.mc_kernel.specs.Judges.{Knowledge, is_cut, judged_line}
-use Rattle.mc_kernel.specs.Readings.{Reading, Stage, cutting, heading, ruling, finished, behind, ready, ruled, rooted, has_all_heads, is_skip, comes_after, stands_after, reading_cut, reading_head, reading_rule, reading_end, reading_line, reading_lines}
+use Rattle.mc_kernel.specs.Judges.{Knowledge, is_cut}
+use Rattle.mc_kernel.specs.Readings.{Reading, cutting, heading, behind, ruled, rooted, has_all_heads, is_skip, comes_after, stands_after, reading_cut, reading_head, reading_rule, reading_end, reading_lines}
 use Rattle.mc_reading.proofs.Lists.{all_end, append_none, append_end, ascend_end, ascend_after, ordered_end, ordered_after, cut_from, cut_to}
 use Rattle.mc_reading.proofs.Rules.{behind_ok, behind_yes, ruling_at}
 use Rattle.mc_reading.specs.Documents.{IsJudge}

@@ -1,14 +1,13 @@
 -- What stays so, line by line.
-use Rattle.std.proofs.Common.{◌≡◌, ℕ, List, [], ◌∷◌, ◌++◌, Bool, true, false, Option, Some, None, refl, ap, sym, subst, ◌∙◌}
-use Rattle.std.specs.Prelude.{◌↔◌, Ok, Err, ◌&&◌, if◌then◌else◌}
+use Rattle.std.proofs.Common.{◌≡◌, List, [], ◌∷◌, ◌++◌, Bool, true, false, Option, Some, None, ap, sym, subst, ◌∙◌}
+use Rattle.std.specs.Prelude.{◌↔◌, Ok, ◌&&◌, if◌then◌else◌}
 use Rattle.std.specs.List.{AllByRecursion}
-use Rattle.mc_base.specs.declared.ids.PointId.{PointId}
 use Rattle.mc_cert.specs.declared.line.Line.{Line}
 use Rattle.mc_cert.specs.declared.line.Line.TheVariants as line
 use Rattle.mc_defs.specs.declared.rules.Def.{Def}
 use Rattle.mc_flow.specs.declared.graph.Flow.{Flow}
 use Rattle.mc_flow.specs.Valid.{IsValid}
-use Rattle.mc_premises.specs.Premises.{Judged, need, have, then_give}
+use Rattle.mc_premises.specs.Premises.{then_give}
 use Rattle.mc_premises.proofs.Numbered.{need_ok, have_ok, have_yes, then_ok}
 use Rattle.mc_state.specs.declared.line.Form.{Form}
 use Rattle.mc_state.specs.declared.line.Form.TheVariants.{Certificate, Chain}
@@ -17,9 +16,8 @@ use Rattle.mc_state.specs.RawStates.{IsWellFormedRaw}
 use Rattle.mc_step.specs.Operands.{code_at}
 use Rattle.mc_kernel.specs.Branches.{Path, roots}
 use Rattle.mc_kernel.specs.Certificates.{WrittenHead, states_of}
-use Rattle.mc_kernel.specs.Instances.{IsInstance}
 use Rattle.mc_kernel.specs.Judges.{Knowledge, is_cut, judged_line}
-use Rattle.mc_kernel.specs.Readings.{Reading, Stage, cutting, heading, ruling, finished, setting_of, is_cutting, has_all_heads, ready, rooted, ruled, is_skip, comes_after, stands_after, may_head, may_pass, has_no_branch, first_branch, marked, reading_cut, reading_head, reading_pass, reading_end, reading_rule, reading_line}
+use Rattle.mc_kernel.specs.Readings.{Reading, Stage, cutting, heading, ruling, finished, setting_of, is_cutting, has_all_heads, ready, rooted, ruled, is_skip, comes_after, stands_after, may_head, may_pass, has_no_branch, first_branch, marked, reading_rule, reading_line}
 use Rattle.mc_reading.specs.Documents.{IsMade, IsJudge, IsKept, IsReadAt, is_rule}
 use Rattle.mc_reading.specs.Laws.{BegunIsKept, LinesKeep, RulesAreRead}
 use Rattle.mc_reading.proofs.Lists.{all_end, all_join}
@@ -27,7 +25,7 @@ use Rattle.mc_reading.proofs.Made.{line_made}
 use Rattle.mc_reading.proofs.Rules.{Right}
 use Rattle.mc_reading.proofs.Whole.{roots_made}
 
-some_is : {A : Type 0} (a b : A) → ◌≡◌ {A = Option A} (Some a) (Some b) → a ≡ b
+pub some_is : {A : Type 0} (a b : A) → ◌≡◌ {A = Option A} (Some a) (Some b) → a ≡ b
 some_is a b e = cc e
 
 pub first_is : (bs : List Path) (b : Path × List Path) → first_branch bs ≡ Some b → bs ≡ b.0 ∷ b.1

@@ -6,3 +6,4 @@ pub mod Whole
 pub mod Refused
 pub mod Kept
 pub mod Agree
+pub mod Closed

@@ -1,10 +1,9 @@
 -- What lines make of branches with well-made states has well-made states.
-use Rattle.std.proofs.Common.{◌≡◌, ℕ, zero, suc, List, [], ◌∷◌, None, Some, Option, map, option_map, sym, subst}
+use Rattle.std.proofs.Common.{◌≡◌, List, [], ◌∷◌, None, Some, Option, map, option_map, sym, subst}
 use Rattle.std.specs.Prelude.{replicate, length}
 use Rattle.std.specs.List.{AllByRecursion}
 use Rattle.mc_base.specs.declared.ids.NodeId.{NodeId}
 use Rattle.mc_base.specs.declared.ids.PointId.{PointId}
-use Rattle.mc_base.specs.declared.plain.Kind.{Kind}
 use Rattle.mc_base.specs.declared.plain.VarInfo.{VarInfo}
 use Rattle.mc_cert.specs.declared.line.Line.{Line}
 use Rattle.mc_cert.specs.declared.line.Line.TheVariants.{Header, Cut, Head, Pass, End, S1, S2, S3, S4, S5, S6, S7, S8, S9, S10, S11, S12, S13, S14, S15, S16, S17, S18}
@@ -17,7 +16,7 @@ use Rattle.mc_pure.specs.Pure.{Kinds}
 use Rattle.mc_state.specs.declared.goal.Goal.{Goal}
 use Rattle.mc_state.specs.Fits.{IsWellMade, MayHaveKinds}
 use Rattle.mc_state.specs.Laws as state
-use Rattle.mc_state.specs.State.{State, unknown}
+use Rattle.mc_state.specs.State.{State}
 use Rattle.mc_fold.specs.MadeLaws as fold
 use Rattle.mc_unfold.specs.WellMade as opening
 use Rattle.mc_back.specs.Laws as back

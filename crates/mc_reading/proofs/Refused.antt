@@ -1,8 +1,7 @@
 -- The first line that is refused.
-use Rattle.std.proofs.Common.{◌≡◌, ◌⊎◌, inl, inr, ◌+◌, ℕ, suc, List, [], ◌∷◌, ◌++◌, length, refl, ap, sym, subst, ◌∙◌, arith}
+use Rattle.std.proofs.Common.{◌≡◌, ◌⊎◌, inl, inr, ◌+◌, ℕ, suc, List, [], ◌∷◌, ◌++◌, length, refl, ap, sym, ◌∙◌, arith}
 use Rattle.std.specs.Prelude.{Bool, Result, Ok, Err}
 use Rattle.mc_cert.specs.declared.line.Line.{Line}
-use Rattle.mc_cert.specs.declared.line.Line.TheVariants as line
 use Rattle.mc_defs.specs.declared.rules.Def.{Def}
 use Rattle.mc_flow.specs.declared.graph.Flow.{Flow}
 use Rattle.mc_premises.specs.Premises.{Judged}
@@ -24,7 +23,7 @@ module _ (k : Knowledge) (well : RawState → Bool) (flow : Flow) (defs : List D
   lines_at = reading_lines k well flow defs
 
   -- lines that are read come before others
-  lines_split : (n m : ℕ) (before lines : List Line) (r mid : Reading) → m ≡ n + length before → lines_at n before r ≡ Ok mid
+  pub lines_split : (n m : ℕ) (before lines : List Line) (r mid : Reading) → m ≡ n + length before → lines_at n before r ≡ Ok mid
       → lines_at n (before ++ lines) r ≡ lines_at m lines mid
   lines_split n m [] lines r mid count e =
       let same : n ≡ m = omega arith in

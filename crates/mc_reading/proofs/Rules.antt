@@ -1,6 +1,6 @@
 -- Lines of rules, read one after the other up to the end.
-use Rattle.std.proofs.Common.{◌≡◌, ℕ, suc, List, [], ◌∷◌, ◌++◌, Bool, true, false, Option, Some, None, refl, ap, sym, subst, ◌∙◌}
-use Rattle.std.specs.Prelude.{Result, Ok, Err, ◌&&◌}
+use Rattle.std.proofs.Common.{◌≡◌, ℕ, suc, List, [], ◌∷◌, ◌++◌, Bool, false, refl, ap, sym, subst, ◌∙◌}
+use Rattle.std.specs.Prelude.{Result, Ok, Err}
 use Rattle.std.specs.List.{AllByRecursion}
 use Rattle.mc_base.specs.declared.ids.PointId.{PointId}
 use Rattle.mc_cert.specs.declared.line.Line.{Line}
@@ -8,8 +8,8 @@ use Rattle.mc_cert.specs.declared.line.Line.TheVariants as line
 use Rattle.mc_defs.specs.declared.rules.Def.{Def}
 use Rattle.mc_flow.specs.declared.graph.Flow.{Flow}
 use Rattle.mc_flow.specs.Valid.{IsValid}
-use Rattle.mc_premises.specs.Premises.{Judged, need, have, then_give}
-use Rattle.mc_premises.proofs.Numbered.{need_ok, have_ok, then_ok}
+use Rattle.mc_premises.specs.Premises.{Judged, need, then_give}
+use Rattle.mc_premises.proofs.Numbered.{then_ok}
 use Rattle.mc_state.specs.declared.line.Form.{Form}
 use Rattle.mc_state.specs.declared.line.Form.TheVariants.{Certificate, Chain}
 use Rattle.mc_state.specs.declared.raw_state.RawState.{RawState}
@@ -18,7 +18,7 @@ use Rattle.mc_kernel.specs.Certificates.{WrittenHead, states_of}
 use Rattle.mc_kernel.specs.Instances.{IsInstance, Reads, stuck_by}
 use Rattle.mc_kernel.specs.JudgedLaws.{LinesAreJudged}
 use Rattle.mc_kernel.specs.Judges.{Knowledge, judged_line, is_chain}
-use Rattle.mc_kernel.specs.Readings.{Reading, Stage, cutting, heading, ruling, finished, behind, begun, setting_of, ready, first_branch, marked, has_no_branch, reading_rule, reading_end, reading_line, reading_lines}
+use Rattle.mc_kernel.specs.Readings.{Reading, ruling, finished, behind, marked, reading_rule, reading_lines}
 use Rattle.mc_reading.specs.Documents.{IsMade, IsJudge}
 use Rattle.mc_reading.proofs.Lists.{all_join, append_none, append_twice}
 use Rattle.mc_reading.proofs.Made.{Makes, line_made}

@@ -1,6 +1,6 @@
 -- Whole documents, read to their ends.
 use Rattle.std.proofs.Common.{◌≡◌, ℕ, suc, List, [], ◌∷◌, ◌++◌, Bool, true, false, map, refl, ap, sym, subst, ◌∙◌}
-use Rattle.std.specs.Prelude.{◌↔◌, Result, Ok, Err, Contains}
+use Rattle.std.specs.Prelude.{Result, Ok, Contains}
 use Rattle.std.specs.List.{AllByRecursion}
 use Rattle.mc_base.specs.declared.ids.PointId.{PointId}
 use Rattle.mc_cert.specs.declared.line.Line.{Line}
@@ -8,24 +8,24 @@ use Rattle.mc_cert.specs.declared.line.Line.TheVariants as line
 use Rattle.mc_defs.specs.declared.rules.Def.{Def}
 use Rattle.mc_flow.specs.declared.graph.Flow.{Flow}
 use Rattle.mc_flow.specs.Valid.{IsValid}
-use Rattle.mc_premises.specs.Premises.{Judged, need, have}
+use Rattle.mc_premises.specs.Premises.{need}
 use Rattle.mc_premises.proofs.Numbered.{need_ok}
 use Rattle.mc_state.specs.declared.line.Form.{Form}
 use Rattle.mc_state.specs.declared.line.Form.TheVariants.{Certificate, Chain}
 use Rattle.mc_state.specs.declared.line.Version.TheVariants.{One}
 use Rattle.mc_state.specs.declared.raw_state.RawState.{RawState}
-use Rattle.mc_state.specs.RawStates.{state_of, IsWellFormedRaw}
+use Rattle.mc_state.specs.RawStates.{IsWellFormedRaw}
 use Rattle.mc_kernel.specs.Branches.{Path, AreCuts, Ascend, roots, begins, Head}
-use Rattle.mc_kernel.specs.Certificates.{WrittenHead, AreOrdered, IsValidCertificate, IsLastPass, states_of}
+use Rattle.mc_kernel.specs.Certificates.{WrittenHead, IsValidCertificate, states_of}
 use Rattle.mc_kernel.specs.Instances.{IsInstance, Reads, stuck_by}
-use Rattle.mc_kernel.specs.Judges.{Knowledge, is_chain}
-use Rattle.mc_kernel.specs.Readings.{Reading, Stage, cutting, heading, ruling, finished, behind, begun, has_all_heads, reading_pass, reading_line, reading_lines}
+use Rattle.mc_kernel.specs.Judges.{Knowledge}
+use Rattle.mc_kernel.specs.Readings.{Reading, cutting, heading, finished, behind, begun, has_all_heads, reading_pass, reading_lines}
 use Rattle.mc_reading.specs.Documents.{IsMade, IsJudge, Ends, IsShortChain}
 use Rattle.mc_reading.specs.Laws.{CertificatesAreRead, ChainsAreRead, CertificatesStickNowhere}
 use Rattle.mc_reading.proofs.Lists.{heads_from_full, full_from_heads, each_contained, all_contained}
 use Rattle.mc_reading.proofs.Made.{entry_made}
-use Rattle.mc_reading.proofs.Rules.{Right, RulesOf, behind_ok, behind_yes, ended_at, same_reading, rules_from, rules_to, ruling_at}
-use Rattle.mc_reading.proofs.Front.{CutsOf, HeadsOf, HeadFits, IsPoint, cuts_from, cuts_to, cutting_at, from_cuts, from_heads, full_of, head_line, heading_at, heads_from, heads_to, rooted_at, starts_cut, starts_head}
+use Rattle.mc_reading.proofs.Rules.{Right, RulesOf, behind_ok, ended_at, same_reading, rules_from, rules_to, ruling_at}
+use Rattle.mc_reading.proofs.Front.{HeadFits, IsPoint, cuts_from, cuts_to, cutting_at, from_cuts, from_heads, full_of, head_line, heading_at, heads_from, heads_to, rooted_at, starts_cut, starts_head}
 
 -- a reading that is at another stage has not ended
 cutting_still : (form : Form) (cuts : List PointId) (last : Reading) → ◌≡◌ {A = Result Reading (ℕ × ℕ)} (Ok (cutting_at form cuts)) (Ok last) → last.stage ≡ finished → ⊥

@@ -1,9 +1,11 @@
 //! What reading a document line by line says. Each law is what a function with no body ensures.
 #![tactic(auto)]
 
-ghost use Rattle.mc_reading.specs.Laws.{LinesMakeWellMade, BegunIsKept, LinesKeep, RulesAreRead};
+ghost use Rattle.mc_reading.specs.Laws.{LinesMakeWellMade, BegunIsKept, LinesKeep, RulesAreRead, EndedIsClosed};
+ghost use Rattle.mc_reading.specs.Laws.{LinesAreAdded};
 ghost use Rattle.mc_reading.specs.Laws.{CertificatesAreRead, ChainsAreRead, CertificatesStickNowhere};
-ghost use Rattle.mc_reading.specs.Laws.{RefusalsAreRead, RefusalIsOne, DocumentsAreDecided, ReadIsNotRefused, RefusedIsNeverValid, JudgesAgree};
+ghost use Rattle.mc_reading.specs.Laws.{RefusalsAreRead, RefusalIsOne, DocumentsAreDecided, ReadIsNotRefused};
+ghost use Rattle.mc_reading.specs.Laws.{RefusedIsNeverValid, JudgesAgree};
 
 use mc_back::back_is_well_made;
 use mc_fold::{folding_makes_well, naming_makes_well, segments_make_well};
@@ -25,9 +27,9 @@ pub fn lines_make_well_made()
     numbers_stay_bounded();
 }
 
-/// The open branches of a document that is read have well-made states, and its heads are well formed, whatever lines
-/// are read. The line of a rule is read exactly where it is an instance at the first open branch, in whose place its
-/// successors come.
+/// The open branches of a document that is read have well-made states, and its heads are well formed, whatever
+/// lines are read. The line of a rule is read exactly where it is an instance at the first open branch, in whose
+/// place its successors come.
 pub fn lines_are_read()
     ensures begun { BegunIsKept }
     ensures kept { LinesKeep }
@@ -42,6 +44,12 @@ pub fn lines_are_read()
     naming_makes_well();
     numbers_stay_bounded();
 }
+
+/// A document goes on line by line, and where it has ended no branch is open.
+pub fn documents_go_on()
+    ensures added { LinesAreAdded }
+    ensures closed { EndedIsClosed }
+{}
 
 /// The lines behind its header end a document exactly where it is a valid certificate, or a chain of one pass with
 /// these stuck branches.
@@ -60,8 +68,8 @@ pub fn documents_are_read()
     numbers_stay_bounded();
 }
 
-/// A document has ended, is open, or has one line that is refused, with one premise; then nothing behind it makes the
-/// document valid.
+/// A document has ended, is open, or has one line that is refused, with one premise; then nothing behind it makes
+/// the document valid.
 pub fn refusals_are_one()
     ensures answered { RefusalsAreRead }
     ensures once { RefusalIsOne }
