@@ -24,10 +24,9 @@ pub fn cuts_and_heads_out_of_place()
 {}
 
 /// A rule where the loop's head is no cut, before a pass, and where no branch is open; a pass in a certificate, and
-/// one behind a pass that changed nothing; a
-/// pass and the end where the loop's head is no cut; the end where the roots or other branches are open, and before a
-/// pass; steps of chains that
-/// are not judged yet; and lines behind the end.
+/// one behind a pass that changed nothing; a pass and the end where the loop's head is no cut; the end where the
+/// roots or other branches are open, and before a pass; steps of chains that are not judged yet; and lines behind the
+/// end.
 pub fn rules_out_of_place()
     ensures uncut { Refuses (begun Certificate) S1 1 }
     ensures no_pass { Refuses (one_cut Chain) S1 1 }

@@ -34,6 +34,17 @@ cutting_still form cuts last e f = let stage : cutting ≡ finished = ap (λ (r 
 heading_still : (cuts : List PointId) (heads : List WrittenHead) (last : Reading) → ◌≡◌ {A = Result Reading (ℕ × ℕ)} (Ok (heading_at cuts heads)) (Ok last) → last.stage ≡ finished → ⊥
 heading_still cuts heads last e f = let stage : heading ≡ finished = ap (λ (r : Reading). r.stage) (same_reading (heading_at cuts heads) last e) ∙ f in cc stage
 
+-- how the lines of a certificate are spelled, and those of a chain
+spelled : (lines rest ending : List Line) (cuts some : List PointId) (heads more : List WrittenHead) (rules : List Line)
+    → lines ≡ map line.Cut some ++ rest → cuts ≡ some → rest ≡ map head_line more ++ ending → heads ≡ more → ending ≡ rules ++ line.End ∷ []
+    → lines ≡ map line.Cut cuts ++ (map head_line heads ++ (rules ++ line.End ∷ []))
+spelled lines rest ending cuts some heads more rules a b c d e = cc (a, b, c, d, e)
+
+spelled_chain : (lines rest ending : List Line) (cuts some : List PointId) (rules : List Line)
+    → lines ≡ map line.Cut some ++ rest → cuts ≡ some → rest ≡ line.Pass ∷ ending → ending ≡ rules ++ line.End ∷ []
+    → lines ≡ map line.Cut cuts ++ (line.Pass ∷ (rules ++ line.End ∷ []))
+spelled_chain lines rest ending cuts some rules a b c d = cc (a, b, c, d)
+
 -- a certificate has no stuck branch
 pub never_stuck : (flow : Flow) (defs : List Def) (cuts : List PointId) (heads : List Head) (rules : List Line) (bs stuck : List Path)
     → Reads flow defs (record { form = Certificate; cuts = cuts; heads = heads }) rules bs stuck → stuck ≡ []
@@ -95,10 +106,7 @@ module _ (right : Right) (k : Knowledge) (well : RawState → Bool) (flow : Flow
       let h = heads_from k well flow defs judge c.all c.number c.rest [] ends.last tt tt front.1 in
       let r = roots_from c.all h.all h.number h.rest ends.last front.0 (roots_made h.all (only_formed c.all h.all h.fit)) h.starts h.read ends.ended in
       let none : r.more ≡ [] = never_stuck flow defs c.all (states_of h.all) r.rules (roots flow (states_of h.all)) r.more r.reads in
-      let written : lines ≡ map line.Cut c.all ++ (map head_line h.all ++ (r.rules ++ line.End ∷ [])) =
-      c.spelled ∙ ap (λ (ls : List Line). map line.Cut c.more ++ ls) (h.spelled ∙ ap (λ (ls : List Line). map head_line h.more ++ ls) r.spelled)
-      ∙ ap (λ (ps : List PointId). map line.Cut ps ++ (map head_line h.more ++ (r.rules ++ line.End ∷ []))) (sym c.all_are)
-      ∙ ap (λ (hs : List WrittenHead). map line.Cut c.all ++ (map head_line hs ++ (r.rules ++ line.End ∷ []))) (sym h.all_are) in (
+      let written = spelled lines c.rest h.rest c.all c.more h.all h.more r.rules c.spelled c.all_are h.spelled h.all_are r.spelled in (
         record {
           cuts = c.all;
           heads = h.all;
@@ -202,9 +210,7 @@ module _ (right : Right) (k : Knowledge) (well : RawState → Bool) (flow : Flow
       let p = pass_from c.all c.number c.rest ends.last c.starts c.read ends.ended in
       let r = rules_from right k well flow defs valid judge Chain c.all [] (suc c.number) p.rest (roots flow []) [] ends.last (roots_made [] tt) p.read ends.ended in
       let same : r.more ≡ stuck = sym (ap (λ (t : Reading). t.stuck) r.ends) ∙ ends.stuck_are in
-      let written : lines ≡ map line.Cut c.all ++ (line.Pass ∷ (r.rules ++ line.End ∷ [])) =
-      c.spelled ∙ ap (λ (ls : List Line). map line.Cut c.more ++ ls) (p.spelled ∙ ap (λ (ls : List Line). line.Pass ∷ ls) r.spelled)
-      ∙ ap (λ (ps : List PointId). map line.Cut ps ++ (line.Pass ∷ (r.rules ++ line.End ∷ []))) (sym c.all_are) in
+      let written = spelled_chain lines c.rest p.rest c.all c.more r.rules c.spelled c.all_are p.spelled r.spelled in
       record {
         cuts = c.all;
         rules = r.rules;
