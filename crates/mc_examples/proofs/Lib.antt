@@ -1,0 +1,5 @@
+pub mod Numbers
+pub mod TidyStates
+pub mod HeadLines
+pub mod Jumping
+pub mod Folding
