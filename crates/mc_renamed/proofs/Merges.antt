@@ -8,7 +8,7 @@ use Rattle.mc_base.specs.Atoms.{moved_atom}
 use Rattle.mc_base.specs.Nodes.{null, moved}
 use Rattle.mc_pure.specs.Pure.{Kinds, Pure, HasKind, AreOfOneKind, kind_of}
 use Rattle.mc_pure.specs.Nodes.{RiseFrom}
-use Rattle.mc_canon.specs.Forgotten.{kinds_without}
+use Rattle.mc_pure.specs.Whole.{kinds_without}
 use Rattle.mc_renaming.specs.Images.{Images, image, image_of, image_or, IsWith, HasOther}
 use Rattle.mc_renamed.specs.Renamed.{AreImageKinds, IsOneKind, IsImage, IsRenamed, instead, merged}
 use Rattle.mc_renamed.proofs.Sorted.{number, decide, same_true, same_false, some_same, not_none, null_none, rise_without, without_here, without_other}

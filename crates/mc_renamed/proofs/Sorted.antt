@@ -7,7 +7,7 @@ use Rattle.mc_base.specs.Nodes.{null}
 use Rattle.mc_pure.specs.Pure.{Kinds, kind_of}
 use Rattle.mc_pure.specs.Rows.{nodes_of}
 use Rattle.mc_pure.specs.Nodes.{RiseFrom, with_kind}
-use Rattle.mc_canon.specs.Forgotten.{kinds_without}
+use Rattle.mc_pure.specs.Whole.{kinds_without}
 
 pub same_node : (a b : NodeId) → a.0 ≡ b.0 → a ≡ b
 same_node a b e = ap (λ (n : ℕ). let x : NodeId = record { 0 = n } in x) e

@@ -8,7 +8,7 @@ use Rattle.mc_base.specs.Atoms.{moved_atom}
 use Rattle.mc_pure.specs.Pure.{Kinds, Pure, IsNode, kind_of}
 use Rattle.mc_pure.specs.Known.{with_node}
 use Rattle.mc_pure.specs.Nodes.{RiseFrom}
-use Rattle.mc_canon.specs.Forgotten.{kinds_without}
+use Rattle.mc_pure.specs.Whole.{kinds_without}
 
 -- other nodes in place of its own; the kinds of those are given
 abbrev pub renamed : (ℕ → ℕ) → Kinds → Pure → Pure
