@@ -183,7 +183,8 @@ Written p rows = (i : ℕ) (f : Atom) → slice_get (apart_of p.written) i ≡ S
 -- two blocks start apart
 abbrev pub PairSettled : Pure → List Row → (i j : ℕ) → Type 0
 PairSettled p rows i j =
-    (a b : NodeId) → i ≢ j → slice_get p.starts i ≡ Some a → slice_get p.starts j ≡ Some b → Settled p rows (Ne a b (pos 0))
+    (a b : NodeId) → i ≢ j → slice_get p.starts i ≡ Some a → slice_get p.starts j ≡ Some b
+    → Settled p rows (Ne a b (pos 0))
 
 -- a block starts apart from the first others
 abbrev pub StartBelow : Pure → List Row → (i n : ℕ) → Type 0
@@ -195,7 +196,8 @@ StartSettled p rows i = (j : ℕ) → PairSettled p rows i j
 
 -- where it is looked at
 abbrev pub StartWithin : Pure → List Row → Scope → ℕ → Type 0
-StartWithin p rows scope i = (a : NodeId) → slice_get p.starts i ≡ Some a → IsWithin scope (row_at rows a) → StartSettled p rows i
+StartWithin p rows scope i =
+    (a : NodeId) → slice_get p.starts i ≡ Some a → IsWithin scope (row_at rows a) → StartSettled p rows i
 
 -- the first blocks that are looked at start apart from all others
 abbrev pub StartsBelow : Pure → List Row → Scope → ℕ → Type 0
@@ -210,7 +212,8 @@ IsGiven p rows a b c = (f : Atom) × Base p f × MovedAtom rows f a b c
 
 -- a written disequality does
 abbrev pub IsGivenByWritten : Pure → List Row → (a b : Row) (c : ℤ) → Type 0
-IsGivenByWritten p rows a b c = (i : ℕ) × (f : Atom) × (slice_get (apart_of p.written) i ≡ Some f) × MovedAtom rows f a b c
+IsGivenByWritten p rows a b c =
+    (i : ℕ) × (f : Atom) × (slice_get (apart_of p.written) i ≡ Some f) × MovedAtom rows f a b c
 
 -- that of the starts of two blocks does
 abbrev pub IsGivenByPair : Pure → List Row → (i j : ℕ) → (a b : Row) (c : ℤ) → Type 0
