@@ -1,0 +1,3 @@
+pub mod Joint
+pub mod Gains
+pub mod Parts
