@@ -1,6 +1,6 @@
 -- What stays so, line by line.
 use Rattle.std.proofs.Common.{◌≡◌, List, [], ◌∷◌, ◌++◌, Bool, true, false, Option, Some, None, ap, sym, subst, ◌∙◌}
-use Rattle.std.specs.Prelude.{◌↔◌, Ok, ◌&&◌, if◌then◌else◌}
+use Rattle.std.specs.Prelude.{Ok, ◌&&◌, if◌then◌else◌}
 use Rattle.std.specs.List.{AllByRecursion}
 use Rattle.mc_cert.specs.declared.line.Line.{Line}
 use Rattle.mc_cert.specs.declared.line.Line.TheVariants as line
@@ -16,9 +16,10 @@ use Rattle.mc_state.specs.RawStates.{IsWellFormedRaw}
 use Rattle.mc_step.specs.Operands.{code_at}
 use Rattle.mc_kernel.specs.Branches.{Path, roots}
 use Rattle.mc_kernel.specs.Certificates.{WrittenHead, states_of}
+use Rattle.mc_kernel.specs.JudgedLaws.{LinesAreJudged}
 use Rattle.mc_kernel.specs.Judges.{Knowledge, is_cut, judged_line}
 use Rattle.mc_kernel.specs.Readings.{Reading, Stage, cutting, heading, ruling, finished, setting_of, is_cutting, has_all_heads, ready, rooted, ruled, is_skip, comes_after, stands_after, may_head, may_pass, has_no_branch, first_branch, marked, reading_rule, reading_line}
-use Rattle.mc_reading.specs.Documents.{IsMade, IsJudge, IsKept, IsReadAt, is_rule}
+use Rattle.mc_reading.specs.Documents.{IsMade, IsJudge, IsAskedHere, IsKept, IsReadAt}
 use Rattle.mc_reading.specs.Laws.{BegunIsKept, LinesKeep, RulesAreRead}
 use Rattle.mc_reading.proofs.Lists.{all_end, all_join}
 use Rattle.mc_reading.proofs.Made.{line_made}
@@ -33,6 +34,34 @@ first_is [] b e = absurd (cc e)
 first_is (c ∷ bs) b e =
     let pair : ◌≡◌ {A = Path × List Path} (c, bs) b = some_is (c, bs) b e in
     ap (λ (x : Path × List Path). x.0 ∷ x.1) pair
+
+-- where the line of a rule is read, what is asked of the first open branch being answered rightly
+module _ (judged : LinesAreJudged) (k : Knowledge) (flow : Flow) (defs : List Def) (l : Line) (r new : Reading) (asked : IsAskedHere k flow defs r) where
+  pub here_from : reading_rule k flow defs l r ≡ Ok new → IsReadAt flow defs l r new
+  here_from e =
+      let one = have_ok 1 (ready flow r r.stage) _ new e in
+      let two = have_ok 1 (first_branch one.0.branches) _ new one.2 in
+      let come : List Path → Reading = λ (next : List Path). record one.0 { branches = next ++ two.0.1; stuck = one.0.stuck ++ marked l two.0.0 } in
+      let given = then_ok come (judged_line k flow defs (setting_of one.0) l two.0.0) new two.2 in
+      let open_are = first_is one.0.branches two.0 two.1 in
+      record {
+        begun_rules = one.0;
+        is_ready = one.1;
+        first = two.0.0;
+        others = two.0.1;
+        open_are = open_are;
+        next = given.0;
+        instance = (judged k flow defs (setting_of one.0) l two.0.0 (asked one.0 two.0.0 two.0.1 one.1 open_are) given.0).0 given.1;
+        gives = given.2;
+      }
+
+  pub here_to : IsReadAt flow defs l r new → reading_rule k flow defs l r ≡ Ok new
+  here_to i =
+      let come : List Path → Reading = λ (next : List Path). record i.begun_rules { branches = next ++ i.others; stuck = i.begun_rules.stuck ++ marked l i.first } in
+      have_yes 1 (ready flow r r.stage) _ i.begun_rules i.is_ready
+      ∙ have_yes 1 (first_branch i.begun_rules.branches) _ (i.first, i.others) (ap first_branch i.open_are)
+      ∙ ap (then_give come) ((judged k flow defs (setting_of i.begun_rules) l i.first (asked i.begun_rules i.first i.others i.is_ready i.open_are) i.next).1 i.instance)
+      ∙ ap (λ (x : Reading). Ok x) (sym i.gives)
 
 module _ (right : Right) (k : Knowledge) (well : RawState → Bool) (flow : Flow) (defs : List Def) (valid : IsValid flow defs) (judge : IsJudge k well flow defs) where
   abbrev Formed : WrittenHead → Type 0
@@ -58,34 +87,11 @@ module _ (right : Right) (k : Knowledge) (well : RawState → Bool) (flow : Flow
   pub ready_kept : (r t : Reading) → IsKept flow defs r → ready flow r r.stage ≡ Some t → IsKept flow defs t
   ready_kept r t kept e = ready_in r t r.stage kept e
 
-  -- where the line of a rule is read
-  rule_from : (l : Line) (r new : Reading) → IsKept flow defs r → reading_rule k flow defs l r ≡ Ok new → IsReadAt flow defs l r new
-  rule_from l r new kept e =
-      let one = have_ok 1 (ready flow r r.stage) _ new e in
-      let two = have_ok 1 (first_branch one.0.branches) _ new one.2 in
-      let come : List Path → Reading = λ (next : List Path). record one.0 { branches = next ++ two.0.1; stuck = one.0.stuck ++ marked l two.0.0 } in
-      let given = then_ok come (judged_line k flow defs (setting_of one.0) l two.0.0) new two.2 in
-      let open_are = first_is one.0.branches two.0 two.1 in
-      let made = subst (AllByRecursion (IsMade flow defs)) open_are (ready_kept r one.0 kept one.1).branches in
-      record {
-        begun_rules = one.0;
-        is_ready = one.1;
-        first = two.0.0;
-        others = two.0.1;
-        open_are = open_are;
-        next = given.0;
-        instance = (right.judged k flow defs (setting_of one.0) l two.0.0 (judge.asked two.0.0 made.0) given.0).0 given.1;
-        gives = given.2;
-      }
+  asked_here : (r : Reading) → IsKept flow defs r → IsAskedHere k flow defs r
+  asked_here r kept t b bs is open_are = judge.asked b (subst (AllByRecursion (IsMade flow defs)) open_are (ready_kept r t kept is).branches).0
 
-  rule_to : (l : Line) (r new : Reading) → IsKept flow defs r → IsReadAt flow defs l r new → reading_rule k flow defs l r ≡ Ok new
-  rule_to l r new kept i =
-      let made = subst (AllByRecursion (IsMade flow defs)) i.open_are (ready_kept r i.begun_rules kept i.is_ready).branches in
-      let come : List Path → Reading = λ (next : List Path). record i.begun_rules { branches = next ++ i.others; stuck = i.begun_rules.stuck ++ marked l i.first } in
-      have_yes 1 (ready flow r r.stage) _ i.begun_rules i.is_ready
-      ∙ have_yes 1 (first_branch i.begun_rules.branches) _ (i.first, i.others) (ap first_branch i.open_are)
-      ∙ ap (then_give come) ((right.judged k flow defs (setting_of i.begun_rules) l i.first (judge.asked i.first made.0) i.next).1 i.instance)
-      ∙ ap (λ (x : Reading). Ok x) (sym i.gives)
+  rule_from : (l : Line) (r new : Reading) → IsKept flow defs r → reading_rule k flow defs l r ≡ Ok new → IsReadAt flow defs l r new
+  rule_from l r new kept e = here_from right.judged k flow defs l r new (asked_here r kept) e
 
   read_kept : (l : Line) (r new : Reading) → IsKept flow defs r → IsReadAt flow defs l r new → IsKept flow defs new
   read_kept l r new kept i =
@@ -123,19 +129,16 @@ module _ (right : Right) (k : Knowledge) (well : RawState → Bool) (flow : Flow
       subst (IsKept flow defs) is (record { heads = before.heads; branches = before.branches })
   line_kept l r new kept e = read_kept l r new kept (rule_from l r new kept e)
 
-  read_is : (l : Line) (r new : Reading) → IsKept flow defs r → is_rule l ≡ true → (reading_line k well flow defs l r ≡ Ok new) ↔ IsReadAt flow defs l r new
-  read_is (line.Header version form) r new kept e = absurd (cc e)
-  read_is (line.Cut p) r new kept e = absurd (cc e)
-  read_is (line.Head p raw) r new kept e = absurd (cc e)
-  read_is line.Pass r new kept e = absurd (cc e)
-  read_is line.End r new kept e = absurd (cc e)
-  read_is l r new kept e = (rule_from l r new kept, rule_to l r new kept)
+pub rules_are_read : LinesAreJudged → RulesAreRead
+rules_are_read judged k well flow defs (line.Header version form) r new asked e = absurd (cc e)
+rules_are_read judged k well flow defs (line.Cut p) r new asked e = absurd (cc e)
+rules_are_read judged k well flow defs (line.Head p raw) r new asked e = absurd (cc e)
+rules_are_read judged k well flow defs line.Pass r new asked e = absurd (cc e)
+rules_are_read judged k well flow defs line.End r new asked e = absurd (cc e)
+rules_are_read judged k well flow defs l r new asked e = (here_from judged k flow defs l r new asked, here_to judged k flow defs l r new asked)
 
 pub begun_is_kept : BegunIsKept
 begun_is_kept flow defs form = record { heads = tt; branches = tt }
 
 pub lines_keep : Right → LinesKeep
 lines_keep right k well flow defs l r new valid judge kept e = line_kept right k well flow defs valid judge l r new kept e
-
-pub rules_are_read : Right → RulesAreRead
-rules_are_read right k well flow defs l r new valid judge kept is = read_is right k well flow defs valid judge l r new kept is

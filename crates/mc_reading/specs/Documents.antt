@@ -76,6 +76,12 @@ pub record IsKept (flow : Flow) (defs : List Def) (r : Reading) : Type 0 where
   pub heads : AllByRecursion (λ h. IsWellFormedRaw defs flow.vars flow.structs.list h.1) r.heads
   pub branches : AllByRecursion (IsMade flow defs) r.branches
 
+-- what is asked of the first open branch, where rule lines are read or may begin, is answered rightly
+abbrev pub IsAskedHere : Knowledge → Flow → List Def → Reading → Type 0
+IsAskedHere k flow defs r =
+    (t : Reading) (b : Path) (others : List Path)
+    → ready flow r r.stage ≡ Some t → t.branches ≡ b ∷ others → IsAsked k flow defs b
+
 -- the line of a rule is read at the first open branch: it is an instance there, and what it gives comes in the
 -- branch's place
 pub record IsReadAt (flow : Flow) (defs : List Def) (l : Line) (r new : Reading) : Type 0 where

@@ -15,7 +15,7 @@ use Rattle.mc_kernel.specs.Certificates.{IsValidCertificate}
 use Rattle.mc_kernel.specs.Instances.{IsInstance}
 use Rattle.mc_kernel.specs.Judges.{Knowledge}
 use Rattle.mc_kernel.specs.Readings.{Reading, finished, begun, behind, reading_line}
-use Rattle.mc_reading.specs.Documents.{IsMade, IsJudge, IsKept, IsReadAt, is_rule, reading_document, Ends, IsOpen}
+use Rattle.mc_reading.specs.Documents.{IsMade, IsJudge, IsAskedHere, IsKept, IsReadAt, is_rule, reading_document, Ends, IsOpen}
 use Rattle.mc_reading.specs.Documents.{IsRefused, IsShortChain}
 
 -- ---- lines
@@ -37,11 +37,12 @@ LinesKeep =
     → IsValid flow defs → IsJudge k well flow defs → IsKept flow defs r
     → reading_line k well flow defs l r ≡ Ok new → IsKept flow defs new
 
--- a line of a rule is read exactly where it is an instance at the first open branch, and this comes of it
+-- where what is asked of the first open branch is answered rightly, a line of a rule is read exactly where it is an
+-- instance there, and this comes of it
 abbrev pub RulesAreRead : Type 0
 RulesAreRead =
     (k : Knowledge) (well : RawState → Bool) (flow : Flow) (defs : List Def) (l : Line) (r new : Reading)
-    → IsValid flow defs → IsJudge k well flow defs → IsKept flow defs r → is_rule l ≡ true
+    → IsAskedHere k flow defs r → is_rule l ≡ true
     → (reading_line k well flow defs l r ≡ Ok new) ↔ IsReadAt flow defs l r new
 
 -- ---- whole documents

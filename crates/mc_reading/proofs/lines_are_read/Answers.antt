@@ -22,4 +22,4 @@ returns c =
       unknown = c.numbers_stay_bounded.ensures.unknown;
     } in
     let right : Right = record { judged = c.lines_are_judged.ensures.judged; makes = makes } in
-    record { begun = begun_is_kept; kept = lines_keep right; rules = rules_are_read right }
+    record { begun = begun_is_kept; kept = lines_keep right; rules = rules_are_read c.lines_are_judged.ensures.judged }
