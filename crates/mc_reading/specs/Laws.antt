@@ -15,8 +15,8 @@ use Rattle.mc_kernel.specs.Certificates.{IsValidCertificate}
 use Rattle.mc_kernel.specs.Instances.{IsInstance}
 use Rattle.mc_kernel.specs.Judges.{Knowledge}
 use Rattle.mc_kernel.specs.Readings.{Reading, finished, begun, behind, reading_line}
-use Rattle.mc_reading.specs.Documents.{IsMade, IsJudge, IsAskedHere, IsKept, IsReadAt, is_rule, reading_document, Ends, IsOpen}
-use Rattle.mc_reading.specs.Documents.{IsRefused, IsShortChain}
+use Rattle.mc_reading.specs.Documents.{IsMade, IsJudge, IsAskedHere, IsKept, IsReadAt, is_rule, reading_document}
+use Rattle.mc_reading.specs.Documents.{Ends, IsOpen, IsRefused, IsShortChain}
 
 -- ---- lines
 
