@@ -26,7 +26,7 @@ pub use laws::{
 pub use line::{Form, JoinStep, Side, Version};
 pub use mc_graph::Edge;
 pub use raw_state::{NodeKind, RawState};
-pub use rule::{LogicFault, LogicRule};
+pub use rule::LogicFault;
 pub use state::State;
 pub use straight_line::StraightLine;
 pub use terms::Term;
