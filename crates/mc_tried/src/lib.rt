@@ -22,8 +22,6 @@ mod outside;
 #[cfg(test)]
 mod ranges;
 #[cfg(test)]
-mod renamings;
-#[cfg(test)]
 mod stacks;
 #[cfg(test)]
 mod tokens;
