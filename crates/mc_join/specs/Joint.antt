@@ -38,16 +38,20 @@ HaveOneKind left right l r = (kind : Kind) × HasKind left.kinds kind l × HasKi
 
 -- so are those of each pair, and the first pair is node 0 on both sides
 abbrev pub AreJoinable : Pure → Pure → Pairs → Type 0
-AreJoinable left right pairs = StandsFor pairs null null null × ((n l r : NodeId) → StandsFor pairs n l r → HaveOneKind left right l r)
+AreJoinable left right pairs =
+    StandsFor pairs null null null × ((n l r : NodeId) → StandsFor pairs n l r → HaveOneKind left right l r)
 
 -- the kind of a pair is that of a node of it other than 0
 abbrev pub IsKindOfPair : Pure → Pure → NodeId → NodeId → Kind → Type 0
-IsKindOfPair left right l r kind = ((l ≢ null) × (kind_of left.kinds l ≡ Some kind)) ⊎ ((r ≢ null) × (kind_of right.kinds r ≡ Some kind))
+IsKindOfPair left right l r kind =
+    ((l ≢ null) × (kind_of left.kinds l ≡ Some kind)) ⊎ ((r ≢ null) × (kind_of right.kinds r ≡ Some kind))
 
 -- the pairs but the first, numbered by their places, each with its kind
 pub record AreJointKinds (left right : Pure) (pairs : Pairs) (kinds : Kinds) : Type 0 where
   pub rise : RiseFrom 1 kinds
-  pub exact : (n : NodeId) (kind : Kind) → (kind_of kinds n ≡ Some kind) ↔ ((n ≢ null) × ((l r : NodeId) × StandsFor pairs n l r × IsKindOfPair left right l r kind))
+  pub exact : (n : NodeId) (kind : Kind)
+      → (kind_of kinds n ≡ Some kind)
+      ↔ ((n ≢ null) × ((l r : NodeId) × StandsFor pairs n l r × IsKindOfPair left right l r kind))
 
 -- ranges of numbers are widened from the third pass on
 abbrev pub IsLate : Kind → ℕ → Type 0
@@ -59,24 +63,41 @@ pub record IsJointRange (kind : Kind) (round : ℕ) (thresholds : List ℤ) (l h
   pub hull : (IsLate kind round → ⊥) → (lo ≡ int_min l m) × (hi ≡ int_max h k)
   pub wide : IsLate kind round → WidensDown thresholds l (int_min l m) lo × WidensUp thresholds h (int_max h k) hi
 
--- an atom of a join: an equality derived on both sides; the range of a pair; a disequality derived on both sides that has
--- offset 0 or is on the canonical list of one
+-- an atom of a join: an equality derived on both sides; the range of a pair; a disequality derived on both sides
+-- that has offset 0 or is on the canonical list of one
 abbrev pub IsOfBoth : Sides → Kinds → Atom → Type 0
 IsOfBoth s kinds (Eq a b c) =
-    (l r m k : NodeId) × StandsFor s.pairs a l r × StandsFor s.pairs b m k × Follows s.left (Eq l m c) × Follows s.right (Eq r k c)
+    (l r m k : NodeId) × StandsFor s.pairs a l r × StandsFor s.pairs b m k
+    × Follows s.left (Eq l m c) × Follows s.right (Eq r k c)
 IsOfBoth s kinds (Ne a b c) =
-    (l r m k : NodeId) × StandsFor s.pairs a l r × StandsFor s.pairs b m k × Follows s.left (Ne l m c) × Follows s.right (Ne r k c)
+    (l r m k : NodeId) × StandsFor s.pairs a l r × StandsFor s.pairs b m k
+    × Follows s.left (Ne l m c) × Follows s.right (Ne r k c)
     × ((c ≡ pos 0) ⊎ (Among s.left_list (Ne l m c) ⊎ Among s.right_list (Ne r k c)))
 IsOfBoth s kinds (In n lo hi) =
     (kind : Kind) × (kind_of kinds n ≡ Some kind) × (l r : NodeId) × StandsFor s.pairs n l r
-    × (x h y k : ℤ) × HasRange s.left l x h × HasRange s.right r y k × IsJointRange kind s.round s.thresholds x h y k lo hi
+    × (x h y k : ℤ) × HasRange s.left l x h × HasRange s.right r y k
+    × IsJointRange kind s.round s.thresholds x h y k lo hi
 
 -- it is between nodes of one kind
 abbrev pub IsJoint : Sides → Kinds → Atom → Type 0
 IsJoint s kinds f = IsWellFormed kinds f × IsOfBoth s kinds f
 
+-- these two sides
+abbrev pub sides : Pure → Pure → Pairs → (left_list right_list : List Atom) → ℕ → List ℤ → Sides
+sides left right pairs left_list right_list round thresholds =
+    record {
+      left = left;
+      right = right;
+      pairs = pairs;
+      left_list = left_list;
+      right_list = right_list;
+      round = round;
+      thresholds = thresholds;
+    }
+
 -- the atoms of a join: each written one is one of them, and all of them follow
-pub record IsJoin (left right : Pure) (pairs : Pairs) (round : ℕ) (thresholds : List ℤ) (joint : Pure) : Type 0 where
+pub record IsJoin (left right : Pure) (pairs : Pairs) (round : ℕ) (thresholds : List ℤ) (joint : Pure)
+    : Type 0 where
   pub left_list : List Atom
   pub right_list : List Atom
   pub left_canonical : IsCanonical left left_list
@@ -84,7 +105,7 @@ pub record IsJoin (left right : Pure) (pairs : Pairs) (round : ℕ) (thresholds 
   pub kinds : AreJointKinds left right pairs joint.kinds
   pub starts : joint.starts ≡ []
   pub sound : (f : Atom) → Among joint.written f
-      → IsJoint (record { left = left; right = right; pairs = pairs; left_list = left_list; right_list = right_list; round = round; thresholds = thresholds }) joint.kinds f
+      → IsJoint (sides left right pairs left_list right_list round thresholds) joint.kinds f
   pub complete : (f : Atom)
-      → IsJoint (record { left = left; right = right; pairs = pairs; left_list = left_list; right_list = right_list; round = round; thresholds = thresholds }) joint.kinds f
+      → IsJoint (sides left right pairs left_list right_list round thresholds) joint.kinds f
       → Follows joint f

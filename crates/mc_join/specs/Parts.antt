@@ -21,7 +21,8 @@ turned pairs = map (λ p. (p.1, p.0)) pairs
 
 -- the nodes of both sides of each pair are there
 abbrev pub AreThere : Pure → Pure → Pairs → Type 0
-AreThere left right pairs = (i : ℕ) (l r : NodeId) → slice_get pairs i ≡ Some (l, r) → IsNode left.kinds l × IsNode right.kinds r
+AreThere left right pairs =
+    (i : ℕ) (l r : NodeId) → slice_get pairs i ≡ Some (l, r) → IsNode left.kinds l × IsNode right.kinds r
 
 -- by how much more the first node is
 abbrev pub IsDistance : Pure → NodeId → NodeId → Option Shift → Type 0
@@ -67,7 +68,8 @@ pub record ListedAt (other : Pure) (pairs : Pairs) (atom : Atom) (i j : ℕ) (f 
   pub is : f ≡ Ne (node i) (node j) c
 
 -- the range of the pair at a place
-pub record RangeAt (left right : Pure) (pairs : Pairs) (round : ℕ) (thresholds : List ℤ) (i : ℕ) (f : Atom) : Type 0 where
+pub record RangeAt (left right : Pure) (pairs : Pairs) (round : ℕ) (thresholds : List ℤ) (i : ℕ) (f : Atom)
+    : Type 0 where
   pub kind : Kind
   pub l : NodeId
   pub r : NodeId
@@ -95,14 +97,18 @@ AtPlace {X} R xs i f = (x : X) × (slice_get xs i ≡ Some x) × R x f
 -- the kind of a pair, where it has one
 abbrev pub MayBeKind : Pure → Pure → NodeId → NodeId → Option Kind → Type 0
 MayBeKind left right l r None = (kind : Kind) → IsKindOfPair left right l r kind → ⊥
-MayBeKind left right l r (Some kind) = IsKindOfPair left right l r kind × ((other : Kind) → IsKindOfPair left right l r other → other ≡ kind)
+MayBeKind left right l r (Some kind) =
+    IsKindOfPair left right l r kind × ((other : Kind) → IsKindOfPair left right l r other → other ≡ kind)
 
 -- the first pairs but the very first, with their kinds, and nothing else
 pub record HasFirst (left right : Pure) (pairs : Pairs) (n : ℕ) (p : Pure) : Type 0 where
   pub rise : RiseFrom 1 p.kinds
   pub from : (a : NodeId) (kind : Kind) → kind_of p.kinds a ≡ Some kind
-      → (a ≢ null) × (a.0 < n) × ((l r : NodeId) × (slice_get pairs a.0 ≡ Some (l, r)) × IsKindOfPair left right l r kind)
-  pub done : (a : NodeId) (kind : Kind) (l r : NodeId) → a ≢ null → a.0 < n → slice_get pairs a.0 ≡ Some (l, r) → IsKindOfPair left right l r kind → kind_of p.kinds a ≡ Some kind
+      → (a ≢ null) × (a.0 < n)
+      × ((l r : NodeId) × (slice_get pairs a.0 ≡ Some (l, r)) × IsKindOfPair left right l r kind)
+  pub done : (a : NodeId) (kind : Kind) (l r : NodeId)
+      → a ≢ null → a.0 < n → slice_get pairs a.0 ≡ Some (l, r) → IsKindOfPair left right l r kind
+      → kind_of p.kinds a ≡ Some kind
   pub written : p.written ≡ []
   pub starts : p.starts ≡ []
 

@@ -6,7 +6,8 @@ use Rattle.mc_renamed.specs.Renamed.{AreImageKinds, IsOneKind, renamed}
 
 -- the images with their kinds are one list
 abbrev pub ImagesAreOneList : Type 0
-ImagesAreOneList = (f : ℕ → ℕ) (kinds one other : Kinds) → AreImageKinds f kinds one → AreImageKinds f kinds other → one ≡ other
+ImagesAreOneList =
+    (f : ℕ → ℕ) (kinds one other : Kinds) → AreImageKinds f kinds one → AreImageKinds f kinds other → one ≡ other
 
 -- where node 0 stays, and nodes with one image are of one kind, what is known of the images is well formed
 abbrev pub RenamedFits : Type 0

@@ -17,7 +17,8 @@ renamed f kinds p = record { kinds = kinds; written = map (moved_atom f) p.writt
 -- nodes other than 0 with one image other than 0 are of one kind
 abbrev pub IsOneKind : (ℕ → ℕ) → Kinds → Type 0
 IsOneKind f kinds =
-    (m n : NodeId) (k l : Kind) → kind_of kinds m ≡ Some k → kind_of kinds n ≡ Some l → moved f m ≡ moved f n → moved f m ≢ null → k ≡ l
+    (m n : NodeId) (k l : Kind) → kind_of kinds m ≡ Some k → kind_of kinds n ≡ Some l
+    → moved f m ≡ moved f n → moved f m ≢ null → k ≡ l
 
 -- a node of this kind has the image
 abbrev pub IsImage : (ℕ → ℕ) → Kinds → NodeId → Kind → Type 0
@@ -61,7 +62,8 @@ pub record HasImages (f : ℕ → ℕ) (kinds : Kinds) (p : Pure) : Type 0 where
 pub record Gathers (f : ℕ → ℕ) (kinds : Kinds) (Done : NodeId → Type 0) (now : Kinds) : Type 0 where
   pub rise : RiseFrom 1 now
   pub from : (n : NodeId) (kind : Kind) → kind_of now n ≡ Some kind → (n ≢ null) × IsImage f kinds n kind
-  pub done : (m : NodeId) (kind : Kind) → Done m → kind_of kinds m ≡ Some kind → moved f m ≢ null → kind_of now (moved f m) ≡ Some kind
+  pub done : (m : NodeId) (kind : Kind)
+      → Done m → kind_of kinds m ≡ Some kind → moved f m ≢ null → kind_of now (moved f m) ≡ Some kind
 
 -- one of the first nodes of a list
 abbrev pub IsBelow : List NodeId → ℕ → NodeId → Type 0

@@ -1,5 +1,6 @@
 -- Nodes with their images, ascending.
-use Rattle.std.specs.Prelude.{◌≡◌, ◌≢◌, ◌==◌, ◌↔◌, ℕ, suc, ◌<◌, ◌≤◌, List, [], ◌∷◌, Option, Some, None, slice_get, if◌then◌else◌}
+use Rattle.std.specs.Prelude.{◌≡◌, ◌≢◌, ◌==◌, ◌↔◌, ℕ, suc, ◌<◌, ◌≤◌, List, [], ◌∷◌}
+use Rattle.std.specs.Prelude.{Option, Some, None, slice_get, if◌then◌else◌}
 use Rattle.mc_base.specs.declared.ids.NodeId.{NodeId}
 
 -- nodes, each with its image
@@ -61,7 +62,9 @@ IsInverse there back = (m n : NodeId) → (image_of there m ≡ Some n) ↔ (ima
 
 -- each node comes before all that follow it
 abbrev pub DoRise : Images → Type 0
-DoRise images = (i j : ℕ) (p q : NodeId × NodeId) → i < j → slice_get images i ≡ Some p → slice_get images j ≡ Some q → p.0.0 < q.0.0
+DoRise images =
+    (i j : ℕ) (p q : NodeId × NodeId)
+    → i < j → slice_get images i ≡ Some p → slice_get images j ≡ Some q → p.0.0 < q.0.0
 
 -- the place of a node's pair, or where it belongs
 abbrev pub IsPlace : Images → NodeId → ℕ → Type 0
