@@ -32,11 +32,11 @@ use Rattle.mc_sat.proofs.Parts.{left_some, bool_cases}
 use Rattle.mc_sat.proofs.Relation.{Held, held_by_met, solved_by_sat}
 
 -- ---- marks leave few goals
-calls_in : List Rule → ℕ
+pub calls_in : List Rule → ℕ
 calls_in [] = 0
 calls_in (rule ∷ rules) = length rule.calls + calls_in rules
 
-all_calls : List Def → ℕ
+pub all_calls : List Def → ℕ
 all_calls [] = 0
 all_calls (def ∷ defs) = calls_in def.rules + all_calls defs
 
@@ -91,7 +91,7 @@ module _ (whole : Bool) (heap : Heap) (structs : List StructInfo) (defs : List D
       let all = def_calls defs g.pred.0 p.def p.defined in
       (key_in heap at b.0 b.1, omega arith)
 
-  few : AllLeaveFew (space whole heap defs) (all_calls defs) (map.keys heap)
+  pub few : AllLeaveFew (space whole heap defs) (all_calls defs) (map.keys heap)
   few g m f = few_by g m (parts heap defs g m f) (takes m) refl
 
   -- the first marks take a part on which the predicate holds, and the search may end with them
