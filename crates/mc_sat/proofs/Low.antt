@@ -1,20 +1,17 @@
 -- Parts as heaps, names, and how high a predicate holds on a heap.
-use Rattle.std.proofs.Common.{◌≡◌, ℕ, zero, suc, ℤ, ◌+◌, ◌≤◌, List, [], ◌∷◌, ◌++◌, ◌&&◌, ◌||◌, ◌⊎◌, inl, inr, Bool, true, false, not, cond, Option, Some, None, is_some, length, map, slice_get, refl, sym, ◌∙◌, ap, subst, arith, eq-eqb}
+use Rattle.std.proofs.Common.{◌≡◌, ℕ, zero, suc, ℤ, ◌≤◌, List, [], ◌∷◌, ◌++◌, ◌||◌, inl, inr, Bool, true, false, not, cond, Option, Some, None, is_some, length, map, slice_get, refl, sym, ◌∙◌, ap, subst, arith, eq-eqb}
 use Rattle.std.specs.Prelude.{◌==◌, if◌then◌else◌}
 use Rattle.std.specs.FinMap as map
 use Rattle.std.specs.FinMap.{get-retain_keys, len-entries, nat_cmp-IsAntisymmetric}
-use Rattle.std.specs.Ordering.{nat_cmp}
 use Rattle.std.specs.List.{list_any}
 use Rattle.std.proofs.lemmas.Bool.{and_parts}
 use mathlib.Core.Path.{fun_ext}
-use Rattle.mc_base.specs.declared.ids.PredId.{PredId}
-use Rattle.mc_heap.specs.Heap.{Block, Heap, Region, region_of}
-use Rattle.mc_heap.specs.Parts.{Joins, Split}
+use Rattle.mc_heap.specs.Heap.{Block, region_of}
+use Rattle.mc_heap.specs.Parts.{Joins}
 use Rattle.mc_defs.specs.declared.rules.Def.{Def}
 use Rattle.mc_defs.specs.declared.rules.Rule.{Rule}
-use Rattle.mc_defs.specs.Conditions.{IsDefs}
-use Rattle.mc_defs.specs.Meaning.{RuleValues, BlockMeets, SatAt, Sat}
-use Rattle.mc_search.specs.Search.{Space, uses, takes_this, is_unused, is_free, applies}
+use Rattle.mc_defs.specs.Meaning.{SatAt}
+use Rattle.mc_search.specs.Search.{Space, uses, takes_this, is_unused, is_free}
 use Rattle.mc_search.specs.Met.{IsIn, AreMetBy, IsMet, one_if_unused, count_unused, LeavesFew, AllLeaveFew}
 use Rattle.mc_search.proofs.Bound.{uses_more, unused_all}
 use Rattle.mc_sat.specs.declared.goals.Goal.{Goal}
@@ -22,11 +19,11 @@ use Rattle.mc_sat.specs.declared.goals.Mark.{Mark}
 use Rattle.mc_sat.specs.Answers.{region_at}
 use Rattle.mc_sat.specs.Laws.{PartIsHeap, SatIsLow, NamesAreUnique}
 use Rattle.mc_sat.specs.Marks.{block_for, named_at, Named, takes, taken, space}
-use Rattle.mc_sat.proofs.Counting.{met_keeps, IsTaken, met_taken, whole_taken}
+use Rattle.mc_sat.proofs.Counting.{met_keeps}
 use Rattle.mc_sat.proofs.FirstTries.{few, all_calls}
 use Rattle.mc_sat.proofs.Named.{named_back}
 use Rattle.mc_sat.proofs.Parts.{left_some}
-use Rattle.mc_sat.proofs.Relation.{Held, held_by_met, solved_by_sat, taken_uses}
+use Rattle.mc_sat.proofs.Relation.{held_by_met, solved_by_sat, taken_uses}
 
 -- ---- a part as a heap
 kept : (whole part rest : Option Block) → Joins whole part rest → part ≡ cond (is_some part) whole None

@@ -1,4 +1,4 @@
-use Rattle.std.proofs.Common.{◌≡◌, option_map, sym, ap, ◌∙◌, true}
+use Rattle.std.proofs.Common.{◌≡◌, option_map, sym, ◌∙◌}
 use Rattle.std.specs.Prelude.{is_some}
 use Rattle.std.proofs.lemmas.Int.{to_z-of_z}
 use Rattle.mc_sat.proofs.FirstTries.{meets_yes, meets_no, mapped}
