@@ -1,18 +1,18 @@
 -- Marks that meet a goal take each address once, and each is a block's. So they take every block where they take as many
 -- as there are.
-use Rattle.std.proofs.Common.{◌≡◌, ℕ, zero, suc, ◌+◌, ◌-◌, ◌≤◌, ◌<◌, List, [], ◌∷◌, ◌++◌, ◌&&◌, ◌||◌, ◌⊎◌, inl, inr, Bool, true, false, not, cond, Option, Some, None, is_some, length, refl, sym, ◌∙◌, ap, arith, eq-eqb, append-nil, append_assoc, length-append}
+use Rattle.std.proofs.Common.{◌≡◌, ℕ, zero, suc, ◌+◌, ◌-◌, List, [], ◌∷◌, ◌++◌, ◌||◌, Bool, true, false, not, cond, Option, Some, None, is_some, length, refl, sym, ◌∙◌, ap, arith, eq-eqb, append-nil, append_assoc, length-append}
 use Rattle.std.specs.Prelude.{◌==◌, option_to_list, if◌then◌else◌, nat_eq, IsSome}
 use Rattle.std.specs.List.{AllByRecursion, list_any, IsDistinct}
 use Rattle.std.specs.FinMap as map
 use Rattle.std.specs.FinMap.{get-remove, get-empty, len-remove, len-empty, empty_of_len, same_map, nat_cmp-IsAntisymmetric}
 use Rattle.std.specs.Ordering.{nat_cmp, eq_by_cmp}
 use Rattle.std.specs.Cmp.{nat_cmp_total}
-use Rattle.std.proofs.lemmas.Bool.{and_parts, eqb-true, ne_eqb}
+use Rattle.std.proofs.lemmas.Bool.{and_parts, eqb-true}
 use Rattle.std.proofs.lemmas.Bool.Decides.{nat_tests}
 use mathlib.Core.Path.{fun_ext}
-use Rattle.mc_heap.specs.Heap.{Block, Heap, Region, region_of}
+use Rattle.mc_heap.specs.Heap.{Block, Heap, region_of}
 use Rattle.mc_defs.specs.declared.rules.Def.{Def}
-use Rattle.mc_search.specs.Search.{Space, uses, takes_this, is_unused, is_free, applies}
+use Rattle.mc_search.specs.Search.{Space, uses, is_unused, is_free, applies}
 use Rattle.mc_search.specs.Met.{AreMetBy, IsMet}
 use Rattle.mc_sat.specs.declared.goals.Goal.{Goal}
 use Rattle.mc_sat.specs.declared.goals.Mark.{Mark}

@@ -1,6 +1,7 @@
 pub mod Counting
 pub mod Fixed
-pub mod Laws
+pub mod FirstTries
+pub mod Low
 pub mod Listed
 pub mod Named
 pub mod Parts

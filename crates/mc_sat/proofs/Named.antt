@@ -1,5 +1,5 @@
 -- The rule of a mark, taken apart: its names are those that the meaning of definitions asks for, and no others.
-use Rattle.std.proofs.Common.{◌≡◌, ◌⊎◌, inl, inr, ◌<◌, ◌≤◌, ◌+◌, ◌-◌, ℕ, zero, suc, ℤ, pos, negsuc, Bool, true, false, ◌&&◌, ◌||◌, Option, Some, None, List, [], ◌∷◌, ◌++◌, length, map, take, drop, refl, sym, ◌∙◌, ap, subst, arith, append_assoc, length-append, eq-eqb}
+use Rattle.std.proofs.Common.{◌≡◌, ◌⊎◌, inl, inr, ◌≤◌, ◌+◌, ◌-◌, ℕ, zero, suc, ℤ, pos, negsuc, Bool, true, false, ◌&&◌, ◌||◌, Option, Some, None, List, [], ◌∷◌, ◌++◌, length, map, take, drop, refl, sym, ◌∙◌, ap, subst, arith, append_assoc, length-append, eq-eqb}
 use Rattle.std.specs.Prelude.{◌==◌, All, is_some, option_map, option_and_then, option_to_list, slice_get, if◌then◌else◌}
 use Rattle.std.specs.FinMap as map
 use Rattle.std.specs.List.{AllByRecursion}
@@ -9,8 +9,7 @@ use Rattle.mc_base.specs.declared.ids.StructId.{StructId}
 use Rattle.mc_base.specs.declared.plain.Kind.{Kind}
 use Rattle.mc_heap.specs.Heap.{Block, Heap, Region, region_of}
 use Rattle.mc_heap.specs.Access.{fields_at}
-use Rattle.mc_heap.specs.Parts.{IsEmpty, IsCell}
-use Rattle.mc_defs.specs.declared.rules.Call.{Call}
+use Rattle.mc_heap.specs.Parts.{IsCell}
 use Rattle.mc_defs.specs.declared.rules.Def.{Def}
 use Rattle.mc_defs.specs.declared.rules.Rule.{Rule}
 use Rattle.mc_defs.specs.declared.shapes.StructInfo.{StructInfo}
@@ -21,8 +20,8 @@ use Rattle.mc_search.specs.Search.{takes_this}
 use Rattle.mc_sat.specs.declared.goals.Goal.{Goal}
 use Rattle.mc_sat.specs.declared.goals.Mark.{Mark}
 use Rattle.mc_sat.specs.Answers.{region_at}
-use Rattle.mc_sat.specs.Marks.{address_of, block_for, all_defined, held_at, contents_at, taken, Named, names_at, names_fit, names_with, names_for, same_block, named_by, named_at, fits}
-use Rattle.mc_sat.specs.Names.{all_in_kinds, all_true, with_fixed}
+use Rattle.mc_sat.specs.Marks.{address_of, block_for, all_defined, held_at, contents_at, taken, names_at, names_fit, names_with, names_for, same_block, named_by, named_at, fits}
+use Rattle.mc_sat.specs.Names.{all_in_kinds, all_true}
 use Rattle.mc_sat.proofs.Fixed.{fixed_front, fixed_once, numbers_read, kinds_are, are_kinds, kinds_count, atoms_are, are_atoms, known_within}
 
 -- ---- options

@@ -1,27 +1,23 @@
 -- Marks meet a goal exactly where its predicate holds on a part of the heap.
-use Rattle.std.proofs.Common.{◌≡◌, ◌≢◌, ℕ, zero, suc, ℤ, pos, negsuc, List, [], ◌∷◌, ◌++◌, ◌&&◌, ◌||◌, ◌⊎◌, inl, inr, Bool, true, false, not, Option, Some, None, is_some, length, map, take, slice_get, refl, sym, ◌∙◌, ap, subst, append_assoc, append-nil, eq-eqb}
-use Rattle.std.specs.Prelude.{◌==◌, option_to_list, if◌then◌else◌}
-use Rattle.std.specs.List.{list_any, flat_map}
-use Rattle.std.specs.FinMap as map
-use Rattle.std.proofs.lemmas.Bool.{and_parts, and_from, eqb-true, ne_eqb}
-use Rattle.mc_base.specs.declared.ids.StructId.{StructId}
+use Rattle.std.proofs.Common.{◌≡◌, ℕ, zero, suc, ℤ, List, [], ◌∷◌, ◌++◌, ◌||◌, inl, inr, Bool, true, false, not, Option, Some, None, is_some, map, refl, sym, ◌∙◌, ap, append_assoc, append-nil, eq-eqb}
+use Rattle.std.specs.Prelude.{◌==◌, option_to_list}
+use Rattle.std.specs.List.{list_any}
+use Rattle.std.proofs.lemmas.Bool.{and_parts, and_from, eqb-true}
 use Rattle.mc_heap.specs.Heap.{Block, Heap, Region, region_of}
-use Rattle.mc_heap.specs.Parts.{Joins, Split, IsEmpty, IsCell, Star}
+use Rattle.mc_heap.specs.Parts.{Split, Star}
 use Rattle.mc_defs.specs.declared.rules.Call.{Call}
 use Rattle.mc_defs.specs.declared.rules.Def.{Def}
-use Rattle.mc_defs.specs.declared.rules.Rule.{Rule}
 use Rattle.mc_defs.specs.declared.shapes.StructInfo.{StructInfo}
 use Rattle.mc_defs.specs.Conditions.{DefsFit}
-use Rattle.mc_defs.specs.Meaning.{Meaning, RuleValues, BlockMeets, CallMeets, BodyMeets, SatAt}
-use Rattle.mc_defs.specs.Values.{value_of}
-use Rattle.mc_search.specs.Search.{uses, takes_this, is_unused, is_free, applies}
+use Rattle.mc_defs.specs.Meaning.{Meaning, CallMeets, BodyMeets, SatAt}
+use Rattle.mc_search.specs.Search.{uses, takes_this, is_unused, is_free}
 use Rattle.mc_search.specs.Met.{AreMetBy, IsMet}
 use Rattle.mc_search.proofs.Bound.{uses_more}
 use Rattle.mc_sat.specs.declared.goals.Goal.{Goal}
 use Rattle.mc_sat.specs.declared.goals.Mark.{Mark}
 use Rattle.mc_sat.specs.Answers.{region_at}
-use Rattle.mc_sat.specs.Marks.{address_of, block_for, contents_at, Named, names_at, named_at, fits, goal_of, calls_of, calls, takes, taken, space}
-use Rattle.mc_sat.proofs.Named.{Parts, parts, values_of, block_meets, named_back}
+use Rattle.mc_sat.specs.Marks.{block_for, names_at, fits, goal_of, calls_of, calls, takes, taken, space}
+use Rattle.mc_sat.proofs.Named.{parts, values_of, block_meets, named_back}
 use Rattle.mc_sat.proofs.Parts.{left_some, right_some, left_none, right_none, apart, there_joins, joins_kept, bool_cases, or_cases, or_left, or_right, or_more, or_none}
 
 -- ---- what is used

@@ -6,9 +6,11 @@
 #![tactic(auto)]
 
 mod goals;
+mod laws;
 mod names;
 mod search;
 mod whole;
 
 pub use goals::{Goal, Mark};
+pub use laws::{heights_are_low, names_are_unique, parts_are_heaps};
 pub use whole::{holds, meets};

@@ -20,6 +20,8 @@ mod numbers;
 #[cfg(test)]
 mod outside;
 #[cfg(test)]
+mod predicates;
+#[cfg(test)]
 mod ranges;
 #[cfg(test)]
 mod stacks;

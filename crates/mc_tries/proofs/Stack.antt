@@ -5,7 +5,7 @@ use Rattle.std.proofs.lemmas.List.{reverse-append, length-take-le, take-append-l
 use Rattle.std.specs.List.{filter, flat_map}
 use Rattle.mc_tries.specs.declared.Cell.{Cell}
 use Rattle.mc_tries.specs.declared.Pending.{Pending}
-use Rattle.mc_search.specs.Search.{Space, tries, options, ended, first, first_try, is_free, takes_this, applies}
+use Rattle.mc_search.specs.Search.{Space, tries, options, ended, first, first_try, is_free, applies}
 use Rattle.mc_tries.proofs.Arena.{at_zero}
 use Rattle.mc_tries.specs.Stack.{enough, goals_at, IsReady, IsStack, Grows, Pushes, tries_of_one, tries_of, branch}
 

@@ -1,4 +1,4 @@
-use Rattle.std.proofs.Common.{◌≡◌, take, length, vec_len, arith}
+use Rattle.std.proofs.Common.{◌≡◌, take, vec_len, arith}
 use Rattle.std.specs.Ordering.{nat_cmp}
 use Rattle.std.specs.BTreeMap as tree
 use Rattle.mc_tries.proofs.Times.{cut_more}

@@ -1,4 +1,4 @@
-use Rattle.std.proofs.Common.{◌≡◌, ap, sym, ◌∙◌, ◌∷◌, reverse, Ok, Err}
+use Rattle.std.proofs.Common.{◌≡◌, ap, sym, ◌∙◌, ◌∷◌, reverse}
 use Rattle.mc_tries.specs.Stack.{goals_at}
 use Rattle.mc_tries.proofs.Arena.{read_cell}
 use Rattle.mc_tries.proofs.expand.Goals as goal

@@ -1,9 +1,9 @@
-use Rattle.std.proofs.Common.{◌≡◌, Bool, List, Option, ◌++◌, ◌∷◌, ◌-◌, ◌≤◌, ◌<◌, ◌^◌, ℕ, [], None, take, reverse, length, vec_len, arith, ap, sym, ◌∙◌}
+use Rattle.std.proofs.Common.{◌≡◌, Bool, List, ◌++◌, ◌∷◌, ◌-◌, ◌<◌, ◌^◌, [], None, reverse, length, arith, ap, sym, ◌∙◌}
 use Rattle.std.specs.Ordering.{nat_cmp}
 use Rattle.std.specs.BTreeMap as tree
 use Rattle.mc_search.specs.Search.{tries}
 use Rattle.mc_tries.specs.Stack.{enough, goals_at, tries_of, IsStack, Pushes}
-use Rattle.mc_tries.proofs.Stack.{popped, first-found, first-started, stepped, Stepped, first-none, not-ended, within_limit, within_enough}
+use Rattle.mc_tries.proofs.Stack.{popped, first-found, first-started, stepped, first-none, not-ended, within_limit, within_enough}
 use Rattle.mc_tries.proofs.Times.{HasTimes-none}
 use Rattle.mc_tries.proofs.find_first.Goals as goals
 

@@ -1,4 +1,4 @@
-use Rattle.std.proofs.Common.{◌≡◌, ◌++◌, ◌∷◌, ◌-◌, ◌≤◌, ◌<◌, suc, [], None, true, false, reverse, length, drop, arith, ap, sym, ◌∙◌, refl}
+use Rattle.std.proofs.Common.{◌≡◌, ◌++◌, ◌∷◌, ◌-◌, ◌≤◌, ◌<◌, suc, [], None, true, reverse, length, drop, arith, ap, sym, ◌∙◌, refl}
 use Rattle.std.specs.List.{filter, flat_map}
 use Rattle.std.proofs.lemmas.List.{at_drop_all, reverse-append}
 use Rattle.std.proofs.Math.Seq.{drop-cons}

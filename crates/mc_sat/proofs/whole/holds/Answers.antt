@@ -1,8 +1,7 @@
-use Rattle.std.proofs.Common.{◌≡◌, option_map, ap, ◌∙◌, w64}
+use Rattle.std.proofs.Common.{◌≡◌, option_map, ap, ◌∙◌}
 use Rattle.std.proofs.lemmas.Int.{to_z-of_z}
-use Rattle.mc_sat.specs.declared.goals.Goal.{Goal}
 use Rattle.mc_sat.specs.Marks.{taken}
-use Rattle.mc_sat.proofs.Laws.{none_holds, some_holds}
+use Rattle.mc_sat.proofs.FirstTries.{none_holds, some_holds}
 use Rattle.mc_sat.proofs.whole.holds.Goals as goal
 
 pub returns-in-None : goal.returns-in-None

@@ -1,7 +1,7 @@
-use Rattle.std.proofs.Common.{◌≡◌, option_map, sym, ap, ◌∙◌, true}
+use Rattle.std.proofs.Common.{◌≡◌, option_map, sym, ◌∙◌}
 use Rattle.std.specs.Prelude.{is_some}
 use Rattle.std.proofs.lemmas.Int.{to_z-of_z}
-use Rattle.mc_sat.proofs.Laws.{meets_yes, meets_no, mapped}
+use Rattle.mc_sat.proofs.FirstTries.{meets_yes, meets_no, mapped}
 use Rattle.mc_sat.proofs.whole.meets.Goals as goal
 
 pub returns : goal.returns

@@ -1,42 +1,39 @@
 -- What the first try says of the heap, and what it says where there is none.
-use Rattle.std.proofs.Common.{◌≡◌, ℕ, zero, suc, ℤ, pos, negsuc, ◌+◌, ◌*◌, ◌≤◌, List, [], ◌∷◌, ◌++◌, ◌⊎◌, inl, inr, Bool, true, false, Option, Some, None, is_some, length, map, slice_get, option_map, refl, sym, ◌∙◌, ap, subst, arith}
-use Rattle.std.specs.Prelude.{◌==◌, IsTrue}
+use Rattle.std.proofs.Common.{◌≡◌, ℕ, zero, suc, ℤ, ◌+◌, ◌*◌, ◌≤◌, List, [], ◌∷◌, inl, inr, Bool, true, false, Option, Some, None, is_some, length, map, slice_get, option_map, refl, sym, ◌∙◌, ap, subst, arith}
 use Rattle.std.specs.List.{list_any}
 use Rattle.std.specs.FinMap as map
 use Rattle.std.specs.FinMap.{contains_key-keys}
 use Rattle.std.specs.Ordering.{nat_cmp, eq_by_cmp}
-use Rattle.std.proofs.lemmas.Bool.{eqb-true}
 use Rattle.std.proofs.lemmas.Bool.Decides.{nat_tests}
 use Rattle.mc_base.specs.declared.ids.PredId.{PredId}
 use Rattle.mc_base.specs.declared.ids.StructId.{StructId}
 use Rattle.mc_heap.specs.Heap.{Block, Heap, Region, region_of}
-use Rattle.mc_heap.specs.Parts.{Split}
 use Rattle.mc_defs.specs.declared.rules.Def.{Def}
 use Rattle.mc_defs.specs.declared.rules.Rule.{Rule}
 use Rattle.mc_defs.specs.declared.shapes.StructInfo.{StructInfo}
 use Rattle.mc_defs.specs.Conditions.{DefsFit, IsDefs}
 use Rattle.mc_defs.specs.Meaning.{SatAt, Sat, HoldsSomewhere}
-use Rattle.mc_search.specs.Search.{Space, uses, first_try}
-use Rattle.mc_search.specs.Met.{IsIn, IsMet, LeavesFew, AllLeaveFew}
+use Rattle.mc_search.specs.Search.{uses, first_try}
+use Rattle.mc_search.specs.Met.{IsIn, LeavesFew, AllLeaveFew}
 use Rattle.mc_search.proofs.Firsts.{first_meets, none_on}
 use Rattle.mc_search.proofs.Tries.{on_by_met}
 use Rattle.mc_tries.specs.Stack.{enough}
 use Rattle.mc_sat.specs.declared.goals.Goal.{Goal}
 use Rattle.mc_sat.specs.declared.goals.Mark.{Mark}
 use Rattle.mc_sat.specs.Answers.{region_at, AreMeeting}
-use Rattle.mc_sat.specs.Marks.{address_of, block_for, contents_at, calls, calls_of, goal_of, ends, fits, takes, taken, space, names_at}
+use Rattle.mc_sat.specs.Marks.{address_of, block_for, contents_at, calls, calls_of, goal_of, ends, takes, taken, space, names_at}
 use Rattle.mc_sat.proofs.Counting.{IsTaken, met_taken, whole_taken, taken_whole}
 use Rattle.mc_sat.proofs.Listed.{applies_listed}
 use Rattle.mc_sat.proofs.Named.{Parts, parts, held_is, taken_block, rule_fits}
 use Rattle.mc_sat.proofs.Parts.{left_some, bool_cases}
-use Rattle.mc_sat.proofs.Relation.{Held, held_by_met, solved_by_sat}
+use Rattle.mc_sat.proofs.Relation.{held_by_met, solved_by_sat}
 
 -- ---- marks leave few goals
-calls_in : List Rule → ℕ
+pub calls_in : List Rule → ℕ
 calls_in [] = 0
 calls_in (rule ∷ rules) = length rule.calls + calls_in rules
 
-all_calls : List Def → ℕ
+pub all_calls : List Def → ℕ
 all_calls [] = 0
 all_calls (def ∷ defs) = calls_in def.rules + all_calls defs
 
@@ -91,7 +88,7 @@ module _ (whole : Bool) (heap : Heap) (structs : List StructInfo) (defs : List D
       let all = def_calls defs g.pred.0 p.def p.defined in
       (key_in heap at b.0 b.1, omega arith)
 
-  few : AllLeaveFew (space whole heap defs) (all_calls defs) (map.keys heap)
+  pub few : AllLeaveFew (space whole heap defs) (all_calls defs) (map.keys heap)
   few g m f = few_by g m (parts heap defs g m f) (takes m) refl
 
   -- the first marks take a part on which the predicate holds, and the search may end with them
