@@ -14,7 +14,7 @@ use mc_types::{Fault, FaultName, FirstFault, NameTables};
 use std::alloc::{AllocError, Global};
 
 /// Whether a fault that is told already is told rather than this one.
-fn is_behind(told: &FirstFault, fault: Fault) -> bool
+pub fn is_behind(told: &FirstFault, fault: Fault) -> bool
     ensures { IsTrue result ↔ IsBehind told.now.fault fault }
 {
     match told.fault {

@@ -7,7 +7,7 @@ use mc_ast::{
 };
 use mc_stack::Stack;
 use mc_text::Text;
-use mc_types::{NameTables, Named};
+use mc_types::{NameTables, Named, Visible};
 use std::alloc::{AllocError, Global};
 
 /// A walk through the body of a function.
@@ -87,7 +87,7 @@ impl<'a> Walk<'a> {
     }
 
     /// The variables that are visible at the part that was given last, inner ones last.
-    pub fn visible(&self) -> &[Named<'a>]
+    pub fn visible(&self) -> &Visible<'a>
         ensures { variables_held result.now ≡ visible self.now.scope }
     {
         self.scope.all()

@@ -1,0 +1,84 @@
+-- Prototypes that say nothing new.
+use Rattle.std.proofs.Common.{◌≡◌, ◌++◌, ℕ, List, [], ◌∷◌, ◌+◌, ◌<◌, refl, ap, sym, subst, ◌∙◌, map, get_or, length, drop, reverse, Bool, true, false, ◌||◌, ◌&&◌, cond, not, true≢false, Bor, IsTrue}
+use Rattle.std.proofs.lemmas.List.{reverse-append}
+use Rattle.std.specs.Cmp.Lexicographic.{bytes_decides}
+use Rattle.std.specs.Prelude.{Option, Some, None, filter}
+use Rattle.std.specs.List.{list_any}
+use Rattle.mc_ast.specs.declared.trees.Function.{Function}
+use Rattle.mc_ast.specs.Trees.{FunctionTree}
+use Rattle.mc_ast.specs.Names.{is_same}
+use Rattle.mc_ast.specs.Views.{function_of}
+use Rattle.mc_types.specs.Faults.{is_other, prototype_faults, unless}
+use Rattle.mc_types.specs.First.{is_told, told_of}
+use Rattle.mc_types.specs.Tables.{Tables, is_defined, listed_parameters, returned_type, same_result, same_type}
+use Rattle.mc_types.specs.Types.{all_agree}
+use Rattle.mc_types.specs.declared.faults.Fault.{Fault}
+use Rattle.mc_types.specs.declared.faults.FaultName.TheVariants.{Mismatch}
+use Rattle.mc_typed.specs.Collected.{functions_held}
+use Rattle.mc_typed.specs.Prototypes.{AreAlike, IsRepeat}
+use Rattle.mc_typed.specs.Told.{IsBehind}
+use Rattle.mc_typed.proofs.Agreements.{type_of, types_of}
+use Rattle.mc_typed.proofs.Repeats.{any_mapped, any_seen, tree_of}
+
+-- ---- functions that are alike
+pub are_alike : (t : Tables) (f g : FunctionTree) → is_same f.name.text g.name.text ≡ true → is_defined f ≡ is_defined g → returned_type t f.returned ≡ returned_type t g.returned
+    → map (type_of t) (listed_parameters f.parameters) ≡ map (type_of t) (listed_parameters g.parameters) → AreAlike t f g
+are_alike t f g name defined result parameters h =
+    rw (same_name f.name.text g.name.text name)
+    (rw defined
+    (rw result (rw (types_of t (listed_parameters f.parameters)) (rw (types_of t (listed_parameters g.parameters)) (rw parameters refl))))) where
+      same_name : (a b : List ℕ) → is_same a b ≡ true → a ≡ b
+      same_name a b same = (bytes_decides a b).0 same
+
+-- ---- what is among more
+or_later : (a b : Bool) → b ≡ true → (a || b) ≡ true
+or_later true b e = refl
+or_later false b e = e
+
+or_more : (p : Bool) (a b : Bool) → (a ≡ true → b ≡ true) → (p || a) ≡ true → (p || b) ≡ true
+or_more true a b more e = refl
+or_more false a b more e = more e
+
+any_kept : {X : Type 0} (p q : X → Bool) (xs : List X) → list_any p (filter q xs) ≡ true → list_any p xs ≡ true
+any_kept p q [] e = e
+any_kept p q (x ∷ xs) e = kept_step (q x) e where
+  kept_step : (b : Bool) → list_any p (cond b (x ∷ filter q xs) (filter q xs)) ≡ true → (p x || list_any p xs) ≡ true
+  kept_step true e = or_more (p x) (list_any p (filter q xs)) (list_any p xs) (any_kept p q xs) e
+  kept_step false e = or_later (p x) (list_any p xs) (any_kept p q xs e)
+
+-- the last one is among all
+pub any_last : {X : Type 0} (p : X → Bool) (xs : List X) (x : X) → p x ≡ true → list_any p (xs ++ x ∷ []) ≡ true
+any_last p [] x e = rw e refl
+any_last p (y ∷ xs) x e = or_later (p y) (list_any p (xs ++ x ∷ [])) (any_last p xs x e)
+
+-- ---- what is compared with
+pub same_faults : (t : Tables) (before others fs : List FunctionTree) → ((h : FunctionTree) → list_any (is_other t h) before ≡ list_any (is_other t h) others)
+    → prototype_faults t before fs ≡ prototype_faults t others fs
+same_faults t before others [] same = refl
+same_faults t before others (f ∷ fs) same =
+    ap (λ b. unless (not b) Mismatch f.name.place ++ prototype_faults t (f ∷ before) fs) (same f)
+    ∙ ap (λ r. unless (not (list_any (is_other t f) others)) Mismatch f.name.place ++ r) (same_faults t (f ∷ before) (f ∷ others) fs (λ h. ap (λ b. is_other t h f || b) (same h)))
+
+nothing_new : (a b : Bool) → (a ≡ true → b ≡ true) → b ≡ (a || b)
+nothing_new true b more = more refl
+nothing_new false b more = refl
+
+-- a function that is like one of its name before it need not be kept
+pub left_out : (t : Tables) (seen others : List (Bor Function)) (x : Bor Function) (fs : List FunctionTree) → others ≡ filter (λ f. is_same f.now.name.text x.now.name.text) seen
+    → IsRepeat t (tree_of x) (functions_held others) → prototype_faults t (map tree_of (reverse seen)) fs ≡ prototype_faults t (map tree_of (reverse (seen ++ x ∷ []))) fs
+left_out t seen others x fs named repeat =
+    rw (reverse-append seen (x ∷ []))
+    (same_faults t (map tree_of (reverse seen)) (tree_of x ∷ map tree_of (reverse seen)) fs
+    (λ h. nothing_new (is_other t h (tree_of x)) (list_any (is_other t h) (map tree_of (reverse seen)))
+    (λ other. any_seen (is_other t h) tree_of seen
+    ∙ any_kept (λ g. is_other t h (tree_of g)) (λ f. is_same f.now.name.text x.now.name.text) seen
+    (subst (λ gs. list_any (λ g. is_other t h (tree_of g)) gs ≡ true) named (sym (any_mapped (is_other t h) tree_of others) ∙ repeat h other)))))
+
+-- ---- what is told already
+behind_step : (told fault : Fault) (b : Bool) → is_told told fault ≡ true → told_of (Some told) [] ≡ told_of (Some told) (unless b fault.name fault.place)
+behind_step told fault true e = refl
+behind_step told fault false e = rw e refl
+
+pub behind_all : (told : Option Fault) (fault : Fault) (b : Bool) → IsBehind told fault → told ≡ told_of told (unless b fault.name fault.place)
+behind_all None fault b e = absurd e
+behind_all (Some told) fault b e = behind_step told fault b e
