@@ -1,8 +1,9 @@
 -- Prototypes that say nothing new.
-use Rattle.std.proofs.Common.{◌≡◌, ◌++◌, ℕ, List, [], ◌∷◌, ◌+◌, ◌<◌, refl, ap, sym, subst, ◌∙◌, map, get_or, length, drop, reverse, Bool, true, false, ◌||◌, ◌&&◌, cond, not, true≢false, Bor, IsTrue}
+use Rattle.std.proofs.Common.{◌≡◌, ◌++◌, ℕ, List, [], ◌∷◌, ◌+◌, ◌<◌, zero, suc, arith, refl, ap, sym, subst, ◌∙◌, map, get_or, length, drop, reverse, Bool, true, false, ◌||◌, ◌&&◌, cond, not, true≢false, Bor, IsTrue}
 use Rattle.std.proofs.lemmas.List.{reverse-append}
+use Rattle.std.proofs.lemmas.Option.{get_or_from_slice_get, slice_get_within}
 use Rattle.std.specs.Cmp.Lexicographic.{bytes_decides}
-use Rattle.std.specs.Prelude.{Option, Some, None, filter}
+use Rattle.std.specs.Prelude.{Option, Some, None, filter, slice_get}
 use Rattle.std.specs.List.{list_any}
 use Rattle.mc_ast.specs.declared.trees.Function.{Function}
 use Rattle.mc_ast.specs.Trees.{FunctionTree}
@@ -50,6 +51,17 @@ any_kept p q (x ∷ xs) e = kept_step (q x) e where
 pub any_last : {X : Type 0} (p : X → Bool) (xs : List X) (x : X) → p x ≡ true → list_any p (xs ++ x ∷ []) ≡ true
 any_last p [] x e = rw e refl
 any_last p (y ∷ xs) x e = or_later (p y) (list_any p (xs ++ x ∷ [])) (any_last p xs x e)
+
+-- one of a list is among all
+any_at : {X Y : Type 0} (p : Y → Bool) (f : X → Y) (xs : List X) (k : ℕ) (x : X) → k < length xs → get_or xs k x ≡ x → p (f x) ≡ true → list_any p (map f xs) ≡ true
+any_at p f [] k x below is e = absurd (omega arith)
+any_at p f (y ∷ xs) zero x below is e = rw is (rw e refl)
+any_at p f (y ∷ xs) (suc k) x below is e = or_later (p (f y)) (list_any p (map f xs)) (any_at p f xs k x (omega arith) is e)
+
+-- a function that is like one of these
+pub repeats_one : (t : Tables) (f : FunctionTree) (fs : List (Bor Function)) (k : ℕ) (x : Bor Function) → Some x ≡ slice_get fs k → AreAlike t f (tree_of x) → IsRepeat t f (functions_held fs)
+repeats_one t f fs k x at alike h e =
+    any_at (is_other t h) tree_of fs k x (slice_get_within fs k x (sym at)) (get_or_from_slice_get fs k x x (sym at)) (sym (alike h) ∙ e)
 
 -- ---- what is compared with
 pub same_faults : (t : Tables) (before others fs : List FunctionTree) → ((h : FunctionTree) → list_any (is_other t h) before ≡ list_any (is_other t h) others)

@@ -73,19 +73,30 @@ fn calls_from(
     Ok(calls)
 }
 
-/// Marks what is called by marked functions, along these calls.
+/// Marks what this call calls, where its caller is marked.
+fn spread_one(edges: &[Edge], call: usize, marks: &mut [bool])
+    requires { All (IsWithin (length marks.old)) edges.now }
+    ensures sound { (from : ℕ) → LeadsToMarked edges.now from marks.old → LeadsToMarked edges.now from marks.new }
+    ensures kept { Keeps marks.old marks.new }
+{
+    if call >= edges.len() {
+        return;
+    }
+    let edge = edges[call];
+    if !marks[edge.caller] {
+        return;
+    }
+    marks[edge.callee] = true;
+}
+
+/// Marks what marked functions call, along these calls.
 fn spread_along(edges: &[Edge], calls: &[usize], marks: &mut [bool])
     requires { All (IsWithin (length marks.old)) edges.now }
     ensures sound { (from : ℕ) → LeadsToMarked edges.now from marks.old → LeadsToMarked edges.now from marks.new }
     ensures kept { Keeps marks.old marks.new }
 {
     for call in calls {
-        if *call < edges.len() {
-            let edge = edges[*call];
-            if marks[edge.caller] && !marks[edge.callee] {
-                marks[edge.callee] = true;
-            }
-        }
+        spread_one(edges, *call, marks);
     }
 }
 
