@@ -32,7 +32,11 @@ impl Links {
         let mut nexts = vec![in alloc; usize::MAX; edges.len()]?;
         let mut firsts = vec![in alloc; usize::MAX; size]?;
         for (call, edge) in edges.iter().enumerate() {
-            put(nexts.as_mut_slice(), call, at(firsts.as_slice(), edge.caller));
+            put(
+                nexts.as_mut_slice(),
+                call,
+                at(firsts.as_slice(), edge.caller),
+            );
             put(firsts.as_mut_slice(), edge.caller, call);
         }
         Ok(Links { nexts, firsts })
@@ -44,7 +48,11 @@ impl Links {
         if call >= self.nexts.len() {
             return None;
         }
-        put(self.firsts.as_mut_slice(), function, at(self.nexts.as_slice(), call));
+        put(
+            self.firsts.as_mut_slice(),
+            function,
+            at(self.nexts.as_slice(), call),
+        );
         Some(call)
     }
 }

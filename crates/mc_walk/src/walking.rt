@@ -80,9 +80,10 @@ impl<'a> Walk<'a> {
     {
         let scope = declare_parameters(alloc, tables, listed(&function.parameters))?;
         let mut tasks = Stack::new(alloc);
-        if let Some(body) = &function.body {
-            tasks.push(Task::Several(body.statements.as_slice(), false))?;
-        }
+        let Some(body) = &function.body else {
+            return Ok(Walk { scope, tasks });
+        };
+        tasks.push(Task::Several(body.statements.as_slice(), false))?;
         Ok(Walk { scope, tasks })
     }
 
