@@ -11,4 +11,4 @@ pub mod Commands
 pub mod Faults
 pub mod Bases
 pub mod Swaps
-pub mod Prototypes
+pub mod Alike

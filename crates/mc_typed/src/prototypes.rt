@@ -113,6 +113,13 @@ fn is_one(left: VariableType, right: VariableType) -> bool
     }
 }
 
+/// Whether two tests come out alike.
+fn is_one_test(left: bool, right: bool) -> bool
+    ensures { IsTrue result → left ≡ right }
+{
+    if left { right } else { !right }
+}
+
 /// Whether two results are one.
 fn is_one_result(left: Option<VariableType>, right: Option<VariableType>) -> bool
     ensures { IsTrue result → left ≡ right }
@@ -149,13 +156,18 @@ fn are_one(tables: &NameTables, left: &[Parameter], right: &[Parameter]) -> bool
 fn are_alike(tables: &NameTables, left: &Function, right: &Function) -> bool
     ensures { IsTrue result → AreAlike (tables_held tables.now) (function_of left.now) (function_of right.now) }
 {
-    is_same(&left.name.text, &right.name.text)
-        && left.body.is_some() == right.body.is_some()
-        && is_one_result(
-            tables.returned_type(&left.returned),
-            tables.returned_type(&right.returned),
-        )
-        && are_one(tables, parameters(left), parameters(right))
+    if !is_same(&left.name.text, &right.name.text) {
+        return false;
+    }
+    if !is_one_test(left.body.is_some(), right.body.is_some()) {
+        return false;
+    }
+    let left_result = tables.returned_type(&left.returned);
+    let right_result = tables.returned_type(&right.returned);
+    if !is_one_result(left_result, right_result) {
+        return false;
+    }
+    are_one(tables, parameters(left), parameters(right))
 }
 
 /// Whether a function is like the last of these.

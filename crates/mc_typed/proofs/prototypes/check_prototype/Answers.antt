@@ -5,7 +5,7 @@ use Rattle.mc_types.specs.Faults.{is_other}
 use Rattle.mc_types.specs.Held.{tables_held}
 use Rattle.mc_types.specs.declared.faults.Fault.{Fault}
 use Rattle.mc_types.specs.declared.faults.FaultName.TheVariants.{Mismatch}
-use Rattle.mc_typed.proofs.Prototypes.{behind_all}
+use Rattle.mc_typed.proofs.Alike.{behind_all}
 use Rattle.mc_typed.proofs.prototypes.check_prototype.Goals as goal
 
 pub returns-then-is_behind : goal.returns-then-is_behind

@@ -3,15 +3,16 @@ use Rattle.std.proofs.Common.{◌≡◌, ◌++◌, ℕ, List, [], ◌∷◌, ◌
 use Rattle.std.proofs.lemmas.List.{reverse-append}
 use Rattle.std.proofs.lemmas.Option.{get_or_from_slice_get, slice_get_within}
 use Rattle.std.specs.Cmp.Lexicographic.{bytes_decides}
-use Rattle.std.specs.Prelude.{Option, Some, None, filter, slice_get}
+use Rattle.std.specs.Prelude.{Option, Some, None, filter, is_some, option_map, slice_get}
 use Rattle.std.specs.List.{list_any}
+use Rattle.mc_ast.specs.declared.trees.Body.{Body}
 use Rattle.mc_ast.specs.declared.trees.Function.{Function}
 use Rattle.mc_ast.specs.Trees.{FunctionTree}
 use Rattle.mc_ast.specs.Names.{is_same}
-use Rattle.mc_ast.specs.Views.{function_of}
+use Rattle.mc_ast.specs.Views.{body_of, function_of}
 use Rattle.mc_types.specs.Faults.{is_other, prototype_faults, unless}
 use Rattle.mc_types.specs.First.{is_told, told_of}
-use Rattle.mc_types.specs.Tables.{Tables, is_defined, listed_parameters, returned_type, same_result, same_type}
+use Rattle.mc_types.specs.Tables.{Tables, is_defined, listed_parameters, parameters_of, returned_type, same_result, same_type}
 use Rattle.mc_types.specs.Types.{all_agree}
 use Rattle.mc_types.specs.declared.faults.Fault.{Fault}
 use Rattle.mc_types.specs.declared.faults.FaultName.TheVariants.{Mismatch}
@@ -22,14 +23,25 @@ use Rattle.mc_typed.proofs.Agreements.{type_of, types_of}
 use Rattle.mc_typed.proofs.Repeats.{any_mapped, any_seen, tree_of}
 
 -- ---- functions that are alike
-pub are_alike : (t : Tables) (f g : FunctionTree) → is_same f.name.text g.name.text ≡ true → is_defined f ≡ is_defined g → returned_type t f.returned ≡ returned_type t g.returned
-    → map (type_of t) (listed_parameters f.parameters) ≡ map (type_of t) (listed_parameters g.parameters) → AreAlike t f g
+defined_of : (o : Option Body) → is_some (option_map body_of o) ≡ is_some o
+defined_of None = refl
+defined_of (Some b) = refl
+
+same_name : (a b : List ℕ) → is_same a b ≡ true → a ≡ b
+same_name a b same = (bytes_decides a b).0 same
+
+pub are_alike : (t : Tables) (f g : Function) → is_same f.name.text g.name.text ≡ true → is_some f.body ≡ is_some g.body
+    → returned_type t (function_of f).returned ≡ returned_type t (function_of g).returned
+    → map (type_of t) (listed_parameters (function_of f).parameters) ≡ map (type_of t) (listed_parameters (function_of g).parameters) → AreAlike t (function_of f) (function_of g)
 are_alike t f g name defined result parameters h =
-    rw (same_name f.name.text g.name.text name)
-    (rw defined
-    (rw result (rw (types_of t (listed_parameters f.parameters)) (rw (types_of t (listed_parameters g.parameters)) (rw parameters refl))))) where
-      same_name : (a b : List ℕ) → is_same a b ≡ true → a ≡ b
-      same_name a b same = (bytes_decides a b).0 same
+    ap (λ n. is_same h.name.text n && not (is_defined h && is_defined (function_of f)) && not (same_type t h (function_of f))) (same_name f.name.text g.name.text name)
+    ∙ ap (λ b. is_same h.name.text g.name.text && not (is_defined h && b) && not (same_type t h (function_of f))) (defined_of f.body ∙ defined ∙ sym (defined_of g.body))
+    ∙ ap (λ b. is_same h.name.text g.name.text && not (is_defined h && is_defined (function_of g)) && not b) types where
+      types : same_type t h (function_of f) ≡ same_type t h (function_of g)
+      types =
+          ap (λ r. same_result (returned_type t h.returned) r && all_agree (map (λ v. v.type) (parameters_of t h)) (map (λ v. v.type) (parameters_of t (function_of f)))) result
+          ∙ ap (λ ts. same_result (returned_type t h.returned) (returned_type t (function_of g).returned) && all_agree (map (λ v. v.type) (parameters_of t h)) ts)
+          (types_of t (listed_parameters (function_of f).parameters) ∙ parameters ∙ sym (types_of t (listed_parameters (function_of g).parameters)))
 
 -- ---- what is among more
 or_later : (a b : Bool) → b ≡ true → (a || b) ≡ true
@@ -40,17 +52,14 @@ or_more : (p : Bool) (a b : Bool) → (a ≡ true → b ≡ true) → (p || a) �
 or_more true a b more e = refl
 or_more false a b more e = more e
 
+kept_step : {X : Type 0} (p : X → Bool) (x : X) (some all : List X) (b : Bool) → (list_any p some ≡ true → list_any p all ≡ true)
+    → list_any p (cond b (x ∷ some) some) ≡ true → (p x || list_any p all) ≡ true
+kept_step p x some all true more e = or_more (p x) (list_any p some) (list_any p all) more e
+kept_step p x some all false more e = or_later (p x) (list_any p all) (more e)
+
 any_kept : {X : Type 0} (p q : X → Bool) (xs : List X) → list_any p (filter q xs) ≡ true → list_any p xs ≡ true
 any_kept p q [] e = e
-any_kept p q (x ∷ xs) e = kept_step (q x) e where
-  kept_step : (b : Bool) → list_any p (cond b (x ∷ filter q xs) (filter q xs)) ≡ true → (p x || list_any p xs) ≡ true
-  kept_step true e = or_more (p x) (list_any p (filter q xs)) (list_any p xs) (any_kept p q xs) e
-  kept_step false e = or_later (p x) (list_any p xs) (any_kept p q xs e)
-
--- the last one is among all
-pub any_last : {X : Type 0} (p : X → Bool) (xs : List X) (x : X) → p x ≡ true → list_any p (xs ++ x ∷ []) ≡ true
-any_last p [] x e = rw e refl
-any_last p (y ∷ xs) x e = or_later (p y) (list_any p (xs ++ x ∷ [])) (any_last p xs x e)
+any_kept p q (x ∷ xs) e = kept_step p x (filter q xs) xs (q x) (any_kept p q xs) e
 
 -- one of a list is among all
 any_at : {X Y : Type 0} (p : Y → Bool) (f : X → Y) (xs : List X) (k : ℕ) (x : X) → k < length xs → get_or xs k x ≡ x → p (f x) ≡ true → list_any p (map f xs) ≡ true
