@@ -1,5 +1,5 @@
 -- Prototypes that say nothing new.
-use Rattle.std.proofs.Common.{◌≡◌, ◌++◌, ℕ, List, [], ◌∷◌, ◌+◌, ◌<◌, zero, suc, arith, refl, ap, sym, subst, ◌∙◌, map, get_or, length, drop, reverse, Bool, true, false, ◌||◌, ◌&&◌, cond, not, true≢false, Bor, IsTrue}
+use Rattle.std.proofs.Common.{◌≡◌, ◌++◌, ℕ, List, [], ◌∷◌, ◌<◌, zero, suc, arith, refl, ap, sym, subst, ◌∙◌, map, get_or, length, reverse, Bool, true, false, ◌||◌, ◌&&◌, cond, not, Bor}
 use Rattle.std.proofs.lemmas.List.{reverse-append}
 use Rattle.std.proofs.lemmas.Option.{get_or_from_slice_get, slice_get_within}
 use Rattle.std.specs.Cmp.Lexicographic.{bytes_decides}

@@ -1,4 +1,3 @@
-use Rattle.std.specs.Prelude.{IsTrue}
 use Rattle.mc_typed.proofs.Graphs.{leads_answer}
 use Rattle.mc_typed.proofs.graph.leads.Goals as goal
 

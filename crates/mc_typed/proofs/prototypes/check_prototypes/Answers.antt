@@ -1,7 +1,7 @@
 use Rattle.std.proofs.Common.{◌+◌, ◌∙◌, ap, refl, drop}
 use Rattle.std.specs.List.{list_any}
 use Rattle.mc_ast.specs.Views.{function_of}
-use Rattle.mc_types.specs.Faults.{is_other, prototype_faults}
+use Rattle.mc_types.specs.Faults.{is_other}
 use Rattle.mc_types.specs.First.{told_of}
 use Rattle.mc_types.specs.Held.{tables_held}
 use Rattle.mc_typed.specs.Collected.{functions_held}
