@@ -23,7 +23,7 @@ lengths_differ f (x ∷ xs) (y ∷ ys) differ =
 abbrev pub type_of : Tables → Parameter → VariableType
 type_of t p = (variable_of t p.base p.declarator).type
 
-types_of : (t : Tables) (ps : List Parameter) → map (λ v. v.type) (map (λ p. variable_of t p.base p.declarator) ps) ≡ map (type_of t) ps
+pub types_of : (t : Tables) (ps : List Parameter) → map (λ v. v.type) (map (λ p. variable_of t p.base p.declarator) ps) ≡ map (type_of t) ps
 types_of t [] = refl
 types_of t (p ∷ ps) = ap (λ more. type_of t p ∷ more) (types_of t ps)
 

@@ -15,7 +15,7 @@ use Rattle.mc_types.specs.Tables.{Tables, tables_of}
 use Rattle.mc_types.specs.Typing.{Breaks, plainly, by_recursion, HasFault, breaks, no_entry, HasEntry, is_entry, entry_fault, IsFirstFault, IsWellTyped}
 use Rattle.mc_types.specs.declared.faults.Fault.{Fault}
 use Rattle.mc_typed.specs.declared.graph.Edge.{Edge}
-use Rattle.mc_typed.specs.Graphs.{edge_of, fault_at, Leads, HasNoLoop}
+use Rattle.mc_typed.specs.Graphs.{edge_of, fault_at, Leads}
 use Rattle.mc_typed.specs.Told.{IsBehind, IsFirstBroken, IsToldOfRules, IsToldWith}
 use Rattle.mc_typed.proofs.Members.{contains_here, contains_later, contains_cases, contains_none, contains_front, contains_back, contains_either, get_same}
 use Rattle.mc_typed.proofs.Orders.{is_told-refl, is_told-total, is_told-trans, least_of}
@@ -47,15 +47,6 @@ told_first edges before =
       among = λ f e. inl e;
       kept = λ f e. rw e (is_told-refl f);
       first = λ f h. absurd (contains_none h.edge h.made);
-    }
-
--- where no call comes back
-pub told_free : (edges : List Edge) (told : Option Fault) → HasNoLoop edges → IsToldWith edges edges told told
-told_free edges told none =
-    record {
-      among = λ f e. inl e;
-      kept = λ f e. rw e (is_told-refl f);
-      first = λ f l. absurd (none l.edge l.made l.returns);
     }
 
 -- a call that changes nothing

@@ -5,7 +5,7 @@ use Rattle.std.proofs.Common.{get_or-set_other, get_or-set_same}
 use Rattle.std.proofs.lemmas.Bool.{cases_eq}
 use Rattle.std.specs.Prelude.{Contains, IsTrue}
 use Rattle.mc_typed.specs.declared.graph.Edge.{Edge}
-use Rattle.mc_typed.specs.Graphs.{along, HasNoLoop, here, is_marked, IsClosed, IsRanked, Keeps, Leads, LeadsToMarked, unmarked}
+use Rattle.mc_typed.specs.Graphs.{along, here, is_marked, IsClosed, Keeps, Leads, LeadsToMarked, NeverRise, unmarked}
 use Rattle.mc_typed.proofs.Members.{contains_cases, contains_either, contains_none}
 use Rattle.mc_typed.proofs.Rows.{drop_at}
 
@@ -74,21 +74,24 @@ leads_answer edges begun ended count from to long none within sound kept closed 
   λ h. closed_leads edges ended closed h (kept from (marked_same begun from (omega arith))),
 )
 
--- ---- ranks
-ranks_fall : (edges : List Edge) (ranks : List ℕ) → IsRanked edges ranks → {a b : ℕ} → Leads edges a b → get_or ranks b 0 ≤ get_or ranks a 0
-ranks_fall edges ranks ranked here = omega arith
-ranks_fall edges ranks ranked (along edge made more) =
-    let below = ranked edge made in let rest = ranks_fall edges ranks ranked more in omega arith
+-- ---- levels
+levels_fall : (edges : List Edge) (levels : List ℕ) → NeverRise edges levels → {a b : ℕ} → Leads edges a b → get_or levels b 0 ≤ get_or levels a 0
+levels_fall edges levels falling here = omega arith
+levels_fall edges levels falling (along edge made more) =
+    let below = falling edge made in let rest = levels_fall edges levels falling more in omega arith
 
-pub ranked_no_loop : (edges : List Edge) (ranks : List ℕ) → IsRanked edges ranks → HasNoLoop edges
-ranked_no_loop edges ranks ranked edge made back =
-    let below = ranked edge made in let rest = ranks_fall edges ranks ranked back in omega arith
+-- what stands at a lower level does not come back
+pub no_way_up : (edges : List Edge) (levels : List ℕ) (x : Edge) {P : Type 0} → NeverRise edges levels → get_or levels x.callee 0 < get_or levels x.caller 0 → Leads edges x.callee x.caller → P
+no_way_up edges levels x falling below back = let rest = levels_fall edges levels falling back in absurd (omega arith)
 
-pub ranked_next : (edges : List Edge) (i : ℕ) (d : Edge) (ranks : List ℕ) → i < length edges
-    → get_or ranks (get_or edges i d).callee 0 < get_or ranks (get_or edges i d).caller 0
-    → IsRanked (take i edges) ranks → IsRanked (take (i + 1) edges) ranks
-ranked_next edges i d ranks below falls ranked edge made =
+pub no_levels : (edges : List Edge) → NeverRise edges []
+no_levels edges edge made = omega arith
+
+pub falls_next : (edges : List Edge) (i : ℕ) (d : Edge) (levels : List ℕ) → i < length edges
+    → get_or levels (get_or edges i d).callee 0 ≤ get_or levels (get_or edges i d).caller 0
+    → NeverRise (take i edges) levels → NeverRise (take (i + 1) edges) levels
+falls_next edges i d levels below falls falling edge made =
     elim (contains_either edge (take i edges) (get_or edges i d ∷ []) (rw (take_more edges i d below) at made)) [
-      | inl p ↦ ranked edge p
+      | inl p ↦ falling edge p
       | inr p ↦ elim (contains_cases edge (get_or edges i d) [] p) [ inl q ↦ rw q falls | inr q ↦ absurd (contains_none edge q) ]
     ]

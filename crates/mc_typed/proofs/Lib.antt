@@ -10,3 +10,5 @@ pub mod Walks
 pub mod Commands
 pub mod Faults
 pub mod Bases
+pub mod Swaps
+pub mod Alike

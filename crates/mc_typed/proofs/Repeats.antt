@@ -39,7 +39,7 @@ any_reversed p (x ∷ xs) =
     rw (reverse-append (x ∷ []) xs)
     (list_any-append p (reverse xs) (x ∷ []) ∙ ap (λ b. b || (p x || false)) (any_reversed p xs) ∙ or_swap (list_any p xs) (p x || false) ∙ ap (λ b. b || list_any p xs) (or_none (p x)))
 
-any_seen : {X Y : Type 0} (p : Y → Bool) (f : X → Y) (xs : List X) → list_any p (map f (reverse xs)) ≡ list_any (λ x. p (f x)) xs
+pub any_seen : {X Y : Type 0} (p : Y → Bool) (f : X → Y) (xs : List X) → list_any p (map f (reverse xs)) ≡ list_any (λ x. p (f x)) xs
 any_seen p f xs = any_mapped p f (reverse xs) ∙ any_reversed (λ x. p (f x)) xs
 
 -- ---- names

@@ -1,5 +1,5 @@
 -- Calls between functions that are numbered.
-use Rattle.std.specs.Prelude.{ℕ, ◌≡◌, ◌<◌, ◌+◌, Bool, false, cond, IsTrue, List, [], ◌∷◌, Contains, slice_index, slice_index_or}
+use Rattle.std.specs.Prelude.{ℕ, ◌≡◌, ◌<◌, ◌≤◌, ◌+◌, Bool, false, cond, IsTrue, List, [], ◌∷◌, Contains, slice_index, slice_index_or}
 use Rattle.std.specs.List.{position_or_len}
 use Rattle.mc_ast.specs.Names.{is_same}
 use Rattle.mc_ast.specs.Trees.{FunctionTree}
@@ -46,14 +46,10 @@ Keeps before after = (n : ℕ) → IsTrue (is_marked before n) → IsTrue (is_ma
 abbrev pub IsClosed : List Edge → List Bool → Type 0
 IsClosed edges marks = (edge : Edge) → Contains edges edge → IsTrue (is_marked marks edge.caller) → IsTrue (is_marked marks edge.callee)
 
--- ---- ranks
--- each caller has a rank above its callee's
-abbrev pub IsRanked : List Edge → List ℕ → Type 0
-IsRanked edges ranks = (edge : Edge) → Contains edges edge → slice_index ranks edge.callee < slice_index ranks edge.caller
-
--- no call comes back to its caller
-abbrev pub HasNoLoop : List Edge → Type 0
-HasNoLoop edges = (edge : Edge) → Contains edges edge → ¬ Leads edges edge.callee edge.caller
+-- ---- levels
+-- no call leads to a higher level
+abbrev pub NeverRise : List Edge → List ℕ → Type 0
+NeverRise edges levels = (edge : Edge) → Contains edges edge → slice_index levels edge.callee ≤ slice_index levels edge.caller
 
 -- ---- recursion
 -- the fault of a call

@@ -5,3 +5,4 @@ pub mod Told
 pub mod Bounds
 pub mod Programs
 pub mod Ranks
+pub mod Prototypes

@@ -33,8 +33,8 @@ fn check_plain<'a>(
     requires { tables_held tables.now ≡ tables_of (unit_of unit.now) }
     ensures { OnOk result (told.new.fault ≡ told_of told.old.fault (plain_faults (unit_of unit.now))) }
 {
-    check_tables(alloc, told, tables, unit.items.as_slice())?;
     check_items(alloc, told, tables, unit.items.as_slice())?;
+    check_tables(alloc, told, tables, unit.items.as_slice())?;
     Ok(())
 }
 

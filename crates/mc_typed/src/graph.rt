@@ -3,6 +3,7 @@ ghost use Rattle.std.specs.Prelude.{ℕ, ◌≡◌, ◌+◌, ◌<◌, ◌≤◌,
 ghost use Rattle.std.specs.Bool.{IsFalse};
 ghost use Rattle.mc_typed.specs.Graphs.{IsWithin, IsClosed, Leads, LeadsToMarked, Keeps, is_marked, unmarked};
 
+use crate::links::Links;
 use mc_text::Place;
 use std::alloc::{AllocError, Global};
 
@@ -45,6 +46,60 @@ fn spread_all(edges: &[Edge], marks: &mut [bool])
     while spread(edges, marks) {}
 }
 
+/// The calls by their places, in an order in which they are met on the way from a function.
+fn calls_from(
+    alloc: Global,
+    edges: &[Edge],
+    size: usize,
+    from: usize,
+) -> Result<Vec<usize>, AllocError> {
+    let mut links = Links::new(alloc, edges, size)?;
+    let mut calls = Vec::new(alloc);
+    let mut path = vec![in alloc; from]?;
+    let steps = edges.len().saturating_add(edges.len());
+    for _ in 0..steps {
+        let Some(function) = path.pop() else {
+            return Ok(calls);
+        };
+        let Some(call) = links.next(function) else {
+            continue;
+        };
+        path.push(function)?;
+        calls.push(call)?;
+        if let Some(edge) = edges.get(call) {
+            path.push(edge.callee)?;
+        }
+    }
+    Ok(calls)
+}
+
+/// Marks what this call calls, where its caller is marked.
+fn spread_one(edges: &[Edge], call: usize, marks: &mut [bool])
+    requires { All (IsWithin (length marks.old)) edges.now }
+    ensures sound { (from : ℕ) → LeadsToMarked edges.now from marks.old → LeadsToMarked edges.now from marks.new }
+    ensures kept { Keeps marks.old marks.new }
+{
+    if call >= edges.len() {
+        return;
+    }
+    let edge = edges[call];
+    if !marks[edge.caller] {
+        return;
+    }
+    marks[edge.callee] = true;
+}
+
+/// Marks what marked functions call, along these calls.
+fn spread_along(edges: &[Edge], calls: &[usize], marks: &mut [bool])
+    requires { All (IsWithin (length marks.old)) edges.now }
+    ensures sound { (from : ℕ) → LeadsToMarked edges.now from marks.old → LeadsToMarked edges.now from marks.new }
+    ensures kept { Keeps marks.old marks.new }
+{
+    for call in calls {
+        spread_one(edges, *call, marks);
+    }
+}
+
 /// One more than so many numbers, of which none is marked.
 fn no_marks(alloc: Global, count: usize) -> Result<Vec<bool>, AllocError>
     ensures long { IfOk result (λ marks. length marks.items ≡ count + 1) }
@@ -71,6 +126,8 @@ pub fn leads(
     let mut list = no_marks(alloc, count)?;
     let marks = list.as_mut_slice();
     marks[from] = true;
+    let calls = calls_from(alloc, edges, marks.len(), from)?;
+    spread_along(edges, calls.as_slice(), marks);
     spread_all(edges, marks);
     Ok(marks[to])
 }

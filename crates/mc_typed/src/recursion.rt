@@ -3,18 +3,18 @@ ghost use Rattle.std.specs.Prelude.{◌+◌, ◌∷◌, ◌↔◌, [], IsTrue, O
 ghost use Rattle.mc_ast.specs.Views.{item_of};
 ghost use Rattle.mc_types.specs.Calls.{item_sites};
 ghost use Rattle.mc_types.specs.Held.{tables_held};
-ghost use Rattle.mc_typed.specs.Graphs.{IsWithin, edge_of};
+ghost use Rattle.mc_typed.specs.Graphs.{IsWithin, NeverRise, edge_of};
 ghost use Rattle.mc_typed.specs.Told.{IsToldWith, IsBehind};
 
 use crate::calls::collect_edges;
 use crate::graph::{Edge, leads};
-use crate::ranks::are_ranked;
+use crate::levels::{find_levels, level_of};
 use mc_ast::Item;
 use mc_types::{Fault, FaultName, FirstFault, NameTables};
 use std::alloc::{AllocError, Global};
 
 /// Whether a fault that is told already is told rather than this one.
-fn is_behind(told: &FirstFault, fault: Fault) -> bool
+pub fn is_behind(told: &FirstFault, fault: Fault) -> bool
     ensures { IsTrue result ↔ IsBehind told.now.fault fault }
 {
     match told.fault {
@@ -29,9 +29,11 @@ fn check_edge(
     told: &mut FirstFault,
     edges: &[Edge],
     count: usize,
+    levels: &[usize],
     edge: Edge,
 ) -> Result<(), AllocError>
     requires within { All (IsWithin (count + 1)) edges.now }
+    requires levels { NeverRise edges.now levels.now }
     requires one { IsWithin (count + 1) edge }
     ensures { OnOk result (IsToldWith edges.now (edge ∷ []) told.old.fault told.new.fault) }
 {
@@ -40,6 +42,9 @@ fn check_edge(
         place: edge.place,
     };
     if is_behind(told, fault) {
+        return Ok(());
+    }
+    if level_of(levels, edge.callee) < level_of(levels, edge.caller) {
         return Ok(());
     }
     if !leads(alloc, edges, count, edge.callee, edge.caller)? {
@@ -59,11 +64,9 @@ fn check_edges(
     requires { All (IsWithin (count + 1)) edges.now }
     ensures { OnOk result (IsToldWith edges.now edges.now told.old.fault told.new.fault) }
 {
-    if are_ranked(alloc, edges, count)? {
-        return Ok(());
-    }
+    let levels = find_levels(alloc, edges, count.saturating_add(1))?;
     for edge in edges {
-        check_edge(alloc, told, edges, count, *edge)?;
+        check_edge(alloc, told, edges, count, levels.as_slice(), *edge)?;
     }
     Ok(())
 }

@@ -4,3 +4,4 @@ pub mod Finds
 pub mod FieldLists
 pub mod Visits
 pub mod Seen
+pub mod Latest

@@ -1,6 +1,6 @@
 // The types and the faults of expressions.
 use crate::faults::FaultName;
-use crate::scope::{Named, type_in};
+use crate::scope::Visible;
 use crate::tables::NameTables;
 use crate::told::FirstFault;
 use crate::types::{ValueType, VariableType};
@@ -13,7 +13,7 @@ use std::alloc::{AllocError, Global};
 #[derive(Clone, Copy)]
 pub struct VisibleNames<'s, 'a> {
     pub tables: &'s NameTables<'a>,
-    pub scope: &'s [Named<'a>],
+    pub scope: &'s Visible<'a>,
 }
 
 ghost use Rattle.std.specs.Prelude.{◌≡◌};
@@ -52,7 +52,7 @@ impl<'s, 'a> VisibleNames<'s, 'a> {
     pub fn variable_type(&self, name: &Name) -> VariableType
         ensures { result ≡ variable_type (variables_held self.now.scope.now) name.now }
     {
-        match type_in(self.scope, &name.text) {
+        match self.scope.type_in(&name.text) {
             None => VariableType::Anything,
             Some(found) => found,
         }
@@ -63,7 +63,7 @@ impl<'s, 'a> VisibleNames<'s, 'a> {
         ensures { told.new.fault ≡ told_of told.old.fault (variable_faults (variables_held self.now.scope.now) name.now) }
     {
         told.unless(
-            type_in(self.scope, &name.text).is_some(),
+            self.scope.type_in(&name.text).is_some(),
             FaultName::Unknown,
             name.place,
         );

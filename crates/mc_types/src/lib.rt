@@ -28,7 +28,7 @@ pub use faults::{Fault, FaultName, TypeFault};
 pub use functions::Functions;
 pub use laws::{first_fault_is_told_once, well_typed_is_faultless};
 pub use names::is_same;
-pub use scope::{Named, type_in};
+pub use scope::{Named, Visible};
 pub use tables::{Meaning, NameTables};
 pub use told::FirstFault;
 pub use types::{BaseType, ValueType, VariableType};

@@ -1,7 +1,13 @@
 // The variables that are visible.
-use crate::names::is_same;
+ghost use Rattle.std.specs.Prelude.{◌≡◌, ◌-◌, ◌≤◌, [], OnOk, drop, insert, is_some, length, take};
+ghost use Rattle.mc_types.specs.Held.{variables_held};
+ghost use Rattle.mc_types.specs.Tables.{type_in};
+
 use crate::types::VariableType;
 use mc_text::{Place, Text};
+use mc_visible::NameStack;
+use std::alloc::{AllocError, Global};
+use std::marker::Model;
 
 /// A variable, field or parameter, with the place of its name.
 #[derive(Clone, Copy)]
@@ -11,25 +17,84 @@ pub struct Named<'a> {
     pub variable_type: VariableType,
 }
 
-ghost use Rattle.std.specs.Prelude.{◌≡◌, find, reverse};
-ghost use Rattle.std.specs.Option.{option_copied};
-ghost use Rattle.mc_ast.specs.Names.{is_same};
-ghost use Rattle.mc_types.specs.Tables.{type_in};
-ghost use Rattle.mc_types.specs.Held.{variables_held};
-
-/// The variable of this name that hides the others; inner ones stand last.
-fn find_variable<'s, 'a>(scope: &'s [Named<'a>], name: &Text) -> Option<&'s Named<'a>>
-    ensures { option_copied result ≡ find (λ v. is_same v.name.now name.now) (reverse scope.now) }
-{
-    scope.iter().rev().find(|v| is_same(v.name, name))
+/// Variables that are visible, of which later ones hide earlier ones of their name. They are found by name.
+#[derive(Drop)]
+pub struct Visible<'a> {
+    variables: Vec<Named<'a>>,
+    names: NameStack<'a>,
 }
 
-/// The type of the variable of this name.
-pub fn type_in(scope: &[Named], name: &Text) -> Option<VariableType>
-    ensures { result ≡ type_in (variables_held scope.now) name.now }
-{
-    match find_variable(scope, name) {
-        None => None,
-        Some(found) => Some(found.variable_type),
+impl<'a> Model for Visible<'a> {
+    ghost use Rattle.std.specs.Prelude.{◌≡◌, List, map};
+    ghost use Rattle.mc_types.specs.declared.scope.Named.{Named};
+
+    ghost Value = { List Named };
+
+    ghost view = { λ v. v.variables.items };
+
+    ghost invariant = { λ v. v.names ≡ map (λ n. n.name.now) v.variables.items };
+}
+
+impl<'a> Visible<'a> {
+    /// None.
+    pub fn new(alloc: Global) -> Visible<'a>
+        ensures { result ≡ [] }
+    {
+        Visible {
+            variables: Vec::new(alloc),
+            names: NameStack::new(alloc),
+        }
+    }
+
+    /// How many there are.
+    pub fn len(&self) -> usize
+        ensures { result ≡ length self.now }
+    {
+        self.variables.len()
+    }
+
+    /// The type of the variable of this name that hides the others.
+    pub fn type_in(&self, name: &Text) -> Option<VariableType>
+        ensures { result ≡ type_in (variables_held self.now) name.now }
+    {
+        match self.names.last(name) {
+            None => None,
+            Some(place) => match self.variables.as_slice().get(place) {
+                None => None,
+                Some(found) => Some(found.variable_type),
+            },
+        }
+    }
+
+    /// Whether a variable of this name stands at one of these places.
+    pub fn has_between(&self, name: &Text, start: usize, end: usize) -> bool
+        ensures { result ≡ is_some (type_in (variables_held (take (end - start) (drop start self.now))) name.now) }
+    {
+        match self.names.last_before(name, end) {
+            None => false,
+            Some(place) => start <= place,
+        }
+    }
+
+    /// Puts a variable at a place, before those that stand from there on. After that fails for memory, nothing is known of them.
+    pub fn insert(&mut self, place: usize, variable: Named<'a>) -> Result<(), AllocError>
+        requires { place ≤ length self.old }
+        ensures { OnOk result (self.new ≡ insert self.old place variable.entry) }
+    {
+        self.variables.insert(place, variable)?;
+        if let Err(fault) = self.names.insert(place, variable.name) {
+            self.variables.truncate(0);
+            self.names.truncate(0);
+            return Err(fault);
+        }
+        Ok(())
+    }
+
+    /// Takes variables away from the end, but for the first so many.
+    pub fn truncate(&mut self, kept: usize)
+        ensures { self.new ≡ take kept self.old }
+    {
+        self.variables.truncate(kept);
+        self.names.truncate(kept);
     }
 }

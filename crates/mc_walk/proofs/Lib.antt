@@ -5,3 +5,4 @@ pub mod Uses
 pub mod Parted
 pub mod Keeps
 pub mod Pending
+pub mod Begun

@@ -6,7 +6,7 @@ ghost use Rattle.mc_types.specs.Tables.{type_in};
 ghost use Rattle.mc_walk.specs.Parting.{as_head, behind_heads, outside};
 
 use mc_text::Text;
-use mc_types::{Named, type_in};
+use mc_types::{Named, Visible};
 use std::alloc::{AllocError, Global};
 use std::marker::Model;
 
@@ -20,7 +20,7 @@ pub struct Marks {
 /// The visible variables: those around the block, then those of the block, then those of the heads of `for`.
 #[derive(Drop)]
 pub struct Variables<'a> {
-    variables: Vec<Named<'a>>,
+    variables: Visible<'a>,
     heads: usize,
     own: usize,
 }
@@ -33,9 +33,9 @@ impl<'a> Model for Variables<'a> {
 
     ghost use Rattle.mc_walk.specs.Parting.{scope_held};
 
-    ghost view = { λ v. scope_held v.variables.items v.heads v.own };
+    ghost view = { λ v. scope_held v.variables v.heads v.own };
 
-    ghost invariant = { λ v. v.heads + v.own ≤ length v.variables.items };
+    ghost invariant = { λ v. v.heads + v.own ≤ length v.variables };
 }
 
 impl<'a> Variables<'a> {
@@ -44,17 +44,17 @@ impl<'a> Variables<'a> {
         ensures { result ≡ record { heads = []; own = []; outer = [] } }
     {
         Variables {
-            variables: Vec::new(alloc),
+            variables: Visible::new(alloc),
             heads: 0,
             own: 0,
         }
     }
 
     /// All of them, inner ones last.
-    pub fn all(&self) -> &[Named<'a>]
+    pub fn all(&self) -> &Visible<'a>
         ensures { variables_held result.now ≡ visible self.now }
     {
-        self.variables.as_slice()
+        &self.variables
     }
 
     /// How many belong to the heads and to the block.
@@ -73,8 +73,7 @@ impl<'a> Variables<'a> {
         ensures { result ≡ is_some (type_in self.now.own name.now) }
     {
         let end = self.variables.len() - self.heads;
-        let own = &self.variables[end - self.own..end];
-        type_in(own, name).is_some()
+        self.variables.has_between(name, end - self.own, end)
     }
 
     /// A variable comes into the block.
@@ -82,8 +81,13 @@ impl<'a> Variables<'a> {
         ensures { OnOk result (self.new ≡ declare self.old (variable_held variable.entry)) }
     {
         let end = self.variables.len() - self.heads;
-        self.variables.insert(end, variable)?;
-        self.own += 1;
+        let outer = end - self.own;
+        if let Err(fault) = self.variables.insert(end, variable) {
+            self.heads = 0;
+            self.own = 0;
+            return Err(fault);
+        }
+        self.own = self.variables.len() - self.heads - outer;
         Ok(())
     }
 

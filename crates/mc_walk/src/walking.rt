@@ -7,7 +7,7 @@ use mc_ast::{
 };
 use mc_stack::Stack;
 use mc_text::Text;
-use mc_types::{NameTables, Named};
+use mc_types::{NameTables, Named, Visible};
 use std::alloc::{AllocError, Global};
 
 /// A walk through the body of a function.
@@ -80,14 +80,15 @@ impl<'a> Walk<'a> {
     {
         let scope = declare_parameters(alloc, tables, listed(&function.parameters))?;
         let mut tasks = Stack::new(alloc);
-        if let Some(body) = &function.body {
-            tasks.push(Task::Several(body.statements.as_slice(), false))?;
-        }
+        let Some(body) = &function.body else {
+            return Ok(Walk { scope, tasks });
+        };
+        tasks.push(Task::Several(body.statements.as_slice(), false))?;
         Ok(Walk { scope, tasks })
     }
 
     /// The variables that are visible at the part that was given last, inner ones last.
-    pub fn visible(&self) -> &[Named<'a>]
+    pub fn visible(&self) -> &Visible<'a>
         ensures { variables_held result.now ≡ visible self.now.scope }
     {
         self.scope.all()

@@ -5,9 +5,7 @@ use Rattle.mc_walk.proofs.variables.Variables.is_own.Goals as goal
 
 pub returns : goal.returns
 returns c =
-    c.is_some.ensures
-    ∙ ap is_some c.type_in.ensures
+    c.has_between.ensures
     ∙ rw (sym c.self.view_is)
-    (rw c.deref.ensures.value
-    (rw (c.len.ensures ∙ c.self.inside.variables.ok.0)
-    (ap (λ (vs : List Variable). is_some (type_in vs c.args.name.now)) (own_held c.self.inside.heads c.self.inside.own c.self.inside.variables.items c.self.invariant))))
+    (rw c.len.ensures
+    (ap (λ (vs : List Variable). is_some (type_in vs c.args.name.now)) (own_held c.self.inside.heads c.self.inside.own c.self.inside.variables c.self.invariant)))
