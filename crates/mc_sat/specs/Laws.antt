@@ -10,20 +10,23 @@ use Rattle.mc_defs.specs.Meaning.{RuleValues, BlockMeets, SatAt, Sat}
 
 -- a part of a heap's region is the region of a heap
 abbrev pub PartIsHeap : Type 0
-PartIsHeap = (heap : Heap) (part rest : Region) → Split (region_of heap) part rest → (own : Heap) × (part ≡ region_of own)
+PartIsHeap =
+    (heap : Heap) (part rest : Region) → Split (region_of heap) part rest → (own : Heap) × (part ≡ region_of own)
 
 -- what holds on a heap holds at a height of at most the number of its blocks and one
 abbrev pub SatIsLow : Type 0
 SatIsLow =
     (heap : Heap) (defs : List Def) (pred : PredId) (value : ℤ) (args : List ℤ)
-    → IsDefs defs → Sat defs pred value args (region_of heap) → SatAt defs (suc (map.len heap)) pred value args (region_of heap)
+    → IsDefs defs → Sat defs pred value args (region_of heap)
+    → SatAt defs (suc (map.len heap)) pred value args (region_of heap)
 
 -- the value, the arguments and the heap determine the names of a rule whose block is a part of it
 abbrev pub NamesAreUnique : Type 0
 NamesAreUnique =
-    (heap : Heap) (defs : List Def) (pred : PredId) (value : ℤ) (args : List ℤ) (by other : RuleValues defs pred value args)
-    (block rest other_block other_rest : Region)
+    (heap : Heap) (defs : List Def) (pred : PredId) (value : ℤ) (args : List ℤ)
+    (by other : RuleValues defs pred value args) (block rest other_block other_rest : Region)
     → IsDefs defs → by.place ≡ other.place
     → Split (region_of heap) block rest → BlockMeets by.rule.block by.rule.contents by.names block
-    → Split (region_of heap) other_block other_rest → BlockMeets other.rule.block other.rule.contents other.names other_block
+    → Split (region_of heap) other_block other_rest
+    → BlockMeets other.rule.block other.rule.contents other.names other_block
     → by.names ≡ other.names

@@ -81,7 +81,8 @@ named_by heap g block def rule =
 -- the rule of the goal's predicate that a mark says, with its names
 abbrev pub named_at : Heap → List Def → Goal → Mark → Option Named
 named_at heap defs g m =
-    option_and_then (λ def. option_and_then (named_by heap g m.block def) (slice_get def.rules m.rule)) (slice_get defs g.pred.0)
+    option_and_then
+    (λ def. option_and_then (named_by heap g m.block def) (slice_get def.rules m.rule)) (slice_get defs g.pred.0)
 
 -- a mark fits where its rule has names that fit
 abbrev pub fits : Heap → List Def → Goal → Mark → Bool
@@ -103,7 +104,8 @@ calls heap defs g m = calls_of (named_at heap defs g m)
 -- rules from a place on, each with its block at the goal
 abbrev pub marks_from : ℤ → ℕ → List Rule → List Mark
 marks_from value place [] = []
-marks_from value place (rule ∷ rules) = record { rule = place; block = block_for rule.block value } ∷ marks_from value (suc place) rules
+marks_from value place (rule ∷ rules) =
+    record { rule = place; block = block_for rule.block value } ∷ marks_from value (suc place) rules
 
 -- the rules of a predicate
 abbrev pub rules_of : Option Def → List Rule

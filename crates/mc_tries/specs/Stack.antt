@@ -9,7 +9,7 @@ use Rattle.mc_tries.specs.declared.Pending.{Pending}
 unfoldable pub enough : ℕ
 enough = 2 ^ 64
 
--- the goals that a pointer stands for: 0 for none, and else the cell of that number, counted from 1, and what it points to
+-- the goals that a pointer stands for: 0 for none, and else the cell of that number, from 1 on, and what it points to
 abbrev pub goals_at : {G : Type 0} → List (Cell G) → ℕ → List G
 goals_at [] p = []
 goals_at (c ∷ cs) p = elim (nat_eq p (suc (length cs))) [ true ↦ c.goal ∷ goals_at cs c.next | false ↦ goals_at cs p ]
@@ -35,18 +35,21 @@ pub record Pushes {G : Type 0} (pushed : List G) (old new : List (Cell G)) (rest
 abbrev pub IsReady : {M : Type 0} → (M → Option ℕ) → List M → Pending M → Type 0
 IsReady takes log p = is_free takes (take p.height log) p.mark ≡ true
 
--- each entry stands on a front of the log that is no longer than what the entry above it stands on, and points into the arena
+-- each entry stands on a front of the log that is no longer than that of the entry above it, and points into the arena
 abbrev pub IsStack : {M : Type 0} → (M → Option ℕ) → List M → ℕ → ℕ → List (Pending M) → Type 0
 IsStack takes log cells height [] = Unit {0}
 IsStack takes log cells height (p ∷ ps) =
     (p.goals ≤ cells) × (p.height ≤ height) × IsReady takes log p × IsStack takes log cells p.height ps
 
 -- the tries of an entry
-unfoldable pub tries_of_one : {G M : Type 0} → Space G M → ℕ → List (Cell G) → List M → Pending M → List (Option (List M))
-tries_of_one w limit cells log p = tries w (limit - suc p.height) (goals_at cells p.goals) (take p.height log ++ p.mark ∷ [])
+unfoldable pub tries_of_one :
+    {G M : Type 0} → Space G M → ℕ → List (Cell G) → List M → Pending M → List (Option (List M))
+tries_of_one w limit cells log p =
+    tries w (limit - suc p.height) (goals_at cells p.goals) (take p.height log ++ p.mark ∷ [])
 
 -- and of a stack
-unfoldable pub tries_of : {G M : Type 0} → Space G M → ℕ → List (Cell G) → List M → List (Pending M) → List (Option (List M))
+unfoldable pub tries_of :
+    {G M : Type 0} → Space G M → ℕ → List (Cell G) → List M → List (Pending M) → List (Option (List M))
 tries_of w limit cells log ps = flat_map (tries_of_one w limit cells log) ps
 
 -- the tries after one mark of a goal
