@@ -10,10 +10,9 @@ use Rattle.mc_base.specs.Nodes.{null}
 use Rattle.mc_pure.specs.declared.rows.Row.{Row}
 use Rattle.mc_pure.specs.Pure as begin
 use Rattle.mc_pure.specs.Pure.{Pure, Kinds, IsNode, Base, kind_of, written, kind, block, apart}
-use Rattle.mc_pure.specs.Derived.{Follows, IsFalse, Derived}
+use Rattle.mc_pure.specs.Derived.{Derived}
 use Rattle.mc_pure.specs.Normal.{low, high, Moved, Listed, Apart, Holds}
-use Rattle.mc_pure.specs.Rows.{IsSound, view}
-use Rattle.mc_pure.specs.Steps.{IsStable}
+use Rattle.mc_pure.specs.Rows.{view}
 use Rattle.mc_pure.proofs.Changing.{decide}
 use Rattle.mc_pure.proofs.Closing.{less_or, same_or, places, Closes}
 use Rattle.mc_pure.proofs.Deciding.{follows, holds, consistent}
@@ -147,7 +146,12 @@ module _ (p : Pure) (nf : NodeId → Row) where
   pub holds_told : (f : Atom) → Told (Holds p nf f)
   holds_told (Eq a b c) = told_four (IsNode p.kinds a) (IsNode p.kinds b) ((nf a).rep ≡ (nf b).rep) ((nf a).off ≡ (nf b).off +ℤ c) (node_told p.kinds a) (node_told p.kinds b) (decide (nf a).rep (nf b).rep) (same_or (nf a).off ((nf b).off +ℤ c))
   holds_told (In a l h) = told_three (IsNode p.kinds a) (l ≤ℤ low (nf a)) (high (nf a) ≤ℤ h) (node_told p.kinds a) (told_most l (low (nf a))) (told_most (high (nf a)) h)
-  holds_told (Ne a b c) = told_three (IsNode p.kinds a) (IsNode p.kinds b) (Apart (nf a) (nf b) c ⊎ (Listed p nf a b c ⊎ Listed p nf b a (neg_ℤ c))) (node_told p.kinds a) (node_told p.kinds b) (told_one (Apart (nf a) (nf b) c) (Listed p nf a b c ⊎ Listed p nf b a (neg_ℤ c)) (apart_told (nf a) (nf b) c) (told_one (Listed p nf a b c) (Listed p nf b a (neg_ℤ c)) (listed_told a b c) (listed_told b a (neg_ℤ c))))
+  holds_told (Ne a b c) =
+      let Near : Type 0 = Listed p nf a b c in
+      let Turned : Type 0 = Listed p nf b a (neg_ℤ c) in
+      let Far : Type 0 = Apart (nf a) (nf b) c in
+      let listed = told_one Near Turned (listed_told a b c) (listed_told b a (neg_ℤ c)) in
+      told_three (IsNode p.kinds a) (IsNode p.kinds b) (Far ⊎ (Near ⊎ Turned)) (node_told p.kinds a) (node_told p.kinds b) (told_one Far (Near ⊎ Turned) (apart_told (nf a) (nf b) c) listed)
 
 -- the answer
 abbrev flag : {P : Type 0} → Told P → Bool

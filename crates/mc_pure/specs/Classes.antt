@@ -28,7 +28,10 @@ NormalSaysAll = (p : Pure) (nf : NodeId → Row) → IsNormal p nf → (f : Atom
 abbrev pub EachHasNormalForm : Type 0
 EachHasNormalForm = (p : Pure) → RiseFrom 1 p.kinds → IsFit p → IsFalse p ⊎ HasNormalForm p
 
--- whatever is known, a test tells of each atom whether it is derived
+-- the test tells of each atom whether it is derived
+abbrev pub TellsDerived : Pure → (know : Atom → Bool) → Type 0
+TellsDerived p know = (f : Atom) → (know f ≡ true) ↔ Derived p f
+
+-- there is such a test for whatever is known
 abbrev pub EachIsDecided : Type 0
-EachIsDecided =
-    (p : Pure) → RiseFrom 1 p.kinds → IsFit p → (know : Atom → Bool) × ((f : Atom) → (know f ≡ true) ↔ Derived p f)
+EachIsDecided = (p : Pure) → RiseFrom 1 p.kinds → IsFit p → (know : Atom → Bool) × TellsDerived p know
