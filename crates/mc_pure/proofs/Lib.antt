@@ -16,3 +16,5 @@ pub mod Asking
 pub mod Growing
 pub mod Inserting
 pub mod Placed
+pub mod Closing
+pub mod Telling

@@ -7,7 +7,7 @@ ghost use Rattle.mc_base.specs.declared.plain.Atom.{Atom as Fact};
 ghost use Rattle.mc_pure.specs.Pure.{Base};
 ghost use Rattle.mc_pure.specs.Derived.{Follows, IsFalse};
 ghost use Rattle.mc_pure.specs.Laws.{IsTrue, DerivedIsTrue, TrueIsNotFalse, FollowsFromMore, FalseFromMore, BlocksAtOneNode, BlockAtNull, EmptyRange};
-ghost use Rattle.mc_pure.specs.Classes.{NormalSaysAll};
+ghost use Rattle.mc_pure.specs.Classes.{NormalSaysAll, EachHasNormalForm, EachIsDecided};
 ghost use Rattle.mc_pure.specs.Examples.{node, known, values, at_one, at_null, between};
 
 mod ask;
@@ -40,6 +40,12 @@ pub fn derived_grows()
 /// A normal form says all that follows.
 pub fn normal_forms_say_all()
     ensures { NormalSaysAll }
+{}
+
+/// Whatever is known is false or has a normal form, and a test tells of each atom whether it is derived.
+pub fn each_is_decided()
+    ensures normal { EachHasNormalForm }
+    ensures decided { EachIsDecided }
 {}
 
 /// What no number can meet: blocks at one node, a block at null, an empty range.

@@ -6,7 +6,8 @@ ghost use Rattle.mc_pure.specs.Canonical.{IsLeast};
 ghost use Rattle.mc_pure.specs.Classes.{HasNormalForm};
 ghost use Rattle.mc_pure.specs.Derived.{Derived, Follows, IsFalse, HasRange};
 ghost use Rattle.mc_pure.specs.Rows.{nodes_of};
-ghost use Rattle.mc_pure.specs.Known.{nothing, with_node, with_atom, with_start, without_start};
+ghost use Rattle.mc_pure.specs.Nodes.{RiseFrom};
+ghost use Rattle.mc_pure.specs.Known.{IsFit, nothing, with_node, with_atom, with_start, without_start};
 
 use crate::ask::{self, Term, distance, span_less};
 use crate::atoms::Atoms;
@@ -218,6 +219,14 @@ impl Pure {
         ensures { HasNormalForm self.now }
     {
         let _known = &self.known;
+    }
+
+    /// The nodes that have kinds ascend, the written atoms are well formed, and blocks start at nodes.
+    pub fn is_kept(&self)
+        ensures rise { RiseFrom 1 self.now.kinds }
+        ensures fit { IsFit self.now }
+    {
+        let _kinds = self.known.nodes.kinds();
     }
 
     /// Whether what is known can't be true.
