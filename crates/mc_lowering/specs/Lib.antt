@@ -1,0 +1,4 @@
+pub mod Graphs
+pub mod Values
+pub mod Lowering
+pub mod Runs

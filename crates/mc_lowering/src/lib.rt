@@ -1,0 +1,2 @@
+//! The flow graphs of resolved programs, and that they run alike.
+#![tactic(auto)]
