@@ -2,3 +2,4 @@ pub mod Graphs
 pub mod Values
 pub mod Lowering
 pub mod Runs
+pub mod Examples
