@@ -1,2 +1,2 @@
-mod Examples
 pub mod Simulating
+pub mod Making
