@@ -1,2 +1,3 @@
 pub mod Simulating
 pub mod Making
+pub mod Examples
