@@ -1,3 +1,5 @@
 pub mod Simulating
 pub mod Making
 pub mod Examples
+pub mod FlowOnce
+pub mod SourceOnce
