@@ -3,3 +3,5 @@ pub mod Making
 pub mod Examples
 pub mod FlowOnce
 pub mod SourceOnce
+pub mod Stepping
+pub mod Evaluating
