@@ -5,3 +5,4 @@ pub mod FlowOnce
 pub mod SourceOnce
 pub mod Stepping
 pub mod Evaluating
+pub mod Changing
