@@ -6,3 +6,5 @@ pub mod SourceOnce
 pub mod Stepping
 pub mod Evaluating
 pub mod Changing
+pub mod Setting
+pub mod Deciding
