@@ -8,3 +8,4 @@ pub mod Evaluating
 pub mod Changing
 pub mod Setting
 pub mod Deciding
+pub mod Storing
