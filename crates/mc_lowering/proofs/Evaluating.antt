@@ -315,7 +315,7 @@ is_temporary (local out x) = 0
 is_temporary (result out) = 0
 is_temporary (temporary j kind) = 1
 
-not_temporary : (g : Graph) (ts : List VarId) (v : VarId) (owner : Owner) → AreTemporaries g ts → slice_get g.owners v.0 ≡ Some owner → is_temporary owner ≡ 0 → Contains ts v → ⊥
+pub not_temporary : (g : Graph) (ts : List VarId) (v : VarId) (owner : Owner) → AreTemporaries g ts → slice_get g.owners v.0 ≡ Some owner → is_temporary owner ≡ 0 → Contains ts v → ⊥
 not_temporary g ts v owner are owned plain there =
     let one : (j : ℕ) × (k : Kind) × (j < length ts) × (slice_get g.owners v.0 ≡ Some (temporary j k)) = are.each v there in
     let e : temporary one.0 one.1 ≡ owner = same_Some (temporary one.0 one.1) owner (sym one.3 ∙ owned) in

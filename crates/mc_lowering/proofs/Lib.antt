@@ -9,3 +9,4 @@ pub mod Changing
 pub mod Setting
 pub mod Deciding
 pub mod Storing
+pub mod Performing
