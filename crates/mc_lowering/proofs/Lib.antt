@@ -10,3 +10,4 @@ pub mod Setting
 pub mod Deciding
 pub mod Storing
 pub mod Performing
+pub mod Freeing

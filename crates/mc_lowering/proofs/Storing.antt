@@ -90,7 +90,7 @@ pub data IsPut (g : Graph) (change : Changed) (values : Values) (place : Place) 
   put_faults : (kind : FaultKind) → change ≡ fault_in kind → Goes (FlowStep g) (at a now heap) choices (finished (fault kind place)) → IsPut g change values place a b vars now heap choices
   put_gives : (later : Heap) → change ≡ changed values later → Goes (FlowStep g) (at a now heap) choices (next (at b vars later) choices) → IsPut g change values place a b vars now heap choices
 
-stored_put : (g : Graph) (values : Values) (place : Place) (change : Changed) (us : List VarId) (s u : Stage) (a n : ℕ) (vars now later : Vars) (heap : Heap) (choices : List Choice) (stored : Changed)
+pub stored_put : (g : Graph) (values : Values) (place : Place) (change : Changed) (us : List VarId) (s u : Stage) (a n : ℕ) (vars now later : Vars) (heap : Heap) (choices : List Choice) (stored : Changed)
     → change ≡ stored → Leads g heap a now choices n later choices → AreTemporaries g us → OnlyNew [] us vars later → IsClean g vars → Undefines g place us s u
     → Stores g stored values place n (goal_of s) later heap choices → IsPut g change values place a (goal_of u) vars now heap choices
 stored_put g values place change us s u a n vars now later heap choices stored e leads are new clean undone (stores_faults kind k step) = put_faults kind (e ∙ k) (leads.goes _ (one step))
