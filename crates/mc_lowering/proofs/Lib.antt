@@ -11,3 +11,4 @@ pub mod Deciding
 pub mod Storing
 pub mod Performing
 pub mod Freeing
+pub mod Safe
