@@ -50,7 +50,7 @@ both_new ts us ws vars mid later grow wider first second =
       long = second.long ∙ first.long;
     }
 
-used_owner : (g : Graph) (j : ℕ) (kind : Kind) (s u : Stage) (v : VarId) → Uses g j kind s v u → slice_get g.owners v.0 ≡ Some (temporary j kind)
+pub used_owner : (g : Graph) (j : ℕ) (kind : Kind) (s u : Stage) (v : VarId) → Uses g j kind s v u → slice_get g.owners v.0 ≡ Some (temporary j kind)
 used_owner g j kind s u v (uses_first (creates owned info)) = owned
 used_owner g j kind s u v (uses_again (is_made owned earlier)) = owned
 
@@ -172,7 +172,7 @@ pub data Ready (g : Graph) (P : Evaluated → Type 0) (place : Place) (ts us : L
       → ((r : Evaluated) → Comes operation later heap left r → P r) → ((r : Evaluated) → P r → Comes operation later heap left r)
       → Ready g P place ts us operation a b vars heap choices
 
-uses_goal : {g : Graph} {j : ℕ} {kind : Kind} {s u : Stage} {v : VarId} → Uses g j kind s v u → goal_of s ≡ goal_of u
+pub uses_goal : {g : Graph} {j : ℕ} {kind : Kind} {s u : Stage} {v : VarId} → Uses g j kind s v u → goal_of s ≡ goal_of u
 uses_goal (uses_first (creates owned info)) = refl
 uses_goal (uses_again made) = refl
 
@@ -196,7 +196,7 @@ set_length [] n w = refl
 set_length (x ∷ vars) zero w = refl
 set_length (x ∷ vars) (suc n) w = ap suc (set_length vars n w)
 
-new_set : (g : Graph) (ts : List VarId) (t : VarId) (kind : Kind) (vars : Vars) (w : Option ℤ) → AreTemporaries g ts → slice_get g.owners t.0 ≡ Some (temporary (length ts) kind)
+pub new_set : (g : Graph) (ts : List VarId) (t : VarId) (kind : Kind) (vars : Vars) (w : Option ℤ) → AreTemporaries g ts → slice_get g.owners t.0 ≡ Some (temporary (length ts) kind)
     → OnlyNew ts (ts ++ t ∷ []) vars (with_value vars t w)
 new_set g ts t kind vars w are owned =
     record {

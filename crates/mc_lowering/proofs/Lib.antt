@@ -12,3 +12,4 @@ pub mod Storing
 pub mod Performing
 pub mod Freeing
 pub mod Safe
+pub mod Allocating

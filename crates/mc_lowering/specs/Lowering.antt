@@ -295,3 +295,7 @@ pub record IsLowering (g : Graph) (entry : Function) (out count : ℕ) : Type 0 
   pub merges : AreOfRole g merge g.flow.merges
   pub stops : AreOfRole g stop g.stops
   pub thresholds : AreThresholds g.flow.points g.flow.thresholds
+
+-- the flow graph has more than 10,000 points
+abbrev pub IsTooLong : Graph → Type 0
+IsTooLong g = 10000 < length g.flow.points
