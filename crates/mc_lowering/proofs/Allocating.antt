@@ -1,36 +1,34 @@
 -- New memory is put into a variable or a field.
-use Rattle.std.proofs.Common.{◌<◌, ◌≤◌, ◌≡◌, ◌⊎◌, inl, inr, ℕ, zero, suc, ℤ, pos, List, [], ◌∷◌, Option, Some, None, length, refl, sym, ap, ◌∙◌, subst, arith}
-use Rattle.std.specs.Prelude.{slice_get, Contains, ◌^◌}
+use Rattle.std.proofs.Common.{◌<◌, ◌≡◌, ◌⊎◌, inl, inr, ℕ, zero, suc, ℤ, pos, List, [], ◌∷◌, Option, Some, None, length, refl, sym, ap, ◌∙◌, subst, arith}
+use Rattle.std.specs.Prelude.{slice_get, ◌^◌}
 use Rattle.std.specs.FinMap as map
 use Rattle.std.proofs.lemmas.Option.{slice_get_within}
 use Rattle.std.proofs.Math.Decide.{dec_lt}
 use Rattle.mc_base.specs.declared.ids.VarId.{VarId}
 use Rattle.mc_base.specs.declared.plain.Kind.TheVariants.{Ptr}
-use Rattle.mc_base.specs.Runs.{next, last as finished, fault}
+use Rattle.mc_base.specs.Runs.{next}
 use Rattle.mc_text.specs.declared.place.Place.{Place}
 use Rattle.mc_heap.specs.Heap.{Block, Heap, IsAddress, region_of}
 use Rattle.mc_heap.specs.Access.{fresh_block}
 use Rattle.mc_heap.specs.Choices.{Choice, input as choose_input, malloc as choose_malloc, shape as choose_shape}
-use Rattle.mc_flow.specs.Values.{value_in, value_of as operand_value, with_value}
-use Rattle.mc_flow.specs.declared.instr.Operand.{Operand}
-use Rattle.mc_flow.specs.declared.instr.Operand.TheVariants.{Var}
+use Rattle.mc_flow.specs.Values.{with_value}
 use Rattle.mc_flow.specs.declared.instr.Instr.TheVariants.{Malloc}
 use Rattle.mc_flow.specs.Steps as flow
 use Rattle.mc_flow.specs.Steps.{field_count}
-use Rattle.mc_resolved.specs.Configs.{Values, with_variable, held, Tasks, Result}
-use Rattle.mc_resolved.specs.Programs.{FieldAt, Left, allocation, Program}
+use Rattle.mc_resolved.specs.Configs.{with_variable, held, Tasks, Result}
+use Rattle.mc_resolved.specs.Programs.{Left, allocation, Program}
 use Rattle.mc_resolved.specs.Steps.{Here, after, Allocates, Assigns}
-use Rattle.mc_resolved.specs.Values.{Changed, fault_in, changed, assigned}
-use Rattle.mc_lowering.specs.Graphs.{Graph, Owner, local, temporary, Stage, stage, plain, point, IsPoint, Appends, appends, Undefines, IsMade, is_made, Uses}
-use Rattle.mc_lowering.specs.Values.{struct_at, Puts, puts_field}
-use Rattle.mc_lowering.specs.Lowering.{SetsTo, sets_allocated, Assigns as LowersTo, assigns_variable, assigns_allocated}
+use Rattle.mc_resolved.specs.Values.{assigned}
+use Rattle.mc_lowering.specs.Graphs.{Graph, local, temporary, Stage, stage, plain, point, IsPoint, appends, is_made}
+use Rattle.mc_lowering.specs.Values.{struct_at, puts_field}
+use Rattle.mc_lowering.specs.Lowering.{sets_allocated, Assigns as LowersTo, assigns_variable, assigns_allocated}
 use Rattle.mc_lowering.specs.Runs.{FlowStep}
-use Rattle.mc_lowering.proofs.Simulating.{Goes, one, more}
+use Rattle.mc_lowering.proofs.Simulating.{one, more}
 use Rattle.mc_lowering.proofs.Stepping.{Vars, at, Never, never_from, step_at, step_from}
-use Rattle.mc_lowering.proofs.Evaluating.{AreTemporaries, no_temporaries, one_more, OnlyNew, new_set, set_here, Agree, agree_later, goal_of, used_owner, uses_goal, walk_temporaries}
+use Rattle.mc_lowering.proofs.Evaluating.{AreTemporaries, no_temporaries, one_more, OnlyNew, new_set, set_here, Agree, agree_later, goal_of, used_owner, uses_goal}
 use Rattle.mc_lowering.proofs.Changing.{IsClean}
 use Rattle.mc_lowering.proofs.Storing.{IsPut, put_faults, put_gives, putting}
-use Rattle.mc_lowering.proofs.Performing.{IsPerformed, performed_waits, performed_faults, performed, Changes, nothing_set, one_set}
+use Rattle.mc_lowering.proofs.Performing.{IsPerformed, performed_waits, performed_faults, performed, nothing_set, one_set}
 
 abbrev pub Go : Type 1
 Go = ℤ → Heap → List Choice → Result → Type 0
@@ -71,8 +69,8 @@ allocates g go shape fields t n q place vars heap (choose_malloc zero ∷ choice
 allocates g go shape fields t n q place vars heap (choose_malloc (suc m) ∷ choices) e is = elim (decide_address (suc m)) [
   | inl there ↦ elim (decide_none (region_of heap (suc m))) [
     | inl empty ↦ allocated (pos (suc m)) (map.insert heap (suc m) (fresh_block shape fields)) choices (λ r i. (there, empty, i))
-    (step_at g n place (Malloc t (struct_at shape) (point q)) vars heap (choose_malloc (suc m) ∷ choices) (next (at q (with_value vars t (Some (pos (suc m)))) (map.insert heap (suc m) (fresh_block shape fields))) choices) is
-    (there, empty, ap (λ count. next (at q (with_value vars t (Some (pos (suc m)))) (map.insert heap (suc m) (fresh_block shape count))) choices) (sym e)))
+        (step_at g n place (Malloc t (struct_at shape) (point q)) vars heap (choose_malloc (suc m) ∷ choices) (next (at q (with_value vars t (Some (pos (suc m)))) (map.insert heap (suc m) (fresh_block shape fields))) choices) is
+        (there, empty, ap (λ count. next (at q (with_value vars t (Some (pos (suc m)))) (map.insert heap (suc m) (fresh_block shape count))) choices) (sym e)))
     | inr full ↦ nothing_allocated g go shape fields t n q place vars heap (choose_malloc (suc m) ∷ choices) is (λ r i. full i.1) (λ r i. full i.1)
   ]
   | inr nowhere ↦ nothing_allocated g go shape fields t n q place vars heap (choose_malloc (suc m) ∷ choices) is (λ r i. nowhere i.0) (λ r i. nowhere i.0)

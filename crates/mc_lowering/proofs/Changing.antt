@@ -1,22 +1,17 @@
 -- What simple statements do: the variables are as those of a statement without temporaries.
-use Rattle.std.proofs.Common.{◌<◌, ◌≡◌, ◌⊎◌, ◌++◌, inl, inr, ℕ, zero, suc, ℤ, pos, List, [], ◌∷◌, Option, Some, None, length, refl, sym, ap, ◌∙◌, subst, arith}
+use Rattle.std.proofs.Common.{◌<◌, ◌≡◌, ◌⊎◌, inl, inr, ℕ, zero, suc, ℤ, List, [], ◌∷◌, Option, Some, None, length, refl, sym, ap, ◌∙◌, subst, arith}
 use Rattle.std.specs.Prelude.{slice_get, slice_index_or, slice_set, Contains}
-use Rattle.std.proofs.lemmas.Option.{same_Some, slice_get_within}
 use Rattle.std.proofs.Math.Decide.{dec_lt}
 use Rattle.mc_base.specs.declared.ids.VarId.{VarId}
-use Rattle.mc_base.specs.declared.plain.FaultKind.{FaultKind}
-use Rattle.mc_base.specs.declared.plain.FaultKind.TheVariants.{Uninit}
 use Rattle.mc_base.specs.declared.plain.Kind.{Kind}
-use Rattle.mc_base.specs.Runs.{next, last as finished, fault}
+use Rattle.mc_base.specs.Runs.{next}
 use Rattle.mc_text.specs.declared.place.Place.{Place}
 use Rattle.mc_heap.specs.Heap.{Heap}
 use Rattle.mc_heap.specs.Choices.{Choice}
-use Rattle.mc_flow.specs.Values.{value_in, value_of as operand_value, with_value, without as flow_without}
-use Rattle.mc_flow.specs.declared.instr.Operand.{Operand}
-use Rattle.mc_flow.specs.declared.instr.Operand.TheVariants.{Var, Const}
-use Rattle.mc_flow.specs.declared.instr.Instr.TheVariants.{Copy, Undef}
-use Rattle.mc_flow.specs.Steps.{Config, Result}
-use Rattle.mc_lowering.specs.Graphs.{Graph, Owner, local, result, temporary, Stage, stage, point, Appends, appends, Undefines, undefines_none, undefines}
+use Rattle.mc_flow.specs.Values.{value_in, with_value, without as flow_without}
+use Rattle.mc_flow.specs.declared.instr.Instr.TheVariants.{Undef}
+use Rattle.mc_flow.specs.Steps.{Config}
+use Rattle.mc_lowering.specs.Graphs.{Graph, temporary, Stage, point, appends, Undefines, undefines_none, undefines}
 use Rattle.mc_lowering.specs.Runs.{FlowStep}
 use Rattle.mc_lowering.proofs.Simulating.{Goes, one, more}
 use Rattle.mc_lowering.proofs.Stepping.{Vars, at, step_at}
@@ -121,7 +116,7 @@ restored g us vars later are new clean = same_list (flow_without later us) vars 
     at_number : (v : VarId) → value_in (flow_without later us) v ≡ value_in vars v
     at_number v = elim (in_or_not v us) [
       | inl there ↦ let one_is : (j : ℕ) × (k : Kind) × (j < length us) × (slice_get g.owners v.0 ≡ Some (temporary j k)) = are.each v there in
-      without_in us later v there ∙ sym (clean v one_is.0 one_is.1 one_is.3)
+          without_in us later v there ∙ sym (clean v one_is.0 one_is.1 one_is.3)
       | inr absent ↦ without_out us later v absent ∙ new.same v (λ there. absurd (absent there))
     ]
 
@@ -135,10 +130,10 @@ cleaned g us vars later x w are new clean within free =
     at_number : (v : VarId) → value_in (flow_without (with_value later x w) us) v ≡ value_in (with_value vars x w) v
     at_number v = elim (in_or_not v us) [
       | inl there ↦ let one_is : (j : ℕ) × (k : Kind) × (j < length us) × (slice_get g.owners v.0 ≡ Some (temporary j k)) = are.each v there in
-      without_in us (with_value later x w) v there ∙ sym (set_elsewhere vars x v w (λ e. free (subst (λ z. Contains us z) (sym e) there)) ∙ clean v one_is.0 one_is.1 one_is.3)
+          without_in us (with_value later x w) v there ∙ sym (set_elsewhere vars x v w (λ e. free (subst (λ z. Contains us z) (sym e) there)) ∙ clean v one_is.0 one_is.1 one_is.3)
       | inr absent ↦ without_out us (with_value later x w) v absent ∙ elim (same_variable x v) [
         | inl e ↦ subst (λ z. value_in (with_value later x w) z ≡ value_in (with_value vars x w) z) e
-        (set_here later x w (omega (arith, within, new.long)) ∙ sym (set_here vars x w within))
+            (set_here later x w (omega (arith, within, new.long)) ∙ sym (set_here vars x w within))
         | inr apart ↦ set_elsewhere later x v w apart ∙ new.same v (λ there. absurd (absent there)) ∙ sym (set_elsewhere vars x v w apart)
       ]
     ]

@@ -1,6 +1,6 @@
 -- An atomic condition and its points go on on the same side.
-use Rattle.std.proofs.Common.{◌<◌, ◌≡◌, ◌⊎◌, inl, inr, ℕ, zero, suc, ℤ, pos, Bool, true, false, List, [], ◌∷◌, Option, Some, None, length, refl, sym, ap, ◌∙◌, subst, arith}
-use Rattle.std.specs.Prelude.{slice_get, Contains, int_le, not, if◌then◌else◌}
+use Rattle.std.proofs.Common.{◌≡◌, ◌⊎◌, inl, inr, ℕ, suc, ℤ, pos, Bool, true, false, List, [], Option, Some, None, length, refl, sym, ap, ◌∙◌, subst, arith}
+use Rattle.std.specs.Prelude.{Contains, int_le, not, if◌then◌else◌}
 use Rattle.std.specs.Ordering.{int_eq}
 use Rattle.mc_base.specs.declared.ids.VarId.{VarId}
 use Rattle.mc_base.specs.declared.plain.FaultKind.{FaultKind}
@@ -9,7 +9,7 @@ use Rattle.mc_base.specs.Runs.{next, last as finished, fault}
 use Rattle.mc_text.specs.declared.place.Place.{Place}
 use Rattle.mc_heap.specs.Heap.{Heap}
 use Rattle.mc_heap.specs.Choices.{Choice}
-use Rattle.mc_flow.specs.Values.{value_of as operand_value, without as flow_without}
+use Rattle.mc_flow.specs.Values.{value_of as operand_value}
 use Rattle.mc_flow.specs.declared.instr.Operand.{Operand}
 use Rattle.mc_flow.specs.declared.instr.Operand.TheVariants.{Const}
 use Rattle.mc_flow.specs.declared.instr.Instr.{Instr}
@@ -20,12 +20,12 @@ use Rattle.mc_meaning.specs.Values.{Evaluated, fault_of, value_of}
 use Rattle.mc_meaning.specs.Steps.{compares}
 use Rattle.mc_ast.specs.declared.trees.Comparison.{Comparison}
 use Rattle.mc_ast.specs.declared.trees.Comparison.TheVariants.{Equal, Unequal, Below, AtMost, Above, AtLeast}
-use Rattle.mc_resolved.specs.Configs.{Values, Branch, Result}
-use Rattle.mc_resolved.specs.Programs.{Expr, Cond, plain as plain_cond, compare}
+use Rattle.mc_resolved.specs.Configs.{Branch, Result}
+use Rattle.mc_resolved.specs.Programs.{Expr, plain as plain_cond, compare}
 use Rattle.mc_resolved.specs.Steps.{Here, led, compared, AfterValue, Tests as Tries}
 use Rattle.mc_resolved.specs.Values.{Evaluates as Source}
 use Rattle.mc_lowering.specs.Graphs.{Graph, Stage, stage, plain, point, IsPoint, Undefines}
-use Rattle.mc_lowering.specs.Values.{decides, Evaluates, Compares, compares as compares_at, Tests, tests_plain, tests_compare}
+use Rattle.mc_lowering.specs.Values.{decides, Evaluates, Compares, compares as compares_at}
 use Rattle.mc_lowering.specs.Runs.{FlowStep}
 use Rattle.mc_lowering.proofs.Simulating.{Goes, one}
 use Rattle.mc_lowering.proofs.SourceOnce.{one_value}

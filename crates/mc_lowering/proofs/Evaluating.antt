@@ -1,5 +1,5 @@
 -- The points of an expression compute its value, and change temporaries alone.
-use Rattle.std.proofs.Common.{◌<◌, ◌≡◌, ◌⊎◌, ◌++◌, inl, inr, ℕ, zero, suc, ℤ, pos, ◌+ℤ◌, ◌-ℤ◌, ◌*ℤ◌, List, [], ◌∷◌, Option, Some, None, length, refl, sym, ap, ◌∙◌, subst, arith}
+use Rattle.std.proofs.Common.{◌<◌, ◌≡◌, ◌++◌, inl, inr, ℕ, zero, suc, ℤ, pos, ◌+ℤ◌, ◌-ℤ◌, ◌*ℤ◌, List, [], ◌∷◌, Option, Some, None, length, refl, sym, ap, ◌∙◌, subst, arith}
 use Rattle.std.specs.Prelude.{slice_get, slice_index_or, Contains}
 use Rattle.std.proofs.lemmas.List.{get_or-set_same, get_or-set_other}
 use Rattle.std.proofs.lemmas.List.Elements.{Contains-push, Contains-push_cases, Contains-append_left}
@@ -14,13 +14,13 @@ use Rattle.mc_heap.specs.Choices.{Choice}
 use Rattle.mc_flow.specs.Values.{value_in, value_of as operand_value, with_value}
 use Rattle.mc_flow.specs.declared.instr.Operand.{Operand}
 use Rattle.mc_flow.specs.declared.instr.Operand.TheVariants.{Var, Const}
-use Rattle.mc_flow.specs.Steps.{Config, Result}
+use Rattle.mc_flow.specs.Steps.{Result}
 use Rattle.mc_meaning.specs.Values.{Evaluated, fault_of, value_of, faulty, found, Found, after_found, evaluated, operated, right_operand, AfterLeft}
 use Rattle.mc_resolved.specs.Configs.{Values, held}
-use Rattle.mc_resolved.specs.Programs.{FieldAt, Expr, number, input, value, minus, times, plus, difference}
-use Rattle.mc_resolved.specs.Values.{loaded, behind_value, left_value, Evaluates as Source}
-use Rattle.mc_lowering.specs.Graphs.{Graph, Owner, local, result, temporary, Stage, stage, point, IsPoint, Appends, appends, Creates, creates, IsMade, is_made, Uses, uses_first, uses_again}
-use Rattle.mc_lowering.specs.Values.{Operation, an_input, a_field, a_sum, a_difference, a_product, sets, Takes, takes, Walks, walks_none, walks, Evaluates, of_number, of_variable, of_operation, Computes, of_input, of_field, of_minus, of_times, of_plus, of_difference}
+use Rattle.mc_resolved.specs.Programs.{FieldAt, Expr, value, minus}
+use Rattle.mc_resolved.specs.Values.{loaded, behind_value, Evaluates as Source}
+use Rattle.mc_lowering.specs.Graphs.{Graph, Owner, local, result, temporary, Stage, stage, appends, creates, is_made, Uses, uses_first, uses_again}
+use Rattle.mc_lowering.specs.Values.{Operation, a_field, a_sum, a_difference, a_product, Takes, takes, Walks, walks_none, walks, Evaluates, of_number, of_variable, of_operation, Computes, of_input, of_field, of_minus, of_times, of_plus, of_difference}
 use Rattle.mc_lowering.specs.Runs.{FlowStep}
 use Rattle.mc_lowering.proofs.Simulating.{Goes, one, more}
 use Rattle.mc_lowering.proofs.SourceOnce.{one_value}
@@ -80,7 +80,7 @@ one_more g ts t kind are owned =
     record {
       each = λ v there. elim (Contains-push_cases ts t v there) [
         | inl before ↦ let one : (j : ℕ) × (k : Kind) × (j < length ts) × (slice_get g.owners v.0 ≡ Some (temporary j k)) = are.each v before in
-        (one.0, one.1, omega (arith, one.2, length_push ts t), one.3)
+            (one.0, one.1, omega (arith, one.2, length_push ts t), one.3)
         | inr is ↦ (length ts, kind, omega (arith, length_push ts t), subst (λ w. slice_get g.owners w.0 ≡ Some (temporary (length ts) kind)) is owned)
       ];
     }

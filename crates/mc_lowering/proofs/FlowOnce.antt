@@ -1,32 +1,20 @@
 -- Steps of flow graphs are determined by their choices.
-use Rattle.std.proofs.Common.{◌≡◌, ◌<◌, ℕ, zero, suc, ℤ, List, [], ◌∷◌, Option, Some, None, Bool, true, false, refl, sym, ap, ◌∙◌, subst, inl, inr, length, arith}
-use Rattle.std.specs.Prelude.{All, slice_get, if◌then◌else◌, ◌==◌, int_le}
-use Rattle.std.specs.Ordering.{int_eq}
-use Rattle.std.proofs.lemmas.Option.{slice_get_cases}
+use Rattle.std.proofs.Common.{◌≡◌, zero, suc, ℤ, List, [], ◌∷◌, Option, Some, None, sym, ap, ◌∙◌, inl, inr}
+use Rattle.std.specs.Prelude.{slice_get}
 use Rattle.mc_base.specs.declared.ids.PointId.{PointId}
 use Rattle.mc_base.specs.declared.ids.PredId.{PredId}
 use Rattle.mc_base.specs.declared.ids.StructId.{StructId}
 use Rattle.mc_base.specs.declared.ids.VarId.{VarId}
 use Rattle.mc_base.specs.declared.plain.FaultKind.{FaultKind}
-use Rattle.mc_base.specs.declared.plain.Kind.TheVariants.{Int}
 use Rattle.mc_text.specs.declared.place.Place.{Place}
-use Rattle.mc_base.specs.Kinds.{InKind}
-use Rattle.mc_base.specs.declared.plain.FaultKind.TheVariants.{Null}
-use Rattle.mc_base.specs.Runs.{next, last, ended, fault}
-use Rattle.mc_heap.specs.Access.{field_at}
-use Rattle.mc_heap.specs.Adding.{AreFree, part_of}
 use Rattle.mc_heap.specs.Choices.{Choice, input, malloc, shape}
-use Rattle.mc_heap.specs.Heap.{Block, Heap, IsAddress, region_of}
 use Rattle.mc_defs.specs.declared.rules.Def.{Def}
 use Rattle.mc_defs.specs.declared.shapes.Structs.{Structs}
-use Rattle.mc_defs.specs.Meaning.{Sat}
 use Rattle.mc_flow.specs.declared.graph.Flow.{Flow}
 use Rattle.mc_flow.specs.declared.graph.Point.{Point}
 use Rattle.mc_flow.specs.declared.instr.Instr.{Instr}
 use Rattle.mc_flow.specs.declared.instr.Instr.TheVariants.{Skip, Copy, Undef, Input, Add, Sub, Mul, Load, Store, Malloc, Free, TestEq, TestLe, AssumeShape, AssertShape, AssertEmpty, End, Fail}
-use Rattle.mc_flow.specs.Steps.{Config, Result, at_point, start, copied, computed, found, loaded, written, put, stored, freed_at, freed, tested, Takes, Allocates, AddsShape, Assumes, Demands, Asserts, StepOf, StepAt, Step}
-use Rattle.mc_flow.specs.Valid.{IsValid, targets}
-use Rattle.mc_flow.specs.Values.{address, value_in, value_of, values_of}
+use Rattle.mc_flow.specs.Steps.{Config, Result, Takes, Allocates, Assumes, Demands, Asserts, StepOf, StepAt, Step}
 use Rattle.mc_lowering.specs.Graphs.{Graph}
 use Rattle.mc_lowering.specs.Runs.{FlowStep, told}
 use Rattle.mc_lowering.proofs.Simulating.{IsOnce}
@@ -93,7 +81,6 @@ at_once structs defs (Some p) c choices r s i j = step_once structs defs p.place
 
 pub determined : (flow : Flow) (defs : List Def) (c : Config) (choices : List Choice) (r s : Result) → Step flow defs c choices r → Step flow defs c choices s → r ≡ s
 determined flow defs c choices r s i j = at_once flow.structs defs (slice_get flow.points c.point) c choices r s i j
-
 
 told_once : (g : Graph) (c : Config) (choices : List Choice) (r s : Result) → FlowStep g c choices r → FlowStep g c choices s → r ≡ s
 told_once g c choices r s (x, is, e) (y, is', f) = e ∙ ap (told (slice_get g.roles c.point)) (determined g.flow g.program.defs c choices x y is is') ∙ sym f

@@ -1,35 +1,34 @@
 -- `free`, `+=` and `-=` go on together with their points.
-use Rattle.std.proofs.Common.{◌<◌, ◌≡◌, ◌⊎◌, ℕ, suc, ℤ, ◌+ℤ◌, ◌-ℤ◌, Bool, true, false, List, [], ◌∷◌, Option, Some, None, length, refl, sym, ap, ◌∙◌, subst, arith}
-use Rattle.std.specs.Prelude.{slice_get, Contains, ◌==◌, if◌then◌else◌}
+use Rattle.std.proofs.Common.{◌<◌, ◌≡◌, ℕ, suc, ℤ, ◌+ℤ◌, ◌-ℤ◌, Bool, true, false, List, [], Option, Some, None, length, refl, sym, ap, ◌∙◌, subst, arith}
+use Rattle.std.specs.Prelude.{slice_get, ◌==◌, if◌then◌else◌}
 use Rattle.std.specs.FinMap as map
 use Rattle.std.proofs.lemmas.Option.{slice_get_within}
 use Rattle.mc_base.specs.declared.ids.VarId.{VarId}
 use Rattle.mc_base.specs.declared.plain.FaultKind.{FaultKind}
 use Rattle.mc_base.specs.declared.plain.FaultKind.TheVariants.{Uninit, BadFree}
-use Rattle.mc_base.specs.Runs.{next, last as finished, fault}
+use Rattle.mc_base.specs.Runs.{next}
 use Rattle.mc_text.specs.declared.place.Place.{Place}
 use Rattle.mc_heap.specs.Heap.{Block, Heap, region_of}
 use Rattle.mc_heap.specs.Choices.{Choice}
-use Rattle.mc_flow.specs.Values.{value_in, value_of as operand_value, with_value, address, wrapped}
+use Rattle.mc_flow.specs.Values.{value_in, value_of as operand_value, with_value, address}
 use Rattle.mc_flow.specs.declared.instr.Operand.{Operand}
 use Rattle.mc_flow.specs.declared.instr.Operand.TheVariants.{Var}
 use Rattle.mc_flow.specs.declared.instr.Instr.TheVariants.{Free}
 use Rattle.mc_flow.specs.Steps as flow
 use Rattle.mc_meaning.specs.Values.{Evaluated, fault_of, value_of, operated}
-use Rattle.mc_resolved.specs.Configs.{Values, with_variable, held, Tasks, Result}
+use Rattle.mc_resolved.specs.Configs.{Values, with_variable, held, Tasks}
 use Rattle.mc_resolved.specs.Programs.{Expr}
 use Rattle.mc_resolved.specs.Steps.{Here, after, freed, freed_at, WithValue, Combines}
-use Rattle.mc_resolved.specs.Values.{Changed, fault_in, changed, computed, combined, Evaluates as Source}
-use Rattle.mc_lowering.specs.Graphs.{Graph, Owner, local, Stage, stage, plain, point, IsPoint, Appends, appends, Undefines, IsMade, is_made}
+use Rattle.mc_resolved.specs.Values.{fault_in, changed, computed, Evaluates as Source}
+use Rattle.mc_lowering.specs.Graphs.{Graph, local, Stage, stage, plain, point, IsPoint, Appends, appends, Undefines, IsMade, is_made}
 use Rattle.mc_lowering.specs.Values.{Operation, a_sum, a_difference, sets, Evaluates}
-use Rattle.mc_lowering.specs.Lowering.{Changes as LowersChange, changes_variable}
 use Rattle.mc_lowering.specs.Runs.{FlowStep}
 use Rattle.mc_lowering.proofs.Simulating.{Goes, one}
-use Rattle.mc_lowering.proofs.Stepping.{Vars, at, Never, step_at, Comes, Operates, op_waits, op_faults, op_gives, operates}
+use Rattle.mc_lowering.proofs.Stepping.{Vars, at, step_at, Comes, Operates, op_waits, op_faults, op_gives, operates}
 use Rattle.mc_lowering.proofs.Evaluating.{AreTemporaries, no_temporaries, not_temporary, OnlyNew, Agree, agree_later, goal_of, Leads, Ended, ended_waits, ended_faults, ended_gives, evaluating, temporaries}
-use Rattle.mc_lowering.proofs.Changing.{IsClean, cleaned, restored, undefines_goes}
+use Rattle.mc_lowering.proofs.Changing.{IsClean, cleaned, undefines_goes}
 use Rattle.mc_lowering.proofs.Storing.{Stores, stores_faults, stores_gives, IsPut, put_faults, put_gives, stored_put}
-use Rattle.mc_lowering.proofs.Performing.{IsPerformed, performed_waits, performed_faults, performed, Changes, nothing_set, one_set}
+use Rattle.mc_lowering.proofs.Performing.{IsPerformed, performed_waits, performed_faults, performed, nothing_set, one_set}
 
 -- ---- `free`
 block_frees : (g : Graph) (h : Here) (place : Place) (n q : ℕ) (vars : Vars) (choices : List Choice) (p : ℕ) (block : Option Block)

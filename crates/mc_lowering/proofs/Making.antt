@@ -1,5 +1,5 @@
 -- The variables made by then of an occurrence can be listed.
-use Rattle.std.proofs.Common.{◌⊎◌, inl, inr, ◌∙◌, ◌≡◌, ◌<◌, ◌≤◌, ◌+◌, ℕ, zero, suc, Bool, true, false, List, [], ◌∷◌, Option, Some, None, refl, sym, subst, ap, arith}
+use Rattle.std.proofs.Common.{◌⊎◌, inl, inr, ◌∙◌, ◌≡◌, ◌<◌, ◌+◌, ℕ, zero, suc, Bool, true, false, List, [], ◌∷◌, Some, refl, subst, ap, arith}
 use Rattle.std.specs.Prelude.{slice_get, All, AllPairs, Contains, if◌then◌else◌, length, slice_index_or}
 use Rattle.std.proofs.lemmas.List.Kept.{AllPairs-cons}
 use Rattle.std.proofs.lemmas.List.Elements.{All-cons}
@@ -77,9 +77,9 @@ are_made g out a n k Meant p passing meant =
       ascending = ascends_from p k 0 g.owners;
       all = λ x v is made. found x v is made;
       only = all_from (λ v. (x : ℕ) × Meant x × IsMade g (local out x) v (stage a n k)) p k 0 g.owners (λ i o there passes less.
-      let one : (x : ℕ) × Meant x × (o ≡ local out x) = meant o passes in
-      let same : i ≡ 0 + i = omega arith in
-      (one.0, one.1, subst (λ j. IsMade g (local out one.0) (var j) (stage a n k)) same (is_made (subst (λ q. slice_get g.owners i ≡ Some q) one.2 there) less)));
+          let one : (x : ℕ) × Meant x × (o ≡ local out x) = meant o passes in
+          let same : i ≡ 0 + i = omega arith in
+          (one.0, one.1, subst (λ j. IsMade g (local out one.0) (var j) (stage a n k)) same (is_made (subst (λ q. slice_get g.owners i ≡ Some q) one.2 there) less)));
     }
   where
     found : (x : ℕ) (v : VarId) → Meant x → IsMade g (local out x) v (stage a n k) → Contains (made_from p k 0 g.owners) v

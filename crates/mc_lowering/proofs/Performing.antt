@@ -1,32 +1,28 @@
 -- Simple statements without calls go on together with their points.
-use Rattle.std.proofs.Common.{◌<◌, ◌≡◌, ◌⊎◌, ℕ, suc, ℤ, Bool, true, false, List, [], ◌∷◌, Option, Some, None, length, refl, sym, ap, ◌∙◌, subst, arith}
-use Rattle.std.specs.Prelude.{slice_get, Contains, ◌==◌, if◌then◌else◌}
-use Rattle.std.specs.FinMap as map
+use Rattle.std.proofs.Common.{◌<◌, ◌≡◌, ℕ, ℤ, List, [], ◌∷◌, Option, Some, None, length, refl, sym, ap, ◌∙◌, arith}
+use Rattle.std.specs.Prelude.{slice_get}
 use Rattle.std.proofs.lemmas.Option.{slice_get_within}
 use Rattle.mc_base.specs.declared.ids.VarId.{VarId}
 use Rattle.mc_base.specs.declared.plain.FaultKind.{FaultKind}
-use Rattle.mc_base.specs.declared.plain.FaultKind.TheVariants.{Uninit, BadFree}
 use Rattle.mc_base.specs.Runs.{next, last as finished, fault}
 use Rattle.mc_text.specs.declared.place.Place.{Place}
-use Rattle.mc_heap.specs.Heap.{Block, Heap, region_of}
+use Rattle.mc_heap.specs.Heap.{Heap}
 use Rattle.mc_heap.specs.Choices.{Choice}
-use Rattle.mc_flow.specs.Values.{value_in, value_of as operand_value, with_value, address}
+use Rattle.mc_flow.specs.Values.{value_of as operand_value, with_value}
 use Rattle.mc_flow.specs.declared.instr.Operand.{Operand}
-use Rattle.mc_flow.specs.declared.instr.Instr.TheVariants.{Free}
-use Rattle.mc_flow.specs.Steps as flow
-use Rattle.mc_meaning.specs.Values.{Evaluated, fault_of, value_of}
+use Rattle.mc_meaning.specs.Values.{fault_of, value_of}
 use Rattle.mc_resolved.specs.Configs.{Values, with_variable, Tasks, Result}
 use Rattle.mc_resolved.specs.Programs.{FieldAt, Expr, expression, Program}
-use Rattle.mc_resolved.specs.Steps.{Here, after, freed, freed_at, WithValue, Assigns}
-use Rattle.mc_resolved.specs.Values.{Changed, fault_in, changed, assigned, assigned_behind, Evaluates as Source}
-use Rattle.mc_lowering.specs.Graphs.{Graph, Owner, local, Stage, stage, plain, point, IsPoint, Appends, appends, Undefines, IsMade, is_made}
-use Rattle.mc_lowering.specs.Values.{Evaluates, Puts, puts_field}
-use Rattle.mc_lowering.specs.Lowering.{SetsTo, Assigns as LowersTo, assigns_variable, assigns_field}
+use Rattle.mc_resolved.specs.Steps.{Here, after, Assigns}
+use Rattle.mc_resolved.specs.Values.{assigned, Evaluates as Source}
+use Rattle.mc_lowering.specs.Graphs.{Graph, local, Stage, is_made}
+use Rattle.mc_lowering.specs.Values.{puts_field}
+use Rattle.mc_lowering.specs.Lowering.{Assigns as LowersTo, assigns_variable, assigns_field}
 use Rattle.mc_lowering.specs.Runs.{FlowStep}
-use Rattle.mc_lowering.proofs.Simulating.{Goes, one, more}
-use Rattle.mc_lowering.proofs.Stepping.{Vars, at, Never, step_at}
+use Rattle.mc_lowering.proofs.Simulating.{Goes}
+use Rattle.mc_lowering.proofs.Stepping.{Vars, at, Never}
 use Rattle.mc_lowering.proofs.Evaluating.{AreTemporaries, no_temporaries, not_temporary, OnlyNew, Agree, agree_later, goal_of, Leads, Ended, ended_waits, ended_faults, ended_gives, evaluating, temporaries, kept}
-use Rattle.mc_lowering.proofs.Changing.{IsClean, restored, undefines_goes}
+use Rattle.mc_lowering.proofs.Changing.{IsClean}
 use Rattle.mc_lowering.proofs.Setting.{Uses, IsSet, set_waits, set_faults, set_gives, setting}
 use Rattle.mc_lowering.proofs.Storing.{IsPut, put_faults, put_gives, putting}
 

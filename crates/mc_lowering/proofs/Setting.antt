@@ -1,35 +1,29 @@
 -- A variable of the flow graph is set to a value, and conditions are decided.
-use Rattle.std.proofs.Common.{◌<◌, ◌≡◌, ◌⊎◌, inl, inr, ℕ, zero, suc, ℤ, pos, Bool, true, false, List, [], ◌∷◌, Option, Some, None, length, refl, sym, ap, ◌∙◌, subst, arith}
-use Rattle.std.specs.Prelude.{slice_get, Contains, int_le, not, if◌then◌else◌}
-use Rattle.std.specs.Ordering.{int_eq}
+use Rattle.std.proofs.Common.{◌<◌, ◌≡◌, ℕ, suc, ℤ, List, [], Option, Some, None, length, sym, ap, subst}
+use Rattle.std.specs.Prelude.{Contains}
 use Rattle.mc_base.specs.declared.ids.VarId.{VarId}
 use Rattle.mc_base.specs.declared.plain.FaultKind.{FaultKind}
 use Rattle.mc_base.specs.declared.plain.FaultKind.TheVariants.{Uninit}
-use Rattle.mc_base.specs.declared.plain.Kind.{Kind}
 use Rattle.mc_base.specs.Runs.{next, last as finished, fault}
 use Rattle.mc_text.specs.declared.place.Place.{Place}
 use Rattle.mc_heap.specs.Heap.{Heap}
 use Rattle.mc_heap.specs.Choices.{Choice}
-use Rattle.mc_flow.specs.Values.{value_in, value_of as operand_value, with_value, without as flow_without}
+use Rattle.mc_flow.specs.Values.{value_of as operand_value, with_value}
 use Rattle.mc_flow.specs.declared.instr.Operand.{Operand}
-use Rattle.mc_flow.specs.declared.instr.Instr.TheVariants.{Copy, TestEq, TestLe}
+use Rattle.mc_flow.specs.declared.instr.Instr.TheVariants.{Copy}
 use Rattle.mc_flow.specs.Steps as flow
 use Rattle.mc_meaning.specs.Values.{Evaluated, fault_of, value_of}
-use Rattle.mc_meaning.specs.Steps.{compares}
-use Rattle.mc_ast.specs.declared.trees.Comparison.{Comparison}
-use Rattle.mc_ast.specs.declared.trees.Comparison.TheVariants.{Equal, Unequal, Below, AtMost, Above, AtLeast}
 use Rattle.mc_resolved.specs.Configs.{Values, Result}
 use Rattle.mc_resolved.specs.Programs.{Expr, expression}
 use Rattle.mc_resolved.specs.Values.{Evaluates as Source}
-use Rattle.mc_lowering.specs.Graphs.{Graph, Owner, Stage, stage, plain, point, IsPoint, Appends, appends, Undefines}
-use Rattle.mc_lowering.specs.Values.{Operation, sets, Evaluates, Computes, decides}
+use Rattle.mc_lowering.specs.Graphs.{Graph, Stage, stage, plain, point, IsPoint, appends, Undefines}
+use Rattle.mc_lowering.specs.Values.{Operation, sets}
 use Rattle.mc_lowering.specs.Lowering.{SetsTo, sets_operand, sets_computed}
 use Rattle.mc_lowering.specs.Runs.{FlowStep}
-use Rattle.mc_lowering.proofs.Simulating.{Goes, one, more}
-use Rattle.mc_lowering.proofs.SourceOnce.{one_value}
-use Rattle.mc_lowering.proofs.Stepping.{Vars, at, Never, step_at, Comes, Operates, op_waits, op_faults, op_gives, operates}
-use Rattle.mc_lowering.proofs.Evaluating.{AreTemporaries, no_temporaries, OnlyNew, both_new, Agree, agree_later, goal_of, Leads, leads_on, Ended, ended_waits, ended_faults, ended_gives, Ready, ready_waits, ready_faults, ready, evaluating, computing, temporaries, computes_temporaries, grows, kept, kept_value, Kept}
-use Rattle.mc_lowering.proofs.Changing.{IsClean, cleaned, restored, same_list, undefines_goes}
+use Rattle.mc_lowering.proofs.Simulating.{Goes, one}
+use Rattle.mc_lowering.proofs.Stepping.{Vars, at, Never, step_at, Operates, op_waits, op_faults, op_gives, operates}
+use Rattle.mc_lowering.proofs.Evaluating.{AreTemporaries, no_temporaries, OnlyNew, Agree, goal_of, Leads, Ended, ended_waits, ended_faults, ended_gives, Ready, ready_waits, ready_faults, ready, evaluating, computing, computes_temporaries}
+use Rattle.mc_lowering.proofs.Changing.{IsClean, cleaned, same_list, undefines_goes}
 
 -- ---- a variable is set
 -- What the source does with a value: P is its step, which has a fault where the expression has one or is undefined, and goes on to R where

@@ -1,8 +1,7 @@
 -- Steps at points of a lowered flow graph, and what instructions that set a variable do.
-use Rattle.std.proofs.Common.{T, ◌<◌, ◌≡◌, ◌⊎◌, inl, inr, ℕ, zero, suc, ℤ, pos, ◌+ℤ◌, ◌-ℤ◌, ◌*ℤ◌, Bool, true, false, List, [], ◌∷◌, Option, Some, None, refl, sym, ap, ◌∙◌, subst, arith}
-use Rattle.std.specs.Prelude.{slice_get, ◌≤ℤ◌, ◌==◌, if◌then◌else◌, negsuc}
+use Rattle.std.proofs.Common.{T, ◌<◌, ◌≡◌, ◌⊎◌, inl, inr, ℕ, zero, suc, ℤ, pos, ◌+ℤ◌, ◌-ℤ◌, ◌*ℤ◌, Bool, true, false, List, [], ◌∷◌, Option, Some, None, refl, sym, ap, ◌∙◌, subst}
+use Rattle.std.specs.Prelude.{◌≤ℤ◌, ◌==◌, if◌then◌else◌, negsuc}
 use Rattle.std.specs.Int.Signed.{le_z, le_z_yes}
-use Rattle.mc_base.specs.declared.ids.PointId.{PointId}
 use Rattle.mc_base.specs.declared.ids.VarId.{VarId}
 use Rattle.mc_base.specs.declared.plain.FaultKind.{FaultKind}
 use Rattle.mc_base.specs.declared.plain.FaultKind.TheVariants.{Uninit, Null, Freed}
@@ -15,13 +14,12 @@ use Rattle.mc_heap.specs.Access.{field_at}
 use Rattle.mc_heap.specs.Choices.{Choice, input, malloc, shape}
 use Rattle.mc_flow.specs.Values.{value_in, value_of as operand_value, with_value, address, wrapped}
 use Rattle.mc_flow.specs.declared.instr.Instr.{Instr}
-use Rattle.mc_flow.specs.declared.instr.Operand.{Operand}
 use Rattle.mc_flow.specs.Steps.{Config, Result, StepAt, StepOf}
 use Rattle.mc_flow.specs.Steps as flow
 use Rattle.mc_meaning.specs.Values.{Evaluated, fault_of, value_of, IsInput, operated, evaluated, read}
 use Rattle.mc_resolved.specs.Values.{loaded}
 use Rattle.mc_resolved.specs.Programs.{FieldAt}
-use Rattle.mc_lowering.specs.Graphs.{Graph, Role, plain, point, IsPoint}
+use Rattle.mc_lowering.specs.Graphs.{Graph, plain, point, IsPoint}
 use Rattle.mc_lowering.specs.Values.{struct_at, Operation, an_input, a_field, a_sum, a_difference, a_product, sets}
 use Rattle.mc_lowering.specs.Runs.{FlowStep, told}
 use Rattle.mc_lowering.proofs.Simulating.{left_of_one}

@@ -1,6 +1,6 @@
 -- A value is put into a variable or a field.
-use Rattle.std.proofs.Common.{◌<◌, ◌≡◌, ℕ, suc, ℤ, Bool, true, false, List, [], ◌∷◌, Option, Some, None, length, refl, sym, ap, ◌∙◌, subst, arith}
-use Rattle.std.specs.Prelude.{slice_get, Contains, ◌==◌, is_some, if◌then◌else◌}
+use Rattle.std.proofs.Common.{◌≡◌, ℕ, suc, ℤ, Bool, true, false, List, [], ◌∷◌, Option, Some, None, length, refl, sym, ap, ◌∙◌, subst, arith}
+use Rattle.std.specs.Prelude.{Contains, ◌==◌, is_some, if◌then◌else◌}
 use Rattle.std.specs.FinMap as map
 use Rattle.mc_base.specs.declared.ids.VarId.{VarId}
 use Rattle.mc_base.specs.declared.plain.FaultKind.{FaultKind}
@@ -10,9 +10,8 @@ use Rattle.mc_text.specs.declared.place.Place.{Place}
 use Rattle.mc_heap.specs.Heap.{Block, Heap, region_of}
 use Rattle.mc_heap.specs.Access.{block_field, with_field}
 use Rattle.mc_heap.specs.Choices.{Choice}
-use Rattle.mc_flow.specs.Values.{value_in, value_of as operand_value, address, without as flow_without}
+use Rattle.mc_flow.specs.Values.{value_in, value_of as operand_value, address}
 use Rattle.mc_flow.specs.declared.instr.Operand.{Operand}
-use Rattle.mc_flow.specs.declared.instr.Instr.{Instr}
 use Rattle.mc_flow.specs.declared.instr.Instr.TheVariants.{Store}
 use Rattle.mc_flow.specs.Steps as flow
 use Rattle.mc_meaning.specs.Values.{Found, faulty, found}
@@ -22,7 +21,7 @@ use Rattle.mc_resolved.specs.Values.{Changed, fault_in, changed, put, written, l
 use Rattle.mc_lowering.specs.Graphs.{Graph, Stage, stage, plain, point, IsPoint, Appends, appends, Undefines}
 use Rattle.mc_lowering.specs.Values.{struct_at, Walks, walks_none, walks}
 use Rattle.mc_lowering.specs.Runs.{FlowStep}
-use Rattle.mc_lowering.proofs.Simulating.{Goes, one, more}
+use Rattle.mc_lowering.proofs.Simulating.{Goes, one}
 use Rattle.mc_lowering.proofs.Stepping.{Vars, at, step_at}
 use Rattle.mc_lowering.proofs.Evaluating.{AreTemporaries, OnlyNew, both_new, goal_of, Leads, Walked, walked_faults, walked, walking, walk_temporaries, walk_grows, base_value, Kept, kept_value}
 use Rattle.mc_lowering.proofs.Changing.{IsClean, restored, undefines_goes}

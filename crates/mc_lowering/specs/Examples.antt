@@ -1,6 +1,5 @@
 -- Small programs with their flow graphs, worked out by hand: each form of statement.
-use Rattle.std.specs.Prelude.{ℕ, ℤ, pos, List, [], ◌∷◌, Option, Some, None, codes, map}
-use Rattle.mc_base.specs.declared.ids.PredId.{PredId}
+use Rattle.std.specs.Prelude.{ℕ, pos, List, [], ◌∷◌, Option, Some, None, codes, map}
 use Rattle.mc_base.specs.declared.plain.Kind.{Kind}
 use Rattle.mc_base.specs.declared.plain.Kind.TheVariants.{Int, Ptr}
 use Rattle.mc_base.specs.declared.plain.VarInfo.{VarInfo}
@@ -8,14 +7,21 @@ use Rattle.mc_text.specs.declared.place.Place.{Place}
 use Rattle.mc_ast.specs.declared.trees.Comparison.TheVariants.{Equal, Below, AtMost, Above}
 use Rattle.mc_defs.specs.declared.shapes.StructInfo.{StructInfo}
 use Rattle.mc_flow.specs.declared.instr.Instr.{Instr}
-use Rattle.mc_flow.specs.declared.instr.Instr.TheVariants.{Skip, Copy, Undef, Input, Add, Sub, Mul, Load, Store, Malloc, Free, TestEq, TestLe, AssumeShape, AssertShape, AssertEmpty, End, Fail}
+use Rattle.mc_flow.specs.declared.instr.Instr.TheVariants.{Skip, Copy, Undef, Input, Add, Sub, Mul, Load, Store}
+use Rattle.mc_flow.specs.declared.instr.Instr.TheVariants.{Malloc, Free, TestEq, TestLe, AssumeShape, AssertShape}
+use Rattle.mc_flow.specs.declared.instr.Instr.TheVariants.{AssertEmpty, End, Fail}
 use Rattle.mc_flow.specs.declared.instr.Operand.{Operand}
 use Rattle.mc_flow.specs.declared.instr.Operand.TheVariants.{Var, Const}
-use Rattle.mc_resolved.specs.Programs.{FieldAt, Left, Expr, number, input, value, minus, times, plus as plus_expr, difference, Cond, plain as plain_cond, compare, negation, both, either}
-use Rattle.mc_resolved.specs.Programs.{Call, Right, expression, result_of, allocation, Action, assign, add, subtract, call, Simple, Initial, Argument, variable, constant, Start, nothing, declares, Head}
-use Rattle.mc_resolved.specs.Programs.{Stmt, declaration, block, empty, simple, free, assert, assume, assume_shape, assert_shape, assert_empty, if_only, if_else, while_loop, do_loop, for_loop, break_loop, continue_loop, returns}
-use Rattle.mc_resolved.specs.Programs.{Local, Function, Program, Stmts, no_more, then}
-use Rattle.mc_lowering.specs.Graphs.{Graph, Owner, local, result, temporary, Role, plain, head, merge, stop, point, var, nowhere}
+use Rattle.mc_resolved.specs.Programs.{FieldAt, Left, Expr, number, input, value, minus, times, plus as plus_expr}
+use Rattle.mc_resolved.specs.Programs.{difference, plain as plain_cond, compare, negation, both, either}
+use Rattle.mc_resolved.specs.Programs.{Call, Right, expression, result_of, allocation, Action, assign, add, subtract}
+use Rattle.mc_resolved.specs.Programs.{call, variable, constant, nothing, declares}
+use Rattle.mc_resolved.specs.Programs.{Stmt, declaration, block, empty, simple, free, assert, assume, assume_shape}
+use Rattle.mc_resolved.specs.Programs.{assert_shape, assert_empty, if_only, if_else, while_loop, do_loop, for_loop}
+use Rattle.mc_resolved.specs.Programs.{break_loop, continue_loop, returns}
+use Rattle.mc_resolved.specs.Programs.{Local, Function, Stmts, no_more, then}
+use Rattle.mc_lowering.specs.Graphs.{Graph, Owner, local, result, temporary, Role, plain, head, merge, stop, point}
+use Rattle.mc_lowering.specs.Graphs.{var, nowhere}
 use Rattle.mc_lowering.specs.Values.{struct_at}
 
 -- ---- how programs and flow graphs are written here
@@ -68,7 +74,11 @@ temp j kind = named (temporary j kind) [] kind
 
 -- `struct node { int data; struct node *next; };`
 abbrev pub node : StructInfo
-node = record { name = codes "node"; fields = record { name = codes "data"; kind = Int } ∷ record { name = codes "next"; kind = Ptr } ∷ [] }
+node =
+    record {
+      name = codes "node";
+      fields = record { name = codes "data"; kind = Int } ∷ record { name = codes "next"; kind = Ptr } ∷ [];
+    }
 
 abbrev pub data_field : FieldAt
 data_field = record { shape = 0; field = 0 }
@@ -78,7 +88,8 @@ next_field = record { shape = 0; field = 1 }
 
 -- functions and programs; function 0 is the entry
 abbrev pub function : List ℕ → List Local → ℕ → Option Kind → Stmts → Function
-function name locals parameters kind body = record { name = name; locals = locals; parameters = parameters; result = kind; body = body }
+function name locals parameters kind body =
+    record { name = name; locals = locals; parameters = parameters; result = kind; body = body }
 
 abbrev pub main_of : List Local → Stmts → Function
 main_of locals body = function (codes "main") locals 0 (Some Int) body
@@ -91,14 +102,14 @@ graph_of functions lines variables =
     record {
       program = record { functions = functions; entry = 0; defs = [] };
       flow =
-        record {
-          points = map (λ l. record { code = l.code; place = l.place }) lines;
-          vars = map (λ w. w.1) variables;
-          heads = [];
-          merges = [];
-          thresholds = [];
-          structs = record { list = node ∷ [] };
-        };
+          record {
+            points = map (λ l. record { code = l.code; place = l.place }) lines;
+            vars = map (λ w. w.1) variables;
+            heads = [];
+            merges = [];
+            thresholds = [];
+            structs = record { list = node ∷ [] };
+          };
       owners = map (λ w. w.0) variables;
       roles = map (λ l. l.role) lines;
       stops = [];
@@ -151,7 +162,8 @@ values_graph =
     ∷ [])
     (ret 11 ∷ own 11 0 (codes "x") Int ∷ own 11 1 (codes "y") Int ∷ temp 0 Int ∷ [])
 
--- ---- fields: `struct node *p = malloc(..); p->next->data = p->data; p->next->next->data -= 3; p->next = malloc(..);`
+-- ---- fields: `struct node *p = malloc(..); p->next->data = p->data; p->next->next->data -= 3; p->next =
+-- malloc(..);`
 -- temporary 0 is one variable as an `int` and another as a pointer; temporary 1 is there again
 abbrev pub fields_main : Function
 fields_main =
@@ -221,7 +233,8 @@ conditions_graph =
     ∷ [])
     (ret 15 ∷ own 15 0 (codes "x") Int ∷ own 15 1 (codes "p") Ptr ∷ temp 0 Int ∷ [])
 
--- ---- `int x; while (x) { int y; if (y) break; int z; continue; }`: `break` does not name the variable that is declared behind it
+-- ---- `int x; while (x) { int y; if (y) break; int z; continue; }`: `break` does not name the variable that is
+-- declared behind it
 abbrev pub while_main : Function
 while_main =
     main_of (some_local (codes "x") Int ∷ some_local (codes "y") Int ∷ some_local (codes "z") Int ∷ [])
@@ -260,7 +273,9 @@ abbrev pub do_main : Function
 do_main =
     main_of []
     (then
-    (do_loop (line 2) (block [] (then (if_only (line 3) (plain_cond (line 4) input) (continue_loop (line 5))) no_more)) (plain_cond (line 6) (number 0)))
+    (do_loop (line 2)
+    (block [] (then (if_only (line 3) (plain_cond (line 4) input) (continue_loop (line 5))) no_more))
+    (plain_cond (line 6) (number 0)))
     no_more)
 
 abbrev pub do_graph : Graph
@@ -295,7 +310,10 @@ for_main =
       variables = 0 ∷ [];
     })
     (if_else (line 6) (compare (line 7) Equal (here 0) (number 1)) empty (declared 8 1 (Some (expression (number 7))))))
-    (then (for_loop (record { place = line 9; start = nothing; condition = None; last = None; variables = [] }) (break_loop (line 10))) no_more))
+    (then
+    (for_loop (record { place = line 9; start = nothing; condition = None; last = None; variables = [] })
+    (break_loop (line 10)))
+    no_more))
 
 abbrev pub for_graph : Graph
 for_graph =
@@ -319,7 +337,8 @@ for_graph =
     ∷ [])
     (ret 15 ∷ own 15 0 (codes "i") Int ∷ own 15 1 (codes "x") Int ∷ [])
 
--- ---- `struct node *p; assume_shape(list, p, 5); free(p->next); assert(p); assume(input() <= 3); assert_shape(list, p); assert_empty();`
+-- ---- `struct node *p; assume_shape(list, p, 5); free(p->next); assert(p); assume(input() <= 3); assert_shape(list,
+-- p); assert_empty();`
 abbrev pub commands_main : Function
 commands_main =
     main_of (some_local (codes "p") Ptr ∷ [])
@@ -354,13 +373,15 @@ commands_graph =
     ∷ [])
     (ret 16 ∷ own 16 0 (codes "p") Ptr ∷ temp 0 Ptr ∷ temp 0 Int ∷ [])
 
--- ---- `int f(int a) { int b; while (1) { return a + 1; } }` and in `main` `int x = f(2); f(x);`: two occurrences of f
+-- ---- `int f(int a) { int b; while (1) { return a + 1; } }` and in `main` `int x = f(2); f(x);`: two occurrences of
+-- f
 abbrev pub f_function : Function
 f_function =
     function (codes "f") (some_local (codes "a") Int ∷ some_local (codes "b") Int ∷ []) 1 (Some Int)
     (then (declared 20 1 None)
     (then
-    (while_loop (line 21) (plain_cond (line 22) (number 1)) (block [] (then (returns (line 23) (Some (expression (plus_expr (here 0) (number 1))))) no_more)))
+    (while_loop (line 21) (plain_cond (line 22) (number 1))
+    (block [] (then (returns (line 23) (Some (expression (plus_expr (here 0) (number 1))))) no_more)))
     no_more))
 
 abbrev pub calls_main : Function
@@ -394,14 +415,17 @@ calls_graph =
     ∷ bare (Copy (var 0) (c 0) (point 20))
     ∷ bare End
     ∷ [])
-    (ret 20 ∷ own 20 0 (codes "x") Int ∷ own 8 0 (codes "a") Int ∷ ret 8 ∷ own 8 1 (codes "b") Int ∷ own 18 0 (codes "a") Int ∷ ret 18 ∷ own 18 1 (codes "b") Int ∷ [])
+    (ret 20 ∷ own 20 0 (codes "x") Int ∷ own 8 0 (codes "a") Int ∷ ret 8 ∷ own 8 1 (codes "b") Int
+    ∷ own 18 0 (codes "a") Int ∷ ret 18 ∷ own 18 1 (codes "b") Int ∷ [])
 
 -- ---- `int x; { int x = x; } g(); return h(input());` with `void g() { return; }` and `int h(int n) { return n; }`
 abbrev pub g_function : Function
 g_function = function (codes "g") [] 0 None (then (returns (line 30) None) no_more)
 
 abbrev pub h_function : Function
-h_function = function (codes "h") (some_local (codes "n") Int ∷ []) 1 (Some Int) (then (returns (line 40) (Some (expression (here 0)))) no_more)
+h_function =
+    function (codes "h") (some_local (codes "n") Int ∷ []) 1 (Some Int)
+    (then (returns (line 40) (Some (expression (here 0)))) no_more)
 
 abbrev pub returns_main : Function
 returns_main =

@@ -7,7 +7,6 @@ use Rattle.mc_base.specs.declared.plain.VarInfo.{VarInfo}
 use Rattle.mc_text.specs.declared.place.Place.{Place}
 use Rattle.mc_flow.specs.declared.instr.Instr.{Instr}
 use Rattle.mc_flow.specs.declared.instr.Instr.TheVariants.{Undef}
-use Rattle.mc_flow.specs.declared.graph.Point.{Point}
 use Rattle.mc_flow.specs.declared.graph.Flow.{Flow}
 use Rattle.mc_resolved.specs.Programs.{Program}
 
@@ -25,7 +24,8 @@ pub data Role : Type 0 where
   merge : Role
   stop : Role
 
--- a program and a flow graph, with the owner of each of its variables, the role of each of its points, and the points whose End counts
+-- a program and a flow graph, with the owner of each of its variables, the role of each of its points, and the points
+-- whose End counts
 -- as a stop
 pub record Graph : Type 0 where
   pub program : Program
@@ -56,7 +56,8 @@ pub record IsPoint (g : Graph) (n : ℕ) (role : Role) (place : Place) (code : I
 
 -- a point is appended, and goes on to what is made next
 pub data Appends (g : Graph) (role : Role) (place : Place) (code : PointId → Instr) : Stage → Stage → Type 0 where
-  appends : {n k b : ℕ} → IsPoint g n role place (code (point b)) → Appends g role place code (stage n n k) (stage b (suc n) k)
+  appends : {n k b : ℕ} → IsPoint g n role place (code (point b))
+      → Appends g role place code (stage n n k) (stage b (suc n) k)
 
 -- variables become undefined by one point, where there are any
 pub data Undefines (g : Graph) (place : Place) : List VarId → Stage → Stage → Type 0 where
@@ -76,7 +77,8 @@ pub data IsMade (g : Graph) (owner : Owner) : VarId → Stage → Type 0 where
 
 -- a temporary is used, and is made at its first use; it has no name
 pub data Uses (g : Graph) (j : ℕ) (kind : Kind) : Stage → VarId → Stage → Type 0 where
-  uses_first : {s u : Stage} {v : VarId} → Creates g (temporary j kind) (record { name = []; kind = kind }) s v u → Uses g j kind s v u
+  uses_first : {s u : Stage} {v : VarId} → Creates g (temporary j kind) (record { name = []; kind = kind }) s v u
+      → Uses g j kind s v u
   uses_again : {s : Stage} {v : VarId} → IsMade g (temporary j kind) v s → Uses g j kind s v s
 
 -- these are the variables made by then of an occurrence of a function, of those that are meant, ascending
@@ -87,4 +89,5 @@ pub record AreMade (g : Graph) (out : ℕ) (Meant : ℕ → Type 0) (s : Stage) 
 
 -- variables of an occurrence are left: those made by then become undefined
 pub data Leaves (g : Graph) (out : ℕ) (place : Place) (xs : List ℕ) : Stage → Stage → Type 0 where
-  leaves : {s u : Stage} {vs : List VarId} → AreMade g out (λ x. Contains xs x) s vs → Undefines g place vs s u → Leaves g out place xs s u
+  leaves : {s u : Stage} {vs : List VarId} → AreMade g out (λ x. Contains xs x) s vs → Undefines g place vs s u
+      → Leaves g out place xs s u

@@ -27,8 +27,10 @@ abbrev pub FlowStep : Graph → flow.Config → List Choice → flow.Result → 
 FlowStep g c choices r =
     (s : flow.Result) × flow.Step g.flow g.program.defs c choices s × (r ≡ told (slice_get g.roles c.point) s)
 
--- with the same choices the program comes to a fault, an end or a stop exactly where the flow graph comes to the same one
+-- with the same choices the program comes to a fault, an end or a stop exactly where the flow graph comes to the same
+-- one
 abbrev pub RunsMatch : Graph → Function → Type 0
 RunsMatch g entry =
     (choices : List Choice) (final : Final)
-    → ComesTo (resolved.Step g.program) (resolved.start entry) choices final ↔ ComesTo (FlowStep g) (flow.start g.flow) choices final
+    → ComesTo (resolved.Step g.program) (resolved.start entry) choices final
+    ↔ ComesTo (FlowStep g) (flow.start g.flow) choices final
