@@ -13,3 +13,4 @@ pub mod Performing
 pub mod Freeing
 pub mod Safe
 pub mod Allocating
+pub mod Whole

@@ -462,3 +462,22 @@ run_function = function (codes "run") [] 0 None no_more
 
 abbrev pub run_graph : Graph
 run_graph = graph_of (run_function ∷ []) (bare (Skip (point 1)) ∷ bare End ∷ []) []
+
+-- ---- a whole flow graph: that of `do` above, with its head, its merge and its threshold
+abbrev pub whole_graph : Graph
+whole_graph =
+    record {
+      program = do_graph.program;
+      flow =
+          record {
+            points = do_graph.flow.points;
+            vars = do_graph.flow.vars;
+            heads = point 1 ∷ [];
+            merges = point 6 ∷ [];
+            thresholds = pos 0 ∷ [];
+            structs = do_graph.flow.structs;
+          };
+      owners = do_graph.owners;
+      roles = do_graph.roles;
+      stops = [];
+    }

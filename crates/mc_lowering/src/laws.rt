@@ -1,8 +1,8 @@
 // Laws of lowering.
-ghost use Rattle.mc_lowering.specs.Examples.{calls_graph, calls_main, commands_graph, commands_main, conditions_graph, conditions_main, do_graph, do_main, fields_graph, fields_main, for_graph, for_main, returns_graph, returns_main, run_function, run_graph, values_graph, values_main, while_graph, while_main};
+ghost use Rattle.mc_lowering.specs.Examples.{calls_graph, calls_main, commands_graph, commands_main, conditions_graph, conditions_main, do_graph, do_main, fields_graph, fields_main, for_graph, for_main, returns_graph, returns_main, run_function, run_graph, values_graph, values_main, while_graph, while_main, whole_graph};
 ghost use Rattle.mc_flow.specs.Steps.{IsSafeFlow};
 ghost use Rattle.mc_lowering.specs.Graphs.{Graph};
-ghost use Rattle.mc_lowering.specs.Lowering.{Makes};
+ghost use Rattle.mc_lowering.specs.Lowering.{IsLowering, Makes};
 ghost use Rattle.mc_lowering.specs.Runs.{RunsMatch};
 ghost use Rattle.mc_resolved.specs.Programs.{Function};
 ghost use Rattle.mc_resolved.specs.Steps.{IsSafeProgram};
@@ -20,6 +20,7 @@ pub fn small_programs_are_lowered()
     ensures calls { Makes calls_graph calls_main 20 8 }
     ensures returns { Makes returns_graph returns_main 14 6 }
     ensures without_result { Makes run_graph run_function 1 0 }
+    ensures whole { IsLowering whole_graph do_main 11 2 }
 {}
 
 /// Where the runs of a program and of its flow graph match, a safe flow graph means a safe program.

@@ -1,4 +1,5 @@
 use Rattle.mc_lowering.proofs.Examples.{values_made, fields_made, conditions_made, while_made, do_made, for_made, commands_made, calls_made, returns_made, run_made}
+use Rattle.mc_lowering.proofs.Whole.{whole_lowering}
 use Rattle.mc_lowering.proofs.laws.small_programs_are_lowered.Goals as goal
 
 pub returns-clause-values : goal.returns-clause-values
@@ -30,3 +31,6 @@ returns-clause-returns c = returns_made
 
 pub returns-clause-without_result : goal.returns-clause-without_result
 returns-clause-without_result c = run_made
+
+pub returns-clause-whole : goal.returns-clause-whole
+returns-clause-whole c = whole_lowering
