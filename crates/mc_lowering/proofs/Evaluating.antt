@@ -232,7 +232,7 @@ pub data Walked (g : Graph) (base : Found) (place : Place) (ts us : List VarId) 
   walked : (later : Vars) → base ≡ found (value_in later z) → Leads g heap a vars choices b later choices → OnlyNew ts us vars later → Walked g base place ts us z a b vars heap choices
 
 -- what a load came to
-load_faults : (x : Found) (choices : List Choice) (kind : FaultKind) → fault_of kind ≡ evaluated x choices → x ≡ faulty kind
+pub load_faults : (x : Found) (choices : List Choice) (kind : FaultKind) → fault_of kind ≡ evaluated x choices → x ≡ faulty kind
 load_faults (faulty k) choices kind e = ap faulty (fault_in_it (sym e))
   where
     fault_or : Evaluated → FaultKind
@@ -251,7 +251,7 @@ abbrev choices_or : List Choice → Evaluated → List Choice
 choices_or rest (fault_of k) = rest
 choices_or rest (value_of v left) = left
 
-load_gives : (x : Found) (choices : List Choice) (w : Option ℤ) (left : List Choice) → value_of w left ≡ evaluated x choices → (x ≡ found w) × (left ≡ choices)
+pub load_gives : (x : Found) (choices : List Choice) (w : Option ℤ) (left : List Choice) → value_of w left ≡ evaluated x choices → (x ≡ found w) × (left ≡ choices)
 load_gives (faulty k) choices w left e = absurd (cc)
 load_gives (found v) choices w left e = (ap (λ r. found (value_or w r)) (sym e), ap (choices_or left) e)
 

@@ -14,3 +14,4 @@ pub mod Freeing
 pub mod Safe
 pub mod Allocating
 pub mod Whole
+pub mod Adding

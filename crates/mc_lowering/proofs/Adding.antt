@@ -1,0 +1,90 @@
+-- `+=` and `-=` of a field: it is loaded, computed and stored.
+use Rattle.std.proofs.Common.{◌<◌, ◌≡◌, ◌++◌, ℕ, suc, ℤ, List, [], ◌∷◌, Option, Some, None, length, refl, sym, ap, ◌∙◌, subst, arith}
+use Rattle.std.specs.Prelude.{slice_get, Contains}
+use Rattle.std.proofs.lemmas.List.Elements.{Contains-push}
+use Rattle.mc_base.specs.declared.ids.VarId.{VarId}
+use Rattle.mc_base.specs.declared.plain.FaultKind.{FaultKind}
+use Rattle.mc_base.specs.declared.plain.FaultKind.TheVariants.{Uninit}
+use Rattle.mc_base.specs.declared.plain.Kind.{Kind}
+use Rattle.mc_base.specs.declared.plain.Kind.TheVariants.{Int}
+use Rattle.mc_base.specs.Runs.{next, last as finished, fault}
+use Rattle.mc_text.specs.declared.place.Place.{Place}
+use Rattle.mc_heap.specs.Heap.{Heap}
+use Rattle.mc_heap.specs.Choices.{Choice}
+use Rattle.mc_flow.specs.Values.{value_in, value_of as operand_value, wrapped}
+use Rattle.mc_flow.specs.declared.instr.Operand.{Operand}
+use Rattle.mc_flow.specs.declared.instr.Operand.TheVariants.{Var, Const}
+use Rattle.mc_flow.specs.declared.instr.Instr.TheVariants.{Store}
+use Rattle.mc_meaning.specs.Values.{Evaluated, fault_of, value_of, operated, evaluated, Found, faulty, found, after_found}
+use Rattle.mc_resolved.specs.Configs.{Values, held}
+use Rattle.mc_resolved.specs.Programs.{FieldAt, Left}
+use Rattle.mc_resolved.specs.Values.{Changed, fault_in, changed, put, computed, assigned_behind, behind_base, behind_value, loaded}
+use Rattle.mc_lowering.specs.Graphs.{Graph, Owner, local, Stage, stage, plain, point, IsPoint, Undefines}
+use Rattle.mc_lowering.specs.Values.{Operation, a_field, struct_at, Takes, Walks, walks_none, walks}
+use Rattle.mc_lowering.specs.Runs.{FlowStep}
+use Rattle.mc_lowering.proofs.Simulating.{Goes}
+use Rattle.mc_lowering.proofs.Stepping.{Vars, at, Comes}
+use Rattle.mc_lowering.proofs.Evaluating.{AreTemporaries, not_temporary, OnlyNew, both_new, goal_of, Leads, leads_on, Taken, taken_waits, taken_faults, taken_gives, taking, taken_temporaries, grown, Walked, walked_faults, walked, walking, walk_grows, walk_temporaries, whole_chain, base_value, load_faults, load_gives, Kept, kept_value}
+use Rattle.mc_lowering.proofs.Changing.{IsClean}
+use Rattle.mc_lowering.proofs.Storing.{IsPut, put_faults, put_gives, stored_put, store_step, assigned_at_last}
+
+-- the variable that has the last field is the function's, or a temporary in use
+walk_kept : {g : Graph} {place : Place} {y z : VarId} {fs : List FieldAt} {ts us : List VarId} {s u : Stage} {last : FieldAt} (ws : List VarId)
+    → Walks g place y fs ts s z last us u → (Contains ws y → Contains ts y) → Kept us ws (Var z)
+walk_kept ws walks_none keeps = keeps
+walk_kept ws (walks {t = t} {ts = ts} kind first rest) keeps = walk_kept ws rest (kept_behind first)
+  where
+    kept_behind : {g : Graph} {place : Place} {k : Kind} {operation : Operation} {us : List VarId} {s u : Stage} → Takes g place k operation ts s t us u → Contains ws t → Contains us t
+    kept_behind (Rattle.mc_lowering.specs.Values.takes uses is) there = Contains-push ts t
+
+-- what the operation comes to
+computed_fault : (compute : ℤ → ℤ → ℤ) (values : Values) (heap : Heap) (l : Left) (a : ℤ) (w : Option ℤ) (choices : List Choice) (kind : FaultKind) → fault_of kind ≡ operated compute (Some a) w choices
+    → computed compute values heap l (Some a) w ≡ fault_in kind
+computed_fault compute values heap l a None choices kind e = ap fault_in (ap kind_of (sym e))
+  where
+    kind_of : Evaluated → FaultKind
+    kind_of (fault_of k) = k
+    kind_of (value_of v rest) = kind
+computed_fault compute values heap l a (Some u) choices kind e = absurd (cc)
+
+abbrev value_there : ℤ → Evaluated → ℤ
+value_there z (fault_of k) = z
+value_there z (value_of None rest) = z
+value_there z (value_of (Some v) rest) = v
+
+abbrev rest_there : List Choice → Evaluated → List Choice
+rest_there c (fault_of k) = c
+rest_there c (value_of v rest) = rest
+
+computed_value : (compute : ℤ → ℤ → ℤ) (values : Values) (heap : Heap) (x : ℕ) (f : FieldAt) (fs : List FieldAt) (a : ℤ) (w : Option ℤ) (choices left : List Choice) (b : ℤ) → value_of (Some b) left ≡ operated compute (Some a) w choices
+    → (computed compute values heap (record { variable = x; fields = f ∷ fs }) (Some a) w ≡ assigned_behind values heap (held values x) f fs (Some b)) × (left ≡ choices)
+computed_value compute values heap x f fs a None choices left b e = absurd (cc)
+computed_value compute values heap x f fs a (Some u) choices left b e =
+    (ap (λ r. assigned_behind values heap (held values x) f fs (Some (value_there b r))) (sym e), ap (rest_there left) e)
+
+-- ---- load, compute and store
+-- the change that the source makes, where the variable with the last field is known
+abbrev pub Field : (ℤ → ℤ → ℤ) → Values → Heap → ℕ → FieldAt → List FieldAt → Option ℤ → Changed
+Field compute values heap x f fs w = Rattle.mc_resolved.specs.Values.combined compute values heap (record { variable = x; fields = f ∷ fs }) w
+
+new_stored : (g : Graph) (compute : ℤ → ℤ → ℤ) (values : Values) (place : Place) (x : ℕ) (f last : FieldAt) (fs : List FieldAt) (z new : VarId) (w : Option ℤ) (a : ℤ) (rs : List VarId) (s u : Stage) (begin i n : ℕ) (vars start now mid : Vars) (heap : Heap) (choices : List Choice) (operation : Operation) (ws : List VarId)
+    → Field compute values heap x f fs w ≡ computed compute values heap (record { variable = x; fields = f ∷ fs }) (Some a) w
+    → ((b : ℤ) → assigned_behind values heap (held values x) f fs (Some b) ≡ put values heap last (Some b) (value_in mid z))
+    → ((r : Evaluated) → Comes operation mid heap choices r → r ≡ operated compute (Some a) w choices) → ((r : Evaluated) → r ≡ operated compute (Some a) w choices → Comes operation mid heap choices r)
+    → Leads g heap begin start choices i mid choices → OnlyNew [] ws vars mid → ((v : VarId) → Contains ws v → Contains rs v) → AreTemporaries g rs → IsClean g vars → Kept ws rs (Var z)
+    → IsPoint g n plain place (Store z (struct_at last.shape) last.field (Var new) (point (goal_of s))) → Undefines g place rs s u
+    → Taken g place operation ws rs new i n mid heap choices
+    → IsPut g (Field compute values heap x f fs w) values place begin (goal_of u) vars start heap choices
+new_stored g compute values place x f last fs z new w a rs s u begin i n vars start now mid heap choices operation ws e assigns out_of into leads only wider are clean keeps is undone (taken_waits none never) =
+    absurd (none (operated compute (Some a) w choices) (into _ refl))
+new_stored g compute values place x f last fs z new w a rs s u begin i n vars start now mid heap choices operation ws e assigns out_of into leads only wider are clean keeps is undone (taken_faults kind comes goes) =
+    put_faults kind (e ∙ computed_fault compute values heap (record { variable = x; fields = f ∷ fs }) a w choices kind (out_of (fault_of kind) comes)) (leads.goes _ goes)
+new_stored g compute values place x f last fs z new w a rs s u begin i n vars start now mid heap choices operation ws e assigns out_of into leads only wider are clean keeps is undone (taken_gives later b left comes further newer holds) =
+    let made : (computed compute values heap (record { variable = x; fields = f ∷ fs }) (Some a) w ≡ assigned_behind values heap (held values x) f fs (Some b)) × (left ≡ choices) =
+    computed_value compute values heap x f fs a w choices left b (out_of (value_of (Some b) left) comes) in
+    let same : put values heap last (Some b) (value_in mid z) ≡ put values heap last (value_in later new) (value_in later z) =
+    ap (λ v. put values heap last v (value_in mid z)) (sym holds) ∙ ap (λ v. put values heap last (value_in later new) v) (sym (kept_value ws rs (Var z) mid later keeps newer)) in
+    stored_put g values place (Field compute values heap x f fs w) rs s u begin n vars start later heap choices (put values heap last (value_in later new) (value_in later z))
+    (e ∙ made.0 ∙ assigns b ∙ same) (leads_on leads (subst (λ c. Leads g heap i mid choices n later c) made.1 further)) are
+    (both_new [] ws rs vars mid later (λ v there. absurd (omega (arith, there.1))) wider only newer) clean undone
+    (store_step g values place n (goal_of s) z last (Var new) later heap choices is)
