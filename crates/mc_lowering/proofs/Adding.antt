@@ -88,3 +88,31 @@ new_stored g compute values place x f last fs z new w a rs s u begin i n vars st
     (e ∙ made.0 ∙ assigns b ∙ same) (leads_on leads (subst (λ c. Leads g heap i mid choices n later c) made.1 further)) are
     (both_new [] ws rs vars mid later (λ v there. absurd (omega (arith, there.1))) wider only newer) clean undone
     (store_step g values place n (goal_of s) z last (Var new) later heap choices is)
+
+old_loaded : (g : Graph) (compute : ℤ → ℤ → ℤ) (values : Values) (place : Place) (x : ℕ) (f last : FieldAt) (fs : List FieldAt) (z old new : VarId) (o : Operand) (w : Option ℤ) (ts us ws rs : List VarId) (s u : Stage) (begin j i n : ℕ) (vars start now : Vars) (heap : Heap) (choices : List Choice) (operation : Operation)
+    → Rattle.mc_resolved.specs.Values.left_value values heap (record { variable = x; fields = f ∷ fs }) ≡ loaded heap last (value_in now z)
+    → ((b : ℤ) → assigned_behind values heap (held values x) f fs (Some b) ≡ put values heap last (Some b) (value_in now z))
+    → ((mid : Vars) (r : Evaluated) → Comes operation mid heap choices r → r ≡ operated compute (value_in mid old) (operand_value mid o) choices)
+    → ((mid : Vars) (r : Evaluated) → r ≡ operated compute (value_in mid old) (operand_value mid o) choices → Comes operation mid heap choices r)
+    → Leads g heap begin start choices j now choices → OnlyNew [] us vars now → ((v : VarId) → Contains us v → Contains ws v) → ((v : VarId) → Contains ws v → Contains rs v) → AreTemporaries g rs → IsClean g vars
+    → Kept us ws (Var z) → Kept ws rs (Var z) → Kept us ws o → operand_value now o ≡ w
+    → IsPoint g n plain place (Store z (struct_at last.shape) last.field (Var new) (point (goal_of s))) → Undefines g place rs s u
+    → ((mid : Vars) → length mid ≡ length now → Taken g place operation ws rs new i n mid heap choices)
+    → Taken g place (a_field z last) us ws old j i now heap choices
+    → IsPut g (Field compute values heap x f fs w) values place begin (goal_of u) vars start heap choices
+old_loaded g compute values place x f last fs z old new o w ts us ws rs s u begin j i n vars start now heap choices operation chain assigns out_of into leads only grow wider are clean keeps keeps_on keeps_o holds is undone second (taken_waits none never) =
+    absurd (none (evaluated (loaded heap last (value_in now z)) choices) refl)
+old_loaded g compute values place x f last fs z old new o w ts us ws rs s u begin j i n vars start now heap choices operation chain assigns out_of into leads only grow wider are clean keeps keeps_on keeps_o holds is undone second (taken_faults kind comes goes) =
+    put_faults kind
+    (ap (λ y. behind_base y (λ a. computed compute values heap (record { variable = x; fields = f ∷ fs }) a w)) (chain ∙ load_faults (loaded heap last (value_in now z)) choices kind comes))
+    (leads.goes _ goes)
+old_loaded g compute values place x f last fs z old new o w ts us ws rs s u begin j i n vars start now heap choices operation chain assigns out_of into leads only grow wider are clean keeps keeps_on keeps_o holds is undone second (taken_gives mid a left comes further newer has) =
+    let got : (loaded heap last (value_in now z) ≡ found (Some a)) × (left ≡ choices) = load_gives (loaded heap last (value_in now z)) choices (Some a) left comes in
+    let there : operated compute (value_in mid old) (operand_value mid o) choices ≡ operated compute (Some a) w choices =
+    ap (λ v. operated compute v (operand_value mid o) choices) has ∙ ap (λ v. operated compute (Some a) v choices) (kept_value us ws o now mid keeps_o newer ∙ holds) in
+    new_stored g compute values place x f last fs z new w a rs s u begin i n vars start now mid heap choices operation ws
+    (ap (λ y. behind_base y (λ v. computed compute values heap (record { variable = x; fields = f ∷ fs }) v w)) (chain ∙ got.0))
+    (λ b. assigns b ∙ ap (put values heap last (Some b)) (sym (kept_value us ws (Var z) now mid keeps newer)))
+    (λ r c. out_of mid r c ∙ there) (λ r c. into mid r (c ∙ sym there))
+    (leads_on leads (subst (λ c. Leads g heap j now choices i mid c) got.1 further))
+    (both_new [] us ws vars now mid (λ v in_none. absurd (omega (arith, in_none.1))) grow only newer) wider are clean keeps_on is undone (second mid newer.long)
