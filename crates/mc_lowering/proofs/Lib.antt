@@ -15,3 +15,4 @@ pub mod Safe
 pub mod Allocating
 pub mod Whole
 pub mod Adding
+pub mod Arguing
