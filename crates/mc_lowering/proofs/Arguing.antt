@@ -1,12 +1,12 @@
 -- The arguments of a shape have the same values in both.
-use Rattle.std.proofs.Common.{◌≡◌, ℕ, ℤ, List, [], ◌∷◌, Option, Some, None, refl, sym, ap, ◌∙◌}
+use Rattle.std.proofs.Common.{◌≡◌, ℕ, List, ◌∷◌, refl, ap, ◌∙◌}
 use Rattle.std.specs.Prelude.{map}
 use Rattle.mc_flow.specs.Values.{value_of as operand_value, all_there, values_of}
 use Rattle.mc_flow.specs.declared.instr.Operand.{Operand}
 use Rattle.mc_resolved.specs.Configs.{Values}
 use Rattle.mc_resolved.specs.Programs.{Argument}
 use Rattle.mc_resolved.specs.Steps.{argument_value}
-use Rattle.mc_lowering.specs.Graphs.{Graph, Stage, IsMade, is_made}
+use Rattle.mc_lowering.specs.Graphs.{Graph, Stage, is_made}
 use Rattle.mc_lowering.specs.Lowering.{IsArgument, is_variable, is_constant, AreArguments, are_none, are_arguments}
 use Rattle.mc_lowering.proofs.Stepping.{Vars}
 use Rattle.mc_lowering.proofs.Evaluating.{Agree}
