@@ -1,0 +1,5 @@
+pub mod Graphs
+pub mod Values
+pub mod Lowering
+pub mod Runs
+pub mod Examples

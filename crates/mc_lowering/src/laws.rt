@@ -1,0 +1,29 @@
+// Laws of lowering.
+ghost use Rattle.mc_lowering.specs.Examples.{calls_graph, calls_main, commands_graph, commands_main, conditions_graph, conditions_main, do_graph, do_main, fields_graph, fields_main, for_graph, for_main, returns_graph, returns_main, run_function, run_graph, values_graph, values_main, while_graph, while_main, whole_graph};
+ghost use Rattle.mc_flow.specs.Steps.{IsSafeFlow};
+ghost use Rattle.mc_lowering.specs.Graphs.{Graph};
+ghost use Rattle.mc_lowering.specs.Lowering.{IsLowering, Makes};
+ghost use Rattle.mc_lowering.specs.Runs.{RunsMatch};
+ghost use Rattle.mc_resolved.specs.Programs.{Function};
+ghost use Rattle.mc_resolved.specs.Steps.{IsSafeProgram};
+
+/// The flow graphs of small programs, which were worked out by hand: expressions and assignments, fields, nested conditions, each
+/// loop with `break` and `continue`, commands, two occurrences of a function, and results that are returned on.
+pub fn small_programs_are_lowered()
+    ensures values { Makes values_graph values_main 11 4 }
+    ensures fields { Makes fields_graph fields_main 16 7 }
+    ensures conditions { Makes conditions_graph conditions_main 15 4 }
+    ensures while_loops { Makes while_graph while_main 13 4 }
+    ensures do_loops { Makes do_graph do_main 11 2 }
+    ensures for_loops { Makes for_graph for_main 15 3 }
+    ensures commands { Makes commands_graph commands_main 16 4 }
+    ensures calls { Makes calls_graph calls_main 20 8 }
+    ensures returns { Makes returns_graph returns_main 14 6 }
+    ensures without_result { Makes run_graph run_function 1 0 }
+    ensures whole { IsLowering whole_graph do_main 11 2 }
+{}
+
+/// Where the runs of a program and of its flow graph match, a safe flow graph means a safe program.
+pub fn safe_flow_graphs_mean_safe_programs()
+    ensures { (g : Graph) (entry : Function) → RunsMatch g entry → IsSafeFlow g.flow g.program.defs → IsSafeProgram g.program entry }
+{}

@@ -1,0 +1,6 @@
+//! The flow graphs of resolved programs, calls inlined.
+#![tactic(auto)]
+
+mod laws;
+
+pub use laws::{safe_flow_graphs_mean_safe_programs, small_programs_are_lowered};
