@@ -1,6 +1,6 @@
 // Statements, whose names become numbers; a loop, so that none is too deep.
 ghost use Rattle.std.specs.Prelude.{◌≡◌, ◌+◌, ◌<◌, ◌∷◌, [], IfOk, OnOk, map};
-ghost use Rattle.mc_ast.specs.Trees.{Stmt, declaration, for_loop, stmts_of};
+ghost use Rattle.mc_ast.specs.Trees.{Stmt, declaration as declaration_tree, for_loop, stmts_of};
 ghost use Rattle.mc_ast.specs.Views.{declaration_of, head_of as named_head, statement_of as named_statement};
 ghost use Rattle.mc_resolved.specs.Resolving.{resolved_statement, resolved_statements};
 ghost use Rattle.mc_resolved.specs.Views.{statement_of, stmts_of as resolved_stmts};
@@ -133,8 +133,8 @@ fn resolve_declaration<'a>(
     declaration: &'a tree::Declaration,
 ) -> Result<Statement, AllocError>
     requires { IsNumbered naming }
-    ensures made { IfOk result (λ made. statement_of made ≡ resolved_statement (naming_held naming.entry) scope.old (declaration (declaration_of declaration.now))) }
-    ensures scope { OnOk result (scope.new ≡ behind (naming_held naming.entry).tables scope.old (declaration (declaration_of declaration.now))) }
+    ensures made { IfOk result (λ made. statement_of made ≡ resolved_statement (naming_held naming.entry) scope.old (declaration_tree (declaration_of declaration.now))) }
+    ensures scope { OnOk result (scope.new ≡ behind (naming_held naming.entry).tables scope.old (declaration_tree (declaration_of declaration.now))) }
 {
     let place = base_place(&declaration.base);
     let items = declaration.items.as_slice();
