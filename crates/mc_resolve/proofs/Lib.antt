@@ -7,3 +7,4 @@ pub mod Frames
 pub mod Numbers
 pub mod Variables
 pub mod WholeFunctions
+pub mod Latest

@@ -1,5 +1,5 @@
 -- What the code has of the visible variables, the last first.
-use Rattle.std.proofs.Common.{◌≡◌, ℕ, ◌+◌, ◌-◌, ◌≤◌, min, List, [], ◌∷◌, ◌++◌, length, map, reverse, take, drop, insert, refl, ap, sym, ◌∙◌, arith, append_assoc, add-one}
+use Rattle.std.proofs.Common.{◌≡◌, ℕ, ◌+◌, ◌-◌, ◌≤◌, min, List, [], ◌∷◌, ◌++◌, length, map, reverse, take, drop, insert, refl, ap, sym, ◌∙◌, arith, append_assoc, add-one, length-append}
 use Rattle.std.proofs.lemmas.List.{drop-drop, drop-take, drop_at, drop_min, length-drop, length-map, length-reverse, length-take, map-append, reverse-append, take-append-drop, take-take, take_at, take_min}
 use Rattle.mc_types.specs.Held.{variable_held, variables_held}
 use Rattle.mc_types.specs.Scopes.{Scope, declare}
@@ -51,6 +51,12 @@ parted_min a b n vs is =
     (rw (take_min a vs) (rw (drop_min a vs) (rw (take_min b (drop a vs)) (rw (drop_min b (drop a vs)) refl)))))
 
 -- ---- what the code does
+pub length_put : (vs : List Named) (n : ℕ) (v : Named) → length (insert vs n v) ≡ length vs + 1
+length_put vs n v = omega (arith, length-append (take n vs) (v ∷ drop n vs), length-take n vs, length-drop n vs)
+
+pub own_grown : (h o n more : ℕ) → more ≡ n + 1 → h + o ≤ n → more - h - (n - h - o) ≡ o + 1
+own_grown h o n more is within = omega arith
+
 pub declared_held : (h o : ℕ) (vs : List Named) (v : Named) → h + o ≤ length vs → scope_held (insert vs (length vs - h) v) h (o + 1) ≡ declare (scope_held vs h o) (variable_held v)
 declared_held h o vs v within =
     let is : length vs - (length vs - h) ≡ h = omega arith in

@@ -13,5 +13,6 @@ mod right;
 mod scope;
 mod shapes;
 mod statements;
+mod visible;
 
 pub use program::resolve;

@@ -1,13 +1,14 @@
 // The variables that are visible at a point, and which of them belong to the block there.
-ghost use Rattle.std.specs.Prelude.{◌≡◌, OnOk, [], find, length, map, option_map, reverse};
+ghost use Rattle.std.specs.Prelude.{◌≡◌, OnOk, [], find, length, option_map};
 ghost use Rattle.std.specs.Option.{option_copied};
 ghost use Rattle.mc_ast.specs.Names.{is_same};
 ghost use Rattle.mc_types.specs.Held.{variable_held, variables_held};
 ghost use Rattle.mc_types.specs.Scopes.{declare, inside, visible};
 ghost use Rattle.mc_resolve.specs.Parting.{as_head, behind_heads, outside};
 
+use crate::visible::Visible;
 use mc_text::Text;
-use mc_types::{Named, is_same};
+use mc_types::Named;
 use std::alloc::{AllocError, Global};
 use std::marker::Model;
 
@@ -21,7 +22,7 @@ pub struct Marks {
 /// The visible variables: those around the block, then those of the block, then those of the heads of `for`.
 #[derive(Drop)]
 pub struct Scope<'a> {
-    variables: Vec<Named<'a>>,
+    variables: Visible<'a>,
     heads: usize,
     own: usize,
 }
@@ -34,16 +35,9 @@ impl<'a> Model for Scope<'a> {
 
     ghost use Rattle.mc_resolve.specs.Parting.{scope_held};
 
-    ghost view = { λ v. scope_held v.variables.items v.heads v.own };
+    ghost view = { λ v. scope_held v.variables v.heads v.own };
 
-    ghost invariant = { λ v. v.heads + v.own ≤ length v.variables.items };
-}
-
-/// The variable of this name that hides the others.
-fn find_last<'s, 'a>(variables: &'s [Named<'a>], name: &Text) -> Option<&'s Named<'a>>
-    ensures { option_copied result ≡ find (λ v. is_same v.name.now name.now) (reverse variables.now) }
-{
-    variables.iter().rev().find(|v| is_same(v.name, name))
+    ghost invariant = { λ v. v.heads + v.own ≤ length v.variables };
 }
 
 impl<'a> Scope<'a> {
@@ -52,24 +46,24 @@ impl<'a> Scope<'a> {
         ensures { result ≡ record { heads = []; own = []; outer = [] } }
     {
         Scope {
-            variables: Vec::new(alloc),
+            variables: Visible::new(alloc),
             heads: 0,
             own: 0,
         }
     }
 
     /// All of them, inner ones last.
-    fn all(&self) -> &[Named<'a>]
+    fn all(&self) -> &Visible<'a>
         ensures { variables_held result.now ≡ visible self.now }
     {
-        self.variables.as_slice()
+        &self.variables
     }
 
     /// The variable of this name that hides the others.
     pub fn find(&self, name: &Text) -> Option<&Named<'a>>
         ensures { option_map variable_held (option_copied result) ≡ find (λ v. is_same v.name name.now) (visible self.now) }
     {
-        find_last(self.all(), name)
+        self.all().find(name)
     }
 
     /// How many belong to the heads and to the block.
@@ -88,16 +82,21 @@ impl<'a> Scope<'a> {
         ensures { variables_held result.now ≡ self.now.own }
     {
         let end = self.variables.len() - self.heads;
-        &self.variables[end - self.own..end]
+        &self.variables.as_slice()[end - self.own..end]
     }
 
-    /// A variable comes into the block.
+    /// A variable comes into the block. After that fails for memory, nothing is known of the scope.
     pub fn declare(&mut self, variable: Named<'a>) -> Result<(), AllocError>
         ensures { OnOk result (self.new ≡ declare self.old (variable_held variable.entry)) }
     {
         let end = self.variables.len() - self.heads;
-        self.variables.insert(end, variable)?;
-        self.own += 1;
+        let outer = end - self.own;
+        if let Err(fault) = self.variables.insert(end, variable) {
+            self.heads = 0;
+            self.own = 0;
+            return Err(fault);
+        }
+        self.own = self.variables.len() - self.heads - outer;
         Ok(())
     }
 

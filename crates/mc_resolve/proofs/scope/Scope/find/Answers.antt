@@ -7,6 +7,6 @@ use Rattle.mc_resolve.proofs.scope.Scope.find.Goals as goal
 
 pub returns : goal.returns
 returns c =
-    ap (option_map variable_held) c.find_last.ensures
+    ap (option_map variable_held) c.find.ensures
     ∙ found_held c.args.name.now (reverse c.all.result.now)
     ∙ ap (find (λ v. is_same v.name c.args.name.now)) c.all.ensures

@@ -6,4 +6,4 @@ pub returns : goal.returns
 returns c =
     rw (sym c.self.view_is)
     (rw c.min-self-inside.ensures
-    (rw c.min-around.ensures (rw (c.len.ensures ∙ c.self.inside.variables.ok.0) (headed_held c.self.inside.heads c.self.inside.own c.self.inside.variables.items c.args.marks))))
+    (rw c.min-around.ensures (rw c.len.ensures (headed_held c.self.inside.heads c.self.inside.own c.self.inside.variables c.args.marks))))
