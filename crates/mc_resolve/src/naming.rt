@@ -46,14 +46,18 @@ fn struct_behind(pointer: VariableType) -> StructId
 
 ghost use Rattle.mc_meaning.specs.Steps.{predicate_of};
 
+/// The place of the predicate of this name among the definitions.
+fn predicate_place(defs: &[Def], name: &[u8]) -> Option<usize>
+    ensures { result ≡ position (λ d. is_same d.name name.now) defs.now }
+{
+    defs.iter().position(|d| d.name.as_slice() == name)
+}
+
 /// The predicate of this name among the definitions.
 fn predicate_in(defs: &[Def], name: &Name) -> PredId
     ensures { result ≡ predicate_of defs.now name.now }
 {
-    match defs
-        .iter()
-        .position(|d| d.name.as_slice() == name.text.as_slice())
-    {
+    match predicate_place(defs, name.text.as_slice()) {
         None => PredId(0),
         Some(place) => PredId(place as u64),
     }
