@@ -105,7 +105,7 @@ pub fn resolve_items<'a>(
     ensures made { IfOk result (λ made. map initial_of made.items ≡ resolved_items (naming_held naming.entry) scope.old base.now (map named_initial items.now)) }
     ensures scope { OnOk result (scope.new ≡ behind_items (naming_held naming.entry).tables base.now scope.old (map named_initial items.now)) }
 {
-    let mut made = Vec::new(alloc);
+    let mut made = Vec::with_capacity(alloc, items.len())?;
     for item in items {
         scope.declare(named(naming.tables, base, &item.declarator))?;
         let names = NamesHere { naming, scope };

@@ -59,7 +59,7 @@ fn resolve_local(alloc: Global, variable: Named) -> Result<Local, AllocError>
 fn list_locals(alloc: Global, variables: &[Named]) -> Result<Vec<Local>, AllocError>
     ensures { IfOk result (λ locals. map local_of locals.items ≡ map resolved_local (map variable_held variables.now)) }
 {
-    let mut locals = Vec::new(alloc);
+    let mut locals = Vec::with_capacity(alloc, variables.len())?;
     for variable in variables {
         locals.push(resolve_local(alloc, *variable)?)?;
     }

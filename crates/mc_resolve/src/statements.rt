@@ -92,17 +92,10 @@ fn enter_block<'a>(
         (block_left (naming_held naming.entry) (inside scope.old) (stmts_of (map named_statement statements.now)) [] (resolved_statements (naming_held naming.entry) (inside scope.old) (stmts_of (map named_statement statements.now))))) }
     ensures steps { IfOk result (λ next. left_steps frames.new next < statements_steps (stmts_of (map named_statement statements.now)) + 1 + frames_steps frames.old) }
 {
+    let done = Vec::with_capacity(alloc, statements.len())?;
     let marks = scope.marks();
     scope.enter();
-    Ok(go_on(
-        alloc,
-        naming,
-        scope,
-        frames,
-        statements,
-        Vec::new(alloc),
-        marks,
-    )?)
+    Ok(go_on(alloc, naming, scope, frames, statements, done, marks)?)
 }
 
 /// A `for` is entered.
@@ -296,7 +289,7 @@ pub fn resolve_body<'a>(
     requires { IsNumbered naming }
     ensures { IfOk result (λ made. resolved_stmts (map statement_of made.items) ≡ resolved_statements (naming_held naming.entry) scope.entry (stmts_of (map named_statement statements.now))) }
 {
-    let mut made = Vec::new(alloc);
+    let mut made = Vec::with_capacity(alloc, statements.len())?;
     for statement in statements {
         made.push(resolve_statement(alloc, naming, &mut scope, statement)?)?;
     }
