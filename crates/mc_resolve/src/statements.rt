@@ -2,6 +2,7 @@
 ghost use Rattle.std.specs.Prelude.{◌≡◌, ◌+◌, ◌<◌, ◌∷◌, [], IfOk, OnOk, map};
 ghost use Rattle.mc_ast.specs.Trees.{Stmt, declaration as declaration_tree, for_loop, stmts_of};
 ghost use Rattle.mc_ast.specs.Views.{declaration_of, head_of as named_head, statement_of as named_statement};
+ghost use Rattle.mc_resolved.specs.Programs.{block};
 ghost use Rattle.mc_resolved.specs.Resolving.{resolved_statement, resolved_statements};
 ghost use Rattle.mc_resolved.specs.Views.{statement_of, stmts_of as resolved_stmts};
 ghost use Rattle.mc_types.specs.Scopes.{behind, inside};
@@ -49,8 +50,14 @@ pub enum Next<'a> {
     Made(Statement),
 }
 
+/// A block of these statements, with the variables that its end undefines.
+fn block_of(variables: Vec<usize>, done: Vec<Statement>) -> Statement
+    ensures { statement_of result ≡ block variables.items (resolved_stmts (map statement_of done.items)) }
+{
+    Statement::Block(variables, done)
+}
+
 /// The next statement of a block is entered, or the block ends.
-#[tactic(auto, using(crate::proofs::Frames::before_end))]
 fn go_on<'a>(
     alloc: Global,
     naming: Naming<'_, 'a>,
@@ -69,7 +76,7 @@ fn go_on<'a>(
         [] => {
             let variables = numbers_of(alloc, naming, scope.own())?;
             scope.leave(marks);
-            Ok(Next::Made(Statement::Block(variables, done)))
+            Ok(Next::Made(block_of(variables, done)))
         }
         [first, more @ ..] => {
             frames.push(Frame::Block(more, done, marks))?;
