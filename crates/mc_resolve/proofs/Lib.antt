@@ -5,6 +5,5 @@ pub mod Parted
 pub mod Keeps
 pub mod Frames
 pub mod Numbers
-pub mod Variables
 pub mod WholeFunctions
 pub mod Latest

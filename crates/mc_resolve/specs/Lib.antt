@@ -4,3 +4,4 @@ pub mod Parting
 pub mod Builds
 pub mod Conditions
 pub mod Frames
+pub mod Gathers

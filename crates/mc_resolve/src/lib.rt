@@ -6,6 +6,7 @@ mod declarations;
 mod expression;
 mod fields;
 mod functions;
+mod gather;
 mod locals;
 mod naming;
 mod program;

@@ -2,17 +2,14 @@
 ghost use Rattle.std.specs.Prelude.{◌≡◌, ◌++◌, ◌∷◌, [], IfOk, OnErr, OnOk, length, map, position};
 ghost use Rattle.mc_ast.specs.Views.{function_of};
 ghost use Rattle.mc_meaning.specs.Configs.{is_place};
-ghost use Rattle.mc_resolved.specs.Resolving.{body_statements, function_variables, number_in, statements_variables};
+ghost use Rattle.mc_resolved.specs.Resolving.{function_variables, number_in};
 ghost use Rattle.mc_types.specs.Held.{tables_held, variable_held};
 ghost use Rattle.mc_types.specs.Tables.{variable_of};
-ghost use Rattle.mc_walk.specs.Parts.{part_of};
-ghost use Rattle.mc_resolve.specs.Numbered.{part_variables};
 
 use indexmap::IndexMap;
 use mc_ast::{Base, Declarator, Function};
 use mc_text::Place;
 use mc_types::{NameTables, Named, parameters};
-use mc_walk::{Part, Walk};
 use std::alloc::{AllocError, Global};
 use std::marker::Model;
 
@@ -106,7 +103,7 @@ impl<'a> Locals<'a> {
     }
 
     /// Adds a variable at the end. Without memory they stay.
-    fn push(&mut self, variable: Named<'a>) -> Result<(), AllocError>
+    pub fn push(&mut self, variable: Named<'a>) -> Result<(), AllocError>
         ensures err { OnErr result (self.new ≡ self.old) }
         ensures ok { OnOk result (self.new ≡ self.old ++ variable.entry ∷ []) }
     {
@@ -119,43 +116,6 @@ impl<'a> Locals<'a> {
         if let Err(fault) = self.numbers.insert(key_of(variable.place), number) {
             self.variables.pop();
             return Err(fault.into());
-        }
-        Ok(())
-    }
-
-    /// The variable of a part that declares one comes to the end.
-    fn add_declared(&mut self, tables: &NameTables, part: Part<'a>) -> Result<(), AllocError>
-        ensures { OnOk result (map variable_held self.new ≡ map variable_held self.old ++ part_variables (tables_held tables.now) (part_of part.entry)) }
-    {
-        match part {
-            Part::Declared(base, declarator) => {
-                self.push(named(tables, base, declarator))?;
-                Ok(())
-            }
-            Part::Valued(_, _, _) => Ok(()),
-            Part::Performed(_) => Ok(()),
-            Part::Freed(_) => Ok(()),
-            Part::Tested(_) => Ok(()),
-            Part::Assumed(_) => Ok(()),
-            Part::Asserted(_) => Ok(()),
-            Part::LoopExit(_, _) => Ok(()),
-            Part::Returning(_, _) => Ok(()),
-        }
-    }
-
-    /// The variables of the body of a function come to the end.
-    #[tactic(auto, using(crate::proofs::Variables::next_variables, crate::proofs::Variables::body_variables))]
-    fn add_body(
-        &mut self,
-        alloc: Global,
-        tables: &NameTables<'a>,
-        function: &'a Function,
-    ) -> Result<(), AllocError>
-        ensures { OnOk result (map variable_held self.new ≡ map variable_held self.old ++ statements_variables (tables_held tables.now) (body_statements (function_of function.now))) }
-    {
-        let mut walk = Walk::new(alloc, tables, function)?;
-        while let Some(part) = walk.next(tables)? {
-            self.add_declared(tables, part)?;
         }
         Ok(())
     }

@@ -1,8 +1,7 @@
 // Functions and whole programs, whose names become numbers.
 ghost use Rattle.std.specs.Prelude.{◌≡◌, IfOk, filter, length, map, option_map, reverse};
-ghost use Rattle.mc_ast.specs.Trees.{stmts_of};
-ghost use Rattle.mc_ast.specs.Views.{function_of as named_function, statement_of as named_statement, unit_of};
-ghost use Rattle.mc_resolved.specs.Resolving.{body_statements, defined_functions, local_of as resolved_local, parameter_scope, resolved_function, resolved_program};
+ghost use Rattle.mc_ast.specs.Views.{function_of as named_function, unit_of};
+ghost use Rattle.mc_resolved.specs.Resolving.{defined_functions, local_of as resolved_local, parameter_scope, resolved_function, resolved_program};
 ghost use Rattle.mc_resolved.specs.Views.{function_of, local_of, program_of};
 ghost use Rattle.mc_types.specs.Held.{tables_held, variable_held};
 ghost use Rattle.mc_types.specs.Tables.{is_defined, kind_of, returned_type, tables_of, variable_of};
@@ -10,6 +9,7 @@ ghost use Rattle.mc_resolve.specs.Named.{defined_names, field_names};
 
 use crate::fields::FieldNames;
 use crate::functions::FunctionNames;
+use crate::gather::body_of;
 use crate::locals::{Locals, named};
 use crate::naming::Naming;
 use crate::scope::Scope;
@@ -64,16 +64,6 @@ fn list_locals(alloc: Global, variables: &[Named]) -> Result<Vec<Local>, AllocEr
         locals.push(resolve_local(alloc, *variable)?)?;
     }
     Ok(locals)
-}
-
-/// The statements of the body of a function, and none where it has no body.
-fn body_of(function: &tree::Function) -> &[tree::Statement]
-    ensures { stmts_of (map named_statement result.now) ≡ body_statements (named_function function.now) }
-{
-    match &function.body {
-        None => &[],
-        Some(body) => body.statements.as_slice(),
-    }
 }
 
 /// The scope of the body of a function, where its parameters are in the block of the body.
