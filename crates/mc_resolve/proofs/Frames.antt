@@ -1,11 +1,16 @@
 -- Blocks and `for` that are entered and left.
-use Rattle.std.proofs.Common.{◌≡◌, ℕ, List, [], ◌∷◌, ◌++◌, length, map, refl, ap, arith, sym, ◌∙◌}
+use Rattle.std.proofs.Common.{◌≡◌, ℕ, ◌+◌, ◌<◌, ◌≤◌, List, [], ◌∷◌, ◌++◌, length, map, drop, get_or, refl, ap, arith, sym, ◌∙◌}
+use Rattle.std.proofs.lemmas.List.{at_drop_all, at_drop_more, map-append}
+use Rattle.mc_ast.specs.declared.trees.Statement.{Statement as NamedStatement}
+use Rattle.mc_ast.specs.Views.{statement_of as named_statement}
+use Rattle.mc_meaning.specs.Moves.{block_variables}
+use Rattle.mc_resolved.specs.declared.program.Statement.{Statement}
 use Rattle.mc_ast.specs.Trees as tree
 use Rattle.mc_types.specs.Scopes.{Scope, inside, behind, behind_start}
 use Rattle.mc_types.specs.Tables.{Tables, Variable}
 use Rattle.mc_resolved.specs.Programs.{Head, Stmt, block, for_loop, Stmts, no_more, then}
 use Rattle.mc_resolved.specs.Resolving.{Naming, numbers_in, resolved_head, resolved_statement, resolved_statements}
-use Rattle.mc_resolved.specs.Views.{stmts_of}
+use Rattle.mc_resolved.specs.Views.{statement_of, stmts_of}
 use Rattle.mc_walk.specs.Tasks.{behind_all}
 use Rattle.mc_resolve.specs.Frames.{Placed, before, block_left, plugged}
 use Rattle.mc_resolve.specs.Parting.{behind_heads, outside}
@@ -35,6 +40,35 @@ block_ended n s around m frames ss done own variables none is numbered left =
     ∙ ap (λ (xs : List ℕ). plugged n (outside m s) frames (block xs (stmts_of done))) (numbered ∙ ap (λ (vs : List Variable). numbers_in n.locals vs) is)
     ∙ ap (λ (inner : Stmts). plugged n (outside m s) frames (block (numbers_in n.locals s.own) inner)) (sym (before_end done))
     ∙ sym (ap (λ (rest : tree.Stmts). plugged n (outside m (behind_all n.tables s rest)) frames (block_left n s rest done (resolved_statements n s rest))) none)
+
+-- one more statement of a block is resolved
+pub block_more : (n : Naming) (s around : Scope) (rest : tree.Stmts) (frames : List Frame) (done added : List Statement) (made : Statement) (more : Stmts) → added ≡ done ++ made ∷ []
+    → plugged n around frames (block_left n s rest (map statement_of added) more) ≡ plugged n around frames (block_left n s rest (map statement_of done) (then (statement_of made) more))
+block_more n s around rest frames done added made more is =
+    ap (λ (inner : Stmts). plugged n around frames (block (numbers_in n.locals (block_variables n.tables s rest)) inner))
+    (ap (λ xs. before (map statement_of xs) more) is
+    ∙ ap (λ xs. before xs more) (map-append statement_of done (made ∷ []))
+    ∙ before_push (map statement_of done) (statement_of made) more)
+
+-- one more statement of a body is resolved
+pub body_more : (n : Naming) (s later : Scope) (ss : List NamedStatement) (i : ℕ) (a : NamedStatement) (made added : List Statement) (next : Statement)
+    → i < length ss → a ≡ get_or ss i a → added ≡ made ++ next ∷ [] → later ≡ behind n.tables s (named_statement a) → statement_of next ≡ resolved_statement n s (named_statement a)
+    → before (map statement_of added) (resolved_statements n later (tree.stmts_of (map named_statement (drop (i + 1) ss)))) ≡ before (map statement_of made) (resolved_statements n s (tree.stmts_of (map named_statement (drop i ss))))
+body_more n s later ss i a made added next within is grown moved same =
+    let rest = tree.stmts_of (map named_statement (drop (i + 1) ss)) in
+    ap (λ xs. before (map statement_of xs) (resolved_statements n later rest)) grown
+    ∙ ap (λ xs. before xs (resolved_statements n later rest)) (map-append statement_of made (next ∷ []))
+    ∙ before_push (map statement_of made) (statement_of next) (resolved_statements n later rest)
+    ∙ ap (λ (v : Scope). before (map statement_of made) (then (statement_of next) (resolved_statements n v rest))) moved
+    ∙ ap (λ (x : Stmt). before (map statement_of made) (then x (resolved_statements n (behind n.tables s (named_statement a)) rest))) same
+    ∙ ap (λ (b : NamedStatement). before (map statement_of made) (resolved_statements n s (tree.stmts_of (map named_statement (b ∷ drop (i + 1) ss))))) is
+    ∙ sym (at_drop_more (λ xs. before (map statement_of made) (resolved_statements n s (tree.stmts_of (map named_statement xs)))) ss i a within)
+
+pub body_ended : (n : Naming) (s : Scope) (ss : List NamedStatement) (i : ℕ) (made : List Statement) → length ss ≤ i
+    → stmts_of (map statement_of made) ≡ before (map statement_of made) (resolved_statements n s (tree.stmts_of (map named_statement (drop i ss))))
+body_ended n s ss i made past =
+    sym (before_end (map statement_of made))
+    ∙ sym (at_drop_all (λ xs. before (map statement_of made) (resolved_statements n s (tree.stmts_of (map named_statement xs)))) ss i past)
 
 pub block_entered : (n : Naming) (s : Scope) (ss : tree.Stmts) (m : Marks) (frames : List Frame) (made : Stmt) → m.heads ≡ length s.heads → m.own ≡ length s.own
     → plugged n (outside m (behind_all n.tables (inside s) ss)) frames made ≡ plugged n s frames made

@@ -1,9 +1,10 @@
 -- The number of a function, by the names of those that are defined; and how many fields a struct has.
-use Rattle.std.proofs.Common.{◌≡◌, ℕ, zero, suc, ◌+◌, ◌≤◌, Bool, true, false, not, cond, List, [], ◌∷◌, Option, Some, None, map, length, refl, ap, ◌∙◌, slice_get, arith, nat_lt}
+use Rattle.std.proofs.Common.{◌≡◌, ℕ, zero, suc, ◌+◌, ◌<◌, ◌≤◌, ◌++◌, Bool, true, false, not, cond, List, [], ◌∷◌, Option, Some, None, map, length, take, get_or, refl, ap, sym, ◌∙◌, slice_get, arith, nat_lt}
 use Rattle.std.specs.Prelude.{position, filter, unwrap_or}
 use Rattle.std.specs.Option.{option_map_or}
 use Rattle.std.specs.List.{position_or_len, prefix_len}
-use Rattle.std.proofs.lemmas.List.{length-map}
+use Rattle.std.proofs.lemmas.List.{length-map, map-append, take_more}
+use Rattle.std.proofs.lemmas.List.Elements.{filter-append}
 use Rattle.mc_ast.specs.Names.{is_same}
 use Rattle.mc_ast.specs.Trees.{FunctionTree, StructTree}
 use Rattle.mc_types.specs.Tables.{Tables, Variable, fields_of}
@@ -58,3 +59,14 @@ filter_seen {X} {Y} {Z} p f g (x ∷ xs) = go (p (f x)) (filter_seen p f g xs)
         → map (λ y. g (f y)) (cond b (x ∷ filter (λ y. p (f y)) xs) (filter (λ y. p (f y)) xs)) ≡ map g (cond b (f x ∷ filter p (map f xs)) (filter p (map f xs)))
     go true same = ap (λ (ys : List Z). g (f x) ∷ ys) same
     go false same = same
+
+pub filtered_more : {X Y Z : Type 0} (p : Y → Bool) (of : X → Y) (f : Y → Z) (xs : List X) (i : ℕ) (x : X) (before after : List Z)
+    → i < length xs → x ≡ get_or xs i x → before ≡ map f (filter p (map of (take i xs))) → after ≡ before ++ map f (filter p (of x ∷ [])) → after ≡ map f (filter p (map of (take (i + 1) xs)))
+filtered_more p of f xs i x before after within is so_far added =
+    added
+    ∙ ap (λ zs. zs ++ map f (filter p (of x ∷ []))) so_far
+    ∙ sym (map-append f (filter p (map of (take i xs))) (filter p (of x ∷ [])))
+    ∙ ap (λ ys. map f ys) (sym (filter-append p (map of (take i xs)) (of x ∷ [])))
+    ∙ ap (λ ys. map f (filter p ys)) (sym (map-append of (take i xs) (x ∷ [])))
+    ∙ ap (λ y. map f (filter p (map of (take i xs ++ y ∷ [])))) is
+    ∙ ap (λ ys. map f (filter p (map of ys))) (sym (take_more xs i x within))

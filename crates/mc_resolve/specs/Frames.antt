@@ -1,5 +1,5 @@
 -- Statements that wait for one that stands in them, the innermost first.
-use Rattle.std.specs.Prelude.{ℕ, ◌+◌, List, [], ◌∷◌, ◌++◌, map, box_value}
+use Rattle.std.specs.Prelude.{ℕ, ◌+◌, ◌*◌, List, [], ◌∷◌, ◌++◌, map, box_value}
 use Rattle.mc_ast.specs.Trees as tree
 use Rattle.mc_ast.specs.Views as named
 use Rattle.mc_types.specs.Scopes.{Scope, visible, behind}
@@ -52,9 +52,9 @@ finished n s frames (Next.Made a) = plugged n s frames (statement_of a)
 -- ---- how many steps it takes
 -- the steps that a frame takes when it has its statement
 abbrev pub frame_steps : Frame → ℕ
-frame_steps (Frame.Block rest done marks) = statements_steps (tree.stmts_of (map named.statement_of rest.now)) + 1
+frame_steps (Frame.Block rest done marks) = 2 * statements_steps (tree.stmts_of (map named.statement_of rest.now)) + 1
 frame_steps (Frame.If p c) = 1
-frame_steps (Frame.First p c b) = statement_steps (named.statement_of b.now) + 2
+frame_steps (Frame.First p c b) = 2 * statement_steps (named.statement_of b.now) + 2
 frame_steps (Frame.Second p c a) = 1
 frame_steps (Frame.While p c) = 1
 frame_steps (Frame.Do p c) = 1
@@ -67,5 +67,5 @@ frames_steps (frame ∷ frames) = frame_steps frame + frames_steps frames
 
 -- those that are left in all
 abbrev pub left_steps : List Frame → Next → ℕ
-left_steps frames (Next.Enter a) = statement_steps (named.statement_of a.now) + frames_steps frames
+left_steps frames (Next.Enter a) = 2 * statement_steps (named.statement_of a.now) + frames_steps frames
 left_steps frames (Next.Made a) = frames_steps frames

@@ -1,5 +1,5 @@
 // Functions and whole programs, whose names become numbers.
-ghost use Rattle.std.specs.Prelude.{◌≡◌, IfOk, filter, length, map, option_map, reverse};
+ghost use Rattle.std.specs.Prelude.{◌≡◌, ◌++◌, ◌∷◌, [], IfOk, OnOk, filter, length, map, option_map, reverse};
 ghost use Rattle.mc_ast.specs.Views.{function_of as named_function, unit_of};
 ghost use Rattle.mc_resolved.specs.Resolving.{defined_functions, local_of as resolved_local, parameter_scope, resolved_function, resolved_program};
 ghost use Rattle.mc_resolved.specs.Views.{function_of, local_of, program_of};
@@ -114,6 +114,27 @@ fn resolve_function<'a>(
     })
 }
 
+/// A function, with its names put away, comes to the end if it is defined.
+fn push_defined<'a>(
+    alloc: Global,
+    tables: &NameTables<'a>,
+    fields: &FieldNames<'a>,
+    functions: &FunctionNames<'a>,
+    defs: &[Def],
+    function: &'a tree::Function,
+    made: &mut Vec<Function>,
+) -> Result<(), AllocError>
+    requires fields { fields.now.structs.items ≡ field_names (tables_held tables.now) }
+    requires functions { functions.now.names ≡ defined_names (tables_held tables.now) }
+    ensures { OnOk result (map function_of made.new.items
+        ≡ map function_of made.old.items ++ map (resolved_function (tables_held tables.now) defs.now) (filter is_defined (named_function function.now ∷ []))) }
+{
+    if function.body.is_some() {
+        made.push(resolve_function(alloc, tables, fields, functions, defs, function)?)?;
+    }
+    Ok(())
+}
+
 /// The functions of a program that are defined, with their names put away.
 fn resolve_functions<'a>(
     alloc: Global,
@@ -127,9 +148,7 @@ fn resolve_functions<'a>(
     let fields = FieldNames::new(alloc, tables)?;
     let mut made = Vec::new(alloc);
     for function in tables.functions.as_slice() {
-        if function.body.is_some() {
-            made.push(resolve_function(alloc, tables, &fields, functions, defs, function)?)?;
-        }
+        push_defined(alloc, tables, &fields, functions, defs, function, &mut made)?;
     }
     Ok(made)
 }
@@ -139,7 +158,6 @@ fn resolve_functions<'a>(
 /// # Errors
 ///
 /// Memory runs out.
-#[tactic(auto, using(crate::proofs::FunctionNumbers::function_number_of))]
 pub fn resolve(alloc: Global, bound: &Bound) -> Result<Resolved, AllocError>
     ensures { IfOk result (λ made. program_of made bound.now.defs ≡ resolved_program (tables_of (unit_of bound.now.typed.unit)) bound.now.defs bound.now.typed.entry) }
 {

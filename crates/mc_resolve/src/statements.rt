@@ -1,5 +1,5 @@
 // Statements, whose names become numbers; a loop, so that none is too deep.
-ghost use Rattle.std.specs.Prelude.{◌≡◌, ◌+◌, ◌<◌, ◌∷◌, [], IfOk, OnOk, map};
+ghost use Rattle.std.specs.Prelude.{◌≡◌, ◌+◌, ◌*◌, ◌<◌, ◌∷◌, [], IfOk, OnOk, map};
 ghost use Rattle.mc_ast.specs.Trees.{Stmt, declaration as declaration_tree, for_loop, stmts_of};
 ghost use Rattle.mc_ast.specs.Views.{declaration_of, head_of as named_head, statement_of as named_statement};
 ghost use Rattle.mc_resolved.specs.Programs.{block};
@@ -70,7 +70,7 @@ fn go_on<'a>(
     ensures finished { IfOk result (λ next. finished (naming_held naming.entry) scope.new frames.new next
         ≡ plugged (naming_held naming.entry) (outside marks (behind_all (naming_held naming.entry).tables scope.old (stmts_of (map named_statement rest.now)))) frames.old
         (block_left (naming_held naming.entry) scope.old (stmts_of (map named_statement rest.now)) (map statement_of done.items) (resolved_statements (naming_held naming.entry) scope.old (stmts_of (map named_statement rest.now))))) }
-    ensures steps { IfOk result (λ next. left_steps frames.new next < statements_steps (stmts_of (map named_statement rest.now)) + 1 + frames_steps frames.old) }
+    ensures steps { IfOk result (λ next. left_steps frames.new next < 2 * statements_steps (stmts_of (map named_statement rest.now)) + 1 + frames_steps frames.old) }
 {
     match rest {
         [] => {
@@ -97,7 +97,7 @@ fn enter_block<'a>(
     ensures finished { IfOk result (λ next. finished (naming_held naming.entry) scope.new frames.new next
         ≡ plugged (naming_held naming.entry) scope.old frames.old
         (block_left (naming_held naming.entry) (inside scope.old) (stmts_of (map named_statement statements.now)) [] (resolved_statements (naming_held naming.entry) (inside scope.old) (stmts_of (map named_statement statements.now))))) }
-    ensures steps { IfOk result (λ next. left_steps frames.new next < statements_steps (stmts_of (map named_statement statements.now)) + 1 + frames_steps frames.old) }
+    ensures steps { IfOk result (λ next. left_steps frames.new next < 2 * statements_steps (stmts_of (map named_statement statements.now)) + 1 + frames_steps frames.old) }
 {
     let done = Vec::with_capacity(alloc, statements.len())?;
     let marks = scope.marks();

@@ -9,5 +9,4 @@ use Rattle.mc_resolve.proofs.program.resolve_functions.Given as goal
 
 abbrev pub invariant-loop-function : goal.invariant-loop-function
 invariant-loop-function l =
-    map function_of l.made.items
-    ≡ map (λ f. resolved_function (tables_held l.tables) l.defs (named_function f.now)) (filter (λ f. is_defined (named_function f.now)) (take l.function-index l.tables.functions))
+    map function_of l.made.items ≡ map (resolved_function (tables_held l.tables) l.defs) (filter is_defined (map (λ f. named_function f.now) (take l.function-index l.tables.functions)))
