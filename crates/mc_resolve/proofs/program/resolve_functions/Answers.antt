@@ -1,4 +1,4 @@
-use Rattle.std.proofs.Common.{◌<◌, ◌≤◌, ap, ◌∙◌, map, length, arith, Bor}
+use Rattle.std.proofs.Common.{◌<◌, ◌≤◌, ap, ◌∙◌, map, length, arith, get_or, Bor}
 use Rattle.std.specs.Prelude.{filter}
 use Rattle.std.proofs.lemmas.List.{take_all}
 use Rattle.std.proofs.lemmas.Bool.Decides.{nat_tests}
@@ -15,7 +15,7 @@ pub loop-function-preserved : goal.loop-function-preserved
 loop-function-preserved c =
     let within : c.loop-function.function-index < length c.args.tables.now.functions = let test = c.loop-function-test.true in grind (arith, nat_tests, test) in
     filtered_more is_defined (λ (f : Bor Function). named_function f.now) (resolved_function (tables_held c.args.tables.now) c.args.defs.now) c.args.tables.now.functions c.loop-function.function-index c.function-item.result
-    (map function_of c.loop-function.made.items) (map function_of c.push_defined.new.made.items) within c.function-item.is c.loop-function.invariant c.in_ok-push_defined.ensures
+    (map function_of c.loop-function.made.items) (map function_of c.push_defined.new.made.items) within (c.function-item.is ∙ ap (λ fs. get_or fs c.loop-function.function-index c.function-item.result) c.as_slice-function-items.ensures) c.loop-function.invariant c.in_ok-push_defined.ensures
 
 pub returns : goal.returns
 returns c =
