@@ -28,4 +28,6 @@ mod stacks;
 #[cfg(test)]
 mod tokens;
 #[cfg(test)]
+mod resolved;
+#[cfg(test)]
 mod trees;

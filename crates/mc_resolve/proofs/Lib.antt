@@ -1,0 +1,9 @@
+pub mod Seeing
+pub mod FieldNumbers
+pub mod FunctionNumbers
+pub mod Parted
+pub mod Keeps
+pub mod Frames
+pub mod Numbers
+pub mod WholeFunctions
+pub mod Latest

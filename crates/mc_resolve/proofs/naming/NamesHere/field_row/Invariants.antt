@@ -1,0 +1,9 @@
+use Rattle.std.proofs.Common.{◌≡◌, ◌++◌, map, drop}
+use Rattle.mc_resolved.specs.Resolving.{resolved_fields}
+use Rattle.mc_resolved.specs.Views.{field_of}
+use Rattle.mc_types.specs.Held.{tables_held}
+use Rattle.mc_resolve.proofs.naming.NamesHere.field_row.Given as goal
+
+abbrev pub invariant-loop-field : goal.invariant-loop-field
+invariant-loop-field l =
+    map field_of l.made.items ++ resolved_fields (tables_held l.self.naming.tables.now) l.found (drop l.field-index l.fields) ≡ resolved_fields (tables_held l.self.naming.tables.now) l.initial.found l.fields

@@ -1,0 +1,89 @@
+// The variables that are visible, found by name in constant time.
+ghost use Rattle.std.specs.Prelude.{◌≡◌, ◌≤◌, [], OnOk, find, insert, length, reverse, take};
+ghost use Rattle.std.specs.Option.{option_copied};
+ghost use Rattle.mc_ast.specs.Names.{is_same};
+
+use mc_text::Text;
+use mc_types::Named;
+use mc_visible::NameStack;
+use std::alloc::{AllocError, Global};
+use std::marker::Model;
+
+/// Variables in order, of which later ones hide earlier ones of their name.
+#[derive(Drop)]
+pub struct Visible<'a> {
+    variables: Vec<Named<'a>>,
+    names: NameStack<'a>,
+}
+
+impl<'a> Model for Visible<'a> {
+    ghost use Rattle.std.specs.Prelude.{◌≡◌, List, map};
+    ghost use Rattle.mc_types.specs.declared.scope.Named.{Named};
+
+    ghost Value = { List Named };
+
+    ghost view = { λ v. v.variables.items };
+
+    ghost invariant = { λ v. v.names ≡ map (λ n. n.name.now) v.variables.items };
+}
+
+impl<'a> Visible<'a> {
+    /// No variables.
+    pub fn new(alloc: Global) -> Visible<'a>
+        ensures { result ≡ [] }
+    {
+        Visible {
+            variables: Vec::new(alloc),
+            names: NameStack::new(alloc),
+        }
+    }
+
+    /// How many there are.
+    pub fn len(&self) -> usize
+        ensures { result ≡ length self.now }
+    {
+        self.variables.len()
+    }
+
+    /// All of them, in order.
+    pub fn as_slice(&self) -> &[Named<'a>]
+        ensures { result.now ≡ self.now }
+    {
+        self.variables.as_slice()
+    }
+
+    /// The variable of this name that hides the others.
+    pub fn find(&self, name: &Text) -> Option<&Named<'a>>
+        ensures { option_copied result ≡ find (λ v. is_same v.name.now name.now) (reverse self.now) }
+    {
+        match self.names.last(name) {
+            None => None,
+            Some(place) => match self.variables.as_slice().get(place) {
+                None => None,
+                Some(found) => Some(found),
+            },
+        }
+    }
+
+    /// Puts a variable at a place, before those that stand from there on. After that fails for memory, nothing is known of them.
+    pub fn insert(&mut self, place: usize, variable: Named<'a>) -> Result<(), AllocError>
+        requires { place ≤ length self.old }
+        ensures { OnOk result (self.new ≡ insert self.old place variable.entry) }
+    {
+        self.variables.insert(place, variable)?;
+        if let Err(fault) = self.names.insert(place, variable.name) {
+            self.variables.truncate(0);
+            self.names.truncate(0);
+            return Err(fault);
+        }
+        Ok(())
+    }
+
+    /// Takes variables away from the end, but for the first so many.
+    pub fn truncate(&mut self, kept: usize)
+        ensures { self.new ≡ take kept self.old }
+    {
+        self.variables.truncate(kept);
+        self.names.truncate(kept);
+    }
+}
