@@ -67,22 +67,32 @@ fn told(alloc: Global, defs: &Defs, case: &Case) -> Result<String, AllocError> {
     format!(in alloc; "{found:?} {whole}")
 }
 
+// The definitions of a text, if it has any.
+fn defs_of(alloc: Global, text: &str) -> Result<Option<Defs>, AllocError> {
+    let structs = structs(alloc)?;
+    if text.len() >= 1000 {
+        return Ok(None);
+    }
+    match read_defs(alloc, text.as_bytes(), &structs) {
+        Ok(defs) => Ok(Some(defs)),
+        Err(_) => Ok(None),
+    }
+}
+
 // What is told where it is not what is wanted.
 fn wrong(alloc: Global, text: &str, cases: &[Case]) -> Result<Vec<String>, AllocError> {
     let mut wrong = Vec::new(alloc);
-    let structs = structs(alloc)?;
-    if text.len() < 1000 {
-        if let Ok(defs) = read_defs(alloc, text.as_bytes(), &structs) {
+    match defs_of(alloc, text)? {
+        None => wrong.push(format!(in alloc; "no definitions")?)?,
+        Some(defs) => {
             for case in cases {
                 let told = told(alloc, &defs, case)?;
                 if told.as_str() != case.want {
                     wrong.push(told)?;
                 }
             }
-            return Ok(wrong);
         }
     }
-    wrong.push(format!(in alloc; "no definitions")?)?;
     Ok(wrong)
 }
 
@@ -407,10 +417,9 @@ fn long_list(alloc: Global, count: u32) -> Result<Heap, AllocError> {
 
 #[test]
 fn a_long_list_is_found(rt: HostRuntime) -> Result<(), Fail> {
-    let structs = structs(rt.alloc())?;
     let heap = long_list(rt.alloc(), 200_000)?;
     let mut met = false;
-    if let Ok(defs) = read_defs(rt.alloc(), LISTS.as_bytes(), &structs) {
+    if let Some(defs) = defs_of(rt.alloc(), LISTS)? {
         met = meets(rt.alloc(), &heap, &defs, PredId(0), 1, &[])?;
     }
     assert!(rt; met);
