@@ -1,14 +1,12 @@
 // Several changes at once.
 ghost use Rattle.std.specs.Prelude.{◌≡◌, ◌∷◌, ◌++◌, [], IfOk, OnOk, length};
 ghost use Rattle.std.specs.List.{AllByRecursion};
-ghost use Rattle.mc_graph.specs.Edges.{nodes_of};
+ghost use Rattle.mc_base.specs.declared.plain.Atom.TheVariants.{In};
 ghost use Rattle.mc_premises.specs.Named.{others};
 ghost use Rattle.mc_pure.specs.Pure.{IsWellFormed, IsBound};
-ghost use Rattle.mc_state.specs.Fits.{AreNodes};
-ghost use Rattle.mc_state.specs.State.{next_node, numbered_nodes, with_atoms, with_edges, with_nodes, with_number, with_only_edges, without_vars};
+ghost use Rattle.mc_state.specs.State.{next_node, numbered_nodes, with_atoms, with_nodes, with_number, with_only_edges, without_vars};
 
 use mc_base::{Atom, EdgeId, Kind, NoMemory, NodeId, VarId};
-use mc_graph::Edge;
 use mc_symbolic::State;
 
 /// Adds a new node of each kind, and puts them behind others. Without memory the state is lost.
@@ -33,17 +31,6 @@ pub fn assume_all(s: &mut State, atoms: &[Atom]) -> Result<(), NoMemory>
     Ok(())
 }
 
-/// Adds edges. Without memory the state is lost.
-pub fn add_edges(s: &mut State, edges: Vec<Edge>) -> Result<(), NoMemory>
-    requires { AllByRecursion (λ e. AreNodes s.old.kinds (nodes_of e)) edges.items }
-    ensures { OnOk result (s.new ≡ with_edges s.old edges.items) }
-{
-    for edge in edges {
-        s.add_edge(edge)?;
-    }
-    Ok(())
-}
-
 /// Takes the edges out that are named. Without memory the state is lost.
 pub fn take_edges(s: &mut State, ids: &[EdgeId]) -> Result<(), NoMemory>
     ensures { OnOk result (s.new ≡ with_only_edges s.old (others s.old.graph.edges ids.now)) }
@@ -54,14 +41,23 @@ pub fn take_edges(s: &mut State, ids: &[EdgeId]) -> Result<(), NoMemory>
     Ok(())
 }
 
-/// Adds a node that is a number, and answers it. Without memory the state is lost.
-pub fn add_number(s: &mut State, number: i64) -> Result<NodeId, NoMemory>
-    requires { IsBound number }
-    ensures node { IfOk result (λ n. n ≡ next_node s.old) }
-    ensures state { OnOk result (s.new ≡ with_number s.old number) }
+/// The atom that a node is a number.
+fn single(node: NodeId, number: &i64) -> Atom
+    ensures { result ≡ In node number.now number.now }
 {
+    Atom::In(node, *number, *number)
+}
+
+/// Adds a node that is a number, and answers it. Without memory the state is lost.
+pub fn add_number(s: &mut State, number: &i64) -> Result<NodeId, NoMemory>
+    requires { IsBound number.now }
+    ensures node { IfOk result (λ n. n ≡ next_node s.old) }
+    ensures state { OnOk result (s.new ≡ with_number s.old number.now) }
+{
+    mc_state::nodes_are_there();
+    s.is_bounded();
     let node = s.add_node(Kind::Int)?;
-    s.assume(&Atom::In(node, number, number))?;
+    s.assume(&single(node, number))?;
     Ok(node)
 }
 

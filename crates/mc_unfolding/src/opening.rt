@@ -7,15 +7,26 @@ ghost use Rattle.mc_graph.specs.Graph.{without};
 ghost use Rattle.mc_pure.specs.Pure.{IsWellFormed};
 ghost use Rattle.mc_state.specs.Bodies.{block_edges, call_edge, call_segment, calls_to};
 ghost use Rattle.mc_state.specs.Fits.{AreNodes};
-ghost use Rattle.mc_state.specs.State.{with_atoms, with_nodes, with_only_edges};
+ghost use Rattle.mc_state.specs.State.{with_atoms, with_edges, with_nodes, with_only_edges, numbered_nodes};
 ghost use Rattle.mc_unfold.specs.Unfolded.{emptied, equal_atoms, own_places, new_kinds, rule_nodes};
 
 use mc_base::{Args, Atom, EdgeId, Items, Kind, NoMemory, NodeId, PredId, StructId};
-use mc_changes::{add_edges, add_nodes, assume_all};
-use mc_defs::{Call, Rule, instantiate};
+use mc_changes::{add_nodes, assume_all};
+use mc_defs::{Call, Rule};
 use mc_graph::Edge;
 use mc_symbolic::State;
+use mc_unfold::rules_stand_at_nodes;
 use std::alloc::Global;
+
+/// A Seg, part by part.
+#[derive(Clone, Copy)]
+pub struct Segment<'a> {
+    pub at: NodeId,
+    pub args: &'a Args<NodeId>,
+    pub pred: PredId,
+    pub stop: NodeId,
+    pub ends: &'a Args<NodeId>,
+}
 
 /// The node of a name.
 pub fn node_of(nodes: &[NodeId], name: u64) -> NodeId
@@ -51,11 +62,17 @@ fn call_edge(alloc: Global, nodes: &[NodeId], call: &Call) -> Result<Edge, NoMem
 }
 
 /// A call as a segment to an end.
-fn call_segment(alloc: Global, nodes: &[NodeId], end: NodeId, ends: &[NodeId], call: &Call) -> Result<Edge, NoMemory>
+fn call_segment(
+    alloc: Global,
+    nodes: &[NodeId],
+    end: NodeId,
+    ends: &Args<NodeId>,
+    call: &Call,
+) -> Result<Edge, NoMemory>
     ensures { IfOk result (λ e. e ≡ call_segment nodes.now end ends.now call.now) }
 {
     let args = nodes_of_names(alloc, nodes, call.args.as_slice())?;
-    let end_args = Args::of(alloc, ends)?;
+    let end_args = ends.copy(alloc)?;
     Ok(Edge::Seg {
         at: node_of(nodes, call.at),
         args,
@@ -65,10 +82,12 @@ fn call_segment(alloc: Global, nodes: &[NodeId], end: NodeId, ends: &[NodeId], c
     })
 }
 
-/// A rule's block as an edge, where it has one, put behind others.
-pub fn put_block(alloc: Global, nodes: &[NodeId], rule: &Rule, edges: &mut Vec<Edge>) -> Result<(), NoMemory>
-    ensures { OnOk result (edges.new.items ≡ edges.old.items ++ block_edges nodes.now rule.now.block rule.now.contents) }
+/// Adds a rule's block, where it has one. Without memory the state is lost.
+pub fn add_block(alloc: Global, s: &mut State, nodes: &[NodeId], rule: &Rule) -> Result<(), NoMemory>
+    requires { AreNodes s.old.kinds nodes.now }
+    ensures { OnOk result (s.new ≡ with_edges s.old (block_edges nodes.now rule.now.block rule.now.contents)) }
 {
+    rules_stand_at_nodes();
     let Some(shape) = rule.block else {
         return Ok(());
     };
@@ -76,51 +95,101 @@ pub fn put_block(alloc: Global, nodes: &[NodeId], rule: &Rule, edges: &mut Vec<E
     for name in rule.contents.as_slice() {
         fields.push(Some(node_of(nodes, *name)))?;
     }
-    edges.push(Edge::Block {
+    let edge = Edge::Block {
         at: node_of(nodes, 0),
         shape,
         fields,
-    })?;
+    };
+    s.add_edge(edge)?;
     Ok(())
 }
 
-/// Calls as edges, put behind others.
-pub fn put_calls(alloc: Global, nodes: &[NodeId], calls: &[Call], edges: &mut Vec<Edge>) -> Result<(), NoMemory>
-    ensures { OnOk result (edges.new.items ≡ edges.old.items ++ map (call_edge nodes.now) calls.now) }
+/// Adds calls as edges. Without memory the state is lost.
+#[tactic(auto, using(crate::proofs::After::after_edge))]
+pub fn add_calls(alloc: Global, s: &mut State, nodes: &[NodeId], calls: &[Call]) -> Result<(), NoMemory>
+    requires { AreNodes s.old.kinds nodes.now }
+    ensures { OnOk result (s.new ≡ with_edges s.old (map (call_edge nodes.now) calls.now)) }
 {
+    rules_stand_at_nodes();
     for call in calls {
-        edges.push(call_edge(alloc, nodes, call)?)?;
+        let edge = call_edge(alloc, nodes, call)?;
+        s.add_edge(edge)?;
     }
     Ok(())
 }
 
-/// Calls as edges, put behind others; the one at a place goes on as a segment to an end.
-pub fn put_calls_to(
+/// Adds calls as edges, of which the one at a place goes on as a segment to an end. Without memory the state is lost.
+pub fn add_calls_to(
     alloc: Global,
+    s: &mut State,
     nodes: &[NodeId],
     end: NodeId,
-    ends: &[NodeId],
+    ends: &Args<NodeId>,
     place: usize,
     calls: &[Call],
-    edges: &mut Vec<Edge>,
 ) -> Result<(), NoMemory>
-    ensures { OnOk result (edges.new.items ≡ edges.old.items ++ calls_to nodes.now end ends.now place calls.now) }
+    requires nodes { AreNodes s.old.kinds nodes.now }
+    requires ends { AreNodes s.old.kinds (end ∷ ends.now) }
+    ensures { OnOk result (s.new ≡ with_edges s.old (calls_to nodes.now end ends.now place calls.now)) }
 {
     for (i, call) in calls.iter().enumerate() {
         if i == place {
-            edges.push(call_segment(alloc, nodes, end, ends, call)?)?;
+            s.add_edge(call_segment(alloc, nodes, end, ends, call)?)?;
         } else {
-            edges.push(call_edge(alloc, nodes, call)?)?;
+            s.add_edge(call_edge(alloc, nodes, call)?)?;
         }
     }
     Ok(())
 }
 
-/// A copy of a state with new nodes of some kinds and without an edge; and the nodes, behind others.
-pub fn opened(alloc: Global, s: &State, edge: EdgeId, kinds: &[Kind], nodes: &mut Vec<NodeId>) -> Result<State, NoMemory>
+/// Opens an edge in a copy of a state: new nodes of some kinds, which are put behind those that are given, and the edge
+/// is gone.
+pub fn opened(
+    alloc: Global,
+    s: &State,
+    edge: EdgeId,
+    kinds: &[Kind],
+    nodes: &mut Vec<NodeId>,
+) -> Result<State, NoMemory>
+    ensures state { IfOk result (λ t. t ≡ with_only_edges (with_nodes s.now kinds.now) (without s.now.graph.edges edge)) }
+    ensures nodes { OnOk result (nodes.new.items ≡ nodes.old.items ++ numbered_nodes s.now.next (length kinds.now)) }
 {
     let mut next = s.copy(alloc)?;
     add_nodes(&mut next, kinds, nodes)?;
     next.take_edge(edge)?;
+    Ok(next)
+}
+
+/// The kinds of the names behind `this` and the arguments.
+pub fn new_kinds<'a>(args: &[NodeId], rule: &'a Rule) -> &'a [Kind]
+    ensures { result.now ≡ new_kinds args.now rule.now }
+{
+    match rule.names.as_slice().get(args.len() + 1..) {
+        Some(kinds) => kinds,
+        None => &[],
+    }
+}
+
+/// The nodes of two lists are equal, one by one, put behind other atoms.
+pub fn put_equal(left: &[NodeId], right: &[NodeId], atoms: &mut Vec<Atom>) -> Result<(), NoMemory>
+    ensures { OnOk result (atoms.new.items ≡ atoms.old.items ++ equal_atoms left.now right.now) }
+{
+    for (a, b) in left.iter().zip(right) {
+        atoms.push(Atom::Eq(*a, *b, 0))?;
+    }
+    Ok(())
+}
+
+/// A copy of a state in which a Seg is empty: it ends where it begins.
+pub fn emptied(alloc: Global, s: &State, edge: EdgeId, seg: &Segment<'_>) -> Result<State, NoMemory>
+    requires { AllByRecursion (IsWellFormed s.now.kinds) (equal_atoms (seg.now.at ∷ seg.now.args.now) (seg.now.stop ∷ seg.now.ends.now)) }
+    ensures { IfOk result (λ t. t ≡ emptied s.now edge seg.now.at seg.now.args.now seg.now.stop seg.now.ends.now) }
+{
+    let mut next = s.copy(alloc)?;
+    next.take_edge(edge)?;
+    let mut atoms = Vec::new(alloc);
+    atoms.push(Atom::Eq(seg.at, seg.stop, 0))?;
+    put_equal(seg.args.as_slice(), seg.ends.as_slice(), &mut atoms)?;
+    assume_all(&mut next, atoms.as_slice())?;
     Ok(next)
 }
