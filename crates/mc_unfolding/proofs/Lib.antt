@@ -1,1 +1,3 @@
 pub mod After
+pub mod Items
+pub mod Taking

@@ -1,17 +1,16 @@
 // Unfolding an edge from its start.
-ghost use Rattle.std.specs.Prelude.{◌≡◌, ◌++◌, IfOk, OnOk, map};
-ghost use Rattle.std.specs.List.{flat_map};
-ghost use Rattle.mc_defs.specs.Conditions.{DefsFit};
+ghost use Rattle.std.specs.Prelude.{◌≡◌, IfOk, map};
+ghost use Rattle.std.specs.List.{AllByRecursion};
 ghost use Rattle.mc_premises.specs.Known.{Test, Tells};
 ghost use Rattle.mc_premises.specs.Premises.{AnswersBy};
-ghost use Rattle.mc_state.specs.Fits.{IsWellMade};
-ghost use Rattle.mc_unfold.specs.Judges.{may_unfold, unfolding_ind, unfolding_seg, rules_of};
-ghost use Rattle.mc_unfold.specs.Unfolded.{own_places, unfolded, unfolded_at};
+ghost use Rattle.mc_unfold.specs.Judges.{may_unfold, unfolding_ind, rules_of};
+ghost use Rattle.mc_unfold.specs.Unfolded.{unfolded};
+ghost use Rattle.mc_unfolding.specs.Taking.{IsAtHome, TakesRule};
 
-use crate::opening::{Segment, add_block, add_calls, add_calls_to, emptied, new_kinds, opened};
+use crate::laws::edges_take_rules;
+use crate::opening::{add_atoms, add_body, opened_at};
 use mc_base::{EdgeId, NoMemory, NodeId, PredId};
-use mc_changes::assume_all;
-use mc_defs::{Def, Defs, Rule, instantiate};
+use mc_defs::{Def, Defs, Rule};
 use mc_graph::Edge;
 use mc_state::LogicFault;
 use mc_symbolic::State;
@@ -48,40 +47,13 @@ fn unfolded(
     args: &[NodeId],
     rule: &Rule,
 ) -> Result<State, NoMemory>
+    requires { TakesRule s.now at args.now rule.now }
     ensures { IfOk result (λ t. t ≡ unfolded s.now edge at args.now rule.now) }
 {
     let mut nodes = Vec::new(alloc);
-    nodes.push(at)?;
-    nodes.extend_from_slice(args)?;
-    let mut next = opened(alloc, s, edge, new_kinds(args, rule), &mut nodes)?;
-    add_block(alloc, &mut next, nodes.as_slice(), rule)?;
-    add_calls(alloc, &mut next, nodes.as_slice(), rule.calls.as_slice())?;
-    let instance = instantiate(alloc, rule, nodes.as_slice())?;
-    assume_all(&mut next, instance.atoms.as_slice())?;
-    Ok(next)
-}
-
-/// The state with the body of a rule in the place of a Seg, where the call at a place goes on as the segment.
-fn unfolded_at(
-    alloc: Global,
-    s: &State,
-    edge: EdgeId,
-    seg: &Segment<'_>,
-    rule: &Rule,
-    place: usize,
-) -> Result<State, NoMemory>
-    ensures { IfOk result (λ t. t ≡ unfolded_at s.now edge seg.now.at seg.now.args.now seg.now.stop seg.now.ends.now rule.now place) }
-{
-    let mut nodes = Vec::new(alloc);
-    nodes.push(seg.at)?;
-    nodes.extend_from_slice(seg.args.as_slice())?;
-    let kinds = new_kinds(seg.args.as_slice(), rule);
-    let mut next = opened(alloc, s, edge, kinds, &mut nodes)?;
-    add_block(alloc, &mut next, nodes.as_slice(), rule)?;
-    let calls = rule.calls.as_slice();
-    add_calls_to(alloc, &mut next, nodes.as_slice(), seg.stop, seg.ends, place, calls)?;
-    let instance = instantiate(alloc, rule, nodes.as_slice())?;
-    assume_all(&mut next, instance.atoms.as_slice())?;
+    let mut next = opened_at(alloc, s, edge, at, args, rule, &mut nodes)?;
+    add_body(alloc, &mut next, nodes.as_slice(), rule)?;
+    add_atoms(alloc, &mut next, nodes.as_slice(), rule)?;
     Ok(next)
 }
 
@@ -94,6 +66,7 @@ fn by_each_rule(
     args: &[NodeId],
     rules: &[Rule],
 ) -> Result<Vec<State>, NoMemory>
+    requires { AllByRecursion (TakesRule s.now at args.now) rules.now }
     ensures { IfOk result (λ next. next.items ≡ map (unfolded s.now edge at args.now) rules.now) }
 {
     let mut next = Vec::new(alloc);
@@ -101,25 +74,6 @@ fn by_each_rule(
         next.push(unfolded(alloc, s, edge, at, args, rule)?)?;
     }
     Ok(next)
-}
-
-/// What a rule makes of a Seg for each of its calls of the predicate, put behind other states.
-fn put_each_call(
-    alloc: Global,
-    s: &State,
-    edge: EdgeId,
-    seg: &Segment<'_>,
-    rule: &Rule,
-    next: &mut Vec<State>,
-) -> Result<(), NoMemory>
-    ensures { OnOk result (next.new.items ≡ next.old.items ++ map (unfolded_at s.now edge seg.now.at seg.now.args.now seg.now.stop seg.now.ends.now rule.now) (own_places seg.now.pred 0 rule.now.calls)) }
-{
-    for (place, call) in rule.calls.as_slice().iter().enumerate() {
-        if call.pred.0 == seg.pred.0 {
-            next.push(unfolded_at(alloc, s, edge, seg, rule, place)?)?;
-        }
-    }
-    Ok(())
 }
 
 /// L1: the states in which the body of each rule stands in the place of an Ind.
@@ -130,8 +84,10 @@ pub fn unfold_ind(
     access: Option<NodeId>,
     edge: EdgeId,
 ) -> Result<Vec<State>, LogicFault>
+    requires { IsAtHome defs.now s.now }
     ensures { (know : Test) → Tells know s.now → AnswersBy (λ v. v.items) (unfolding_ind know defs.now access edge s.now) result }
 {
+    edges_take_rules();
     if s.is_false() {
         return Err(LogicFault::Premise(2));
     }

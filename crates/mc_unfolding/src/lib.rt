@@ -2,6 +2,8 @@
 #![tactic(auto)]
 
 mod forward;
+mod laws;
 mod opening;
 
-pub use forward::{unfold_ind};
+pub use forward::unfold_ind;
+pub use laws::edges_take_rules;

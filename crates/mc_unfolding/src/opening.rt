@@ -1,32 +1,22 @@
 // States in which an edge is opened: the body of a rule stands in its place, at new nodes, and the rule's atoms are known.
-ghost use Rattle.std.specs.Prelude.{◌≡◌, ◌∷◌, ◌++◌, [], IfOk, OnOk, Some, None, drop, length, map, suc};
+ghost use Rattle.std.specs.Prelude.{◌≡◌, ◌++◌, IfOk, OnOk, Some, length, map};
 ghost use Rattle.std.specs.List.{AllByRecursion};
-ghost use Rattle.mc_base.specs.declared.ids.NodeId.{NodeId as Node};
-ghost use Rattle.mc_defs.specs.Instances.{node_of};
+ghost use Rattle.mc_defs.specs.Instances.{node_of, atom_of};
+ghost use Rattle.mc_graph.specs.declared.edge.Edge.TheVariants.{Block};
 ghost use Rattle.mc_graph.specs.Graph.{without};
 ghost use Rattle.mc_pure.specs.Pure.{IsWellFormed};
-ghost use Rattle.mc_state.specs.Bodies.{block_edges, call_edge, call_segment, calls_to};
+ghost use Rattle.mc_state.specs.Bodies.{block_edges, body_edges, call_edge};
 ghost use Rattle.mc_state.specs.Fits.{AreNodes};
 ghost use Rattle.mc_state.specs.State.{with_atoms, with_edges, with_nodes, with_only_edges, numbered_nodes};
-ghost use Rattle.mc_unfold.specs.Unfolded.{emptied, equal_atoms, own_places, new_kinds, rule_nodes};
+ghost use Rattle.mc_unfold.specs.Unfolded.{new_kinds, rule_nodes};
 
-use mc_base::{Args, Atom, EdgeId, Items, Kind, NoMemory, NodeId, PredId, StructId};
+use mc_base::{Args, EdgeId, Items, Kind, NoMemory, NodeId, StructId};
 use mc_changes::{add_nodes, assume_all};
-use mc_defs::{Call, Rule};
+use mc_defs::{Call, Rule, instantiate};
 use mc_graph::Edge;
 use mc_symbolic::State;
 use mc_unfold::rules_stand_at_nodes;
 use std::alloc::Global;
-
-/// A Seg, part by part.
-#[derive(Clone, Copy)]
-pub struct Segment<'a> {
-    pub at: NodeId,
-    pub args: &'a Args<NodeId>,
-    pub pred: PredId,
-    pub stop: NodeId,
-    pub ends: &'a Args<NodeId>,
-}
 
 /// The node of a name.
 pub fn node_of(nodes: &[NodeId], name: u64) -> NodeId
@@ -39,7 +29,11 @@ pub fn node_of(nodes: &[NodeId], name: u64) -> NodeId
 }
 
 /// The nodes of names.
-pub fn nodes_of_names(alloc: Global, nodes: &[NodeId], names: &[u64]) -> Result<Args<NodeId>, NoMemory>
+pub fn nodes_of_names(
+    alloc: Global,
+    nodes: &[NodeId],
+    names: &[u64],
+) -> Result<Args<NodeId>, NoMemory>
     ensures { IfOk result (λ args. args ≡ map (node_of nodes.now) names.now) }
 {
     let mut args = Args::new(alloc);
@@ -61,29 +55,28 @@ fn call_edge(alloc: Global, nodes: &[NodeId], call: &Call) -> Result<Edge, NoMem
     })
 }
 
-/// A call as a segment to an end.
-fn call_segment(
+/// A block with the nodes of a rule's contents.
+fn block_edge(
     alloc: Global,
     nodes: &[NodeId],
-    end: NodeId,
-    ends: &Args<NodeId>,
-    call: &Call,
+    shape: StructId,
+    rule: &Rule,
 ) -> Result<Edge, NoMemory>
-    ensures { IfOk result (λ e. e ≡ call_segment nodes.now end ends.now call.now) }
+    ensures { IfOk result (λ e. e ≡ Block (node_of nodes.now 0) shape (map (λ name. Some (node_of nodes.now name)) rule.now.contents)) }
 {
-    let args = nodes_of_names(alloc, nodes, call.args.as_slice())?;
-    let end_args = ends.copy(alloc)?;
-    Ok(Edge::Seg {
-        at: node_of(nodes, call.at),
-        args,
-        pred: call.pred,
-        end,
-        end_args,
+    let mut fields = Items::new(alloc);
+    for name in rule.contents.as_slice() {
+        fields.push(Some(node_of(nodes, *name)))?;
+    }
+    Ok(Edge::Block {
+        at: node_of(nodes, 0),
+        shape,
+        fields,
     })
 }
 
 /// Adds a rule's block, where it has one. Without memory the state is lost.
-pub fn add_block(alloc: Global, s: &mut State, nodes: &[NodeId], rule: &Rule) -> Result<(), NoMemory>
+fn add_block(alloc: Global, s: &mut State, nodes: &[NodeId], rule: &Rule) -> Result<(), NoMemory>
     requires { AreNodes s.old.kinds nodes.now }
     ensures { OnOk result (s.new ≡ with_edges s.old (block_edges nodes.now rule.now.block rule.now.contents)) }
 {
@@ -91,22 +84,14 @@ pub fn add_block(alloc: Global, s: &mut State, nodes: &[NodeId], rule: &Rule) ->
     let Some(shape) = rule.block else {
         return Ok(());
     };
-    let mut fields = Items::new(alloc);
-    for name in rule.contents.as_slice() {
-        fields.push(Some(node_of(nodes, *name)))?;
-    }
-    let edge = Edge::Block {
-        at: node_of(nodes, 0),
-        shape,
-        fields,
-    };
+    let edge = block_edge(alloc, nodes, shape, rule)?;
     s.add_edge(edge)?;
     Ok(())
 }
 
 /// Adds calls as edges. Without memory the state is lost.
 #[tactic(auto, using(crate::proofs::After::after_edge))]
-pub fn add_calls(alloc: Global, s: &mut State, nodes: &[NodeId], calls: &[Call]) -> Result<(), NoMemory>
+fn add_calls(alloc: Global, s: &mut State, nodes: &[NodeId], calls: &[Call]) -> Result<(), NoMemory>
     requires { AreNodes s.old.kinds nodes.now }
     ensures { OnOk result (s.new ≡ with_edges s.old (map (call_edge nodes.now) calls.now)) }
 {
@@ -118,27 +103,29 @@ pub fn add_calls(alloc: Global, s: &mut State, nodes: &[NodeId], calls: &[Call])
     Ok(())
 }
 
-/// Adds calls as edges, of which the one at a place goes on as a segment to an end. Without memory the state is lost.
-pub fn add_calls_to(
+/// Adds the body of a rule. Without memory the state is lost.
+#[tactic(auto, using(crate::proofs::After::after_edges))]
+pub fn add_body(alloc: Global, s: &mut State, nodes: &[NodeId], rule: &Rule) -> Result<(), NoMemory>
+    requires { AreNodes s.old.kinds nodes.now }
+    ensures { OnOk result (s.new ≡ with_edges s.old (body_edges nodes.now rule.now.block rule.now.contents rule.now.calls)) }
+{
+    add_block(alloc, s, nodes, rule)?;
+    add_calls(alloc, s, nodes, rule.calls.as_slice())?;
+    Ok(())
+}
+
+/// Writes the atoms of a rule. Without memory the state is lost.
+pub fn add_atoms(
     alloc: Global,
     s: &mut State,
     nodes: &[NodeId],
-    end: NodeId,
-    ends: &Args<NodeId>,
-    place: usize,
-    calls: &[Call],
+    rule: &Rule,
 ) -> Result<(), NoMemory>
-    requires nodes { AreNodes s.old.kinds nodes.now }
-    requires ends { AreNodes s.old.kinds (end ∷ ends.now) }
-    ensures { OnOk result (s.new ≡ with_edges s.old (calls_to nodes.now end ends.now place calls.now)) }
+    requires { AllByRecursion (IsWellFormed s.old.kinds) (map (atom_of nodes.now) rule.now.atoms) }
+    ensures { OnOk result (s.new ≡ with_atoms s.old (map (atom_of nodes.now) rule.now.atoms)) }
 {
-    for (i, call) in calls.iter().enumerate() {
-        if i == place {
-            s.add_edge(call_segment(alloc, nodes, end, ends, call)?)?;
-        } else {
-            s.add_edge(call_edge(alloc, nodes, call)?)?;
-        }
-    }
+    let instance = instantiate(alloc, rule, nodes)?;
+    assume_all(s, instance.atoms.as_slice())?;
     Ok(())
 }
 
@@ -160,6 +147,26 @@ pub fn opened(
     Ok(next)
 }
 
+/// Opens an edge in a copy of a state for a rule at a start and arguments, and gives the nodes of the rule's names.
+#[tactic(auto, using(std::proofs::lemmas::List::append_assoc))]
+pub fn opened_at(
+    alloc: Global,
+    s: &State,
+    edge: EdgeId,
+    at: NodeId,
+    args: &[NodeId],
+    rule: &Rule,
+    nodes: &mut Vec<NodeId>,
+) -> Result<State, NoMemory>
+    ensures state { IfOk result (λ t. t ≡ with_only_edges (with_nodes s.now (new_kinds args.now rule.now)) (without s.now.graph.edges edge)) }
+    ensures nodes { OnOk result (nodes.new.items ≡ nodes.old.items ++ rule_nodes s.now at args.now rule.now) }
+{
+    nodes.push(at)?;
+    nodes.extend_from_slice(args)?;
+    let next = opened(alloc, s, edge, new_kinds(args, rule), nodes)?;
+    Ok(next)
+}
+
 /// The kinds of the names behind `this` and the arguments.
 pub fn new_kinds<'a>(args: &[NodeId], rule: &'a Rule) -> &'a [Kind]
     ensures { result.now ≡ new_kinds args.now rule.now }
@@ -168,28 +175,4 @@ pub fn new_kinds<'a>(args: &[NodeId], rule: &'a Rule) -> &'a [Kind]
         Some(kinds) => kinds,
         None => &[],
     }
-}
-
-/// The nodes of two lists are equal, one by one, put behind other atoms.
-pub fn put_equal(left: &[NodeId], right: &[NodeId], atoms: &mut Vec<Atom>) -> Result<(), NoMemory>
-    ensures { OnOk result (atoms.new.items ≡ atoms.old.items ++ equal_atoms left.now right.now) }
-{
-    for (a, b) in left.iter().zip(right) {
-        atoms.push(Atom::Eq(*a, *b, 0))?;
-    }
-    Ok(())
-}
-
-/// A copy of a state in which a Seg is empty: it ends where it begins.
-pub fn emptied(alloc: Global, s: &State, edge: EdgeId, seg: &Segment<'_>) -> Result<State, NoMemory>
-    requires { AllByRecursion (IsWellFormed s.now.kinds) (equal_atoms (seg.now.at ∷ seg.now.args.now) (seg.now.stop ∷ seg.now.ends.now)) }
-    ensures { IfOk result (λ t. t ≡ emptied s.now edge seg.now.at seg.now.args.now seg.now.stop seg.now.ends.now) }
-{
-    let mut next = s.copy(alloc)?;
-    next.take_edge(edge)?;
-    let mut atoms = Vec::new(alloc);
-    atoms.push(Atom::Eq(seg.at, seg.stop, 0))?;
-    put_equal(seg.args.as_slice(), seg.ends.as_slice(), &mut atoms)?;
-    assume_all(&mut next, atoms.as_slice())?;
-    Ok(next)
 }

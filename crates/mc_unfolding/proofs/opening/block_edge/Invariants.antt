@@ -1,6 +1,6 @@
 use Rattle.std.proofs.Common.{◌≡◌, ◌++◌, Some, drop, map}
 use Rattle.mc_defs.specs.Instances.{node_of}
-use Rattle.mc_unfolding.proofs.opening.add_block.Given as goal
+use Rattle.mc_unfolding.proofs.opening.block_edge.Given as goal
 
 abbrev pub invariant-loop-name : goal.invariant-loop-name
 invariant-loop-name l =
