@@ -1,3 +1,4 @@
 pub mod After
+pub mod Ends
 pub mod Items
 pub mod Taking

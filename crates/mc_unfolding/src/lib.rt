@@ -4,6 +4,9 @@
 mod forward;
 mod laws;
 mod opening;
+mod positions;
 
 pub use forward::unfold_ind;
 pub use laws::edges_take_rules;
+pub use opening::Segment;
+pub use positions::{is_back, is_reached_back};

@@ -10,13 +10,23 @@ ghost use Rattle.mc_state.specs.Fits.{AreNodes};
 ghost use Rattle.mc_state.specs.State.{with_atoms, with_edges, with_nodes, with_only_edges, numbered_nodes};
 ghost use Rattle.mc_unfold.specs.Unfolded.{new_kinds, rule_nodes};
 
-use mc_base::{Args, EdgeId, Items, Kind, NoMemory, NodeId, StructId};
+use mc_base::{Args, EdgeId, Items, Kind, NoMemory, NodeId, PredId, StructId};
 use mc_changes::{add_nodes, assume_all};
 use mc_defs::{Call, Rule, instantiate};
 use mc_graph::Edge;
 use mc_symbolic::State;
 use mc_unfold::rules_stand_at_nodes;
 use std::alloc::Global;
+
+/// A Seg, part by part.
+#[derive(Clone, Copy)]
+pub struct Segment<'a> {
+    pub at: NodeId,
+    pub args: &'a Args<NodeId>,
+    pub pred: PredId,
+    pub stop: NodeId,
+    pub ends: &'a Args<NodeId>,
+}
 
 /// The node of a name.
 pub fn node_of(nodes: &[NodeId], name: u64) -> NodeId
