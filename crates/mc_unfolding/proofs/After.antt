@@ -51,6 +51,22 @@ module _ (nodes : List NodeId) (stop : NodeId) (ends : List NodeId) where
       ap (λ c. call_segment nodes stop ends c ∷ map (call_edge nodes) calls) same
   calls_around (suc place) (c ∷ calls) call e = ap (λ l. call_edge nodes c ∷ l) (calls_around place calls call e)
 
+-- edges before a call, the call as a segment, and edges behind it
+pub around_edges : (s t u w : State) (nodes : List NodeId) (stop : NodeId) (ends : List NodeId) (place : ℕ) (calls : List Call) (call : Call) (e : Edge)
+    → slice_get calls place ≡ Some call → t ≡ with_edges s (map (call_edge nodes) (take place calls)) → e ≡ call_segment nodes stop ends call
+    → u ≡ with_edges t (e ∷ []) → w ≡ with_edges u (map (call_edge nodes) (drop (place + 1) calls)) → w ≡ with_edges s (calls_to nodes stop ends place calls)
+around_edges s t u w nodes stop ends place calls call e there before is one behind =
+    let front = map (call_edge nodes) (take place calls) in
+    let rest = map (call_edge nodes) (drop (place + 1) calls) in
+    let segment = call_segment nodes stop ends call in
+    let count : place + 1 ≡ suc place = omega arith in
+    behind
+    ∙ ap (λ x. with_edges x rest) (one ∙ ap (λ y. with_edges t (y ∷ [])) is ∙ ap (λ x. with_edges x (segment ∷ [])) before)
+    ∙ after_edge (with_edges s front) segment rest
+    ∙ after_edges s front (segment ∷ rest)
+    ∙ ap (λ n. with_edges s (front ++ (segment ∷ map (call_edge nodes) (drop n calls)))) count
+    ∙ ap (with_edges s) (calls_around nodes stop ends place calls call there)
+
 -- ---- nodes that are there
 module _ (name_there : NameIsThere) (kinds : Kinds) (nodes : List NodeId) (there : AreNodes kinds nodes) where
   names_there : (names : List ℕ) (others : List NodeId) → AreNodes kinds others → AreNodes kinds (map (node_of nodes) names ++ others)

@@ -6,7 +6,7 @@ mod laws;
 mod opening;
 mod positions;
 
-pub use forward::unfold_ind;
+pub use forward::{unfold_ind, unfold_seg};
 pub use laws::edges_take_rules;
 pub use opening::Segment;
 pub use positions::{is_back, is_reached_back};
