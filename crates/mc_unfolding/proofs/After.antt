@@ -1,6 +1,5 @@
 -- Edges one after the other are edges at once, and calls part by part.
 use Rattle.std.proofs.Common.{◌≡◌, ◌+◌, ℕ, zero, suc, Some, None, List, [], ◌∷◌, ◌++◌, map, take, drop, length, slice_get, refl, ap, arith, sym, ◌∙◌}
-use Rattle.std.specs.List.{AllByRecursion}
 use Rattle.std.proofs.lemmas.List.{append_assoc, length-append}
 use Rattle.mc_base.specs.declared.ids.NodeId.{NodeId}
 use Rattle.mc_defs.specs.declared.rules.Call.{Call}
@@ -8,7 +7,7 @@ use Rattle.mc_defs.specs.Instances.{node_of}
 use Rattle.mc_graph.specs.declared.edge.Edge.{Edge}
 use Rattle.mc_graph.specs.Edges.{nodes_of}
 use Rattle.mc_graph.specs.Graph.{numbered}
-use Rattle.mc_pure.specs.Pure.{Kinds, IsNode}
+use Rattle.mc_pure.specs.Pure.{Kinds}
 use Rattle.mc_state.specs.Bodies.{call_edge, call_segment, calls_to}
 use Rattle.mc_state.specs.Fits.{AreNodes}
 use Rattle.mc_state.specs.State.{State, with_edges}

@@ -1,20 +1,16 @@
 -- In a state at home an edge takes each rule of its predicate.
-use Rattle.std.proofs.Common.{◌≡◌, ℕ, zero, suc, Some, List, [], ◌∷◌, ◌++◌, map, take, drop, length, slice_get, refl, sym, ◌∙◌, ap, subst}
+use Rattle.std.proofs.Common.{◌≡◌, ℕ, suc, Some, List, [], ◌∷◌, ◌++◌, take, drop, length, slice_get, refl, sym, ◌∙◌, ap, subst}
 use Rattle.std.specs.List.{AllByRecursion}
 use Rattle.std.proofs.Math.ListN.{take-append-drop}
-use Rattle.mc_base.specs.declared.ids.EdgeId.{EdgeId}
 use Rattle.mc_base.specs.declared.ids.NodeId.{NodeId}
 use Rattle.mc_base.specs.declared.ids.PredId.{PredId}
 use Rattle.mc_base.specs.declared.plain.Kind.{Kind}
 use Rattle.mc_base.specs.declared.plain.Kind.TheVariants.{Ptr}
 use Rattle.mc_defs.specs.declared.rules.Def.{Def}
 use Rattle.mc_defs.specs.declared.rules.Rule.{Rule}
-use Rattle.mc_defs.specs.declared.shapes.StructInfo.{StructInfo}
-use Rattle.mc_defs.specs.Conditions.{DefsFit}
 use Rattle.mc_graph.specs.declared.edge.Edge.TheVariants.{Ind, Seg}
-use Rattle.mc_graph.specs.Graph.{edge_with}
 use Rattle.mc_pure.specs.Pure.{Kinds, HasKind, IsNode}
-use Rattle.mc_state.specs.Fits.{AreNodes, HaveKinds, ArgsFit, EdgeFitsDefs, IsBounded}
+use Rattle.mc_state.specs.Fits.{AreNodes, HaveKinds, ArgsFit, EdgeFitsDefs}
 use Rattle.mc_state.specs.Laws.{NewNodesHaveKinds, NewNodesAreThere}
 use Rattle.mc_state.specs.State.{State, numbered_nodes, with_nodes}
 use Rattle.mc_unfold.specs.Judges.{rules_in}
