@@ -1,11 +1,13 @@
 -- Edges at places, in the order of their ids.
-use Rattle.std.proofs.Common.{◌≡◌, ◌≢◌, ℕ, zero, suc, ◌<◌, ◌≤◌, ◌+◌, ◌-◌, ◌⊎◌, inl, inr, List, [], ◌∷◌, ◌++◌, length, Bool, true, false, Some, None, slice_get, get_or, take, drop, refl, sym, ap, subst, ◌∙◌, arith}
+use Rattle.std.proofs.Common.{◌≡◌, ◌≢◌, ℕ, zero, suc, ◌<◌, ◌≤◌, ◌+◌, ◌-◌, ◌⊎◌, inl, inr, List, [], ◌∷◌, ◌++◌, length, Bool, true, false, Some, None, slice_get, get_or, take, drop, map, refl, sym, ap, subst, ◌∙◌, arith}
 use Rattle.std.specs.Prelude.{◌==◌, if◌then◌else◌, slice_set}
 use Rattle.std.specs.List.{remove}
 use Rattle.std.proofs.lemmas.Option.{slice_get_within, slice_get-get_or}
 use Rattle.mc_base.specs.declared.ids.EdgeId.{EdgeId}
+use Rattle.mc_base.specs.declared.ids.NodeId.{NodeId}
 use Rattle.mc_graph.specs.declared.edge.Edge.{Edge}
-use Rattle.mc_graph.specs.Graph.{Graph, Edges, IdsAscend, edge_with, without, replaced, numbered, with_new}
+use Rattle.mc_graph.specs.Edges.{moved_edge, with_field_node}
+use Rattle.mc_graph.specs.Graph.{Edges, IdsAscend, edge_with, without, replaced}
 use Rattle.mc_edges.specs.Places.{DoAscend, IsPlace, IsAbsent, StandsAt}
 
 abbrev pub Entry : Type 0
@@ -192,14 +194,36 @@ ids_pushed low next [] id e l q a = (omega arith, omega arith, tt)
 ids_pushed low next (x ∷ es) id e l q a = let first = a.0 in let second = a.1 in (omega arith, omega arith, ids_pushed (suc x.0.0) next es id e (omega arith) q a.2)
 
 -- without the last
-pub ids_popped : (low next : ℕ) (es : Edges) (e : Entry) → e.0.0 + 1 ≡ next → IdsAscend low (es ++ e ∷ []) next → IdsAscend low es (next - 1)
-ids_popped low next [] e q a = tt
-ids_popped low next (x ∷ es) e q a = let k = ids_popped (suc x.0.0) next es e q a.2 in (a.0, below es a.2, k)
-  where
-    below : (ys : Edges) → IdsAscend (suc x.0.0) (ys ++ e ∷ []) next → x.0.0 < next - 1
-    below [] b = let first = b.0 in omega arith
-    below (y ∷ ys) b = let first = b.0 in let second = b.1 in let r = rest (suc y.0.0) ys b.2 in omega arith
-      where
-        rest : (low : ℕ) (zs : Edges) → IdsAscend low (zs ++ e ∷ []) next → low ≤ e.0.0
-        rest low [] c = let first = c.0 in omega arith
-        rest low (z ∷ zs) c = let first = c.0 in let h = rest (suc z.0.0) zs c.2 in omega arith
+first_below : (low next : ℕ) (es : Edges) → 0 < length es → IdsAscend low es next → low < next
+first_below low next [] l a = absurd (omega arith)
+first_below low next (e ∷ es) l a = let first = a.0 in let second = a.1 in omega arith
+
+pub ids_taken : (n low next : ℕ) (es : Edges) → n < length es → IdsAscend low es next → IdsAscend low (take n es) (next - 1)
+ids_taken zero low next es l a = tt
+ids_taken (suc n) low next [] l a = absurd (omega arith)
+ids_taken (suc n) low next (e ∷ es) l a =
+    let b = first_below (suc e.0.0) next es (omega arith) a.2 in
+    (a.0, omega arith, ids_taken n (suc e.0.0) next es (omega arith) a.2)
+
+-- other nodes, and edges at their places
+pub ids_moved : (f : ℕ → ℕ) (low high : ℕ) (es : Edges) → IdsAscend low es high → IdsAscend low (map (λ e. (e.0, moved_edge f e.1)) es) high
+ids_moved f low high [] a = tt
+ids_moved f low high (e ∷ es) a = (a.0, a.1, ids_moved f (suc e.0.0) high es a.2)
+
+pub at_found : (es : Edges) (id : EdgeId) (i : ℕ) → StandsAt es id i → (e : Entry) × (slice_get es i ≡ Some e) × (e.0 ≡ id) × (edge_with es id ≡ Some e.1)
+at_found [] id i s = let w = s.0 in absurd (omega arith)
+at_found (e ∷ es) id zero s = (e, refl, (s.1 0 e refl).1 refl, found_edge (e ∷ es) id zero e s)
+at_found (e ∷ es) id (suc i) s =
+    let h = at_found es id i (tail_stands e es id i s) in
+    (h.0, h.1, h.2, rw (differs e.0 id (not_first e es id i s)) h.3)
+
+pub one_edge : (x y : Edge) → Some x ≡ Some y → x ≡ y
+one_edge x y e = cc
+
+pub none_there : (es : Edges) (id : EdgeId) (x : Edge) → edge_with es id ≡ None → edge_with es id ≡ Some x → ⊥
+none_there es id x e f = let w : None ≡ Some x = sym e ∙ f in cc w
+
+pub set_found : (es : Edges) (id : EdgeId) (i f : ℕ) (node : NodeId) (now : Edges) → StandsAt es id i → ((e : Entry) → slice_get es i ≡ Some e → now ≡ slice_set es i (e.0, with_field_node f node e.1)) → (x : Edge) × (edge_with es id ≡ Some x) × (now ≡ replaced es id (with_field_node f node x))
+set_found es id i f node now s h =
+    let a = at_found es id i s in
+    (a.0.1, a.3, h a.0 a.1 ∙ (ap (λ (z : EdgeId). slice_set es i (z, with_field_node f node a.0.1)) a.2 ∙ sym (found_replaced es id i (with_field_node f node a.0.1) s)))

@@ -1,5 +1,5 @@
 // The edges of a state, each with its id.
-ghost use Rattle.std.specs.Prelude.{◌≡◌, ◌≢◌, ◌∷◌, ◌++◌, [], ◌≤◌, ◌<◌, ◌+◌, IfOk, OnOk, OnErr, MatchOption, Some, None, true, false, slice_get, length, map, option_map};
+ghost use Rattle.std.specs.Prelude.{◌≡◌, ◌≢◌, ◌∷◌, ◌++◌, [], ◌≤◌, ◌<◌, ◌+◌, IfOk, OnOk, OnErr, MatchOption, Some, None, true, false, slice_get, slice_set, length, map, option_map};
 ghost use Rattle.std.specs.Option.{option_copied};
 ghost use Rattle.mc_graph.specs.Edges.{with_field_node, moved_edge};
 ghost use Rattle.mc_base.specs.Nodes.{moved};
@@ -59,9 +59,9 @@ fn stands_at(edges: &[(EdgeId, Edge)], id: EdgeId, place: usize) -> bool
     }
 }
 
-/// The place of the edge with an id.
-fn find(edges: &[(EdgeId, Edge)], id: EdgeId) -> Option<usize>
-    requires { DoAscend edges.now }
+/// The place of the edge with an id. The ids are below a number.
+fn find(edges: &[(EdgeId, Edge)], next: u64, id: EdgeId) -> Option<usize>
+    requires { IdsAscend 0 edges.now next }
     ensures { MatchOption result (IsAbsent edges.now id) (λ i. StandsAt edges.now id i) }
 {
     let place = place_in(edges, id);
@@ -70,6 +70,23 @@ fn find(edges: &[(EdgeId, Edge)], id: EdgeId) -> Option<usize>
     } else {
         None
     }
+}
+
+/// Puts an edge in place of the one at a place.
+fn put_at(edges: &mut Vec<(EdgeId, Edge)>, id: EdgeId, place: usize, edge: Edge)
+    requires { place < length edges.old.items }
+    ensures { edges.new.items ≡ slice_set edges.old.items place (id, edge) }
+{
+    edges[place] = (id, edge);
+}
+
+/// Gives a field of the block at a place a node.
+fn set_field_at(edges: &mut Vec<(EdgeId, Edge)>, place: usize, f: u64, node: NodeId)
+    requires { place < length edges.old.items }
+    ensures { (e : _) → slice_get edges.old.items place ≡ Some e → edges.new.items ≡ slice_set edges.old.items place (e.0, with_field_node f node e.1) }
+{
+    let e = &mut edges[place];
+    e.1.set_field(f, node);
 }
 
 /// Whether the last edge has the id before this number.
@@ -87,11 +104,7 @@ fn is_last(edges: &[(EdgeId, Edge)], next: u64) -> bool
 fn moved(keep: NodeId, gone: NodeId, node: NodeId) -> NodeId
     ensures { result ≡ moved (instead keep.0 gone.0) node }
 {
-    if node.0 == gone.0 {
-        keep
-    } else {
-        node
-    }
+    if node.0 == gone.0 { keep } else { node }
 }
 
 /// The same nodes with one in place of another.
@@ -194,6 +207,18 @@ fn copied(alloc: Global, edges: &[(EdgeId, Edge)]) -> Result<Vec<(EdgeId, Edge)>
     Ok(list)
 }
 
+/// Adds the ids of the edges that start at a node.
+fn push_ids(ids: &mut Vec<EdgeId>, edges: &[(EdgeId, Edge)], node: NodeId) -> Result<(), NoMemory>
+    ensures { OnOk result (ids.new.items ≡ ids.old.items ++ ids_at edges.now node) }
+{
+    for e in edges {
+        if e.1.start().0 == node.0 {
+            ids.push(e.0)?;
+        }
+    }
+    Ok(())
+}
+
 impl Graph {
     /// No edges.
     pub fn new(alloc: Global) -> Graph
@@ -235,7 +260,7 @@ impl Graph {
     pub fn get(&self, id: EdgeId) -> Option<&Edge>
         ensures { option_copied result ≡ edge_with self.now.edges id }
     {
-        match find(self.edges.as_slice(), id) {
+        match find(self.edges.as_slice(), self.next, id) {
             Some(place) => Some(&self.edges[place].1),
             None => None,
         }
@@ -271,7 +296,7 @@ impl Graph {
         ensures edge { result ≡ edge_with self.old.edges id }
         ensures left { self.new ≡ with_only self.old (without self.old.edges id) }
     {
-        match find(self.edges.as_slice(), id) {
+        match find(self.edges.as_slice(), self.next, id) {
             Some(place) => Some(self.edges.remove(place).1),
             None => None,
         }
@@ -281,8 +306,9 @@ impl Graph {
     pub fn put(&mut self, id: EdgeId, edge: Edge)
         ensures { self.new ≡ with_only self.old (replaced self.old.edges id edge) }
     {
-        if let Some(place) = find(self.edges.as_slice(), id) {
-            self.edges[place] = (id, edge);
+        match find(self.edges.as_slice(), self.next, id) {
+            Some(place) => put_at(&mut self.edges, id, place, edge),
+            None => {}
         }
     }
 
@@ -291,9 +317,9 @@ impl Graph {
         ensures there { (e : _) → edge_with self.old.edges id ≡ Some e → self.new ≡ with_only self.old (replaced self.old.edges id (with_field_node f node e)) }
         ensures absent { edge_with self.old.edges id ≡ None → self.new ≡ self.old }
     {
-        if let Some(place) = find(self.edges.as_slice(), id) {
-            let e = &mut self.edges[place];
-            e.1.set_field(f, node);
+        match find(self.edges.as_slice(), self.next, id) {
+            Some(place) => set_field_at(&mut self.edges, place, f, node),
+            None => {}
         }
     }
 
@@ -302,11 +328,7 @@ impl Graph {
         ensures { IfOk result (λ ids. ids.items ≡ ids_at self.now.edges node) }
     {
         let mut ids = Vec::new(*self.edges.allocator());
-        for e in self.edges.as_slice() {
-            if e.1.start().0 == node.0 {
-                ids.push(e.0)?;
-            }
-        }
+        push_ids(&mut ids, self.edges.as_slice(), node)?;
         Ok(ids)
     }
 
