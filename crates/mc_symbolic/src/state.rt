@@ -1,5 +1,6 @@
 // Symbolic states.
-ghost use Rattle.std.specs.Prelude.{◌≡◌, ◌↔◌, ◌∷◌, [], IfOk, OnOk, OnErr, IsTrue, Some, None, false};
+ghost use Rattle.std.specs.Prelude.{◌≡◌, ◌↔◌, ◌∷◌, [], IfOk, OnOk, OnErr, IsTrue, Some, None, false, option_and_then, replicate};
+ghost use Rattle.std.specs.List.{AllByRecursion};
 ghost use Rattle.std.specs.Option.{option_copied};
 ghost use Rattle.mc_graph.specs.Edges.{nodes_of, with_field_node};
 ghost use Rattle.mc_graph.specs.Graph.{edge_with, without, replaced};
@@ -49,10 +50,13 @@ impl State {
     pub fn unknown(alloc: Global, vars: usize) -> Result<State, NoMemory>
         ensures { IfOk result (λ s. s ≡ unknown vars) }
     {
+        mc_state::numbers_stay_bounded();
+        let env = no_vars(alloc, vars)?;
+        let pure = Pure::new(alloc)?;
         Ok(State {
-            env: Items::of(vec![in alloc; None; vars]?),
+            env: Items::of(env),
             graph: Graph::new(alloc),
-            pure: Pure::new(alloc)?,
+            pure,
             next: 1,
             whole: true,
         })
@@ -71,9 +75,11 @@ impl State {
         })
     }
 
-    /// The numbers of a state are in their bounds, and all nodes that it names are there.
+    /// The numbers of a state are in their bounds, all nodes that it names are there, and its atoms are such as may be
+    /// written.
     pub fn is_bounded(&self)
-        ensures { IsBounded self.now }
+        ensures bounded { IsBounded self.now }
+        ensures atoms { AllByRecursion (IsWellFormed self.now.kinds) self.now.atoms }
     {
         let _graph = &self.graph;
     }
@@ -100,6 +106,7 @@ impl State {
     }
 
     /// Whether the node is of the kind. Node 0 is of every kind.
+    #[tactic(auto, unfolding(mc_premises::specs::Known::has_kind))]
     pub fn has_kind(&self, kind: Kind, node: NodeId) -> bool
         ensures { result ≡ has_kind self.now.kinds kind node }
     {
@@ -226,6 +233,7 @@ impl State {
         requires { (n : _) → node ≡ Some n → IsNode self.old.kinds n }
         ensures { self.new ≡ with_var self.old x node }
     {
+        mc_state::numbers_stay_bounded();
         self.env.set(x.0 as usize, node);
     }
 
@@ -235,6 +243,8 @@ impl State {
         ensures ok { OnOk result (self.new ≡ with_nodes self.old (kind ∷ [])) }
         ensures err { OnErr result (self.new ≡ self.old) }
     {
+        mc_state::numbers_stay_bounded();
+        mc_state::nodes_are_there();
         if self.next == u64::MAX {
             return Err(AllocError);
         }
@@ -250,7 +260,9 @@ impl State {
         ensures ok { OnOk result (self.new ≡ with_atom self.old atom.now) }
         ensures err { OnErr result (self.new ≡ self.old) }
     {
-        self.pure.assume(atom)
+        mc_state::numbers_stay_bounded();
+        self.pure.assume(atom)?;
+        Ok(())
     }
 
     /// Adds an edge, and answers its id. Without memory, or where no number is left, nothing changes.
@@ -260,15 +272,19 @@ impl State {
         ensures ok { OnOk result (self.new ≡ with_edges self.old (edge ∷ [])) }
         ensures err { OnErr result (self.new ≡ self.old) }
     {
+        mc_state::numbers_stay_bounded();
         let start = block_start(&edge);
         let id = self.graph.add(edge)?;
-        if let Some(at) = start {
-            if let Err(full) = self.pure.block(at) {
-                self.graph.take_back();
-                return Err(full);
-            }
+        match start {
+            Some(at) => match self.pure.block(at) {
+                Ok(()) => Ok(id),
+                Err(full) => {
+                    self.graph.take_back();
+                    Err(full)
+                }
+            },
+            None => Ok(id),
         }
-        Ok(id)
     }
 
     /// Takes an edge out, where it is there, and what followed from its block alone. Without memory nothing changes.
@@ -277,12 +293,14 @@ impl State {
         ensures ok { OnOk result (self.new ≡ with_only_edges self.old (without self.old.graph.edges id)) }
         ensures err { OnErr result (self.new ≡ self.old) }
     {
-        if let Some(edge) = self.graph.get(id) {
-            if let Some(at) = block_start(edge) {
+        mc_state::numbers_stay_bounded();
+        match start_with(&self.graph, id) {
+            Some(at) => {
                 self.pure.unblock(at)?;
+                Ok(self.graph.remove(id))
             }
+            None => Ok(self.graph.remove(id)),
         }
-        Ok(self.graph.remove(id))
     }
 
     /// Gives a field of a block a node, where the block and the field are there.
@@ -291,6 +309,8 @@ impl State {
         ensures there { (e : _) → edge_with self.old.graph.edges id ≡ Some e → self.new ≡ with_only_edges self.old (replaced self.old.graph.edges id (with_field_node f node e)) }
         ensures absent { edge_with self.old.graph.edges id ≡ None → self.new ≡ self.old }
     {
+        mc_state::numbers_stay_bounded();
+        mc_state::nodes_are_there();
         self.graph.set_field(id, f, node);
     }
 
@@ -302,6 +322,13 @@ impl State {
     }
 }
 
+/// Variables of which none has a node.
+fn no_vars(alloc: Global, vars: usize) -> Result<Vec<Option<NodeId>>, NoMemory>
+    ensures { IfOk result (λ env. env.items ≡ replicate vars None) }
+{
+    vec![in alloc; None; vars]
+}
+
 /// The node at which a block starts; None for another edge.
 fn block_start(edge: &Edge) -> Option<NodeId>
     ensures { result ≡ block_start edge.now }
@@ -310,6 +337,16 @@ fn block_start(edge: &Edge) -> Option<NodeId>
         Edge::Block { at, .. } => Some(*at),
         Edge::Ind { .. } => None,
         Edge::Seg { .. } => None,
+    }
+}
+
+/// The node at which the block with an id starts; None where there is none.
+fn start_with(graph: &Graph, id: EdgeId) -> Option<NodeId>
+    ensures { result ≡ option_and_then block_start (edge_with graph.now.edges id) }
+{
+    match graph.get(id) {
+        Some(edge) => block_start(edge),
+        None => None,
     }
 }
 
