@@ -77,7 +77,7 @@ pub is_that : (a x : NodeId) → is_node a x ≡ true → x ≡ a
 is_that a x e = let n : x.0 ≡ a.0 = grind (arith, nat_tests) in ap (λ (z : ℕ). record { 0 = z }) n
 
 module _ (xs ys : List NodeId) (same : HaveSameNodes xs ys) where
-  there : (i : ℕ) (a : NodeId) → slice_get xs i ≡ Some a → (j : ℕ) × (slice_get ys j ≡ Some a)
+  pub there : (i : ℕ) (a : NodeId) → slice_get xs i ≡ Some a → (j : ℕ) × (slice_get ys j ≡ Some a)
   there i a e =
       let h = counted (is_node a) xs i a e (is_itself a) in
       let m = same (is_node a) in

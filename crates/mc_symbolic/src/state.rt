@@ -1,17 +1,18 @@
 // Symbolic states.
-ghost use Rattle.std.specs.Prelude.{◌≡◌, ◌↔◌, ◌∷◌, [], IfOk, OnOk, OnErr, IsTrue, Some, None, false, option_and_then, replicate};
+ghost use Rattle.std.specs.Prelude.{◌≡◌, ◌↔◌, ◌∷◌, [], IfOk, OnOk, OnErr, IsTrue, Some, None, false, option_and_then, option_map, map, replicate};
 ghost use Rattle.std.specs.List.{AllByRecursion};
 ghost use Rattle.std.specs.Option.{option_copied};
+ghost use Rattle.mc_base.specs.Nodes.{moved};
 ghost use Rattle.mc_graph.specs.Edges.{nodes_of, with_field_node};
-ghost use Rattle.mc_graph.specs.Graph.{edge_with, without, replaced};
+ghost use Rattle.mc_graph.specs.Graph.{edge_with, without, replaced, block_starts};
 ghost use Rattle.mc_pure.specs.Pure.{IsNode, IsWellFormed, kind_of};
 ghost use Rattle.mc_pure.specs.Derived.{HasRange};
 ghost use Rattle.mc_pure.specs.Rows.{nodes_of as all_nodes};
 ghost use Rattle.mc_state.specs.State.{unknown, pure_of, var_node, next_node, with_var, with_nodes, with_atom, with_edges, with_only_edges};
-ghost use Rattle.mc_state.specs.Facts.{Derives, IsFalse, AreEqual, AreAllEqual};
+ghost use Rattle.mc_state.specs.Facts.{Derives, IsFalse, AreEqual, AreAllEqual, CanMerge, merged, instead};
 ghost use Rattle.mc_state.specs.Fits.{IsBounded, AreNodes};
 ghost use Rattle.mc_premises.specs.Known.{Test, Tells, is_false, equal, all_equal, same_kind, has_kind};
-ghost use Rattle.mc_symbolic.specs.Starts.{block_start};
+ghost use Rattle.mc_symbolic.specs.Starts.{HaveSameNodes, block_start};
 
 use mc_base::{Atom, EdgeId, Items, Kind, NoMemory, NodeId, VarId};
 use mc_edges::Graph;
@@ -314,11 +315,72 @@ impl State {
         self.graph.set_field(id, f, node);
     }
 
+    /// Puts one node in place of another everywhere, as where they are equal. Without memory nothing changes.
+    pub fn merge(&mut self, alloc: Global, keep: NodeId, gone: NodeId) -> Result<(), NoMemory>
+        requires { CanMerge self.old.kinds keep gone }
+        ensures ok { OnOk result (self.new ≡ merged keep gone self.old) }
+        ensures err { OnErr result (self.new ≡ self.old) }
+    {
+        mc_state::numbers_stay_bounded();
+        let env = moved_vars(alloc, self.env.as_slice(), keep, gone)?;
+        let pure = mc_renamed::merge(alloc, &self.pure, keep, gone)?;
+        self.graph.merge(keep, gone)?;
+        self.env = Items::of(env);
+        self.pure = pure;
+        Ok(())
+    }
+
+    /// What is known of the nodes.
+    pub fn known(&self) -> &Pure
+        ensures kinds { result.now.kinds ≡ self.now.kinds }
+        ensures atoms { result.now.written ≡ self.now.atoms }
+        ensures starts { HaveSameNodes result.now.starts (block_starts self.now.graph.edges) }
+    {
+        &self.pure
+    }
+
+    /// Puts other nodes and atoms in place of those that are known, where blocks start as before.
+    pub fn put_known(&mut self, pure: Pure)
+        requires starts { HaveSameNodes pure.starts (block_starts self.old.graph.edges) }
+        requires bounded { IsBounded (record self.old { kinds = pure.kinds; atoms = pure.written }) }
+        requires atoms { AllByRecursion (IsWellFormed pure.kinds) pure.written }
+        ensures { self.new ≡ record self.old { kinds = pure.kinds; atoms = pure.written } }
+    {
+        self.pure = pure;
+    }
+
     /// From now on the edges need not be all that is allocated.
     pub fn clear_whole(&mut self)
         ensures { self.new ≡ record self.old { whole = false } }
     {
         self.whole = false;
+    }
+}
+
+/// The nodes of variables with one node in place of another.
+fn moved_vars(
+    alloc: Global,
+    env: &[Option<NodeId>],
+    keep: NodeId,
+    gone: NodeId,
+) -> Result<Vec<Option<NodeId>>, NoMemory>
+    ensures { IfOk result (λ list. list.items ≡ map (option_map (moved (instead keep.0 gone.0))) env.now) }
+{
+    let mut list = Vec::with_capacity(alloc, env.len())?;
+    for var in env {
+        list.push(var.map(|node| moved(keep, gone, node)))?;
+    }
+    Ok(list)
+}
+
+/// One node in place of another.
+fn moved(keep: NodeId, gone: NodeId, node: NodeId) -> NodeId
+    ensures { result ≡ moved (instead keep.0 gone.0) node }
+{
+    if node.0 == gone.0 {
+        keep
+    } else {
+        node
     }
 }
 
