@@ -377,11 +377,7 @@ fn moved_vars(
 fn moved(keep: NodeId, gone: NodeId, node: NodeId) -> NodeId
     ensures { result ≡ moved (instead keep.0 gone.0) node }
 {
-    if node.0 == gone.0 {
-        keep
-    } else {
-        node
-    }
+    if node.0 == gone.0 { keep } else { node }
 }
 
 /// Variables of which none has a node.
