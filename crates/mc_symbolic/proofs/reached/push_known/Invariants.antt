@@ -1,0 +1,6 @@
+use Rattle.std.proofs.Common.{◌≡◌, ◌++◌, drop}
+use Rattle.mc_graph.specs.Edges.{known_nodes}
+use Rattle.mc_symbolic.proofs.reached.push_known.Given as goal
+
+abbrev pub invariant-loop-field : goal.invariant-loop-field
+invariant-loop-field l = l.fn.found.items ++ known_nodes l.fields ≡ l.found.items ++ known_nodes (drop l.field-index l.fields)
