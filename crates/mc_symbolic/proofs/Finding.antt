@@ -268,3 +268,17 @@ module _ (s : State) (bounded : IsBounded s) (consistent : IsFalse s → ⊥) wh
 
     pub unreached : IsReached s goal → ⊥
     unreached r = let k = found goal r in let w = slice_get_within f k.0 k.1 k.2 in h.tried k.0 k.1 (omega arith) k.2 k.3
+
+-- ---- what the code finds
+
+pub item_at : {X : Type 0} (xs ys : List X) (i : ℕ) (x d : X) → ys ≡ xs → i < length xs → x ≡ get_or ys i d → slice_get xs i ≡ Some x
+item_at {X} xs ys i x d same l e = slice_get-get_or xs i d l ∙ ap (λ (z : X). Some z) (ap (λ (z : List X). get_or z i d) (sym same) ∙ sym e)
+
+pub reached_false : (s : State) (n : NodeId) → IsFalse s → IsReached s n
+reached_false s n w = facts.IsReached.along_equal {a = null} facts.IsReached.from_null (inr w)
+
+pub reached_equal : (s : State) (f : List NodeId) (k : ℕ) (p n : NodeId) → AreReached s f → slice_get f k ≡ Some p → AreEqual s p n → IsReached s n
+reached_equal s f k p n a e q = facts.IsReached.along_equal {a = p} (a k p e) q
+
+pub never : false ≡ true → ⊥
+never e = cc e
