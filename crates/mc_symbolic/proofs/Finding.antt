@@ -187,7 +187,8 @@ searches_start s goal = record {
     count zero = refl
     count (suc n) = ap suc (count n)
 
-pub searches_step : (s : State) (goal start : NodeId) (next : ℕ) (f : List NodeId) (u : List Bool) (f' : List NodeId) (u' : List Bool) → slice_get f next ≡ Some start → (AreEqual s start goal → ⊥) → Searches s goal next f u → Opens s start (length s.graph.edges) f u f' u' → Searches s goal (next + 1) f' u'
+pub searches_step : (s : State) (goal start : NodeId) (next : ℕ) (f : List NodeId) (u : List Bool) (f' : List NodeId) (u' : List Bool) → slice_get f next ≡ Some start → (AreEqual s start goal → ⊥)
+    → Searches s goal next f u → Opens s start (length s.graph.edges) f u f' u' → Searches s goal (next + 1) f' u'
 searches_step s goal start next f u f' u' at other h o = record {
   sound = o.sound (h.sound next start at) h.sound;
   opened = o.opened h.opened;

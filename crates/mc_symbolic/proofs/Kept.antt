@@ -102,7 +102,8 @@ pub many_first : (test : NodeId → Bool) (xs : List NodeId) (a : NodeId) → 0 
 many_first test [] a l = absurd (omega arith)
 many_first test (x ∷ xs) a l = at (many_first test xs a) (is_node a x) refl l
   where
-    at : (0 < how_many (is_node a) xs → how_many test xs ≡ bump (test a) (how_many test (without_first xs a))) → (yes : Bool) → is_node a x ≡ yes → 0 < (if yes then suc (how_many (is_node a) xs) else how_many (is_node a) xs) → how_many test (x ∷ xs) ≡ bump (test a) (how_many test (cond yes xs (x ∷ without_first xs a)))
+    at : (0 < how_many (is_node a) xs → how_many test xs ≡ bump (test a) (how_many test (without_first xs a))) → (yes : Bool) → is_node a x ≡ yes
+        → 0 < (if yes then suc (how_many (is_node a) xs) else how_many (is_node a) xs) → how_many test (x ∷ xs) ≡ bump (test a) (how_many test (cond yes xs (x ∷ without_first xs a)))
     at h true e l = ap (λ (z : NodeId). bump (test z) (how_many test xs)) (is_that a x e)
     at h false e l = ap (λ (z : ℕ). bump (test x) z) (h l) ∙ bump_bump (test x) (test a) (how_many test (without_first xs a))
 
@@ -123,7 +124,8 @@ starts_less test ((i, x) ∷ es) id e at there is = here (starts_less test es id
     later (Ind n pred args) ys h = h
     later (Seg n args pred «end» ends) ys h = h
 
-    here : (edge_with es id ≡ Some e → block_start e ≡ Some at → how_many test (block_starts es) ≡ bump (test at) (how_many test (block_starts (without es id)))) → (yes : Bool) → (if yes then Some x else edge_with es id) ≡ Some e → how_many test (block_starts ((i, x) ∷ es)) ≡ bump (test at) (how_many test (block_starts (if yes then es else (i, x) ∷ without es id)))
+    here : (edge_with es id ≡ Some e → block_start e ≡ Some at → how_many test (block_starts es) ≡ bump (test at) (how_many test (block_starts (without es id)))) → (yes : Bool)
+        → (if yes then Some x else edge_with es id) ≡ Some e → how_many test (block_starts ((i, x) ∷ es)) ≡ bump (test at) (how_many test (block_starts (if yes then es else (i, x) ∷ without es id)))
     here h true q = first x (ap block_start (one x e q) ∙ is)
     here h false q = later x (without es id) (h q is)
 
@@ -230,7 +232,9 @@ pub record Stays (s : State) (starts : List NodeId) (new : Graph) : Type 0 where
   pub bounded : IsBounded (record s { graph = new })
   pub same : HaveSameNodes starts (block_starts new.edges)
 
-pub kept_field : ReplacedStaysBounded → PickedNodesAreThere → (s : State) (starts : List NodeId) (id : EdgeId) (f : ℕ) (node : NodeId) (new : Graph) → IsBounded s → HaveSameNodes starts (block_starts s.graph.edges) → IsNode s.kinds node → ((e : Edge) → edge_with s.graph.edges id ≡ Some e → new ≡ with_only s.graph (replaced s.graph.edges id (with_field_node f node e))) → (edge_with s.graph.edges id ≡ None → new ≡ s.graph) → Stays s starts new
+pub kept_field : ReplacedStaysBounded → PickedNodesAreThere → (s : State) (starts : List NodeId) (id : EdgeId) (f : ℕ) (node : NodeId) (new : Graph) → IsBounded s
+    → HaveSameNodes starts (block_starts s.graph.edges) → IsNode s.kinds node → ((e : Edge) → edge_with s.graph.edges id ≡ Some e
+    → new ≡ with_only s.graph (replaced s.graph.edges id (with_field_node f node e))) → (edge_with s.graph.edges id ≡ None → new ≡ s.graph) → Stays s starts new
 kept_field law nodes s starts id f node new b same is there absent = at (edge_with s.graph.edges id) refl
   where
     at : (o : Option Edge) → edge_with s.graph.edges id ≡ o → Stays s starts new

@@ -153,7 +153,9 @@ pub record Merges (keep gone : NodeId) (s : State) (env : List (Option NodeId)) 
   pub formed : AllByRecursion (IsWellFormed pure.kinds) pure.written
   pub is : (let t : State = record { env = env; kinds = pure.kinds; graph = graph; atoms = pure.written; next = s.next; whole = s.whole } in t ≡ merged keep gone s)
 
-pub merges : MergedStaysBounded → (keep gone : NodeId) (s : State) (p : Pure) (env : List (Option NodeId)) (graph : Graph) (pure : Pure) → CanMerge s.kinds keep gone → IsBounded s → p.kinds ≡ s.kinds → p.written ≡ s.atoms → AllByRecursion (IsWellFormed s.kinds) s.atoms → HaveSameNodes p.starts (block_starts s.graph.edges) → env ≡ map (option_map (moved (instead keep.0 gone.0))) s.env → graph ≡ moved_graph (instead keep.0 gone.0) s.graph → pure ≡ renamed.merged keep gone p → Merges keep gone s env graph pure
+pub merges : MergedStaysBounded → (keep gone : NodeId) (s : State) (p : Pure) (env : List (Option NodeId)) (graph : Graph) (pure : Pure) → CanMerge s.kinds keep gone → IsBounded s → p.kinds ≡ s.kinds
+    → p.written ≡ s.atoms → AllByRecursion (IsWellFormed s.kinds) s.atoms → HaveSameNodes p.starts (block_starts s.graph.edges) → env ≡ map (option_map (moved (instead keep.0 gone.0))) s.env
+    → graph ≡ moved_graph (instead keep.0 gone.0) s.graph → pure ≡ renamed.merged keep gone p → Merges keep gone s env graph pure
 merges law keep gone s p env graph pure can b kinds written w same e g q =
     let k : pure.kinds ≡ left s.kinds gone = ap (λ (z : Pure). z.kinds) q ∙ (ap (λ (z : Kinds). renamed_left z gone) kinds ∙ same_left s.kinds gone) in
     let a : pure.written ≡ map (moved_atom (instead keep.0 gone.0)) s.atoms = ap (λ (z : Pure). z.written) q ∙ ap (λ (z : List Atom). map (moved_atom (instead keep.0 gone.0)) z) written in

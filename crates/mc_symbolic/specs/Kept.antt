@@ -19,8 +19,8 @@ seen s =
       whole = s.whole;
     }
 
--- numbers are in their bounds, all nodes that are named are there, blocks start where those of the edges do, and the atoms
--- are such as may be written
+-- numbers are in their bounds, all nodes that are named are there, blocks start where those of the edges do,
+-- and the atoms are such as may be written
 pub record IsKept (s : Inside) : Type 0 where
   pub bounded : IsBounded (seen s)
   pub starts : HaveSameNodes s.pure.starts (block_starts s.graph.edges)

@@ -19,7 +19,8 @@ AreReached s found = (k : ℕ) (n : NodeId) → slice_get found k ≡ Some n →
 -- all nodes of the edges that are used are found
 abbrev pub AreOpened : State → List NodeId → List Bool → Type 0
 AreOpened s found used =
-    (i : ℕ) (e : EdgeId × Edge) → slice_get used i ≡ Some true → slice_get s.graph.edges i ≡ Some e → (n : NodeId) → Contains (nodes_of e.1) n → IsAmong found n
+    (i : ℕ) (e : EdgeId × Edge) → slice_get used i ≡ Some true → slice_get s.graph.edges i ≡ Some e
+    → (n : NodeId) → Contains (nodes_of e.1) n → IsAmong found n
 
 -- how many nodes the edges have that are not used yet
 abbrev pub pending : List Bool → Edges → ℕ
@@ -41,7 +42,8 @@ pub record Opens (s : State) (node : NodeId) (count : ℕ) (found : List NodeId)
   pub still : (i : ℕ) → slice_get used i ≡ Some true → slice_get used' i ≡ Some true
   pub sound : IsReached s node → AreReached s found → AreReached s found'
   pub opened : AreOpened s found used → AreOpened s found' used'
-  pub done : (i : ℕ) (e : EdgeId × Edge) → i < count → slice_get s.graph.edges i ≡ Some e → AreEqual s (start_of e.1) node → slice_get used' i ≡ Some true
+  pub done : (i : ℕ) (e : EdgeId × Edge) → i < count → slice_get s.graph.edges i ≡ Some e
+      → AreEqual s (start_of e.1) node → slice_get used' i ≡ Some true
   pub long : length used' ≡ length used
   pub weight : length found' + pending used' s.graph.edges ≡ length found + pending used s.graph.edges
 
@@ -51,6 +53,7 @@ pub record Searches (s : State) (goal : NodeId) (next : ℕ) (found : List NodeI
   pub opened : AreOpened s found used
   pub null_found : (k : ℕ) × (slice_get found k ≡ Some (record { 0 = 0 }))
   pub vars_found : (place : ℕ) (n : NodeId) → slice_get s.env place ≡ Some (Some n) → IsAmong found n
-  pub done : (k i : ℕ) (p : NodeId) (e : EdgeId × Edge) → k < next → slice_get found k ≡ Some p → slice_get s.graph.edges i ≡ Some e → AreEqual s (start_of e.1) p → slice_get used i ≡ Some true
+  pub done : (k i : ℕ) (p : NodeId) (e : EdgeId × Edge) → k < next → slice_get found k ≡ Some p
+      → slice_get s.graph.edges i ≡ Some e → AreEqual s (start_of e.1) p → slice_get used i ≡ Some true
   pub tried : (k : ℕ) (p : NodeId) → k < next → slice_get found k ≡ Some p → AreEqual s p goal → ⊥
   pub long : length used ≡ length s.graph.edges
