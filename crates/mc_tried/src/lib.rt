@@ -14,6 +14,8 @@ mod heaps;
 #[cfg(test)]
 mod instances;
 #[cfg(test)]
+mod joins;
+#[cfg(test)]
 mod lists;
 #[cfg(test)]
 mod numbers;
@@ -21,6 +23,8 @@ mod numbers;
 mod outside;
 #[cfg(test)]
 mod ranges;
+#[cfg(test)]
+mod renamings;
 #[cfg(test)]
 mod stacks;
 #[cfg(test)]
