@@ -1,5 +1,7 @@
 // Laws of lowering.
-ghost use Rattle.mc_lowering.specs.Examples.{calls_graph, calls_main, commands_graph, commands_main, conditions_graph, conditions_main, do_graph, do_main, fields_graph, fields_main, for_graph, for_main, returns_graph, returns_main, run_function, run_graph, values_graph, values_main, while_graph, while_main, whole_graph};
+ghost use Rattle.mc_lowering.specs.Examples.{calls_graph, calls_main, commands_graph, commands_main, conditions_graph, conditions_main, do_graph, do_main};
+ghost use Rattle.mc_lowering.specs.Examples.{fields_graph, fields_main, for_graph, for_main, returns_graph, returns_main, run_function, run_graph};
+ghost use Rattle.mc_lowering.specs.Examples.{values_graph, values_main, while_graph, while_main, whole_graph};
 ghost use Rattle.mc_flow.specs.Steps.{IsSafeFlow};
 ghost use Rattle.mc_lowering.specs.Graphs.{Graph};
 ghost use Rattle.mc_lowering.specs.Lowering.{IsLowering, Makes};

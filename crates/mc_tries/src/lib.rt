@@ -10,7 +10,7 @@ ghost use Rattle.std.specs.Option.{option_copied};
 ghost use Rattle.std.specs.Ordering.{nat_cmp};
 ghost use Rattle.std.specs.BTreeMap as tree;
 ghost use Rattle.mc_search.specs.Search.{Space, uses, takes_this, is_unused, is_free, tries, first_try};
-ghost use Rattle.mc_tries.specs.Stack.{enough, goals_at, IsArena, Pushes, IsStack, tries_of};
+ghost use Rattle.mc_tries.specs.Stack.{enough, goals_at, IsArena, Pushes, IsStack, tries_of, Opens};
 ghost use Rattle.mc_tries.specs.Times.{HasTimes, SetsPlace};
 
 use std::alloc::{AllocError, Global};
@@ -157,7 +157,7 @@ fn push_marks<P: Problem>(
     requires stack { IsStack (P.space problem.now).takes log.now (length (reverse cells.old.items)) (length log.now) (reverse pending.old.items) }
     ensures arena { IfOk result (λ _. IsArena (reverse cells.new.items)) }
     ensures stack { IfOk result (λ _. IsStack (P.space problem.now).takes log.now (length (reverse cells.new.items)) (length log.now) (reverse pending.new.items)) }
-    ensures tried { IfOk result (λ _. (limit : ℕ) → length log.now < limit → let w = P.space problem.now in None ∷ tries_of w limit (reverse cells.new.items) log.now (reverse pending.new.items) ≡ tries w (limit - length log.now) (goal.now ∷ goals_at (reverse cells.old.items) next) log.now ++ tries_of w limit (reverse cells.old.items) log.now (reverse pending.old.items)) }
+    ensures tried { IfOk result (λ _. Opens (P.space problem.now) (goal.now ∷ goals_at (reverse cells.old.items) next) log.now (reverse cells.old.items) (reverse pending.old.items) (reverse cells.new.items) (reverse pending.new.items)) }
 {
     let all = problem.marks(alloc, goal)?;
     let height = log.len();
@@ -195,7 +195,7 @@ fn expand<P: Problem>(
     requires stack { IsStack (P.space problem.now).takes log.now (length (reverse cells.old.items)) (length log.now) (reverse pending.old.items) }
     ensures arena { IfOk result (λ _. IsArena (reverse cells.new.items)) }
     ensures stack { IfOk result (λ _. IsStack (P.space problem.now).takes log.now (length (reverse cells.new.items)) (length log.now) (reverse pending.new.items)) }
-    ensures tried { IfOk result (λ _. (limit : ℕ) → length log.now < limit → let w = P.space problem.now in None ∷ tries_of w limit (reverse cells.new.items) log.now (reverse pending.new.items) ≡ tries w (limit - length log.now) (goals_at (reverse cells.old.items) top) log.now ++ tries_of w limit (reverse cells.old.items) log.now (reverse pending.old.items)) }
+    ensures tried { IfOk result (λ _. Opens (P.space problem.now) (goals_at (reverse cells.old.items) top) log.now (reverse cells.old.items) (reverse pending.old.items) (reverse cells.new.items) (reverse pending.new.items)) }
 {
     let cell = &cells[top - 1];
     let next = cell.next;
