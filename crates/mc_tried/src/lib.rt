@@ -24,10 +24,10 @@ mod predicates;
 #[cfg(test)]
 mod ranges;
 #[cfg(test)]
+mod resolved;
+#[cfg(test)]
 mod stacks;
 #[cfg(test)]
 mod tokens;
-#[cfg(test)]
-mod resolved;
 #[cfg(test)]
 mod trees;
