@@ -24,8 +24,6 @@ mod predicates;
 #[cfg(test)]
 mod ranges;
 #[cfg(test)]
-mod resolved;
-#[cfg(test)]
 mod stacks;
 #[cfg(test)]
 mod tokens;
