@@ -149,7 +149,7 @@ fn shape(
 }
 
 // `struct node { int data; struct node *next; };` and `struct t { struct t *l; struct t *r; };`
-pub fn structs(alloc: Global) -> Result<Structs, AllocError> {
+fn structs(alloc: Global) -> Result<Structs, AllocError> {
     let mut list = Items::new(alloc);
     let data = field(alloc, "data", Kind::Int)?;
     let next = field(alloc, "next", Kind::Ptr)?;

@@ -20,8 +20,6 @@ mod numbers;
 #[cfg(test)]
 mod outside;
 #[cfg(test)]
-mod predicates;
-#[cfg(test)]
 mod ranges;
 #[cfg(test)]
 mod stacks;
