@@ -1,14 +1,12 @@
 -- The place of a node in its class.
 use Rattle.std.proofs.Common.{◌≡◌, ◌∙◌, List, refl, arith}
-use Rattle.std.proofs.lemmas.Int.{ints}
 use Rattle.mc_base.specs.declared.ids.NodeId.{NodeId}
 use Rattle.mc_base.specs.declared.plain.Atom.TheVariants.{Eq}
 use Rattle.mc_pure.specs.declared.rows.Row.{Row}
 use Rattle.mc_pure.specs.Pure.{Pure, IsNode}
 use Rattle.mc_pure.specs.Derived.{Follows}
 use Rattle.mc_pure.specs.Canonical.{IsLeast}
-use Rattle.mc_pure.specs.Classes.{IsLong}
-use Rattle.mc_pure.specs.Rows.{row_at, RowSound, IsSound}
+use Rattle.mc_pure.specs.Rows.{row_at, IsSound}
 use Rattle.mc_pure.specs.Steps.{IsStable}
 use Rattle.mc_pure.proofs.Changing.{eq_at, number}
 use Rattle.mc_pure.proofs.Stepping.{here}
@@ -36,8 +34,3 @@ module _ (p : Pure) (rows : List Row) (s : IsSound p rows) (t : IsStable p rows)
 
   pub place_least : (r : Row) → r ≡ row_at rows a → IsLeast p r.rep
   place_least r e = rw e own_least
-
-pub place_long : (p : Pure) (rows : List Row) (a : NodeId) (r : Row) → IsSound p rows → IsNode p.kinds a → r ≡ row_at rows a → IsLong r.off
-place_long p rows a r s n e =
-    let o : RowSound p r = rw e (s.each (row_at rows a) (here p rows a s n).0) in
-    (omega (arith, ints, o.above, o.below, o.above', o.below', o.full), omega (arith, ints, o.above, o.below, o.above', o.below', o.full))

@@ -17,9 +17,9 @@ use Rattle.mc_pure.specs.declared.steps.Step.TheVariants.{Stay, Empty, To}
 use Rattle.mc_pure.specs.Pure.{Pure, IsNode, Base}
 use Rattle.mc_pure.specs.Derived.{Follows, IsFalse, base, turned, chained, differs, differs_along, raised, lowered, apart}
 use Rattle.mc_pure.specs.Normal.{low, high}
-use Rattle.mc_pure.specs.Rows.{row_at, At, RowSound, Over, IsSound, IsSmall, IsShort, changed_by, CanPut, Settled, Stepped, Lighter}
-use Rattle.mc_pure.specs.Steps.{CutIs, JoinIs, ActIs, SmallStep, WithoutIs, SplitIs, IsTame, IsDownward, LinkIs}
-use Rattle.mc_pure.proofs.Changing.{has_row, number, put_sound, put_lighter, put_keeps, put_within, offset_small, restrict_empty, restrict_put, restrict_pin, merge_empty, merge_put, merge_pin, clash, eq_at, in_at}
+use Rattle.mc_pure.specs.Rows.{row_at, At, RowSound, Over, IsSound, IsSmall, IsShort, IsLongRow, StayLong, changed_by, CanPut, Settled, Stepped, Lighter}
+use Rattle.mc_pure.specs.Steps.{CutIs, JoinIs, ActIs, SmallStep, StepStaysLong, WithoutIs, SplitIs, IsTame, IsDownward, LinkIs}
+use Rattle.mc_pure.proofs.Changing.{has_row, number, map_at, put_sound, put_lighter, put_keeps, put_within, offset_small, restrict_empty, restrict_put, restrict_pin, merge_empty, merge_put, merge_pin, clash, eq_at, in_at}
 
 -- the row of a node
 pub here : (facts : Pure) (rows : List Row) (a : NodeId) → IsSound facts rows → IsNode facts.kinds a → At rows (row_at rows a) × ((row_at rows a).node ≡ a)
@@ -37,6 +37,20 @@ node_lo facts rows a r s n e = rw e (let o = s.each (row_at rows a) (here facts 
 pub node_hi : (facts : Pure) (rows : List Row) (a : NodeId) (r : Row) → IsSound facts rows → IsNode facts.kinds a → r ≡ row_at rows a → IsSmall r.hi
 node_hi facts rows a r s n e = rw e (let o = s.each (row_at rows a) (here facts rows a s n).0 in (omega (arith, ints, o.above, o.below, o.full), omega (arith, ints, o.above, o.below, o.full)))
 
+-- a sound row's numbers have 64 bits
+row_long : (facts : Pure) (r : Row) → RowSound facts r → IsLongRow r
+row_long facts r o = (
+  (omega (arith, ints, o.above, o.below, o.above', o.below', o.full), omega (arith, ints, o.above, o.below, o.above', o.below', o.full)),
+  (omega (arith, ints, o.above), omega (arith, ints, o.below, o.full)),
+  (omega (arith, ints, o.above, o.full), omega (arith, ints, o.below)),
+)
+
+-- and stay so by a legal change
+change_long : (facts : Pure) (rows : List Row) (c : Change) → IsSound facts rows → CanPut facts rows c.gone c.keep c.by c.lo c.hi → StayLong c rows
+change_long facts rows c s p r at =
+    let now = put_sound facts rows s c.gone c.keep c.by c.lo c.hi p in
+    row_long facts (changed_by c r) (now.each (changed_by c r) (at.0, map_at (changed_by c) rows r at.0 at.1))
+
 -- a legal change was made
 change_done : (facts : Pure) (rows now : List Row) (c : Change) (class : NodeId) → IsSound facts rows → CanPut facts rows c.gone c.keep c.by c.lo c.hi → (now ≡ map (changed_by c) rows) × (class ≡ c.keep) → Lighter facts rows now class
 change_done facts rows now c class s p e =
@@ -44,6 +58,19 @@ change_done facts rows now c class s p e =
 
 can_at : (facts : Pure) (rows : List Row) (gone gone' keep keep' : NodeId) (by by' lo lo' hi hi' : ℤ) → gone' ≡ gone → keep' ≡ keep → by' ≡ by → lo' ≡ lo → hi' ≡ hi → CanPut facts rows gone keep by lo hi → CanPut facts rows gone' keep' by' lo' hi'
 can_at facts rows gone gone' keep keep' by by' lo lo' hi hi' a b c d e p = rw (a, b, c, d, e) p
+
+cut_can : (facts : Pure) (rows : List Row) (a : NodeId) (l h : ℤ) (r : Row) (g : Change) → IsSound facts rows → Follows facts (In a l h) → IsNode facts.kinds a → r ≡ row_at rows a → CutIs r l h (To g) → CanPut facts rows g.gone g.keep g.by g.lo g.hi
+cut_can facts rows a l h r g s d n e c =
+    let k = here facts rows a s n in
+    let at : At rows r = rw e k.0 in
+    let is : r.node ≡ a = ap (λ (x : Row). x.node) e ∙ k.1 in
+    let d' = in_at facts d (sym is) refl refl in
+    let lo = int_max r.lo (l -ℤ r.off) in
+    let hi = int_min r.hi (h -ℤ r.off) in
+    elim c.2 [
+      | inl x ↦ can_at facts rows r.rep g.gone null g.keep lo g.by (pos 0) g.lo (pos 0) g.hi x.1.gone_is x.1.keep_is x.1.by_is x.1.lo_is x.1.hi_is (restrict_pin facts rows s r at l h d' lo hi refl refl c.0 c.1 x.0)
+      | inr x ↦ can_at facts rows r.rep g.gone r.rep g.keep (pos 0) g.by lo g.lo hi g.hi x.1.gone_is x.1.keep_is x.1.by_is x.1.lo_is x.1.hi_is (restrict_put facts rows s r at l h d' lo hi refl refl c.0 c.1 x.0)
+    ]
 
 pub cut_done : (facts : Pure) (rows now : List Row) (a : NodeId) (l h : ℤ) (r : Row) (step : Step) (out : Outcome) → IsSound facts rows → Follows facts (In a l h) → IsNode facts.kinds a → r ≡ row_at rows a → IsSmall r.off → CutIs r l h step → ActIs step rows now out → Stepped facts rows now (Settled facts rows (In a l h)) out
 cut_done facts rows now a l h r Stay Same s d n e small c t =
@@ -62,15 +89,20 @@ cut_done facts rows now a l h r Empty False s d n e small c t =
 cut_done facts rows now a l h r (To g) Same s d n e small c t = absurd t
 cut_done facts rows now a l h r (To g) False s d n e small c t = absurd t
 cut_done facts rows now a l h r (To g) (Changed class) s d n e small c t =
-    let k = here facts rows a s n in
-    let at : At rows r = rw e k.0 in
-    let is : r.node ≡ a = ap (λ (x : Row). x.node) e ∙ k.1 in
-    let d' = in_at facts d (sym is) refl refl in
-    let lo = int_max r.lo (l -ℤ r.off) in
-    let hi = int_min r.hi (h -ℤ r.off) in
-    elim c.2 [
-      | inl x ↦ change_done facts rows now g class s (can_at facts rows r.rep g.gone null g.keep lo g.by (pos 0) g.lo (pos 0) g.hi x.1.gone_is x.1.keep_is x.1.by_is x.1.lo_is x.1.hi_is (restrict_pin facts rows s r at l h d' lo hi refl refl c.0 c.1 x.0)) t
-      | inr x ↦ change_done facts rows now g class s (can_at facts rows r.rep g.gone r.rep g.keep (pos 0) g.by lo g.lo hi g.hi x.1.gone_is x.1.keep_is x.1.by_is x.1.lo_is x.1.hi_is (restrict_put facts rows s r at l h d' lo hi refl refl c.0 c.1 x.0)) t
+    change_done facts rows now g class s (cut_can facts rows a l h r g s d n e c) t
+
+pub cut_long : (facts : Pure) (rows : List Row) (a : NodeId) (l h : ℤ) (r : Row) (step : Step) → IsSound facts rows → Follows facts (In a l h) → IsNode facts.kinds a → r ≡ row_at rows a → CutIs r l h step → StepStaysLong step rows
+cut_long facts rows a l h r Stay s d n e c = tt
+cut_long facts rows a l h r Empty s d n e c = tt
+cut_long facts rows a l h r (To g) s d n e c = change_long facts rows g s (cut_can facts rows a l h r g s d n e c)
+
+join_can : (facts : Pure) (rows : List Row) (up down : Row) (b : ℤ) (g : Change) → IsSound facts rows → Follows facts (Eq up.rep down.rep b) → At rows up → At rows down → down.rep.0 < up.rep.0 → JoinIs up down b (To g) → CanPut facts rows g.gone g.keep g.by g.lo g.hi
+join_can facts rows up down b g s d au ad w c =
+    let lo = int_max down.lo (up.lo -ℤ b) in
+    let hi = int_min down.hi (up.hi -ℤ b) in
+    elim c.1 [
+      | inl x ↦ can_at facts rows up.rep g.gone null g.keep (lo +ℤ b) g.by (pos 0) g.lo (pos 0) g.hi x.2.gone_is x.2.keep_is x.2.by_is x.2.lo_is x.2.hi_is (merge_pin facts rows s up down au ad b d lo hi refl refl c.0 x.0 w)
+      | inr x ↦ can_at facts rows up.rep g.gone down.rep g.keep b g.by lo g.lo hi g.hi x.1.gone_is x.1.keep_is x.1.by_is x.1.lo_is x.1.hi_is (merge_put facts rows s up down au ad b d lo hi refl refl c.0 x.0 w)
     ]
 
 pub join_done : (facts : Pure) (rows now : List Row) (up down : Row) (b : ℤ) (P : Type 0) (step : Step) (out : Outcome) → IsSound facts rows → Follows facts (Eq up.rep down.rep b) → At rows up → At rows down → down.rep.0 < up.rep.0 → JoinIs up down b step → ActIs step rows now out → Stepped facts rows now P out
@@ -81,12 +113,7 @@ join_done facts rows now up down b P Empty False s d au ad w c t = merge_empty f
 join_done facts rows now up down b P (To g) Same s d au ad w c t = absurd t
 join_done facts rows now up down b P (To g) False s d au ad w c t = absurd t
 join_done facts rows now up down b P (To g) (Changed class) s d au ad w c t =
-    let lo = int_max down.lo (up.lo -ℤ b) in
-    let hi = int_min down.hi (up.hi -ℤ b) in
-    elim c.1 [
-      | inl x ↦ change_done facts rows now g class s (can_at facts rows up.rep g.gone null g.keep (lo +ℤ b) g.by (pos 0) g.lo (pos 0) g.hi x.2.gone_is x.2.keep_is x.2.by_is x.2.lo_is x.2.hi_is (merge_pin facts rows s up down au ad b d lo hi refl refl c.0 x.0 w)) t
-      | inr x ↦ change_done facts rows now g class s (can_at facts rows up.rep g.gone down.rep g.keep b g.by lo g.lo hi g.hi x.1.gone_is x.1.keep_is x.1.by_is x.1.lo_is x.1.hi_is (merge_put facts rows s up down au ad b d lo hi refl refl c.0 x.0 w)) t
-    ]
+    change_done facts rows now g class s (join_can facts rows up down b g s d au ad w c) t
 
 pub small_cut : (r : Row) (l h : ℤ) (step : Step) → IsTame r → CutIs r l h step → SmallStep step (λ b. IsSmall b)
 small_cut r l h Stay t c = tt
@@ -182,6 +209,14 @@ module _ (facts : Pure) (rows now : List Row) (a b : NodeId) (c : ℤ) (r t : Ro
 
   link_clash : (r.rep ≡ t.rep) × (r.off ≢ t.off +ℤ c) → IsFalse facts
   link_clash k = clash facts a b r t c (s.each r link_at.0) (s.each t link_at.1) (ap (λ (x : Row). x.node) e ∙ (here facts rows a s na).1) (ap (λ (x : Row). x.node) f ∙ (here facts rows b s nb).1) k.0 k.1 d
+
+  pub link_long : (step : Step) → LinkIs r t c step → StepStaysLong step rows
+  link_long Stay k = tt
+  link_long Empty k = tt
+  link_long (To g) k = change_long facts rows g s (elim k [
+    | inl y ↦ join_can facts rows r t ((t.off +ℤ c) -ℤ r.off) g s link_far link_at.0 link_at.1 y.0 y.1
+    | inr y ↦ join_can facts rows t r (neg_ℤ ((t.off +ℤ c) -ℤ r.off)) g s (turned link_far) link_at.1 link_at.0 y.0 y.1
+  ])
 
   pub link_done : (step : Step) (out : Outcome) → LinkIs r t c step → ActIs step rows now out → Stepped facts rows now (Settled facts rows (Eq a b c)) out
   link_done Stay Same k x = (x, (na, nb, ap (λ (z : Row). z.rep) (sym e) ∙ k.0 ∙ ap (λ (z : Row). z.rep) f, rw (← e, ← f) k.1))

@@ -1,5 +1,5 @@
 -- Normal forms, and what they are for.
-use Rattle.std.specs.Prelude.{◌≡◌, ◌↔◌, ◌⊎◌, Bool, true, ℤ, pos, negsuc, ◌≤ℤ◌}
+use Rattle.std.specs.Prelude.{◌≡◌, ◌↔◌, ◌⊎◌, Bool, true}
 use Rattle.mc_base.specs.declared.ids.NodeId.{NodeId}
 use Rattle.mc_base.specs.declared.plain.Atom.{Atom}
 use Rattle.mc_pure.specs.declared.rows.Row.{Row}
@@ -9,10 +9,7 @@ use Rattle.mc_pure.specs.Nodes.{RiseFrom}
 use Rattle.mc_pure.specs.Known.{IsFit}
 use Rattle.mc_pure.specs.Canonical.{IsLeast}
 use Rattle.mc_pure.specs.Normal.{Holds, IsNormal}
-
--- within 2 to the 63
-abbrev pub IsLong : ℤ → Type 0
-IsLong x = (negsuc 9223372036854775807 ≤ℤ x) × (x ≤ℤ pos 9223372036854775807)
+pub use Rattle.mc_pure.specs.Rows.{IsLong}
 
 -- what is known has a normal form, in which the least node of each class stands for the class
 pub record HasNormalForm (p : Pure) : Type 0 where

@@ -31,6 +31,14 @@ At rows r = (i : ℕ) × (slice_get rows i ≡ Some r)
 abbrev pub Has : List Row → NodeId → Type 0
 Has rows a = (r : Row) × At rows r × (r.node ≡ a)
 
+-- a number of 64 bits
+abbrev pub IsLong : ℤ → Type 0
+IsLong x = (negsuc 9223372036854775807 ≤ℤ x) × (x ≤ℤ pos 9223372036854775807)
+
+-- a row's numbers are
+abbrev pub IsLongRow : Row → Type 0
+IsLongRow r = IsLong r.off × IsLong r.lo × IsLong r.hi
+
 -- within 2 to the 64
 abbrev pub IsTight : ℤ → Type 0
 IsTight x = (negsuc 18446744073709551615 ≤ℤ x) × (x ≤ℤ pos 18446744073709551616)
@@ -79,6 +87,10 @@ changed gone keep by lo hi r =
 
 abbrev pub changed_by : Change → Row → Row
 changed_by c r = changed c.gone c.keep c.by c.lo c.hi r
+
+-- each row's numbers have 64 bits after a change
+abbrev pub StayLong : Change → List Row → Type 0
+StayLong c rows = (r : Row) → At rows r → IsLongRow (changed_by c r)
 
 -- a change leaves the first rows as they are
 abbrev pub StayBelow : Change → List Row → ℕ → Type 0

@@ -20,7 +20,7 @@ use Rattle.mc_pure.specs.Atoms.{apart_of}
 use Rattle.mc_pure.specs.Scopes.{IsWithin}
 use Rattle.mc_pure.specs.Pure.{Pure, Kinds, Base, low_of, high_of, kind_atom, address_atom}
 use Rattle.mc_pure.specs.Normal.{Apart}
-use Rattle.mc_pure.specs.Rows.{changed_by, row_at, lone_row, IsSound, IsTight, IsTie, Keeps, Settled}
+use Rattle.mc_pure.specs.Rows.{changed_by, StayLong, row_at, lone_row, IsSound, IsTight, IsTie, Keeps, Settled}
 
 -- class `gone`, which is one number, goes into null's class
 pub record IsPin (gone : NodeId) (by : ℤ) (c : Change) : Type 0 where
@@ -70,6 +70,12 @@ abbrev pub SmallStep : Step → (ℤ → Type 0) → Type 0
 SmallStep Stay P = Unit {0}
 SmallStep Empty P = Unit {0}
 SmallStep (To c) P = P c.by
+
+-- each row's numbers have 64 bits after a step
+abbrev pub StepStaysLong : Step → List Row → Type 0
+StepStaysLong Stay rows = Unit {0}
+StepStaysLong Empty rows = Unit {0}
+StepStaysLong (To c) rows = StayLong c rows
 
 -- a class goes into one whose least node is not greater, and null's class stays 0
 abbrev pub IsDownward : Step → Type 0

@@ -1,6 +1,5 @@
 // A node's place in its class.
 ghost use Rattle.std.specs.Prelude.{◌≡◌};
-ghost use Rattle.mc_pure.specs.Classes.{IsLong};
 
 use crate::rows::Row;
 use mc_base::NodeId;
@@ -14,12 +13,11 @@ pub struct ClassPlace {
 
 /// The place that a row says.
 pub fn place_of(row: &Row) -> ClassPlace
-    requires { IsLong row.now.off }
     ensures least { result.least ≡ row.now.rep }
     ensures offset { result.offset ≡ row.now.off }
 {
     ClassPlace {
         least: row.rep,
-        offset: row.off as i64,
+        offset: row.off,
     }
 }

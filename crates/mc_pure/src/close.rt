@@ -6,7 +6,7 @@ ghost use Rattle.mc_pure.specs.Pure.{IsNode, Base, address_atom, low_of, high_of
 ghost use Rattle.mc_pure.specs.Derived.{Follows, IsFalse};
 ghost use Rattle.mc_pure.specs.Rows.{At, row_at, lone_row, StayBelow, IsSmall, IsShort, IsSound, Settled, Stepped, Keeps};
 ghost use Rattle.mc_pure.specs.Nodes.{RiseFrom};
-ghost use Rattle.mc_pure.specs.Steps.{ActIs, SmallStep, IsDownward, IsTame, IsStable, HasTies, HasKinds, Enforced, Ties, Addresses, Written, Starts, StartSettled, StartWithin, PairSettled, start_rows, kind_row};
+ghost use Rattle.mc_pure.specs.Steps.{ActIs, SmallStep, StepStaysLong, IsDownward, IsTame, IsStable, HasTies, HasKinds, Enforced, Ties, Addresses, Written, Starts, StartSettled, StartWithin, PairSettled, start_rows, kind_row};
 ghost use Rattle.mc_pure.specs.Scopes.{IsWithin, SettledElsewhere, SettledElsewhereBut};
 ghost use Rattle.mc_pure.specs.declared.scope.Scope.TheVariants.{Class};
 ghost use Rattle.mc_pure.specs.Known.{IsFit, IsClosed, SettledBut, pure_of};
@@ -16,20 +16,21 @@ use crate::rows::{Change, Outcome, Row, Span, put};
 use crate::scope::{Scope, is_within, widened};
 use crate::steps::{Split, Step, cut, link, split_of};
 use mc_base::{Atom, Kind, NoMemory, NodeId};
+use mc_ranges::Range;
 use std::alloc::Global;
 
 const NULL: NodeId = NodeId(0);
 
 /// A node in a class of its own.
-pub fn alone(node: NodeId, span: &Span) -> Row
-    ensures { result ≡ lone_row node span.now.lo span.now.hi }
+pub fn alone(node: NodeId, range: &Range) -> Row
+    ensures { result ≡ lone_row node range.now.lo range.now.hi }
 {
     Row {
         node,
         rep: node,
         off: 0,
-        lo: span.lo,
-        hi: span.hi,
+        lo: range.lo,
+        hi: range.hi,
     }
 }
 
@@ -54,7 +55,7 @@ pub fn row_of(known: &Known, rows: &[Row], node: NodeId) -> Row
 {
     match known.nodes.place(node) {
         Some(place) => rows[place],
-        None => alone(node, &Span { lo: 0, hi: 0 }),
+        None => alone(node, &Range { lo: 0, hi: 0 }),
     }
 }
 
@@ -97,8 +98,8 @@ fn first_of(known: &Known, rows: &[Row], change: &Change) -> usize
 /// Does a step.
 fn act(known: &Known, rows: &mut [Row], step: &Step) -> Outcome
     requires sound { IsSound (pure_of known.now) rows.old }
-    requires offs { (r : _) → At rows.old r → IsSmall r.off }
     requires by { SmallStep step.now (λ b. IsSmall b) }
+    requires long { StepStaysLong step.now rows.old }
     requires order { IsDownward step.now }
     ensures { ActIs step.now rows.old rows.new result }
 {
@@ -398,16 +399,16 @@ pub fn settle(known: &Known, rows: &mut [Row], first: Scope) -> bool
 }
 
 /// The range of a kind.
-pub fn kind_span(kind: Kind) -> Span
+pub fn kind_range(kind: Kind) -> Range
     ensures lo { result.lo ≡ low_of kind }
     ensures hi { result.hi ≡ high_of kind }
 {
     match kind {
-        Kind::Int => Span {
+        Kind::Int => Range {
             lo: -2_147_483_648,
             hi: 2_147_483_647,
         },
-        Kind::Ptr => Span {
+        Kind::Ptr => Range {
             lo: 0,
             hi: 4_611_686_018_427_387_903,
         },
@@ -418,7 +419,7 @@ pub fn kind_span(kind: Kind) -> Span
 pub fn start_row(node: NodeId, kind: Kind) -> Row
     ensures { result ≡ kind_row (node, kind) }
 {
-    alone(node, &kind_span(kind))
+    alone(node, &kind_range(kind))
 }
 
 /// Each node alone, in its kind's range.
@@ -428,7 +429,7 @@ pub fn start(alloc: Global, known: &Known) -> Result<Vec<Row>, NoMemory>
 {
     let kinds = known.nodes.kinds();
     let mut rows = Vec::with_capacity(alloc, known.nodes.all().len())?;
-    rows.push(alone(NULL, &Span { lo: 0, hi: 0 }))?;
+    rows.push(alone(NULL, &Range { lo: 0, hi: 0 }))?;
     for (node, kind) in kinds {
         rows.push(start_row(*node, *kind))?;
     }

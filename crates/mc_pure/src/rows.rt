@@ -1,6 +1,6 @@
 // Rows: what is known of each node, as an offset from the least node of its class.
-ghost use Rattle.std.specs.Prelude.{◌≡◌, map, false};
-ghost use Rattle.mc_pure.specs.Rows.{At, IsSmall, StayBelow, changed_by};
+ghost use Rattle.std.specs.Prelude.{◌≡◌, ◌+ℤ◌, map, false};
+ghost use Rattle.mc_pure.specs.Rows.{IsLong, IsLongRow, IsSmall, StayBelow, StayLong, changed_by};
 
 use mc_base::NodeId;
 
@@ -9,9 +9,9 @@ use mc_base::NodeId;
 pub struct Row {
     pub node: NodeId,
     pub rep: NodeId,
-    pub off: i128,
-    pub lo: i128,
-    pub hi: i128,
+    pub off: i64,
+    pub lo: i64,
+    pub hi: i64,
 }
 
 /// Class `gone` goes into class `keep`: `gone` is `keep` plus `by`, and `keep` lies from `lo` to `hi`.
@@ -39,27 +39,44 @@ pub enum Outcome {
     False,
 }
 
+/// The number in 64 bits.
+pub fn narrow(number: i128) -> i64
+    requires { IsLong number }
+    ensures { result ≡ number }
+{
+    number as i64
+}
+
+/// How much more a row's node is than the node that its class goes into.
+fn moved_off(row: &Row, change: &Change) -> i64
+    requires by { IsSmall change.now.by }
+    requires long { IsLong (row.now.off +ℤ change.now.by) }
+    ensures { result ≡ row.now.off +ℤ change.now.by }
+{
+    (i128::from(row.off) + change.by) as i64
+}
+
 /// The row after a change.
 pub fn moved(row: Row, change: &Change) -> Row
-    requires off { IsSmall row.off }
     requires by { IsSmall change.now.by }
+    requires long { IsLongRow (changed_by change.now row) }
     ensures { result ≡ changed_by change.now row }
 {
     if row.rep.0 == change.gone.0 {
         Row {
             node: row.node,
             rep: change.keep,
-            off: row.off + change.by,
-            lo: change.lo,
-            hi: change.hi,
+            off: moved_off(&row, change),
+            lo: narrow(change.lo),
+            hi: narrow(change.hi),
         }
     } else if row.rep.0 == change.keep.0 {
         Row {
             node: row.node,
             rep: row.rep,
             off: row.off,
-            lo: change.lo,
-            hi: change.hi,
+            lo: narrow(change.lo),
+            hi: narrow(change.hi),
         }
     } else {
         row
@@ -75,8 +92,8 @@ fn concerns(change: &Change, row: &Row) -> bool
 
 /// Changes a row.
 fn change_row(row: &mut Row, change: &Change)
-    requires off { IsSmall row.old.off }
     requires by { IsSmall change.now.by }
+    requires long { IsLongRow (changed_by change.now row.old) }
     ensures { row.new ≡ changed_by change.now row.old }
 {
     if concerns(change, row) {
@@ -86,8 +103,8 @@ fn change_row(row: &mut Row, change: &Change)
 
 /// Changes every row, where the first ones stay as they are.
 pub fn put(rows: &mut [Row], first: usize, change: &Change)
-    requires offs { (r : _) → At rows.old r → IsSmall r.off }
     requires by { IsSmall change.now.by }
+    requires long { StayLong change.now rows.old }
     requires stay { StayBelow change.now rows.old first }
     ensures { rows.new ≡ map (changed_by change.now) rows.old }
 {

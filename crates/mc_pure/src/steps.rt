@@ -7,7 +7,7 @@ ghost use Rattle.mc_pure.specs.Normal.{low, high};
 ghost use Rattle.mc_pure.specs.Rows.{IsSmall, IsShort};
 ghost use Rattle.mc_pure.specs.Steps.{CutIs, JoinIs, LinkIs, SplitIs, WithoutIs, IsTame, IsPin};
 
-use crate::rows::{Change, Row, Span};
+use crate::rows::{Change, Row, Span, narrow};
 use mc_base::NodeId;
 use mc_ranges::Range;
 
@@ -99,8 +99,8 @@ pub fn class_span(row: &Row) -> Span
     ensures hi { result.hi ≡ row.now.hi }
 {
     Span {
-        lo: row.lo,
-        hi: row.hi,
+        lo: i128::from(row.lo),
+        hi: i128::from(row.hi),
     }
 }
 
@@ -111,8 +111,8 @@ pub fn own_span(row: &Row) -> Span
     ensures hi { result.hi ≡ high row.now }
 {
     Span {
-        lo: row.lo + row.off,
-        hi: row.hi + row.off,
+        lo: i128::from(row.lo) + i128::from(row.off),
+        hi: i128::from(row.hi) + i128::from(row.off),
     }
 }
 
@@ -157,6 +157,13 @@ fn is_pinned(to: &Span, row: &Row) -> bool
     is_single(to)
 }
 
+/// How much more a row's node is than the least node of its class.
+fn offset_of(row: &Row) -> i128
+    ensures { result ≡ row.now.off }
+{
+    i128::from(row.off)
+}
+
 /// The class of a row, cut to a range of its node.
 pub fn cut(row: &Row, span: &Span) -> Step
     requires off { IsSmall row.now.off }
@@ -165,7 +172,7 @@ pub fn cut(row: &Row, span: &Span) -> Step
     ensures { CutIs row.now span.now.lo span.now.hi result }
 {
     let old = class_span(row);
-    let other = lowered(span, row.off);
+    let other = lowered(span, offset_of(row));
     let new = meet(&old, &other);
     if is_empty(&new) {
         Step::Empty
@@ -210,7 +217,7 @@ pub fn difference(left: &Row, right: &Row, c: i128) -> i128
     requires c { IsSmall c }
     ensures { result ≡ (right.now.off +ℤ c) -ℤ left.now.off }
 {
-    (right.off + c) - left.off
+    (i128::from(right.off) + c) - i128::from(left.off)
 }
 
 /// The number's negation.
@@ -293,14 +300,6 @@ pub fn split_of(left: &Row, right: &Row, c: i128) -> Split
     } else {
         Split::Nothing
     }
-}
-
-/// The number in 64 bits.
-pub fn narrow(by: i128) -> i64
-    requires { IsEnd by }
-    ensures { result ≡ by }
-{
-    by as i64
 }
 
 /// The range of the row's own node.

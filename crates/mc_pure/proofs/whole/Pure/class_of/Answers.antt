@@ -1,6 +1,6 @@
 use Rattle.mc_pure.specs.Known.{pure_of}
 use Rattle.mc_pure.proofs.Growing.{closed_by_not}
-use Rattle.mc_pure.proofs.Placed.{place_equal, place_least, place_long}
+use Rattle.mc_pure.proofs.Placed.{place_equal, place_least}
 use Rattle.mc_pure.proofs.whole.Pure.class_of.Goals as goal
 
 pub row_of-requires-clause-sound : goal.row_of-requires-clause-sound
@@ -8,13 +8,6 @@ row_of-requires-clause-sound c =
     let p = pure_of c.self.inside.known in
     let k = closed_by_not p c.self.inside.rows.items c.self.inside.wrong c.self.invariant.1 (rw (← c.self.view_is) at c.requires.not_false) in
     rw c.as_slice.ensures.value k.0
-
-pub place_of-requires : goal.place_of-requires
-place_of-requires c =
-    let p = pure_of c.self.inside.known in
-    let n = rw (← c.self.view_is) at c.requires.there in
-    let k = closed_by_not p c.self.inside.rows.items c.self.inside.wrong c.self.invariant.1 (rw (← c.self.view_is) at c.requires.not_false) in
-    place_long p c.self.inside.rows.items c.args.node c.row_of.result k.0 n (rw c.as_slice.ensures.value at c.row_of.ensures.is)
 
 pub returns-clause-least : goal.returns-clause-least
 returns-clause-least c =
