@@ -33,21 +33,35 @@ pub const SMALL: PredId = PredId(10);
 
 pub const UNKNOWN: PredId = PredId(11);
 
+// this = 0;
+const THIS_IS_NULL: DefAtom = DefAtom::Eq {
+    left: 0,
+    base: None,
+    add: 0,
+    fixes: false,
+};
+
+// rule { this = 0; }
+const NULL: PlainRule = PlainRule {
+    block: None,
+    contents: &[],
+    names: &[Ptr],
+    calls: &[],
+    atoms: &[THIS_IS_NULL],
+};
+
+// rule { }
+const NOTHING: PlainRule = PlainRule {
+    block: None,
+    contents: &[],
+    names: &[Ptr],
+    calls: &[],
+    atoms: &[],
+};
+
 // def list(this)
 const LIST_RULES: [PlainRule; 2] = [
-    // this = 0;
-    PlainRule {
-        block: None,
-        contents: &[],
-        names: &[Ptr],
-        calls: &[],
-        atoms: &[DefAtom::Eq {
-            left: 0,
-            base: None,
-            add: 0,
-            fixes: false,
-        }],
-    },
+    NULL,
     // this -> node { data: _, next: n }; list(n);
     PlainRule {
         block: Some(NODE),
@@ -71,12 +85,7 @@ const LENLIST_RULES: [PlainRule; 2] = [
         names: &[Ptr, Int],
         calls: &[],
         atoms: &[
-            DefAtom::Eq {
-                left: 0,
-                base: None,
-                add: 0,
-                fixes: false,
-            },
+            THIS_IS_NULL,
             DefAtom::Eq {
                 left: 1,
                 base: None,
@@ -106,19 +115,7 @@ const LENLIST_RULES: [PlainRule; 2] = [
 
 // def tree(this)
 const TREE_RULES: [PlainRule; 2] = [
-    // this = 0;
-    PlainRule {
-        block: None,
-        contents: &[],
-        names: &[Ptr],
-        calls: &[],
-        atoms: &[DefAtom::Eq {
-            left: 0,
-            base: None,
-            add: 0,
-            fixes: false,
-        }],
-    },
+    NULL,
     // this -> t { l: x, r: y }; tree(x); tree(y);
     PlainRule {
         block: Some(PAIR),
@@ -142,19 +139,7 @@ const TREE_RULES: [PlainRule; 2] = [
 
 // def lists(this)
 const LISTS_RULES: [PlainRule; 2] = [
-    // this = 0;
-    PlainRule {
-        block: None,
-        contents: &[],
-        names: &[Ptr],
-        calls: &[],
-        atoms: &[DefAtom::Eq {
-            left: 0,
-            base: None,
-            add: 0,
-            fixes: false,
-        }],
-    },
+    NULL,
     // this -> t { l: x, r: y }; list(x); lists(y);
     PlainRule {
         block: Some(PAIR),
@@ -190,26 +175,12 @@ const FRONT_RULES: [PlainRule; 2] = [
         }],
         atoms: &[],
     },
-    // nothing at all
-    PlainRule {
-        block: None,
-        contents: &[],
-        names: &[Ptr],
-        calls: &[],
-        atoms: &[],
-    },
+    NOTHING,
 ];
 
 // def back(this)
 const BACK_RULES: [PlainRule; 2] = [
-    // nothing at all
-    PlainRule {
-        block: None,
-        contents: &[],
-        names: &[Ptr],
-        calls: &[],
-        atoms: &[],
-    },
+    NOTHING,
     // this -> node { data: _, next: n }; back(n);
     PlainRule {
         block: Some(NODE),
@@ -256,12 +227,7 @@ const ABOVE_RULES: [PlainRule; 1] = [
         names: &[Ptr, Int, Int],
         calls: &[],
         atoms: &[
-            DefAtom::Eq {
-                left: 0,
-                base: None,
-                add: 0,
-                fixes: false,
-            },
+            THIS_IS_NULL,
             DefAtom::Eq {
                 left: 2,
                 base: Some(1),
@@ -281,12 +247,7 @@ const BELOW_RULES: [PlainRule; 1] = [
         names: &[Ptr, Int, Int],
         calls: &[],
         atoms: &[
-            DefAtom::Eq {
-                left: 0,
-                base: None,
-                add: 0,
-                fixes: false,
-            },
+            THIS_IS_NULL,
             DefAtom::Eq {
                 left: 2,
                 base: Some(1),
