@@ -3,8 +3,8 @@ use crate::cases::{Case, first_wrong};
 use crate::predicates::{BACK, FRONT, NODE, PAIR, TWO};
 use std::test::Fail;
 
-// The first rule takes what the rest needs, and only the second leaves it.
-static GREEDY: [Case; 3] = [
+static CHOICES: [Case; 9] = [
+    // The first rule takes what the rest needs, and only the second leaves it.
     Case {
         name: "one list runs into the other",
         pred: TWO,
@@ -45,17 +45,7 @@ static GREEDY: [Case; 3] = [
         part: None,
         whole: false,
     },
-];
-
-#[test]
-fn choices_are_taken_back(rt: HostRuntime) -> Result<(), Fail> {
-    let wrong = first_wrong(rt.alloc(), &GREEDY)?;
-    assert_eq!(rt; wrong, None);
-    Ok(())
-}
-
-// Where nothing else is needed, the first rule that fits is taken.
-static FIRST: [Case; 3] = [
+    // Where nothing else is needed, the first rule that fits is taken.
     Case {
         name: "as far as there are blocks",
         pred: FRONT,
@@ -89,17 +79,7 @@ static FIRST: [Case; 3] = [
         part: Some(&[]),
         whole: false,
     },
-];
-
-#[test]
-fn first_parts_are_found(rt: HostRuntime) -> Result<(), Fail> {
-    let wrong = first_wrong(rt.alloc(), &FIRST)?;
-    assert_eq!(rt; wrong, None);
-    Ok(())
-}
-
-// The first part is empty, and a later one is the whole heap.
-static LATER: [Case; 3] = [
+    // The first part is empty, and a later one is the whole heap.
     Case {
         name: "nothing on an empty heap",
         pred: BACK,
@@ -136,8 +116,8 @@ static LATER: [Case; 3] = [
 ];
 
 #[test]
-fn whole_heaps_are_later_parts(rt: HostRuntime) -> Result<(), Fail> {
-    let wrong = first_wrong(rt.alloc(), &LATER)?;
+fn choices_are_taken_back(rt: HostRuntime) -> Result<(), Fail> {
+    let wrong = first_wrong(rt.alloc(), &CHOICES)?;
     assert_eq!(rt; wrong, None);
     Ok(())
 }

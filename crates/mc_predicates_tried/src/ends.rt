@@ -3,8 +3,8 @@ use crate::cases::{Case, first_wrong};
 use crate::predicates::{ABOVE, BELOW, LENLIST, LIST, NODE, SMALL};
 use std::test::Fail;
 
-// One more than the greatest `int` is none.
-static ABOVE_MOST: [Case; 4] = [
+static ENDS: [Case; 15] = [
+    // One more than the greatest `int` is none.
     Case {
         name: "the greatest",
         pred: ABOVE,
@@ -41,17 +41,7 @@ static ABOVE_MOST: [Case; 4] = [
         part: None,
         whole: false,
     },
-];
-
-#[test]
-fn sums_end_above(rt: HostRuntime) -> Result<(), Fail> {
-    let wrong = first_wrong(rt.alloc(), &ABOVE_MOST)?;
-    assert_eq!(rt; wrong, None);
-    Ok(())
-}
-
-// One less than the least `int` is none.
-static BELOW_LEAST: [Case; 5] = [
+    // One less than the least `int` is none.
     Case {
         name: "the least",
         pred: BELOW,
@@ -97,17 +87,7 @@ static BELOW_LEAST: [Case; 5] = [
         part: None,
         whole: false,
     },
-];
-
-#[test]
-fn sums_end_below(rt: HostRuntime) -> Result<(), Fail> {
-    let wrong = first_wrong(rt.alloc(), &BELOW_LEAST)?;
-    assert_eq!(rt; wrong, None);
-    Ok(())
-}
-
-// Fields of `int` hold an `int`, and as small a one as is wanted.
-static DATA: [Case; 6] = [
+    // Fields of `int` hold an `int`, and as small a one as is wanted.
     Case {
         name: "the least",
         pred: LIST,
@@ -165,8 +145,8 @@ static DATA: [Case; 6] = [
 ];
 
 #[test]
-fn fields_end(rt: HostRuntime) -> Result<(), Fail> {
-    let wrong = first_wrong(rt.alloc(), &DATA)?;
+fn ranges_end(rt: HostRuntime) -> Result<(), Fail> {
+    let wrong = first_wrong(rt.alloc(), &ENDS)?;
     assert_eq!(rt; wrong, None);
     Ok(())
 }

@@ -3,8 +3,8 @@ use crate::cases::{Case, first_wrong};
 use crate::predicates::{LENLIST, LIST, NODE, UNKNOWN};
 use std::test::Fail;
 
-// The length is that of the list.
-static COUNTED: [Case; 6] = [
+static LENGTHS: [Case; 10] = [
+    // The length is that of the list.
     Case {
         name: "none",
         pred: LENLIST,
@@ -71,17 +71,7 @@ static COUNTED: [Case; 6] = [
         part: None,
         whole: false,
     },
-];
-
-#[test]
-fn lengths_are_counted(rt: HostRuntime) -> Result<(), Fail> {
-    let wrong = first_wrong(rt.alloc(), &COUNTED)?;
-    assert_eq!(rt; wrong, None);
-    Ok(())
-}
-
-// As many arguments as parameters, of a predicate that is there.
-static CALLED: [Case; 4] = [
+    // As many arguments as parameters, of a predicate that is there.
     Case {
         name: "too few",
         pred: LENLIST,
@@ -130,8 +120,8 @@ static CALLED: [Case; 4] = [
 ];
 
 #[test]
-fn arguments_are_counted(rt: HostRuntime) -> Result<(), Fail> {
-    let wrong = first_wrong(rt.alloc(), &CALLED)?;
+fn lengths_are_counted(rt: HostRuntime) -> Result<(), Fail> {
+    let wrong = first_wrong(rt.alloc(), &LENGTHS)?;
     assert_eq!(rt; wrong, None);
     Ok(())
 }

@@ -3,8 +3,8 @@ use crate::cases::{Case, first_wrong};
 use crate::predicates::{LIST, NODE, PAIR};
 use std::test::Fail;
 
-// Heaps that are lists, whole or in part.
-static FIT: [Case; 6] = [
+static LISTS: [Case; 18] = [
+    // Heaps that are lists, whole or in part.
     Case {
         name: "null",
         pred: LIST,
@@ -68,17 +68,7 @@ static FIT: [Case; 6] = [
         part: Some(&[9]),
         whole: false,
     },
-];
-
-#[test]
-fn lists_are_found(rt: HostRuntime) -> Result<(), Fail> {
-    let wrong = first_wrong(rt.alloc(), &FIT)?;
-    assert_eq!(rt; wrong, None);
-    Ok(())
-}
-
-// Heaps on no part of which there is such a list.
-static UNFIT: [Case; 6] = [
+    // Heaps on no part of which there is such a list.
     Case {
         name: "a cycle of one",
         pred: LIST,
@@ -140,17 +130,7 @@ static UNFIT: [Case; 6] = [
         part: None,
         whole: false,
     },
-];
-
-#[test]
-fn other_heaps_are_no_lists(rt: HostRuntime) -> Result<(), Fail> {
-    let wrong = first_wrong(rt.alloc(), &UNFIT)?;
-    assert_eq!(rt; wrong, None);
-    Ok(())
-}
-
-// Blocks whose fields are not those of a cell.
-static FIELDS: [Case; 6] = [
+    // Blocks whose fields are not those of a cell.
     Case {
         name: "no data",
         pred: LIST,
@@ -208,8 +188,8 @@ static FIELDS: [Case; 6] = [
 ];
 
 #[test]
-fn fields_are_defined(rt: HostRuntime) -> Result<(), Fail> {
-    let wrong = first_wrong(rt.alloc(), &FIELDS)?;
+fn lists_are_found(rt: HostRuntime) -> Result<(), Fail> {
+    let wrong = first_wrong(rt.alloc(), &LISTS)?;
     assert_eq!(rt; wrong, None);
     Ok(())
 }

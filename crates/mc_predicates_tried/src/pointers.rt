@@ -3,8 +3,8 @@ use crate::cases::{Case, first_wrong};
 use crate::predicates::{FRONT, NODE, TO};
 use std::test::Fail;
 
-// The end is reached.
-static REACHED: [Case; 5] = [
+static POINTERS: [Case; 13] = [
+    // The end is reached.
     Case {
         name: "at once",
         pred: TO,
@@ -56,17 +56,7 @@ static REACHED: [Case; 5] = [
         part: Some(&[7, 9]),
         whole: true,
     },
-];
-
-#[test]
-fn ends_are_reached(rt: HostRuntime) -> Result<(), Fail> {
-    let wrong = first_wrong(rt.alloc(), &REACHED)?;
-    assert_eq!(rt; wrong, None);
-    Ok(())
-}
-
-// The end is not reached.
-static MISSED: [Case; 3] = [
+    // The end is not reached.
     Case {
         name: "past null",
         pred: TO,
@@ -100,17 +90,7 @@ static MISSED: [Case; 3] = [
         part: None,
         whole: false,
     },
-];
-
-#[test]
-fn ends_are_missed(rt: HostRuntime) -> Result<(), Fail> {
-    let wrong = first_wrong(rt.alloc(), &MISSED)?;
-    assert_eq!(rt; wrong, None);
-    Ok(())
-}
-
-// The last address is one, and the next is none.
-static ADDRESSES: [Case; 5] = [
+    // The last address is one, and the next is none.
     Case {
         name: "the last",
         pred: TO,
@@ -159,8 +139,8 @@ static ADDRESSES: [Case; 5] = [
 ];
 
 #[test]
-fn addresses_end(rt: HostRuntime) -> Result<(), Fail> {
-    let wrong = first_wrong(rt.alloc(), &ADDRESSES)?;
+fn ends_are_reached(rt: HostRuntime) -> Result<(), Fail> {
+    let wrong = first_wrong(rt.alloc(), &POINTERS)?;
     assert_eq!(rt; wrong, None);
     Ok(())
 }

@@ -3,8 +3,8 @@ use crate::cases::{Case, first_wrong};
 use crate::predicates::{LISTS, NODE, PAIR, TREE};
 use std::test::Fail;
 
-// Trees whose blocks are apart.
-static TREES: [Case; 4] = [
+static TREES: [Case; 17] = [
+    // Trees whose blocks are apart.
     Case {
         name: "null",
         pred: TREE,
@@ -52,17 +52,7 @@ static TREES: [Case; 4] = [
         part: Some(&[7, 8]),
         whole: false,
     },
-];
-
-#[test]
-fn trees_are_found(rt: HostRuntime) -> Result<(), Fail> {
-    let wrong = first_wrong(rt.alloc(), &TREES)?;
-    assert_eq!(rt; wrong, None);
-    Ok(())
-}
-
-// Blocks that are shared, or lie in a cycle.
-static NO_TREES: [Case; 5] = [
+    // Blocks that are shared, or lie in a cycle.
     Case {
         name: "one child twice",
         pred: TREE,
@@ -120,17 +110,7 @@ static NO_TREES: [Case; 5] = [
         part: None,
         whole: false,
     },
-];
-
-#[test]
-fn trees_share_nothing(rt: HostRuntime) -> Result<(), Fail> {
-    let wrong = first_wrong(rt.alloc(), &NO_TREES)?;
-    assert_eq!(rt; wrong, None);
-    Ok(())
-}
-
-// Lists of lists.
-static LISTS_APART: [Case; 3] = [
+    // Lists of lists.
     Case {
         name: "two lists",
         pred: LISTS,
@@ -171,17 +151,7 @@ static LISTS_APART: [Case; 3] = [
         part: Some(&[1, 7]),
         whole: false,
     },
-];
-
-#[test]
-fn lists_of_lists_are_found(rt: HostRuntime) -> Result<(), Fail> {
-    let wrong = first_wrong(rt.alloc(), &LISTS_APART)?;
-    assert_eq!(rt; wrong, None);
-    Ok(())
-}
-
-// Lists that share a block, or lie in a cycle.
-static NO_LISTS: [Case; 5] = [
+    // Lists that share a block, or lie in a cycle.
     Case {
         name: "one list twice",
         pred: LISTS,
@@ -245,8 +215,8 @@ static NO_LISTS: [Case; 5] = [
 ];
 
 #[test]
-fn lists_of_lists_share_nothing(rt: HostRuntime) -> Result<(), Fail> {
-    let wrong = first_wrong(rt.alloc(), &NO_LISTS)?;
+fn trees_are_found(rt: HostRuntime) -> Result<(), Fail> {
+    let wrong = first_wrong(rt.alloc(), &TREES)?;
     assert_eq!(rt; wrong, None);
     Ok(())
 }
