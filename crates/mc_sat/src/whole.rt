@@ -12,8 +12,8 @@ use mc_heap::{Heap, NoMemory};
 use mc_tries::find_first;
 use std::alloc::Global;
 
-/// The addresses of a part of the heap on which the predicate holds at a value with arguments: the
-/// first such part in the order of the rules. None exactly where it holds on no part.
+/// The addresses of a part of the heap on which the predicate holds at a value with arguments. None exactly where it holds
+/// on no part.
 pub fn holds(
     alloc: Global,
     heap: &Heap,
