@@ -12,7 +12,7 @@ use Rattle.mc_pure.specs.Known.{nothing, with_node}
 use Rattle.mc_pure.specs.Derived.{Follows, IsFalse, Derived}
 use Rattle.mc_canon.specs.Order.{GivesAtMost}
 use Rattle.mc_join.specs.declared.equalities.Shift.{Shift}
-use Rattle.mc_join.specs.Joint.{Pairs, HaveOneKind, AreJoinable, IsKindOfPair}
+use Rattle.mc_join.specs.Joint.{Pairs, StandsFor, HaveOneKind, AreJoinable, IsKindOfPair}
 use Rattle.mc_join.specs.Parts.{node, AreThere, IsDistance, EqualityAt, DifferenceAt, ListedAt, MayBeKind, HasFirst, HasAll}
 use Rattle.mc_join.proofs.Sorted.{same_node, number, decide, some_same, not_none, rise_with, with_here, with_other}
 use Rattle.mc_join.proofs.Follow.{eq_as, follows_of}
@@ -80,6 +80,22 @@ split k i l = grind arith
 
 more_below : (k i : ℕ) → k < i → k < i + 1
 more_below k i l = omega arith
+
+-- the first pairs are of one kind each, and one more is
+pub one_more : (left right : Pure) (ps : Pairs) (i : ℕ) (d : Pair) → i < length ps → HaveOneKind left right (get_or ps i d).0 (get_or ps i d).1
+    → ((n l r : NodeId) → n.0 < i → StandsFor ps n l r → HaveOneKind left right l r)
+    → (n l r : NodeId) → n.0 < i + 1 → StandsFor ps n l r → HaveOneKind left right l r
+one_more left right ps i d w here before n l r v s = elim (split n.0 i v) [
+  | inl x ↦ before n l r x s
+  | inr x ↦
+      let e = some_pair (get_or ps i d) (l, r) (sym (slice_get-get_or ps i d w) ∙ subst (λ (z : ℕ). slice_get ps z ≡ Some (l, r)) x s) in
+      subst (λ (z : Pair). HaveOneKind left right z.0 z.1) e here
+]
+
+-- where all are, the sides may be joined
+pub all_joinable : (left right : Pure) (ps : Pairs) (i : ℕ) → length ps ≤ i → StandsFor ps null null null
+    → ((n l r : NodeId) → n.0 < i → StandsFor ps n l r → HaveOneKind left right l r) → AreJoinable left right ps
+all_joinable left right ps i w first all = (first, λ n l r s. (let v = slice_get_within ps n.0 (l, r) s in all n l r (omega arith) s))
 
 module _ (left right : Pure) (ps : Pairs) (i : ℕ) (P : Pair) (at : slice_get ps i ≡ Some P) where
   pub first_skip : (p : Pure) → MayBeKind left right P.0 P.1 None → HasFirst left right ps i p → HasFirst left right ps (i + 1) p

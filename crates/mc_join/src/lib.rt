@@ -9,11 +9,13 @@ ghost use Rattle.mc_join.specs.Joint.{AreJoinable, IsJoin};
 mod differences;
 mod equalities;
 mod gains;
+mod joinable;
 mod nodes;
 mod spans;
 
 use differences::{put_differences, put_listed, turned};
 use equalities::put_equalities;
+pub use joinable::are_joinable;
 use mc_base::{NoMemory, NodeId};
 use mc_canon::canon;
 use mc_pure::Pure;

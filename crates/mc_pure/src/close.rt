@@ -4,7 +4,7 @@ ghost use Rattle.mc_base.specs.declared.plain.Atom.TheVariants.{Eq, Ne, In};
 ghost use Rattle.mc_base.specs.Nodes.{null};
 ghost use Rattle.mc_pure.specs.Pure.{IsNode, Base, address_atom, low_of, high_of};
 ghost use Rattle.mc_pure.specs.Derived.{Follows, IsFalse};
-ghost use Rattle.mc_pure.specs.Rows.{At, row_at, lone_row, StayBelow, IsSmall, IsShort, IsSound, Settled, Stepped, Keeps};
+ghost use Rattle.mc_pure.specs.Rows.{row_at, lone_row, StayBelow, IsSmall, IsShort, IsSound, Settled, Stepped, Keeps};
 ghost use Rattle.mc_pure.specs.Nodes.{RiseFrom};
 ghost use Rattle.mc_pure.specs.Steps.{ActIs, SmallStep, StepStaysLong, IsDownward, IsTame, IsStable, HasTies, HasKinds, Enforced, Ties, Addresses, Written, Starts, StartSettled, StartWithin, PairSettled, start_rows, kind_row};
 ghost use Rattle.mc_pure.specs.Scopes.{IsWithin, SettledElsewhere, SettledElsewhereBut};

@@ -12,9 +12,9 @@ use Rattle.mc_pure.specs.Pure.{Kinds, Pure, IsNode, HasKind, IsWellFormed, kind_
 use Rattle.mc_pure.specs.Rows.{nodes_of}
 use Rattle.mc_pure.specs.Nodes.{with_kind}
 use Rattle.mc_pure.specs.Known.{IsFit}
-use Rattle.mc_renamed.specs.Renamed.{AreImageKinds, IsOneKind, IsPut, HasImages, HasFirst, Gathers, IsBelow}
+use Rattle.mc_renamed.specs.Renamed.{AreImageKinds, IsOneKind, IsPut, HasImages, HasFirst, HasNoOther, Gathers, IsBelow}
 use Rattle.mc_renamed.specs.Laws.{ImagesAreOneList, RenamedFits}
-use Rattle.mc_renamed.proofs.Sorted.{same_node, decide, not_none, rise_with, with_here, with_other, node_place, one_list}
+use Rattle.mc_renamed.proofs.Sorted.{same_node, decide, not_none, some_same, rise_with, with_here, with_other, node_place, one_list}
 
 positive : (n : NodeId) → n ≢ null → 1 ≤ n.0
 positive n h = at n.0 (λ e. h (same_node n null e))
@@ -57,10 +57,14 @@ module _ (f : ℕ → ℕ) (kinds : Kinds) where
     ];
   }
 
-  module _ (one : IsOneKind f kinds) (ns : List NodeId) (i : ℕ) (d : NodeId) (l : i < length ns) (kind : Kind) (has : kind_of kinds (get_or ns i d) ≡ Some kind) where
+  module _ (ns : List NodeId) (i : ℕ) (d : NodeId) (l : i < length ns) (kind : Kind) (has : kind_of kinds (get_or ns i d) ≡ Some kind) where
+    -- an image has no other kind, where nodes with one image are of one
+    pub no_other : IsOneKind f kinds → (old : Pure) → HasFirst f kinds ns i old → HasNoOther old.kinds (moved f (get_or ns i d)) kind
+    no_other one old g other e = let h = g.images.from (moved f (get_or ns i d)) other e in one h.1.0 (get_or ns i d) other kind h.1.1 has h.1.2 (λ z. h.0 (sym h.1.2 ∙ z))
+
     -- an image that is there
-    there : (old : Kinds) → Gathers f kinds (IsBelow ns i) old → IsNode old (moved f (get_or ns i d)) → Gathers f kinds (IsBelow ns (i + 1)) old
-    there old g n = record {
+    there : (old : Kinds) → HasNoOther old (moved f (get_or ns i d)) kind → Gathers f kinds (IsBelow ns i) old → IsNode old (moved f (get_or ns i d)) → Gathers f kinds (IsBelow ns (i + 1)) old
+    there old alike g n = record {
       rise = g.rise;
       from = g.from;
       done = λ m k b e x. elim (below_more ns i d l m b) [
@@ -72,9 +76,7 @@ module _ (f : ℕ → ℕ) (kinds : Kinds) where
         known : (m : NodeId) (k : Kind) → m ≡ get_or ns i d → kind_of kinds m ≡ Some k → moved f m ≢ null → HasKind old n.0 (moved f (get_or ns i d)) → kind_of old (moved f m) ≡ Some k
         known m k y e x (inl z) = absurd (x (ap (λ (w : NodeId). moved f w) y ∙ z))
         known m k y e x (inr z) =
-            let s : kind_of old (moved f m) ≡ Some n.0 = ap (λ (w : NodeId). kind_of old (moved f w)) y ∙ z in
-            let h = (g.from (moved f m) n.0 s).1 in
-            s ∙ ap (λ (w : Kind). Some w) (one h.0 m n.0 k h.1 e h.2 (λ w. x (sym h.2 ∙ w)))
+            ap (λ (w : NodeId). kind_of old (moved f w)) y ∙ (z ∙ (ap (λ (w : Kind). Some w) (alike n.0 z) ∙ (sym has ∙ (ap (λ (w : NodeId). kind_of kinds w) (sym y) ∙ e))))
 
     -- a new image
     new : (old : Kinds) → Gathers f kinds (IsBelow ns i) old → (IsNode old (moved f (get_or ns i d)) → ⊥) → Gathers f kinds (IsBelow ns (i + 1)) (with_kind old (moved f (get_or ns i d)) kind)
@@ -107,9 +109,9 @@ module _ (f : ℕ → ℕ) (kinds : Kinds) where
             ap (λ (z : NodeId). kind_of (with_kind old to kind) (moved f z)) y
             ∙ (with_here old to kind none ∙ (sym has ∙ (ap (λ (z : NodeId). kind_of kinds z) (sym y) ∙ e)))
 
-    pub first_more : (old now : Pure) → HasFirst f kinds ns i old → IsPut old (moved f (get_or ns i d)) kind now → HasFirst f kinds ns (i + 1) now
-    first_more old now h (inl p) = subst (λ (z : Pure). HasFirst f kinds ns (i + 1) z) (sym p.1) (record { images = there old.kinds h.images p.0; written = h.written; starts = h.starts })
-    first_more old now h (inr p) = subst (λ (z : Pure). HasFirst f kinds ns (i + 1) z) (sym p.1) (record { images = new old.kinds h.images p.0; written = h.written; starts = h.starts })
+    pub first_more : (old now : Pure) → HasNoOther old.kinds (moved f (get_or ns i d)) kind → HasFirst f kinds ns i old → IsPut old (moved f (get_or ns i d)) kind now → HasFirst f kinds ns (i + 1) now
+    first_more old now alike h (inl p) = subst (λ (z : Pure). HasFirst f kinds ns (i + 1) z) (sym p.1) (record { images = there old.kinds alike h.images p.0; written = h.written; starts = h.starts })
+    first_more old now alike h (inr p) = subst (λ (z : Pure). HasFirst f kinds ns (i + 1) z) (sym p.1) (record { images = new old.kinds h.images p.0; written = h.written; starts = h.starts })
 
   pub first_skip : (ns : List NodeId) (i : ℕ) (d : NodeId) (now : Pure) → i < length ns → kind_of kinds (get_or ns i d) ≡ None → HasFirst f kinds ns i now → HasFirst f kinds ns (i + 1) now
   first_skip ns i d now l e h = record { images = gathers_skip ns i d now.kinds l e h.images; written = h.written; starts = h.starts }
@@ -140,6 +142,13 @@ module _ (f : ℕ → ℕ) (kinds : Kinds) where
           let s : slice_get ns p.0 ≡ Some m = subst (λ (z : List NodeId). slice_get z p.0 ≡ Some m) (sym e) p.1 in
           let w = slice_get_within ns p.0 m s in
           subst (λ (z : NodeId). kind_of now.kinds z ≡ Some kind) y (h.images.done m kind (p.0, omega arith, s) k (λ z. x (sym y ∙ z)))
+
+  -- where all images are put in, nodes with one image are of one kind
+  pub all_one_kind : (now : Pure) → HasImages f kinds now → IsOneKind f kinds
+  all_one_kind now h m n k l e g s d =
+      let x : kind_of now.kinds (moved f m) ≡ Some k = (h.images.exact (moved f m) k).1 (d, (m, e, refl)) in
+      let y : kind_of now.kinds (moved f m) ≡ Some l = (h.images.exact (moved f m) l).1 (d, (n, g, sym s)) in
+      some_same (sym x ∙ y)
 
   -- what is known of the images may be known
   module _ (images : Kinds) (fixed : f 0 ≡ 0) (are : AreImageKinds f kinds images) where

@@ -20,6 +20,14 @@ IsOneKind f kinds =
     (m n : NodeId) (k l : Kind) → kind_of kinds m ≡ Some k → kind_of kinds n ≡ Some l
     → moved f m ≡ moved f n → moved f m ≢ null → k ≡ l
 
+-- the nodes may be renamed so: node 0 stays
+abbrev pub CanRename : (ℕ → ℕ) → Kinds → Type 0
+CanRename f kinds = (f 0 ≡ 0) × IsOneKind f kinds
+
+-- the node is not there with another kind
+abbrev pub HasNoOther : Kinds → NodeId → Kind → Type 0
+HasNoOther kinds n kind = (other : Kind) → kind_of kinds n ≡ Some other → other ≡ kind
+
 -- a node of this kind has the image
 abbrev pub IsImage : (ℕ → ℕ) → Kinds → NodeId → Kind → Type 0
 IsImage f kinds n kind = (m : NodeId) × (kind_of kinds m ≡ Some kind) × (moved f m ≡ n)

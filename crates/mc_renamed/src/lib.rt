@@ -1,20 +1,21 @@
 //! What is known of nodes, with other nodes in their places.
 #![tactic(auto)]
 
-ghost use Rattle.std.specs.Prelude.{◌≡◌, ◌≢◌, map, IfOk};
+ghost use Rattle.std.specs.Prelude.{◌≡◌, ◌≢◌, true, false, map, IfOk};
 ghost use Rattle.mc_base.specs.Nodes.{null, moved};
 ghost use Rattle.mc_base.specs.Atoms.{moved_atom};
 ghost use Rattle.mc_pure.specs.Pure.{IsNode, AreOfOneKind};
-ghost use Rattle.mc_pure.specs.Nodes.{RiseFrom};
 ghost use Rattle.mc_pure.specs.Known.{IsFit};
 ghost use Rattle.mc_renaming.specs.Images.{image};
-ghost use Rattle.mc_renamed.specs.Renamed.{IsOneKind, AreImageKinds, IsRenamed, merged, with_atoms, with_starts, IsPut, HasImages, HasFirst};
+ghost use Rattle.mc_renamed.specs.Renamed.{IsOneKind, CanRename, HasNoOther, AreImageKinds, IsRenamed, merged, with_atoms, with_starts, IsPut, HasImages, HasFirst};
 ghost use Rattle.mc_renamed.specs.Laws.{ImagesAreOneList, RenamedFits};
 
 use mc_base::{Atom, Kind, NoMemory, NodeId};
 use mc_pure::Pure;
 use mc_renaming::Renaming;
 use std::alloc::Global;
+
+const NULL: NodeId = NodeId(0);
 
 /// The images with their kinds are one list, and what is known of them may be known of nodes.
 pub fn renamed_is_known()
@@ -85,14 +86,57 @@ fn put_starts(renamed: &mut Pure, pure: &Pure, renaming: &Renaming) -> Result<()
     Ok(())
 }
 
+/// Whether the node is not there with another kind.
+fn has_no_other(images: &Pure, node: NodeId, kind: Kind) -> bool
+    ensures yes { result ≡ true → HasNoOther images.now.kinds node kind }
+    ensures no { result ≡ false → HasNoOther images.now.kinds node kind → ⊥ }
+{
+    match images.kind(node) {
+        Some(other) => other == kind,
+        None => true,
+    }
+}
+
+/// Whether nodes with one image other than node 0 are of one kind.
+fn have_one_kind(alloc: Global, pure: &Pure, renaming: &Renaming) -> Result<bool, NoMemory>
+    ensures yes { IfOk result (λ one. one ≡ true → IsOneKind (image renaming.now) pure.now.kinds) }
+    ensures no { IfOk result (λ one. one ≡ false → IsOneKind (image renaming.now) pure.now.kinds → ⊥) }
+{
+    let mut images = Pure::new(alloc)?;
+    for node in pure.nodes() {
+        let Some(kind) = pure.kind(*node) else {
+            continue;
+        };
+        let image = renaming.image(*node);
+        if !has_no_other(&images, image, kind) {
+            return Ok(false);
+        }
+        put_node(&mut images, image, kind)?;
+    }
+    Ok(true)
+}
+
+/// Whether the nodes may be renamed: node 0 stays, and nodes with one image other than node 0 are of one kind.
+pub fn can_rename(alloc: Global, pure: &Pure, renaming: &Renaming) -> Result<bool, NoMemory>
+    ensures yes { IfOk result (λ can. can ≡ true → CanRename (image renaming.now) pure.now.kinds) }
+    ensures no { IfOk result (λ can. can ≡ false → CanRename (image renaming.now) pure.now.kinds → ⊥) }
+{
+    if renaming.image(NULL).0 != 0 {
+        return Ok(false);
+    }
+    let one = have_one_kind(alloc, pure, renaming)?;
+    Ok(one)
+}
+
 /// What is known, with the image of each node in its place; a node without an image stays. Node 0 stays, and nodes with
 /// one image other than node 0 are of one kind.
 pub fn rename(alloc: Global, pure: &Pure, renaming: &Renaming) -> Result<Pure, NoMemory>
     requires null { image renaming.now 0 ≡ 0 }
     requires kinds { IsOneKind (image renaming.now) pure.now.kinds }
-    requires fit { IsFit pure.now }
     ensures { IfOk result (λ renamed. IsRenamed (image renaming.now) pure.now renamed) }
 {
+    // What is known is well formed, for the proof alone.
+    pure.is_kept();
     let mut renamed = images(alloc, pure, renaming)?;
     put_written(&mut renamed, pure, renaming)?;
     put_starts(&mut renamed, pure, renaming)?;
@@ -104,10 +148,10 @@ pub fn merge(alloc: Global, pure: &Pure, keep: NodeId, gone: NodeId) -> Result<P
     requires differ { keep ≢ gone }
     requires not_null { gone ≢ null }
     requires kind { AreOfOneKind pure.now.kinds keep gone }
-    requires rise { RiseFrom 1 pure.now.kinds }
-    requires fit { IsFit pure.now }
     ensures { IfOk result (λ kept. kept ≡ merged keep gone pure.now) }
 {
+    // Nodes ascend, for the proof alone.
+    pure.is_kept();
     let mut renaming = Renaming::new(alloc);
     renaming.add(gone, keep)?;
     let merged = rename(alloc, pure, &renaming)?;

@@ -1,5 +1,5 @@
 -- One node in place of another.
-use Rattle.std.proofs.Common.{◌≡◌, ◌≢◌, ◌<◌, ◌≤◌, ◌⊎◌, inl, inr, ℕ, zero, suc, List, [], ◌∷◌, Bool, true, false, Option, Some, None, map, option_map, slice_get, refl, sym, ap, subst, ◌∙◌, arith, eqb-true, eq-eqb}
+use Rattle.std.proofs.Common.{◌≡◌, inl, inr, ℕ, suc, List, [], ◌∷◌, Bool, true, false, Option, Some, map, option_map, refl, sym, ap, subst, ◌∙◌, arith, eqb-true, eq-eqb}
 use Rattle.std.specs.Prelude.{◌==◌, if◌then◌else◌}
 use Rattle.std.specs.List.{AllByRecursion}
 use Rattle.mc_base.specs.declared.ids.NodeId.{NodeId}
@@ -8,44 +8,16 @@ use Rattle.mc_base.specs.declared.plain.Atom.{Atom}
 use Rattle.mc_base.specs.declared.plain.Atom.TheVariants.{Eq, Ne, In}
 use Rattle.mc_base.specs.Atoms.{moved_atom}
 use Rattle.mc_base.specs.Nodes.{null, moved}
-use Rattle.mc_graph.specs.declared.edge.Edge.{Edge}
 use Rattle.mc_graph.specs.declared.edge.Edge.TheVariants.{Block, Ind, Seg}
-use Rattle.mc_graph.specs.Edges.{nodes_of, moved_edge}
+use Rattle.mc_graph.specs.Edges.{moved_edge}
 use Rattle.mc_graph.specs.Graph.{Graph, Edges, block_starts, moved_graph, no_edges}
-use Rattle.mc_pure.specs.Pure.{Pure, Kinds, HasKind, IsNode, AreOfOneKind, IsWellFormed, kind_of}
-use Rattle.mc_pure.specs.Known.{IsFit}
-use Rattle.mc_pure.specs.Nodes.{RiseFrom}
+use Rattle.mc_pure.specs.Pure.{Pure, Kinds, HasKind, IsWellFormed, kind_of}
 use Rattle.mc_renamed.specs.Renamed as renamed
 use Rattle.mc_state.specs.State.{State}
 use Rattle.mc_state.specs.Facts.{CanMerge, merged, instead}
-use Rattle.mc_state.specs.Fits.{NodesAscend, AreNodes, IsBounded}
+use Rattle.mc_state.specs.Fits.{IsBounded}
 use Rattle.mc_state.specs.Laws.{MergedStaysBounded}
 use Rattle.mc_symbolic.specs.Starts.{how_many, HaveSameNodes}
-use Rattle.mc_symbolic.proofs.Starts.{there}
-
--- ---- what the merge of what is known needs
-
-pub rise : (low : ℕ) (kinds : Kinds) (high : ℕ) → NodesAscend low kinds high → RiseFrom low kinds
-rise low [] high a = tt
-rise low (k ∷ kinds) high a = let first = a.0 in (omega arith, rise (suc k.0.0) kinds high a.2)
-
-each_at : {X : Type 0} (P : X → Type 0) (xs : List X) (i : ℕ) (x : X) → AllByRecursion P xs → slice_get xs i ≡ Some x → P x
-each_at P [] i x a e = cc
-each_at P (y ∷ xs) zero x a e = let q : y ≡ x = cc in subst P q a.0
-each_at P (y ∷ xs) (suc i) x a e = each_at P xs i x a.1 e
-
-start_there : (kinds : Kinds) (es : Edges) → AllByRecursion (λ e. AreNodes kinds (nodes_of e.1)) es → (i : ℕ) (a : NodeId) → slice_get (block_starts es) i ≡ Some a → IsNode kinds a
-start_there kinds [] h i a e = cc
-start_there kinds ((id, Block at shape fields) ∷ es) h zero a e = let q : at ≡ a = cc in subst (λ (z : NodeId). IsNode kinds z) q h.0.0
-start_there kinds ((id, Block at shape fields) ∷ es) h (suc i) a e = start_there kinds es h.1 i a e
-start_there kinds ((id, Ind at pred args) ∷ es) h i a e = start_there kinds es h.1 i a e
-start_there kinds ((id, Seg at args pred stop ends) ∷ es) h i a e = start_there kinds es h.1 i a e
-
-pub fit : (p : Pure) (es : Edges) → AllByRecursion (IsWellFormed p.kinds) p.written → AllByRecursion (λ e. AreNodes p.kinds (nodes_of e.1)) es → HaveSameNodes p.starts (block_starts es) → IsFit p
-fit p es w n same = record {
-  written = λ i f e. each_at (IsWellFormed p.kinds) p.written i f w e;
-  starts = λ i a e. let k = there p.starts (block_starts es) same i a e in start_there p.kinds es n k.0 a k.1;
-}
 
 -- ---- kinds
 

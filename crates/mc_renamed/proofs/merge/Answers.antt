@@ -14,4 +14,4 @@ rename-requires-clause-kinds c =
 pub returns : goal.returns
 returns c =
     let w = with_one c.new-renaming.result c.add.new.self c.args.keep c.args.gone c.in_ok-add.field-0 c.new-renaming.ensures c.in_ok-add.ensures.yes c.in_ok-add.ensures.other in
-    all_merged c.add.new.self c.args.pure.now c.in_ok-merged.merged c.args.keep c.args.gone w c.requires.differ c.requires.not_null c.requires.kind c.requires.rise c.in_ok-merged.ensures
+    all_merged c.add.new.self c.args.pure.now c.in_ok-merged.merged c.args.keep c.args.gone w c.requires.differ c.requires.not_null c.requires.kind c.is_kept.ensures.rise c.in_ok-merged.ensures

@@ -4,14 +4,8 @@ use Rattle.mc_base.specs.Nodes.{moved}
 use Rattle.mc_state.specs.State.{State}
 use Rattle.mc_state.specs.Facts.{CanMerge, instead}
 use Rattle.mc_symbolic.specs.Kept.{seen}
-use Rattle.mc_symbolic.proofs.Merging.{rise, fit, merges}
+use Rattle.mc_symbolic.proofs.Merging.{merges}
 use Rattle.mc_symbolic.proofs.state.State.merge.Goals as goal
-
-pub merge-requires-clause-rise : goal.merge-requires-clause-rise
-merge-requires-clause-rise c = rise 1 c.self.inside.pure.kinds c.self.inside.next c.self.invariant.bounded.kinds
-
-pub merge-requires-clause-fit : goal.merge-requires-clause-fit
-merge-requires-clause-fit c = fit c.self.inside.pure c.self.inside.graph.edges c.self.invariant.atoms c.self.invariant.bounded.edges c.self.invariant.starts
 
 pub invariant_of-self-2 : goal.invariant_of-self-2
 invariant_of-self-2 c =
