@@ -1,5 +1,5 @@
 -- What is left where a node is forgotten.
-use Rattle.std.specs.Prelude.{ℕ, zero, suc, List, [], ◌++◌, take}
+use Rattle.std.specs.Prelude.{ℕ, ◌-◌, List, [], ◌++◌, take}
 use Rattle.std.specs.List.{AllByRecursion}
 use Rattle.mc_base.specs.declared.ids.NodeId.{NodeId}
 use Rattle.mc_base.specs.declared.plain.Atom.{Atom}
@@ -32,5 +32,4 @@ AreNodesOf p nodes = AllByRecursion (IsNode p.kinds) nodes
 
 -- the kinds of the first nodes, of which node 0 has none
 abbrev pub first_kinds : ℕ → Kinds → Kinds
-first_kinds zero kinds = []
-first_kinds (suc count) kinds = take count kinds
+first_kinds count kinds = take (count - 1) kinds

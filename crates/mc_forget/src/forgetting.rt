@@ -24,9 +24,10 @@ fn others(alloc: Global, pure: &Pure, lost: NodeId) -> Result<Pure, NoMemory>
         let Some(kind) = pure.kind(*node) else {
             continue;
         };
-        if node.0 != lost.0 {
-            rest.node(*node, kind)?;
+        if node.0 == lost.0 {
+            continue;
         }
+        rest.node(*node, kind)?;
     }
     Ok(rest)
 }
@@ -65,11 +66,12 @@ pub fn forget(alloc: Global, state: &mut State, node: NodeId) -> Result<(), NoMe
     ensures told { OnOk result ((atoms : List Fact) → IsListWithout node state.old atoms → state.new ≡ left_over state.old node atoms) }
     ensures err { OnErr result (state.new ≡ state.old) }
 {
-    // For the proof alone.
+    // These five say what the proof needs.
     mc_fold::naming_makes_well();
     mc_fold::naming_is_determined();
     mc_pure::normal_forms_say_all();
     let known = state.known();
+    known.is_kept();
     known.has_normal_form();
     let atoms = mc_canon::forget(alloc, known, node)?;
     let mut rest = others(alloc, known, node)?;

@@ -1,10 +1,11 @@
 // Whether variables and edges name a node.
-ghost use Rattle.std.specs.Prelude.{◌≡◌, ◌↔◌, IsTrue};
+ghost use Rattle.std.specs.Prelude.{◌≡◌, ◌↔◌, IsTrue, not};
+ghost use Rattle.std.specs.List.{list_all};
 ghost use Rattle.mc_graph.specs.Edges.{known_nodes, nodes_of};
 ghost use Rattle.mc_state.specs.Facts.{IsUnnamed};
 ghost use Rattle.mc_fold.specs.ChangeJudges.{is_listed, is_unnamed as has_no_name};
 
-use mc_base::NodeId;
+use mc_base::{EdgeId, NodeId};
 use mc_graph::Edge;
 use mc_symbolic::State;
 
@@ -57,18 +58,29 @@ fn is_in_edge(node: NodeId, edge: &Edge) -> bool
     }
 }
 
+/// Whether none of the edges names the node.
+fn is_in_none(node: NodeId, edges: &[(EdgeId, Edge)]) -> bool
+    ensures { result ≡ list_all (λ e. not (is_listed node (nodes_of e.1))) edges.now }
+{
+    for entry in edges {
+        if is_in_edge(node, &entry.1) {
+            return false;
+        }
+    }
+    true
+}
+
+/// Whether neither a variable nor an edge names the node.
+fn stands_nowhere(state: &State, node: NodeId) -> bool
+    ensures { result ≡ has_no_name node state.now }
+{
+    !is_known(node, state.env()) && is_in_none(node, state.edges())
+}
+
 /// Whether no variable and no edge names the node.
 pub fn is_unnamed(state: &State, node: NodeId) -> bool
     ensures told { result ≡ has_no_name node state.now }
     ensures derived { IsTrue result ↔ IsUnnamed node state.now }
 {
-    if is_known(node, state.env()) {
-        return false;
-    }
-    for (_, edge) in state.edges() {
-        if is_in_edge(node, edge) {
-            return false;
-        }
-    }
-    true
+    stands_nowhere(state, node)
 }
