@@ -104,7 +104,7 @@ add_yes false old new m to y o none = let h = o.0 refl in absurd (some_none (sym
 
 -- ---- the loop
 
-module _ (vars : ℕ) (kinds : Kinds) (rise : RiseFrom 1 kinds) where
+module _ (vars : ℕ) (kinds : Kinds) where
   -- the state with the first nodes
   abbrev pub partial : ℕ → State
   partial i = record (unknown vars) { kinds = moved_kinds (place_from 1 kinds) (first_kinds i kinds); next = suc (length (first_kinds i kinds)) }
@@ -118,7 +118,7 @@ module _ (vars : ℕ) (kinds : Kinds) (rise : RiseFrom 1 kinds) where
       let none : 0 - 1 ≡ 0 = omega arith in
       record { nodes = rw none e; numbers = λ n. rw (none, r) refl }
 
-  module _ (ns : List NodeId) (all : ns ≡ nodes_of kinds) where
+  module _ (rise : RiseFrom 1 kinds) (ns : List NodeId) (all : ns ≡ nodes_of kinds) where
     abbrev one : ℕ → NodeId → NodeId
     one i d = get_or ns i d
 

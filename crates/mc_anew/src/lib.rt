@@ -4,4 +4,4 @@
 mod edges;
 mod numbered;
 
-pub use numbered::{Anew, anew};
+pub use numbered::{Renewed, anew};

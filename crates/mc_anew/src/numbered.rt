@@ -21,13 +21,13 @@ use std::alloc::Global;
 
 /// A state that is numbered anew, and the new number of each node.
 #[derive(Drop)]
-pub struct Anew {
+pub struct Renewed {
     pub state: State,
     pub renaming: Renaming,
 }
 
 /// The nodes alone, numbered anew.
-fn nodes_anew(alloc: Global, state: &State) -> Result<Anew, NoMemory>
+fn nodes_anew(alloc: Global, state: &State) -> Result<Renewed, NoMemory>
     ensures nodes { IfOk result (λ new. new.state ≡ numbered_nodes (length state.now.env) state.now.kinds) }
     ensures renaming { IfOk result (λ new. AreNumbers state.now.kinds new.renaming) }
 {
@@ -41,7 +41,7 @@ fn nodes_anew(alloc: Global, state: &State) -> Result<Anew, NoMemory>
         let number = fresh.add_node(kind)?;
         renaming.add(*node, number)?;
     }
-    Ok(Anew {
+    Ok(Renewed {
         state: fresh,
         renaming,
     })
@@ -102,27 +102,27 @@ fn put_whole(fresh: &mut State, whole: bool)
     requires { fresh.old.whole ≡ true }
     ensures { fresh.new ≡ record fresh.old { whole = whole } }
 {
-    if !whole {
-        fresh.clear_whole();
+    if whole {
+        return;
     }
+    fresh.clear_whole();
 }
 
 /// The state with its nodes numbered from 1 on and its edges from 0 on, in order, and the new number of each node.
-pub fn anew(alloc: Global, state: &State) -> Result<Anew, NoMemory>
+pub fn anew(alloc: Global, state: &State) -> Result<Renewed, NoMemory>
     ensures state { IfOk result (λ new. new.state ≡ anew state.now) }
     ensures renaming { IfOk result (λ new. AreNumbers state.now.kinds new.renaming) }
 {
     state.is_bounded();
     state.known().is_kept();
-    let Anew {
-        state: mut fresh,
-        renaming,
-    } = nodes_anew(alloc, state)?;
+    let nodes = nodes_anew(alloc, state)?;
+    let renaming = nodes.renaming;
+    let mut fresh = nodes.state;
     put_vars(&mut fresh, state.env(), &renaming);
     put_atoms(&mut fresh, state.atoms(), &renaming)?;
     put_edges(alloc, &mut fresh, state.edges(), &renaming)?;
     put_whole(&mut fresh, state.is_whole());
-    Ok(Anew {
+    Ok(Renewed {
         state: fresh,
         renaming,
     })

@@ -93,7 +93,7 @@ not_there n (y ∷ ys) none (suc i) x e same = not_there n ys (at (nat_eq y.0 n.
     at true e = absurd (omega arith)
     at false e = e
 
-pub starts_left : (s : State) (k : Pure) (n : NodeId) → k.kinds ≡ s.kinds → IsFit k → HaveSameNodes k.starts (block_starts s.graph.edges) → IsUnnamed n s → AllByRecursion (IsNode (kinds_without k.kinds n)) k.starts
+starts_left : (s : State) (k : Pure) (n : NodeId) → k.kinds ≡ s.kinds → IsFit k → HaveSameNodes k.starts (block_starts s.graph.edges) → IsUnnamed n s → AllByRecursion (IsNode (kinds_without k.kinds n)) k.starts
 starts_left s k n kinds fit same unnamed =
     all_places (IsNode (kinds_without k.kinds n)) k.starts (λ i x e. kept_node k.kinds n x (not_there n k.starts (same (is_it n) ∙ none_starts n s.graph.edges unnamed.edges) i x e) (fit.starts i x e))
 
@@ -157,13 +157,13 @@ module _ (s : State) (k : Pure) (node : NodeId) (atoms : List Atom) (kinds : k.k
       head a b e = cc
 
 -- what the list that is written makes of the state
-pub record Leaves (s : State) (node : NodeId) (atoms : List Atom) : Type 0 where
+record Leaves (s : State) (node : NodeId) (atoms : List Atom) : Type 0 where
   pub forgets : Forgets node s (left_over s node atoms)
   pub bounded : IsBounded (left_over s node atoms)
   pub well : AllByRecursion (IsWellFormed (kinds_without s.kinds node)) atoms
   pub told : (other : List Atom) → IsListWithout node s other → left_over s node atoms ≡ left_over s node other
 
-pub what_is_left : (s : State) (k : Pure) (node : NodeId) (atoms : List Atom) → k.kinds ≡ s.kinds → ((f : Atom) → Follows k f ↔ Follows (pure_of s) f) → (IsFalsePure k ↔ IsFalse s)
+what_is_left : (s : State) (k : Pure) (node : NodeId) (atoms : List Atom) → k.kinds ≡ s.kinds → ((f : Atom) → Follows k f ↔ Follows (pure_of s) f) → (IsFalsePure k ↔ IsFalse s)
     → (IsFalse s → ⊥) → IsNode s.kinds node → node ≢ null → IsUnnamed node s → IsMade s
     → NormalSaysAll → HasNormalForm k → ForgetStaysMade → ForgetIsDetermined → IsForgottenOrFalse k node atoms → Leaves s node atoms
 what_is_left s k node atoms kinds follows wrong consistent there not_null unnamed well says form law one (inl f) = absurd (consistent (wrong.0 f.0))
@@ -178,20 +178,88 @@ what_is_left s k node atoms kinds follows wrong consistent there not_null unname
 
 -- ---- what is put together
 
--- the atoms and the blocks beside the other nodes
-pub put_all : (k : Pure) (node : NodeId) (kinds : Kinds) (atoms slice : List Atom) (starts : List NodeId) (rest more all : Pure)
-    → k.kinds ≡ kinds → slice ≡ atoms → rest ≡ only_kinds (kinds_without k.kinds node) → more ≡ with_atoms rest slice → all ≡ with_starts more starts
-    → (all.kinds ≡ kinds_without kinds node) × (all.written ≡ atoms)
-put_all k node kinds atoms slice starts rest more all e same first second third = (
-  ap (λ (p : Pure). p.kinds) third ∙ (ap (λ (p : Pure). p.kinds) second ∙ (ap (λ (p : Pure). p.kinds) first ∙ ap (λ (z : Kinds). kinds_without z node) e)),
-  ap (λ (p : Pure). p.written) third ∙ (ap (λ (p : Pure). p.written) second ∙ (ap (λ (p : Pure). p.written ++ slice) first ∙ same)),
-)
+-- the blocks and the atoms beside the other nodes
+record Together (s : State) (k : Pure) (node : NodeId) (atoms : List Atom) (all : Pure) : Type 0 where
+  pub kinds : all.kinds ≡ kinds_without s.kinds node
+  pub written : all.written ≡ atoms
+  pub starts : all.starts ≡ k.starts
 
--- the state with it
+put_all : (s : State) (k : Pure) (node : NodeId) (atoms slice : List Atom) (starts : List NodeId) (rest more all : Pure)
+    → k.kinds ≡ s.kinds → slice ≡ atoms → starts ≡ k.starts
+    → rest ≡ only_kinds (kinds_without k.kinds node) → more ≡ with_starts rest starts → all ≡ with_atoms more slice → Together s k node atoms all
+put_all s k node atoms slice starts rest more all e same begin first second third =
+    let whole = third ∙ (ap (λ (p : Pure). with_atoms p slice) second ∙ ap (λ (p : Pure). with_atoms (with_starts p starts) slice) first) in
+    record {
+      kinds = ap (λ (p : Pure). p.kinds) whole ∙ ap (λ (z : Kinds). kinds_without z node) e;
+      written = ap (λ (p : Pure). p.written) whole ∙ same;
+      starts = ap (λ (p : Pure). p.starts) whole ∙ begin;
+    }
+
+-- the state with what is known
 abbrev with_known : State → Kinds → List Atom → State
 with_known s kinds atoms = record s { kinds = kinds; atoms = atoms }
 
-pub is_left_over : (s : State) (node : NodeId) (atoms : List Atom) (all : Pure) → (all.kinds ≡ kinds_without s.kinds node) × (all.written ≡ atoms)
-    → record s { kinds = all.kinds; atoms = all.written } ≡ left_over s node atoms
-is_left_over s node atoms all e =
-    ap (λ (z : Kinds). with_known s z all.written) e.0 ∙ ap (λ (z : List Atom). with_known s (kinds_without s.kinds node) z) e.1
+-- what is put together is what is left
+pub record IsLeft (s : State) (node : NodeId) (all : Pure) : Type 0 where
+  pub starts : HaveSameNodes all.starts (block_starts s.graph.edges)
+  pub bounded : IsBounded (with_known s all.kinds all.written)
+  pub atoms : AllByRecursion (IsWellFormed all.kinds) all.written
+  pub forgets : Forgets node s (with_known s all.kinds all.written)
+  pub told : (other : List Atom) → IsListWithout node s other → with_known s all.kinds all.written ≡ left_over s node other
+
+is_left : (s : State) (k : Pure) (node : NodeId) (atoms : List Atom) (all : Pure)
+    → HaveSameNodes k.starts (block_starts s.graph.edges) → Leaves s node atoms → Together s k node atoms all → IsLeft s node all
+is_left s k node atoms all same left e =
+    let is : with_known s all.kinds all.written ≡ left_over s node atoms =
+    ap (λ (z : Kinds). with_known s z all.written) e.kinds ∙ ap (λ (z : List Atom). with_known s (kinds_without s.kinds node) z) e.written in
+    record {
+      starts = subst (λ (z : List NodeId). HaveSameNodes z (block_starts s.graph.edges)) (sym e.starts) same;
+      bounded = subst IsBounded (sym is) left.bounded;
+      atoms = subst (λ (z : State). AllByRecursion (IsWellFormed z.kinds) z.atoms) (sym is) left.well;
+      forgets = subst (Forgets node s) (sym is) left.forgets;
+      told = λ other list. is ∙ left.told other list;
+    }
+
+-- ---- from what the calls say
+
+-- what is known of a state and of a node that may be forgotten
+pub record IsAsked (s : State) (k : Pure) (node : NodeId) : Type 0 where
+  pub kinds : k.kinds ≡ s.kinds
+  pub starts : HaveSameNodes k.starts (block_starts s.graph.edges)
+  pub follows : (f : Atom) → Follows k f ↔ Follows (pure_of s) f
+  pub is_false : IsFalsePure k ↔ IsFalse s
+  pub well : IsMade s
+  pub there : IsNode s.kinds node
+  pub not_null : node ≢ null
+  pub not_false : IsFalse s → ⊥
+  pub unnamed : IsUnnamed node s
+  pub says : NormalSaysAll
+  pub form : HasNormalForm k
+  pub made_law : ForgetStaysMade
+  pub one_law : ForgetIsDetermined
+
+leaves_asked : (s : State) (k : Pure) (node : NodeId) (atoms : List Atom) → IsAsked s k node → IsForgottenOrFalse k node atoms → Leaves s node atoms
+leaves_asked s k node atoms a f =
+    what_is_left s k node atoms a.kinds a.follows a.is_false a.not_false a.there a.not_null a.unnamed a.well a.says a.form a.made_law a.one_law f
+
+-- the atoms may be written beside the other nodes
+pub atoms_fit : (s : State) (k : Pure) (node : NodeId) (atoms slice : List Atom) (starts : List NodeId) (rest more : Pure) → IsAsked s k node → IsForgottenOrFalse k node atoms
+    → slice ≡ atoms → rest ≡ only_kinds (kinds_without k.kinds node) → more ≡ with_starts rest starts → AllByRecursion (IsWellFormed more.kinds) slice
+atoms_fit s k node atoms slice starts rest more a f same first second =
+    let kinds = ap (λ (p : Pure). p.kinds) second ∙ (ap (λ (p : Pure). p.kinds) first ∙ ap (λ (z : Kinds). kinds_without z node) a.kinds) in
+    let left = leaves_asked s k node atoms a f in
+    subst (λ (z : List Atom). AllByRecursion (IsWellFormed more.kinds) z) (sym same)
+    (subst (λ (z : Kinds). AllByRecursion (IsWellFormed z) atoms) (sym kinds) left.well)
+
+-- and the blocks
+pub starts_fit : (s : State) (k : Pure) (node : NodeId) (starts : List NodeId) (rest : Pure) → IsFit k → k.kinds ≡ s.kinds → HaveSameNodes k.starts (block_starts s.graph.edges) → IsUnnamed node s
+    → starts ≡ k.starts → rest ≡ only_kinds (kinds_without k.kinds node) → AllByRecursion (IsNode rest.kinds) starts
+starts_fit s k node starts rest fit kinds same unnamed begin first =
+    subst (λ (z : List NodeId). AllByRecursion (IsNode rest.kinds) z) (sym begin)
+    (subst (λ (z : Kinds). AllByRecursion (IsNode z) k.starts) (sym (ap (λ (p : Pure). p.kinds) first)) (starts_left s k node kinds fit same unnamed))
+
+-- all that is known then
+pub all_left : (s : State) (k : Pure) (node : NodeId) (atoms slice : List Atom) (starts : List NodeId) (rest more all : Pure) → IsAsked s k node → IsForgottenOrFalse k node atoms
+    → slice ≡ atoms → starts ≡ k.starts → rest ≡ only_kinds (kinds_without k.kinds node) → more ≡ with_starts rest starts → all ≡ with_atoms more slice → IsLeft s node all
+all_left s k node atoms slice starts rest more all a f same begin first second third =
+    is_left s k node atoms all a.starts (leaves_asked s k node atoms a f) (put_all s k node atoms slice starts rest more all a.kinds same begin first second third)

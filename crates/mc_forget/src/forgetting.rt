@@ -32,17 +32,6 @@ fn others(alloc: Global, pure: &Pure, lost: NodeId) -> Result<Pure, NoMemory>
     Ok(rest)
 }
 
-/// Assumes atoms.
-fn put_atoms(pure: &mut Pure, atoms: &[Atom]) -> Result<(), NoMemory>
-    requires { AllByRecursion (IsWellFormed pure.old.kinds) atoms.now }
-    ensures { OnOk result (pure.new ≡ with_atoms pure.old atoms.now) }
-{
-    for atom in atoms {
-        pure.assume(atom)?;
-    }
-    Ok(())
-}
-
 /// Adds blocks that start at nodes.
 fn put_starts(pure: &mut Pure, starts: &[NodeId]) -> Result<(), NoMemory>
     requires { AreNodesOf pure.old starts.now }
@@ -50,6 +39,17 @@ fn put_starts(pure: &mut Pure, starts: &[NodeId]) -> Result<(), NoMemory>
 {
     for start in starts {
         pure.block(*start)?;
+    }
+    Ok(())
+}
+
+/// Assumes atoms.
+fn put_atoms(pure: &mut Pure, atoms: &[Atom]) -> Result<(), NoMemory>
+    requires { AllByRecursion (IsWellFormed pure.old.kinds) atoms.now }
+    ensures { OnOk result (pure.new ≡ with_atoms pure.old atoms.now) }
+{
+    for atom in atoms {
+        pure.assume(atom)?;
     }
     Ok(())
 }
@@ -75,8 +75,8 @@ pub fn forget(alloc: Global, state: &mut State, node: NodeId) -> Result<(), NoMe
     known.has_normal_form();
     let atoms = mc_canon::forget(alloc, known, node)?;
     let mut rest = others(alloc, known, node)?;
-    put_atoms(&mut rest, atoms.as_slice())?;
     put_starts(&mut rest, known.starts())?;
+    put_atoms(&mut rest, atoms.as_slice())?;
     state.put_known(rest);
     Ok(())
 }
