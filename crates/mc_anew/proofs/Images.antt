@@ -208,6 +208,13 @@ all_anew s images fresh vars atoms edges whole rise bounded numbers a b c d e =
     let env = env_same s.kinds rise images numbers s.env bounded.vars in
     let facts = atoms_same s.kinds rise images numbers s.atoms bounded.atoms in
     let graph = graph_same s.kinds rise images numbers s.graph bounded.edges in
-    e ∙ (ap (λ (z : State). record z { whole = s.whole }) (d ∙ ap (λ (z : State). with_edges z (map (λ e. moved_edge (image images) e.1) s.graph.edges))
-    (c ∙ ap (λ (z : State). with_atoms z (map (moved_atom (image images)) s.atoms))
-    (b ∙ ap (λ (z : State). record z { env = map (option_map (moved (image images))) s.env }) a))) ∙ rw (env, facts, graph) refl)
+    let first = b ∙ ap (λ (z : State). record z { env = map (option_map (moved (image images))) s.env }) a in
+    let second = c ∙ ap (λ (z : State). with_atoms z (map (moved_atom (image images)) s.atoms)) first in
+    let third = d ∙ ap (λ (z : State). with_edges z (map (λ e. moved_edge (image images) e.1) s.graph.edges)) second in
+    e ∙ (ap (λ (z : State). record z { whole = s.whole }) third ∙ made env graph facts)
+  where
+    abbrev with_parts : List (Option NodeId) → Graph → List Atom → State
+    with_parts vars g atoms = record { env = vars; kinds = moved_kinds (place_from 1 s.kinds) s.kinds; graph = g; atoms = atoms; next = suc (length s.kinds); whole = s.whole }
+
+    made : {u v : List (Option NodeId)} {g h : Graph} {x y : List Atom} → u ≡ v → g ≡ h → x ≡ y → with_parts u g x ≡ with_parts v h y
+    made p q r = rw (p, q, r) refl
