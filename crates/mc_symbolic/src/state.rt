@@ -2,11 +2,12 @@
 ghost use Rattle.std.specs.Prelude.{◌≡◌, ◌↔◌, ◌∷◌, [], IfOk, OnOk, OnErr, IsTrue, Some, None, false, option_and_then, option_map, map, replicate};
 ghost use Rattle.std.specs.List.{AllByRecursion};
 ghost use Rattle.std.specs.Option.{option_copied};
+ghost use Rattle.mc_base.specs.declared.plain.Atom.{Atom as Fact};
 ghost use Rattle.mc_base.specs.Nodes.{moved};
 ghost use Rattle.mc_graph.specs.Edges.{nodes_of, with_field_node};
 ghost use Rattle.mc_graph.specs.Graph.{edge_with, without, replaced, block_starts};
 ghost use Rattle.mc_pure.specs.Pure.{IsNode, IsWellFormed, kind_of};
-ghost use Rattle.mc_pure.specs.Derived.{HasRange};
+ghost use Rattle.mc_pure.specs.Derived.{Follows, HasRange, IsFalse as IsFalsePure};
 ghost use Rattle.mc_pure.specs.Rows.{nodes_of as all_nodes};
 ghost use Rattle.mc_state.specs.State.{unknown, pure_of, var_node, next_node, with_var, with_nodes, with_atom, with_edges, with_only_edges};
 ghost use Rattle.mc_state.specs.Facts.{Derives, IsFalse, AreEqual, AreAllEqual, CanMerge, merged, instead};
@@ -330,12 +331,15 @@ impl State {
         Ok(())
     }
 
-    /// What is known of the nodes.
+    /// What is known of the nodes. What follows from it follows in the state, and nothing else does.
     pub fn known(&self) -> &Pure
         ensures kinds { result.now.kinds ≡ self.now.kinds }
         ensures atoms { result.now.written ≡ self.now.atoms }
         ensures starts { HaveSameNodes result.now.starts (block_starts self.now.graph.edges) }
+        ensures follows { (f : Fact) → Follows result.now f ↔ Follows (pure_of self.now) f }
+        ensures is_false { IsFalsePure result.now ↔ IsFalse self.now }
     {
+        mc_pure::derived_grows();
         &self.pure
     }
 

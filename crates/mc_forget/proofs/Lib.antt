@@ -1,0 +1,4 @@
+pub mod Lists
+pub mod Leaving
+pub mod Unnamed
+pub mod Made
