@@ -1,0 +1,100 @@
+// Building a state from what a document writes.
+ghost use Rattle.std.specs.Prelude.{◌≡◌, ◌≢◌, ◌↔◌, IfOk, OnOk, IsTrue, MatchOption, Some, true, length, slice_get};
+ghost use Rattle.mc_graph.specs.Edges.{known_nodes, nodes_of};
+ghost use Rattle.mc_state.specs.Fits.{AreNodes};
+ghost use Rattle.mc_state.specs.RawStates.{BeginsWithZero};
+ghost use Rattle.mc_state.specs.State.{with_atoms, with_edges};
+ghost use Rattle.mc_state.specs.declared.raw_state.NodeKind.TheVariants.{Zero};
+ghost use Rattle.mc_raw.specs.Raw.{begun, node_kind, AllAtomsFit, AllAreThere};
+
+use mc_base::{Atom, Kind, NoMemory, NodeId, VarId};
+use mc_graph::Edge;
+use mc_state::NodeKind;
+use mc_symbolic::State;
+use std::alloc::Global;
+
+/// The kind of a node other than node 0.
+fn plain(kind: NodeKind) -> Option<Kind>
+    ensures { MatchOption result (kind ≡ Zero) (λ own. kind ≡ node_kind own) }
+{
+    match kind {
+        NodeKind::Zero => None,
+        NodeKind::Int => Some(Kind::Int),
+        NodeKind::Ptr => Some(Kind::Ptr),
+    }
+}
+
+/// Whether the first kind and no other is that of node 0.
+pub fn begins_with_zero(kinds: &[NodeKind]) -> bool
+    ensures { IsTrue result ↔ BeginsWithZero kinds.now }
+{
+    if kinds.is_empty() {
+        return false;
+    }
+    if plain(kinds[0]).is_some() {
+        return false;
+    }
+    for i in 1..kinds.len() {
+        if plain(kinds[i]).is_none() {
+            return false;
+        }
+    }
+    true
+}
+
+/// A state with nodes of these kinds and so many variables, of which none is known.
+pub fn with_kinds(alloc: Global, vars: usize, kinds: &[NodeKind]) -> Result<State, NoMemory>
+    requires { BeginsWithZero kinds.now }
+    ensures { IfOk result (λ s. s ≡ begun vars kinds.now) }
+{
+    let mut state = State::unknown(alloc, vars)?;
+    for i in 1..kinds.len() {
+        if let Some(kind) = plain(kinds[i]) {
+            state.add_node(kind)?;
+        }
+    }
+    Ok(state)
+}
+
+/// Gives each variable its node, where it is known.
+pub fn put_vars(state: &mut State, nodes: &[Option<NodeId>])
+    requires there { AreNodes state.old.kinds (known_nodes nodes.now) }
+    requires long { length state.old.env ≡ length nodes.now }
+    ensures { state.new ≡ record state.old { env = nodes.now } }
+{
+    for i in 0..nodes.len() {
+        state.set_var(VarId(i as u64), nodes[i]);
+    }
+}
+
+/// Adds edges.
+pub fn put_edges(alloc: Global, state: &mut State, edges: &[Edge]) -> Result<(), NoMemory>
+    requires { AllAreThere state.old.kinds edges.now }
+    ensures { OnOk result (state.new ≡ with_edges state.old edges.now) }
+{
+    for edge in edges {
+        state.add_edge(edge.copy(alloc)?)?;
+    }
+    Ok(())
+}
+
+/// Writes atoms down.
+pub fn put_atoms(state: &mut State, atoms: &[Atom]) -> Result<(), NoMemory>
+    requires { AllAtomsFit state.old.kinds atoms.now }
+    ensures { OnOk result (state.new ≡ with_atoms state.old atoms.now) }
+{
+    for atom in atoms {
+        state.assume(atom)?;
+    }
+    Ok(())
+}
+
+/// Says whether the edges are all that is allocated.
+pub fn put_flag(state: &mut State, whole: bool)
+    requires { state.old.whole ≡ true }
+    ensures { state.new ≡ record state.old { whole = whole } }
+{
+    if !whole {
+        state.clear_whole();
+    }
+}
