@@ -81,18 +81,18 @@ module _ (follows : FollowsRenamed) (wrong : FalseRenamed) (s t : State) (f back
       let own = place_kind 1 s.kinds s.next place n k bounded.kinds e in
       let h = kind_place t.kinds (moved f n) k (r.kind n k own) in
       derived.Follows.base (pure.Base.kind h.0 h.1)
-  bases all a (pure.Base.block {n} place e) = derived.Follows.base (pure.Base.block place (starts place n e))
-  bases all a (pure.Base.apart {m} {n} i j differ x y) = derived.Follows.base (pure.Base.apart i j differ (starts i m x) (starts j n y))
+  bases all a (pure.Base.block {a = n} place e) = derived.Follows.base (pure.Base.block place (starts place n e))
+  bases all a (pure.Base.apart {a = m} {b = n} i j differ x y) = derived.Follows.base (pure.Base.apart i j differ (starts i m x) (starts j n y))
 
   pub goes_along : (a : Atom) → Derives s a → Derives t (moved_atom f a)
   goes_along a d = elim (either (pure_of t) (moved_atom f) s.atoms known) [
-    | inl no ↦ inr no
+    | inl bad ↦ inr bad
     | inr all ↦ both all d
   ]
     where
       both : ((place : ℕ) (x : Atom) → slice_get s.atoms place ≡ Some x → Follows (pure_of t) (moved_atom f x)) → Derives s a → Derives t (moved_atom f a)
       both all (inl x) = inl (follows (pure_of s) (pure_of t) f (node_goes f back s.kinds t.kinds r) (bases all) a x)
-      both all (inr no) = inr (wrong (pure_of s) (pure_of t) f (node_goes f back s.kinds t.kinds r) (bases all) no)
+      both all (inr bad) = inr (wrong (pure_of s) (pure_of t) f (node_goes f back s.kinds t.kinds r) (bases all) bad)
 
 -- ---- atoms that come back
 

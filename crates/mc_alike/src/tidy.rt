@@ -37,7 +37,10 @@ fn can_merge(state: &State, keep: NodeId, gone: NodeId) -> bool
 fn can_be_merged(state: &State, keep: NodeId, gone: NodeId) -> bool
     ensures { IsTrue result ↔ CanBeMerged state.now keep gone }
 {
-    can_merge(state, keep, gone) && state.are_equal(keep, gone)
+    if !can_merge(state, keep, gone) {
+        return false;
+    }
+    state.are_equal(keep, gone)
 }
 
 /// Whether no node can be merged with this one.

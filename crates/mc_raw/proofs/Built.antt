@@ -3,7 +3,7 @@ use Rattle.std.proofs.Common.{◌≡◌, ◌≢◌, ◌⊎◌, inl, inr, ◌<◌
 use Rattle.std.specs.Prelude.{slice_set, All}
 use Rattle.std.specs.List.{AllByRecursion}
 use Rattle.std.proofs.lemmas.List.{take_more, length-take-le}
-use Rattle.std.proofs.lemmas.Option.{slice_get_within, slice_get-get_or}
+use Rattle.std.proofs.lemmas.List.{take_all}
 use Rattle.mc_base.specs.declared.ids.EdgeId.{EdgeId}
 use Rattle.mc_base.specs.declared.ids.NodeId.{NodeId}
 use Rattle.mc_base.specs.declared.plain.Atom.{Atom}
@@ -19,7 +19,7 @@ use Rattle.mc_state.specs.declared.raw_state.RawState.{RawState}
 use Rattle.mc_state.specs.State.{State, with_nodes, with_atoms, with_edges}
 use Rattle.mc_state.specs.Fits.{AreNodes}
 use Rattle.mc_state.specs.RawStates.{kinds_from, state_of, BeginsWithZero}
-use Rattle.mc_raw.specs.Raw.{begun, node_kind}
+use Rattle.mc_raw.specs.Raw.{begun, filled, node_kind}
 
 -- ---- nodes
 
@@ -49,19 +49,22 @@ pub begun_first : (vars : ℕ) (kinds : List NodeKind) → BeginsWithZero kinds 
 begun_first vars [] b = absurd b
 begun_first vars (k ∷ kinds) b = ap (λ (z : NodeKind). begun vars (z ∷ [])) b.0
 
+pub begun_end : (vars : ℕ) (kinds : List NodeKind) (i : ℕ) → length kinds ≤ i → begun vars (take i kinds) ≡ begun vars kinds
+begun_end vars kinds i l = ap (begun vars) (take_all i kinds l)
+
 pub not_zero : (kinds : List NodeKind) (i : ℕ) (d : NodeKind) → BeginsWithZero kinds → 1 ≤ i → i < length kinds → get_or kinds i d ≢ Zero
 not_zero [] i d b l m = absurd b
 not_zero (k ∷ kinds) zero d b l m = absurd (omega arith)
 not_zero (k ∷ kinds) (suc i) d b l m = b.1 i d (omega arith)
 
+pub same_item : (xs : List NodeKind) (i : ℕ) (d e : NodeKind) → i < length xs → get_or xs i d ≡ Zero → get_or xs i e ≡ Zero
+same_item [] i d e m q = absurd (omega arith)
+same_item (x ∷ xs) zero d e m q = q
+same_item (x ∷ xs) (suc i) d e m q = same_item xs i d e (omega arith) q
+
 pub begins : (kinds : List NodeKind) → 0 < length kinds → get_or kinds 0 Zero ≡ Zero → ((k : ℕ) → 1 ≤ k → k < length kinds → get_or kinds k Int ≢ Zero) → BeginsWithZero kinds
 begins [] l e h = absurd (omega arith)
 begins (k ∷ kinds) l e h = (e, λ i d m q. h (suc i) (omega arith) (omega arith) (same_item kinds i d Int m q))
-  where
-    same_item : (xs : List NodeKind) (i : ℕ) (d e : NodeKind) → i < length xs → get_or xs i d ≡ Zero → get_or xs i e ≡ Zero
-    same_item [] i d e m q = absurd (omega arith)
-    same_item (x ∷ xs) zero d e m q = q
-    same_item (x ∷ xs) (suc i) d e m q = same_item xs i d e (omega arith) q
 
 pub first_zero : (kinds : List NodeKind) (d : NodeKind) → BeginsWithZero kinds → get_or kinds 0 d ≡ Zero
 first_zero [] d b = absurd b
@@ -117,9 +120,12 @@ atoms_more s atoms i d l = ap (λ (z : List Atom). (let t : State = record s { a
 
 -- ---- all together
 
-pub built : (vars : ℕ) (raw : RawState) (s t u v w : State) → vars ≡ length raw.vars → s ≡ begun vars raw.kinds → t ≡ record s { env = raw.vars } → u ≡ with_edges t raw.edges → v ≡ with_atoms u raw.atoms → w ≡ record v { whole = raw.whole } → w ≡ state_of raw
-built vars raw s t u v w long a b c d e = e ∙ ap (λ (z : State). (let x : State = record z { whole = raw.whole } in x)) (d ∙ ap (λ (z : State). with_atoms z raw.atoms) (c ∙ ap (λ (z : State). with_edges z raw.edges) (b ∙ ap (λ (z : State). (let x : State = record z { env = raw.vars } in x)) a)))
-  ∙ zero_more
+pub built : (vars : ℕ) (raw : RawState) (s t : State) → s ≡ begun vars raw.kinds → t ≡ filled s raw → t ≡ state_of raw
+built vars raw s t a b = b ∙ (ap (λ (z : State). filled z raw) a ∙ zero_more)
   where
-    zero_more : (let x : State = record (with_atoms (with_edges (record (begun vars raw.kinds) { env = raw.vars }) raw.edges) raw.atoms) { whole = raw.whole } in x ≡ state_of raw)
+    zero_more : filled (begun vars raw.kinds) raw ≡ state_of raw
     zero_more = with_graph (state_of raw) (numbered 0 raw.edges) (numbered 0 raw.edges) (0 + length raw.edges) (length raw.edges) refl (omega arith)
+
+pub none_long : (vars : ℕ) (kinds : List NodeKind) → length (begun vars kinds).env ≡ vars
+none_long zero kinds = refl
+none_long (suc vars) kinds = ap suc (none_long vars kinds)

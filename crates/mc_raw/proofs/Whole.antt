@@ -21,7 +21,7 @@ use Rattle.mc_state.specs.declared.raw_state.RawState.{RawState}
 use Rattle.mc_state.specs.State.{State}
 use Rattle.mc_state.specs.Fits.{NodesAscend, AreNodes, HaveKinds, MayHaveKinds, EdgeFitsDefs, EdgeFitsStructs, IsBounded, IsWellMade}
 use Rattle.mc_state.specs.RawStates.{kinds_from, state_of, BeginsWithZero, IsWellFormedRaw}
-use Rattle.mc_raw.specs.Raw.{AllEdgesFit, AllAtomsFit, AllAreThere}
+use Rattle.mc_raw.specs.Raw.{AllEdgesFit, AllAtomsFit, AllAreThere, PiecesFit}
 use Rattle.mc_raw.proofs.Items.{all_at, all_from}
 
 -- ---- numbers
@@ -42,7 +42,7 @@ nodes_ascend (Zero ∷ kinds) b = ascend_from 1 kinds (length (Zero ∷ kinds)) 
 nodes_ascend (Int ∷ kinds) b = let w : Int ≡ Zero = b.0 in absurd (cc w)
 nodes_ascend (Ptr ∷ kinds) b = let w : Ptr ≡ Zero = b.0 in absurd (cc w)
 
-some_kinds : (kinds : List NodeKind) → BeginsWithZero kinds → 0 < length kinds
+pub some_kinds : (kinds : List NodeKind) → BeginsWithZero kinds → 0 < length kinds
 some_kinds [] b = absurd b
 some_kinds (k ∷ kinds) b = omega arith
 
@@ -94,40 +94,33 @@ module _ (own : Kinds) where
 
 -- ---- both ways
 
-pub record Fits (defs : List Def) (vars : List VarInfo) (structs : List StructInfo) (raw : RawState) : Type 0 where
-  pub zero : BeginsWithZero raw.kinds
-  pub vars_fit : MayHaveKinds (kinds_from 0 raw.kinds) (map (λ (x : VarInfo). x.kind) vars) raw.vars
-  pub edges : AllEdgesFit defs structs (kinds_from 0 raw.kinds) raw.edges
-  pub atoms : AllAtomsFit (kinds_from 0 raw.kinds) raw.atoms
-
-pub well_formed : (defs : List Def) (vars : List VarInfo) (structs : List StructInfo) (raw : RawState) → Fits defs vars structs raw → IsWellFormedRaw defs vars structs raw
-well_formed defs vars structs raw f = record {
-  zero = f.zero;
+pub well_formed : (defs : List Def) (vars : List VarInfo) (structs : List StructInfo) (raw : RawState) → BeginsWithZero raw.kinds → PiecesFit defs vars structs (kinds_from 0 raw.kinds) raw → IsWellFormedRaw defs vars structs raw
+well_formed defs vars structs raw b f = record {
+  zero = b;
   made = record {
     bounded = record {
-      positive = some_kinds raw.kinds f.zero;
-      kinds = nodes_ascend raw.kinds f.zero;
+      positive = some_kinds raw.kinds b;
+      kinds = nodes_ascend raw.kinds b;
       ids = ids_ascend 0 raw.edges (length raw.edges) (omega arith);
       vars = known_there (kinds_from 0 raw.kinds) (map (λ (x : VarInfo). x.kind) vars) raw.vars f.vars_fit;
-      edges = numbered_all (λ (e : Edge). AreNodes (kinds_from 0 raw.kinds) (nodes_of e)) 0 raw.edges (edges_there (kinds_from 0 raw.kinds) defs structs raw.edges f.edges);
-      atoms = all_from (λ (a : Atom). AreNodes (kinds_from 0 raw.kinds) (nodes_of_atom a)) raw.atoms (λ i a e. atom_there (kinds_from 0 raw.kinds) a (f.atoms i a e));
+      edges = numbered_all (λ (e : Edge). AreNodes (kinds_from 0 raw.kinds) (nodes_of e)) 0 raw.edges (edges_there (kinds_from 0 raw.kinds) defs structs raw.edges f.edges_fit);
+      atoms = all_from (λ (a : Atom). AreNodes (kinds_from 0 raw.kinds) (nodes_of_atom a)) raw.atoms (λ i a e. atom_there (kinds_from 0 raw.kinds) a (f.atoms_fit i a e));
     };
-    atoms = all_from (IsWellFormed (kinds_from 0 raw.kinds)) raw.atoms f.atoms;
-    fits_defs = numbered_all (EdgeFitsDefs defs (kinds_from 0 raw.kinds)) 0 raw.edges (λ i e q. (f.edges i e q).0);
+    atoms = all_from (IsWellFormed (kinds_from 0 raw.kinds)) raw.atoms f.atoms_fit;
+    fits_defs = numbered_all (EdgeFitsDefs defs (kinds_from 0 raw.kinds)) 0 raw.edges (λ i e q. (f.edges_fit i e q).0);
     fits_program = record {
       vars_fit = f.vars_fit;
-      blocks_fit = numbered_all (EdgeFitsStructs structs (kinds_from 0 raw.kinds)) 0 raw.edges (λ i e q. (f.edges i e q).1);
+      blocks_fit = numbered_all (EdgeFitsStructs structs (kinds_from 0 raw.kinds)) 0 raw.edges (λ i e q. (f.edges_fit i e q).1);
     };
   };
 }
 
-pub pieces_fit : (defs : List Def) (vars : List VarInfo) (structs : List StructInfo) (raw : RawState) → IsWellFormedRaw defs vars structs raw → Fits defs vars structs raw
+pub pieces_fit : (defs : List Def) (vars : List VarInfo) (structs : List StructInfo) (raw : RawState) → IsWellFormedRaw defs vars structs raw → PiecesFit defs vars structs (kinds_from 0 raw.kinds) raw
 pieces_fit defs vars structs raw w = record {
-  zero = w.zero;
   vars_fit = w.made.fits_program.vars_fit;
-  edges = λ i e q. (
+  edges_fit = λ i e q. (
     numbered_at (EdgeFitsDefs defs (kinds_from 0 raw.kinds)) 0 raw.edges w.made.fits_defs i e q,
     numbered_at (EdgeFitsStructs structs (kinds_from 0 raw.kinds)) 0 raw.edges w.made.fits_program.blocks_fit i e q,
   );
-  atoms = λ i a e. all_at (IsWellFormed (kinds_from 0 raw.kinds)) raw.atoms i a w.made.atoms e;
+  atoms_fit = λ i a e. all_at (IsWellFormed (kinds_from 0 raw.kinds)) raw.atoms i a w.made.atoms e;
 }

@@ -1,5 +1,5 @@
 -- The parts of a state that a document writes, and how they fit.
-use Rattle.std.specs.Prelude.{◌≡◌, ℕ, List, [], Option, Some, None, true, length, replicate, slice_get}
+use Rattle.std.specs.Prelude.{◌≡◌, ℕ, List, [], Option, Some, None, true, length, map, replicate, slice_get}
 use Rattle.mc_base.specs.declared.ids.NodeId.{NodeId}
 use Rattle.mc_base.specs.declared.ids.StructId.{StructId}
 use Rattle.mc_base.specs.declared.plain.Atom.{Atom}
@@ -16,8 +16,8 @@ use Rattle.mc_pure.specs.Pure.{Kinds, IsWellFormed}
 use Rattle.mc_state.specs.declared.raw_state.NodeKind.{NodeKind}
 use Rattle.mc_state.specs.declared.raw_state.NodeKind.TheVariants.{Int, Ptr}
 use Rattle.mc_state.specs.declared.raw_state.RawState.{RawState}
-use Rattle.mc_state.specs.State.{State}
-use Rattle.mc_state.specs.Fits.{AreNodes, EdgeFitsDefs, EdgeFitsStructs}
+use Rattle.mc_state.specs.State.{State, with_atoms, with_edges}
+use Rattle.mc_state.specs.Fits.{AreNodes, MayHaveKinds, EdgeFitsDefs, EdgeFitsStructs}
 use Rattle.mc_state.specs.RawStates.{kinds_from, state_of, IsWellFormedRaw}
 
 -- the state that is written, where it is well formed, and nothing where it is not
@@ -61,3 +61,13 @@ node_kind kind.Ptr = Ptr
 -- the nodes of each edge are there
 abbrev pub AllAreThere : Kinds → List Edge → Type 0
 AllAreThere kinds es = (place : ℕ) (e : Edge) → slice_get es place ≡ Some e → AreNodes kinds (nodes_of e)
+
+-- variables, edges and atoms fit nodes of these kinds
+pub record PiecesFit (defs : List Def) (vars : List VarInfo) (structs : List StructInfo) (kinds : Kinds) (raw : RawState) : Type 0 where
+  pub vars_fit : MayHaveKinds kinds (map (λ x. x.kind) vars) raw.vars
+  pub edges_fit : AllEdgesFit defs structs kinds raw.edges
+  pub atoms_fit : AllAtomsFit kinds raw.atoms
+
+-- the state with the variables, edges, atoms and flag that are written
+abbrev pub filled : State → RawState → State
+filled s raw = record (with_atoms (with_edges (record s { env = raw.vars }) raw.edges) raw.atoms) { whole = raw.whole }

@@ -1,17 +1,28 @@
 // Building a state from what a document writes.
-ghost use Rattle.std.specs.Prelude.{◌≡◌, ◌≢◌, ◌↔◌, IfOk, OnOk, IsTrue, MatchOption, Some, true, length, slice_get};
-ghost use Rattle.mc_graph.specs.Edges.{known_nodes, nodes_of};
+ghost use Rattle.std.specs.Prelude.{◌≡◌, ◌↔◌, IfOk, OnOk, IsTrue, MatchOption, true, length};
+ghost use Rattle.mc_graph.specs.Edges.{known_nodes};
 ghost use Rattle.mc_state.specs.Fits.{AreNodes};
 ghost use Rattle.mc_state.specs.RawStates.{BeginsWithZero};
 ghost use Rattle.mc_state.specs.State.{with_atoms, with_edges};
 ghost use Rattle.mc_state.specs.declared.raw_state.NodeKind.TheVariants.{Zero};
-ghost use Rattle.mc_raw.specs.Raw.{begun, node_kind, AllAtomsFit, AllAreThere};
+ghost use Rattle.mc_raw.specs.Raw.{begun, filled, node_kind, AllAtomsFit, AllAreThere};
 
 use mc_base::{Atom, Kind, NoMemory, NodeId, VarId};
 use mc_graph::Edge;
-use mc_state::NodeKind;
+use mc_state::{NodeKind, RawState};
 use mc_symbolic::State;
 use std::alloc::Global;
+
+/// Whether it is the kind of node 0.
+fn is_zero(kind: NodeKind) -> bool
+    ensures { IsTrue result ↔ (kind ≡ Zero) }
+{
+    match kind {
+        NodeKind::Zero => true,
+        NodeKind::Int => false,
+        NodeKind::Ptr => false,
+    }
+}
 
 /// The kind of a node other than node 0.
 fn plain(kind: NodeKind) -> Option<Kind>
@@ -31,11 +42,11 @@ pub fn begins_with_zero(kinds: &[NodeKind]) -> bool
     if kinds.is_empty() {
         return false;
     }
-    if plain(kinds[0]).is_some() {
+    if !is_zero(kinds[0]) {
         return false;
     }
     for i in 1..kinds.len() {
-        if plain(kinds[i]).is_none() {
+        if is_zero(kinds[i]) {
             return false;
         }
     }
@@ -57,7 +68,7 @@ pub fn with_kinds(alloc: Global, vars: usize, kinds: &[NodeKind]) -> Result<Stat
 }
 
 /// Gives each variable its node, where it is known.
-pub fn put_vars(state: &mut State, nodes: &[Option<NodeId>])
+fn put_vars(state: &mut State, nodes: &[Option<NodeId>])
     requires there { AreNodes state.old.kinds (known_nodes nodes.now) }
     requires long { length state.old.env ≡ length nodes.now }
     ensures { state.new ≡ record state.old { env = nodes.now } }
@@ -68,7 +79,7 @@ pub fn put_vars(state: &mut State, nodes: &[Option<NodeId>])
 }
 
 /// Adds edges.
-pub fn put_edges(alloc: Global, state: &mut State, edges: &[Edge]) -> Result<(), NoMemory>
+fn put_edges(alloc: Global, state: &mut State, edges: &[Edge]) -> Result<(), NoMemory>
     requires { AllAreThere state.old.kinds edges.now }
     ensures { OnOk result (state.new ≡ with_edges state.old edges.now) }
 {
@@ -79,7 +90,7 @@ pub fn put_edges(alloc: Global, state: &mut State, edges: &[Edge]) -> Result<(),
 }
 
 /// Writes atoms down.
-pub fn put_atoms(state: &mut State, atoms: &[Atom]) -> Result<(), NoMemory>
+fn put_atoms(state: &mut State, atoms: &[Atom]) -> Result<(), NoMemory>
     requires { AllAtomsFit state.old.kinds atoms.now }
     ensures { OnOk result (state.new ≡ with_atoms state.old atoms.now) }
 {
@@ -90,11 +101,27 @@ pub fn put_atoms(state: &mut State, atoms: &[Atom]) -> Result<(), NoMemory>
 }
 
 /// Says whether the edges are all that is allocated.
-pub fn put_flag(state: &mut State, whole: bool)
+fn put_flag(state: &mut State, whole: bool)
     requires { state.old.whole ≡ true }
     ensures { state.new ≡ record state.old { whole = whole } }
 {
     if !whole {
         state.clear_whole();
     }
+}
+
+/// Gives a state its variables, edges, atoms and flag.
+pub fn fill(alloc: Global, state: &mut State, raw: &RawState) -> Result<(), NoMemory>
+    requires vars { AreNodes state.old.kinds (known_nodes raw.now.vars) }
+    requires long { length state.old.env ≡ length raw.now.vars }
+    requires edges { AllAreThere state.old.kinds raw.now.edges }
+    requires atoms { AllAtomsFit state.old.kinds raw.now.atoms }
+    requires whole { state.old.whole ≡ true }
+    ensures { OnOk result (state.new ≡ filled state.old raw.now) }
+{
+    put_vars(state, raw.vars.as_slice());
+    put_edges(alloc, state, raw.edges.as_slice())?;
+    put_atoms(state, raw.atoms.as_slice())?;
+    put_flag(state, raw.whole);
+    Ok(())
 }

@@ -2,11 +2,12 @@
 ghost use Rattle.std.specs.Prelude.{◌≡◌, ◌↔◌, IsTrue, Some, length, map};
 ghost use Rattle.mc_pure.specs.Pure.{HasKind};
 ghost use Rattle.mc_state.specs.Fits.{HaveKinds, MayHaveKind, MayHaveKinds, ArgsFit, EdgeFitsDefs, EdgeFitsStructs};
-ghost use Rattle.mc_raw.specs.Raw.{ContentsFit, RulesFit, RuleFits, EdgeFits, AllEdgesFit, AllAtomsFit};
+ghost use Rattle.mc_raw.specs.Raw.{ContentsFit, RulesFit, RuleFits, EdgeFits, AllEdgesFit, AllAtomsFit, PiecesFit};
 
 use mc_base::{Atom, Kind, NodeId, PredId, StructId, VarInfo};
 use mc_defs::{Def, FieldInfo, Rule, StructInfo};
 use mc_graph::Edge;
+use mc_state::RawState;
 use mc_symbolic::State;
 
 /// Whether a node is of a kind.
@@ -44,7 +45,7 @@ fn may_have_kind(state: &State, kind: Kind, node: Option<NodeId>) -> bool
 }
 
 /// Whether there is an entry for each variable, unknown or of its kind.
-pub fn all_vars_fit(state: &State, vars: &[VarInfo], nodes: &[Option<NodeId>]) -> bool
+fn all_vars_fit(state: &State, vars: &[VarInfo], nodes: &[Option<NodeId>]) -> bool
     ensures { IsTrue result ↔ MayHaveKinds state.now.kinds (map (λ x. x.kind) vars.now) nodes.now }
 {
     if vars.len() != nodes.len() {
@@ -165,7 +166,7 @@ fn edge_fits(state: &State, defs: &[Def], structs: &[StructInfo], edge: &Edge) -
 }
 
 /// Whether each edge fits the definitions and the structs.
-pub fn all_edges_fit(state: &State, defs: &[Def], structs: &[StructInfo], edges: &[Edge]) -> bool
+fn all_edges_fit(state: &State, defs: &[Def], structs: &[StructInfo], edges: &[Edge]) -> bool
     ensures { IsTrue result ↔ AllEdgesFit defs.now structs.now state.now.kinds edges.now }
 {
     for edge in edges {
@@ -177,7 +178,7 @@ pub fn all_edges_fit(state: &State, defs: &[Def], structs: &[StructInfo], edges:
 }
 
 /// Whether each atom may be written.
-pub fn all_atoms_fit(state: &State, atoms: &[Atom]) -> bool
+fn all_atoms_fit(state: &State, atoms: &[Atom]) -> bool
     ensures { IsTrue result ↔ AllAtomsFit state.now.kinds atoms.now }
 {
     for atom in atoms {
@@ -186,4 +187,23 @@ pub fn all_atoms_fit(state: &State, atoms: &[Atom]) -> bool
         }
     }
     true
+}
+
+/// Whether variables, edges and atoms fit.
+pub fn pieces_fit(
+    state: &State,
+    defs: &[Def],
+    vars: &[VarInfo],
+    structs: &[StructInfo],
+    raw: &RawState,
+) -> bool
+    ensures { IsTrue result ↔ PiecesFit defs.now vars.now structs.now state.now.kinds raw.now }
+{
+    if !all_vars_fit(state, vars, raw.vars.as_slice()) {
+        return false;
+    }
+    if !all_edges_fit(state, defs, structs, raw.edges.as_slice()) {
+        return false;
+    }
+    all_atoms_fit(state, raw.atoms.as_slice())
 }

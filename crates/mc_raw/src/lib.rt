@@ -7,8 +7,8 @@ ghost use Rattle.mc_raw.specs.Raw.{Writes};
 mod building;
 mod fitting;
 
-use building::{begins_with_zero, put_atoms, put_edges, put_flag, put_vars, with_kinds};
-use fitting::{all_atoms_fit, all_edges_fit, all_vars_fit};
+use building::{begins_with_zero, fill, with_kinds};
+use fitting::pieces_fit;
 use mc_base::{NoMemory, VarInfo};
 use mc_defs::{Def, StructInfo};
 use mc_state::RawState;
@@ -30,18 +30,9 @@ pub fn state_of(
         return Ok(None);
     }
     let mut state = with_kinds(alloc, raw.vars.len(), raw.kinds.as_slice())?;
-    if !all_vars_fit(&state, vars, raw.vars.as_slice()) {
+    if !pieces_fit(&state, defs, vars, structs, raw) {
         return Ok(None);
     }
-    if !all_edges_fit(&state, defs, structs, raw.edges.as_slice()) {
-        return Ok(None);
-    }
-    if !all_atoms_fit(&state, raw.atoms.as_slice()) {
-        return Ok(None);
-    }
-    put_vars(&mut state, raw.vars.as_slice());
-    put_edges(alloc, &mut state, raw.edges.as_slice())?;
-    put_atoms(&mut state, raw.atoms.as_slice())?;
-    put_flag(&mut state, raw.whole);
+    fill(alloc, &mut state, raw)?;
     Ok(Some(state))
 }
