@@ -1,7 +1,7 @@
 //! What joins ask of whole states: whether two are the same under a renaming of their nodes, and whether one is tidy.
 #![tactic(auto)]
 
-ghost use Rattle.std.specs.Prelude.{◌↔◌, IsTrue};
+ghost use Rattle.std.specs.Prelude.{◌≡◌, ◌↔◌, IsTrue};
 ghost use Rattle.mc_renaming.specs.Images.{image};
 ghost use Rattle.mc_alike.specs.Alike.{AreSameBy};
 
@@ -18,6 +18,13 @@ use nodes::is_bijection;
 
 pub use tidy::is_tidy;
 
+/// Whether two flags are both set, or both not.
+fn same_flag(a: bool, b: bool) -> bool
+    ensures { IsTrue result ↔ (a ≡ b) }
+{
+    if a { b } else { !b }
+}
+
 /// Whether the renaming is a bijection of the nodes of two states under which both are the same: the nodes of variables,
 /// the kinds node by node, the edges with their ids, and the flag are the same, and the same atoms are derived. A node
 /// without an image stays.
@@ -31,7 +38,7 @@ pub fn equal_under(state: &State, other: &State, renaming: &Renaming) -> bool
     if !is_bijection(state, other, renaming) {
         return false;
     }
-    if state.is_whole() != other.is_whole() {
+    if !same_flag(state.is_whole(), other.is_whole()) {
         return false;
     }
     if !are_option_images(renaming, state.env(), other.env()) {
