@@ -4,27 +4,29 @@ use Rattle.std.specs.Prelude.{slice_set, All}
 use Rattle.std.specs.List.{AllByRecursion}
 use Rattle.std.proofs.lemmas.List.{take_more, length-take-le}
 use Rattle.std.proofs.lemmas.List.{take_all}
+use Rattle.std.proofs.lemmas.Option.{slice_get-get_or}
 use Rattle.mc_base.specs.declared.ids.EdgeId.{EdgeId}
 use Rattle.mc_base.specs.declared.ids.NodeId.{NodeId}
 use Rattle.mc_base.specs.declared.plain.Atom.{Atom}
 use Rattle.mc_base.specs.declared.plain.Kind.{Kind}
 use Rattle.mc_base.specs.declared.plain.Kind.TheVariants as kind
 use Rattle.mc_graph.specs.declared.edge.Edge.{Edge}
-use Rattle.mc_graph.specs.Edges.{known_nodes}
+use Rattle.mc_graph.specs.Edges.{known_nodes, nodes_of}
 use Rattle.mc_graph.specs.Graph.{Edges, Graph, numbered}
-use Rattle.mc_pure.specs.Pure.{Kinds, IsNode}
+use Rattle.mc_pure.specs.Pure.{Kinds, IsNode, IsWellFormed}
 use Rattle.mc_state.specs.declared.raw_state.NodeKind.{NodeKind}
 use Rattle.mc_state.specs.declared.raw_state.NodeKind.TheVariants.{Zero, Int, Ptr}
 use Rattle.mc_state.specs.declared.raw_state.RawState.{RawState}
-use Rattle.mc_state.specs.State.{State, with_nodes, with_atoms, with_edges}
+use Rattle.mc_state.specs.State.{State, with_var, with_nodes, with_atom, with_atoms, with_edges}
 use Rattle.mc_state.specs.Fits.{AreNodes}
 use Rattle.mc_state.specs.RawStates.{kinds_from, state_of, BeginsWithZero}
-use Rattle.mc_raw.specs.Raw.{begun, filled, node_kind}
+use Rattle.mc_raw.specs.Raw.{begun, filled, AddsKind, AllAreThere, AllAtomsFit}
 
 -- ---- nodes
 
-number : ℕ → NodeId
-number n = record { 0 = n }
+abbrev node_kind : Kind → NodeKind
+node_kind kind.Int = Int
+node_kind kind.Ptr = Ptr
 
 kinds_push : (n : ℕ) (kinds : List NodeKind) (k : Kind) (m : ℕ) → m ≡ n + length kinds → kinds_from n (kinds ++ node_kind k ∷ []) ≡ kinds_from n kinds ++ (record { 0 = m }, k) ∷ []
 kinds_push n [] kind.Int m e = let q : n ≡ m = omega arith in ap (λ (z : ℕ). (let p : NodeId × Kind = (record { 0 = z }, kind.Int) in p ∷ [])) q
@@ -129,3 +131,43 @@ built vars raw s t a b = b ∙ (ap (λ (z : State). filled z raw) a ∙ zero_mor
 pub none_long : (vars : ℕ) (kinds : List NodeKind) → length (begun vars kinds).env ≡ vars
 none_long zero kinds = refl
 none_long (suc vars) kinds = ap suc (none_long vars kinds)
+
+-- ---- steps of loops
+
+pub kinds_step : (vars : ℕ) (kinds : List NodeKind) (i : ℕ) (d : NodeKind) (s new : State) → BeginsWithZero kinds → 1 ≤ i → i < length kinds → s ≡ begun vars (take i kinds) → AddsKind (get_or kinds i d) s new → new ≡ begun vars (take (i + 1) kinds)
+kinds_step vars kinds i d s new b from l e h = at (get_or kinds i d) refl h
+  where
+    along : (k : Kind) → get_or kinds i d ≡ node_kind k → new ≡ with_nodes s (k ∷ []) → new ≡ begun vars (take (i + 1) kinds)
+    along k q n = n ∙ (ap (λ (z : State). with_nodes z (k ∷ [])) e ∙ begun_more vars kinds i d k l q)
+
+    at : (own : NodeKind) → get_or kinds i d ≡ own → AddsKind own s new → new ≡ begun vars (take (i + 1) kinds)
+    at Zero q n = absurd (not_zero kinds i d b from l q)
+    at Int q n = along kind.Int q n
+    at Ptr q n = along kind.Ptr q n
+
+pub vars_step : (s t new : State) (ns : List (Option NodeId)) (i : ℕ) (d : Option NodeId) → i < length ns → length t.env ≡ length ns → s ≡ record t { env = take i ns ++ drop i t.env } → new ≡ with_var s (record { 0 = i }) (get_or ns i d) → new ≡ record t { env = take (i + 1) ns ++ drop (i + 1) t.env }
+vars_step s t new ns i d l m e n = n ∙ (ap (λ (z : State). with_var z (record { 0 = i }) (get_or ns i d)) e ∙ ap (λ (z : List (Option NodeId)). (let u : State = record t { env = z } in u)) (vars_more ns t.env i d l m))
+
+pub vars_done : (s t : State) (ns : List (Option NodeId)) (i : ℕ) → length ns ≤ i → length t.env ≡ length ns → s ≡ record t { env = take i ns ++ drop i t.env } → s ≡ record t { env = ns }
+vars_done s t ns i l m e = e ∙ ap (λ (z : List (Option NodeId)). (let u : State = record t { env = z } in u)) (vars_end ns t.env i l m)
+
+pub edge_there : (s t : State) (es : List Edge) (i : ℕ) (x y : Edge) → i < length es → x ≡ get_or es i x → y ≡ x → s ≡ with_edges t (take i es) → AllAreThere t.kinds es → AreNodes s.kinds (nodes_of y)
+edge_there s t es i x y l q r e all =
+    let at : slice_get es i ≡ Some x = slice_get-get_or es i x l ∙ ap (λ (z : Edge). Some z) (sym q) in
+    let there : AreNodes t.kinds (nodes_of y) = subst (λ (z : Edge). AreNodes t.kinds (nodes_of z)) (sym r) (all i x at) in
+    subst (λ (z : State). AreNodes z.kinds (nodes_of y)) (sym e) there
+
+pub edges_step : (s t new : State) (es : List Edge) (i : ℕ) (x y : Edge) → i < length es → x ≡ get_or es i x → y ≡ x → s ≡ with_edges t (take i es) → new ≡ with_edges s (y ∷ []) → new ≡ with_edges t (take (i + 1) es)
+edges_step s t new es i x y l q r e n = n ∙ (ap (λ (z : State). with_edges z (y ∷ [])) e ∙ (ap (λ (z : Edge). with_edges (with_edges t (take i es)) (z ∷ [])) (r ∙ q) ∙ edges_more t es i x l))
+
+pub atom_fits : (s t : State) (atoms : List Atom) (i : ℕ) (d : Atom) → i < length atoms → s ≡ with_atoms t (take i atoms) → AllAtomsFit t.kinds atoms → IsWellFormed s.kinds (get_or atoms i d)
+atom_fits s t atoms i d l e all = subst (λ (z : State). IsWellFormed z.kinds (get_or atoms i d)) (sym e) (all i (get_or atoms i d) (slice_get-get_or atoms i d l))
+
+pub atoms_step : (s t new : State) (atoms : List Atom) (i : ℕ) (d : Atom) → i < length atoms → s ≡ with_atoms t (take i atoms) → new ≡ with_atom s (get_or atoms i d) → new ≡ with_atoms t (take (i + 1) atoms)
+atoms_step s t new atoms i d l e n = n ∙ (ap (λ (z : State). with_atom z (get_or atoms i d)) e ∙ atoms_more t atoms i d l)
+
+pub begun_kinds : (s : State) (vars : ℕ) (kinds own : List NodeKind) → s ≡ begun vars kinds → kinds ≡ own → s.kinds ≡ kinds_from 0 own
+begun_kinds s vars kinds own e q = ap (λ (z : State). z.kinds) e ∙ ap (kinds_from 0) q
+
+pub built_from : (vars : ℕ) (raw : RawState) (kinds : List NodeKind) (s t : State) → s ≡ begun vars kinds → kinds ≡ raw.kinds → t ≡ filled s raw → t ≡ state_of raw
+built_from vars raw kinds s t e q f = built vars raw s t (e ∙ ap (begun vars) q) f

@@ -93,3 +93,10 @@ module _ {X : Type 0} (P : X → Type 0) (ys xs : List X) (same : ys ≡ xs) whe
       let w = slice_get_within xs k x e in
       let long : length ys ≡ length xs = ap length same in
       before k (omega arith) x e
+
+  -- the same of an item that is named
+  pub named_here : (i : ℕ) (x : X) → i < length ys → x ≡ get_or ys i x → ((k : ℕ) (y : X) → slice_get xs k ≡ Some y → P y) → P x
+  named_here i x l q all = subst P (sym q) (each_here i x l all)
+
+  pub named_more : (i : ℕ) (x : X) → i < length ys → x ≡ get_or ys i x → ((k : ℕ) → k < i → (y : X) → slice_get xs k ≡ Some y → P y) → P x → (k : ℕ) → k < i + 1 → (y : X) → slice_get xs k ≡ Some y → P y
+  named_more i x l q before here = each_more i x l before (subst P q here)

@@ -124,3 +124,6 @@ pieces_fit defs vars structs raw w = record {
   );
   atoms_fit = λ i a e. all_at (IsWellFormed (kinds_from 0 raw.kinds)) raw.atoms i a w.made.atoms e;
 }
+
+pub vars_there : (defs : List Def) (vars : List VarInfo) (structs : List StructInfo) (own : Kinds) (raw : RawState) → PiecesFit defs vars structs own raw → AreNodes own (known_nodes raw.vars)
+vars_there defs vars structs own raw p = known_there own (map (λ (x : VarInfo). x.kind) vars) raw.vars p.vars_fit

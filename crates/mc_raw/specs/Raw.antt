@@ -1,5 +1,5 @@
 -- The parts of a state that a document writes, and how they fit.
-use Rattle.std.specs.Prelude.{◌≡◌, ℕ, List, [], Option, Some, None, true, length, map, replicate, slice_get}
+use Rattle.std.specs.Prelude.{◌≡◌, ℕ, List, [], ◌∷◌, Option, Some, None, true, length, map, replicate, slice_get}
 use Rattle.mc_base.specs.declared.ids.NodeId.{NodeId}
 use Rattle.mc_base.specs.declared.ids.StructId.{StructId}
 use Rattle.mc_base.specs.declared.plain.Atom.{Atom}
@@ -14,9 +14,9 @@ use Rattle.mc_graph.specs.Edges.{nodes_of}
 use Rattle.mc_graph.specs.Graph.{no_edges}
 use Rattle.mc_pure.specs.Pure.{Kinds, IsWellFormed}
 use Rattle.mc_state.specs.declared.raw_state.NodeKind.{NodeKind}
-use Rattle.mc_state.specs.declared.raw_state.NodeKind.TheVariants.{Int, Ptr}
+use Rattle.mc_state.specs.declared.raw_state.NodeKind.TheVariants.{Zero, Int, Ptr}
 use Rattle.mc_state.specs.declared.raw_state.RawState.{RawState}
-use Rattle.mc_state.specs.State.{State, with_atoms, with_edges}
+use Rattle.mc_state.specs.State.{State, with_nodes, with_atoms, with_edges}
 use Rattle.mc_state.specs.Fits.{AreNodes, MayHaveKinds, EdgeFitsDefs, EdgeFitsStructs}
 use Rattle.mc_state.specs.RawStates.{kinds_from, state_of, IsWellFormedRaw}
 
@@ -53,10 +53,11 @@ AllEdgesFit defs structs kinds es = (place : ℕ) (e : Edge) → slice_get es pl
 abbrev pub AllAtomsFit : Kinds → List Atom → Type 0
 AllAtomsFit kinds atoms = (place : ℕ) (a : Atom) → slice_get atoms place ≡ Some a → IsWellFormed kinds a
 
--- how documents write the kind of a node other than node 0
-abbrev pub node_kind : Kind → NodeKind
-node_kind kind.Int = Int
-node_kind kind.Ptr = Ptr
+-- a node more of the kind; none where it is that of node 0
+abbrev pub AddsKind : NodeKind → State → State → Type 0
+AddsKind Zero s t = t ≡ s
+AddsKind Int s t = t ≡ with_nodes s (kind.Int ∷ [])
+AddsKind Ptr s t = t ≡ with_nodes s (kind.Ptr ∷ [])
 
 -- the nodes of each edge are there
 abbrev pub AllAreThere : Kinds → List Edge → Type 0

@@ -1,11 +1,11 @@
 // Building a state from what a document writes.
-ghost use Rattle.std.specs.Prelude.{◌≡◌, ◌↔◌, IfOk, OnOk, IsTrue, MatchOption, true, length};
+ghost use Rattle.std.specs.Prelude.{◌≡◌, ◌↔◌, IfOk, OnOk, IsTrue, true, length};
 ghost use Rattle.mc_graph.specs.Edges.{known_nodes};
 ghost use Rattle.mc_state.specs.Fits.{AreNodes};
 ghost use Rattle.mc_state.specs.RawStates.{BeginsWithZero};
 ghost use Rattle.mc_state.specs.State.{with_atoms, with_edges};
 ghost use Rattle.mc_state.specs.declared.raw_state.NodeKind.TheVariants.{Zero};
-ghost use Rattle.mc_raw.specs.Raw.{begun, filled, node_kind, AllAtomsFit, AllAreThere};
+ghost use Rattle.mc_raw.specs.Raw.{begun, filled, AddsKind, AllAtomsFit, AllAreThere};
 
 use mc_base::{Atom, Kind, NoMemory, NodeId, VarId};
 use mc_graph::Edge;
@@ -24,14 +24,20 @@ fn is_zero(kind: NodeKind) -> bool
     }
 }
 
-/// The kind of a node other than node 0.
-fn plain(kind: NodeKind) -> Option<Kind>
-    ensures { MatchOption result (kind ≡ Zero) (λ own. kind ≡ node_kind own) }
+/// Adds a node of the kind; nothing where it is that of node 0.
+fn add_kind(state: &mut State, kind: NodeKind) -> Result<(), NoMemory>
+    ensures { OnOk result (AddsKind kind state.old state.new) }
 {
     match kind {
-        NodeKind::Zero => None,
-        NodeKind::Int => Some(Kind::Int),
-        NodeKind::Ptr => Some(Kind::Ptr),
+        NodeKind::Zero => Ok(()),
+        NodeKind::Int => {
+            state.add_node(Kind::Int)?;
+            Ok(())
+        }
+        NodeKind::Ptr => {
+            state.add_node(Kind::Ptr)?;
+            Ok(())
+        }
     }
 }
 
@@ -60,9 +66,7 @@ pub fn with_kinds(alloc: Global, vars: usize, kinds: &[NodeKind]) -> Result<Stat
 {
     let mut state = State::unknown(alloc, vars)?;
     for i in 1..kinds.len() {
-        if let Some(kind) = plain(kinds[i]) {
-            state.add_node(kind)?;
-        }
+        add_kind(&mut state, kinds[i])?;
     }
     Ok(state)
 }
