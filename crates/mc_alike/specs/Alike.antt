@@ -34,13 +34,30 @@ pub record Goes (f back : ℕ → ℕ) (kinds others : Kinds) (n : NodeId) : Typ
 
 -- each node does
 abbrev pub AllGo : (f back : ℕ → ℕ) → Kinds → Kinds → Type 0
-AllGo f back kinds others = (place : ℕ) (n : NodeId) → slice_get (nodes_of kinds) place ≡ Some n → Goes f back kinds others n
+AllGo f back kinds others =
+    (place : ℕ) (n : NodeId) → slice_get (nodes_of kinds) place ≡ Some n → Goes f back kinds others n
+
+-- a node of the first state goes to one of the second of its kind, and comes back
+abbrev pub GoesThere : (ℕ → ℕ) → State → State → NodeId → Type 0
+GoesThere f s t n = Goes f (way_back f s) s.kinds t.kinds n
+
+-- a node of the second comes from one of the first of its kind, and goes back
+abbrev pub ComesFrom : (ℕ → ℕ) → State → State → NodeId → Type 0
+ComesFrom f s t n = Goes (way_back f s) f t.kinds s.kinds n
+
+-- each node of the first does
+abbrev pub AllGoThere : (ℕ → ℕ) → State → State → Type 0
+AllGoThere f s t = AllGo f (way_back f s) s.kinds t.kinds
+
+-- each node of the second does
+abbrev pub AllComeFrom : (ℕ → ℕ) → State → State → Type 0
+AllComeFrom f s t = AllGo (way_back f s) f t.kinds s.kinds
 
 -- node 0 stays, and each node of either state goes to one of the other and comes back
 pub record IsBijection (f : ℕ → ℕ) (s t : State) : Type 0 where
   pub null_stays : f 0 ≡ 0
-  pub there : AllGo f (way_back f s) s.kinds t.kinds
-  pub again : AllGo (way_back f s) f t.kinds s.kinds
+  pub there : AllGoThere f s t
+  pub again : AllComeFrom f s t
 
 -- edges with their ids, and other nodes in place of their own
 abbrev pub moved_edges : (ℕ → ℕ) → Edges → Edges

@@ -14,7 +14,8 @@ CanBeMerged s keep gone = CanMerge s.kinds keep gone × AreEqual s keep gone
 
 -- of all nodes, none can be merged with this one
 abbrev pub NoneMergesWith : State → NodeId → Type 0
-NoneMergesWith s keep = (place : ℕ) (gone : NodeId) → slice_get (nodes_of s.kinds) place ≡ Some gone → CanBeMerged s keep gone → ⊥
+NoneMergesWith s keep =
+    (place : ℕ) (gone : NodeId) → slice_get (nodes_of s.kinds) place ≡ Some gone → CanBeMerged s keep gone → ⊥
 
 -- nor any two
 abbrev pub NoneMerges : State → Type 0

@@ -15,7 +15,6 @@ use lists::{are_edge_images, are_option_images};
 use mc_renaming::Renaming;
 use mc_symbolic::State;
 use nodes::is_bijection;
-
 pub use tidy::is_tidy;
 
 /// Whether two flags are both set, or both not.
@@ -25,9 +24,9 @@ fn same_flag(a: bool, b: bool) -> bool
     if a { b } else { !b }
 }
 
-/// Whether the renaming is a bijection of the nodes of two states under which both are the same: the nodes of variables,
-/// the kinds node by node, the edges with their ids, and the flag are the same, and the same atoms are derived. A node
-/// without an image stays.
+/// Whether the renaming is a bijection of the nodes of two states under which both are the same: the nodes of
+/// variables, the kinds node by node, the edges with their ids, and the flag are the same, and the same atoms are
+/// derived. A node without an image stays.
 pub fn equal_under(state: &State, other: &State, renaming: &Renaming) -> bool
     ensures { IsTrue result ↔ AreSameBy (image renaming.now) state.now other.now }
 {

@@ -123,11 +123,7 @@ fn is_edge_image(renaming: &Renaming, from: &Edge, to: &Edge) -> bool
 }
 
 /// Whether edges with the images of their nodes are the others with the same ids, one by one.
-pub fn are_edge_images(
-    renaming: &Renaming,
-    from: &[(EdgeId, Edge)],
-    to: &[(EdgeId, Edge)],
-) -> bool
+pub fn are_edge_images(renaming: &Renaming, from: &[(EdgeId, Edge)], to: &[(EdgeId, Edge)]) -> bool
     ensures { IsTrue result ↔ (moved_edges (image renaming.now) from.now ≡ to.now) }
 {
     if from.len() != to.len() {

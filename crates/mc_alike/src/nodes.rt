@@ -2,7 +2,7 @@
 ghost use Rattle.std.specs.Prelude.{◌≡◌, ◌↔◌, IsTrue};
 ghost use Rattle.mc_base.specs.Nodes.{moved};
 ghost use Rattle.mc_renaming.specs.Images.{image};
-ghost use Rattle.mc_alike.specs.Alike.{origin, way_back, Goes, AllGo, IsBijection};
+ghost use Rattle.mc_alike.specs.Alike.{origin, way_back, GoesThere, ComesFrom, AllGoThere, AllComeFrom, IsBijection};
 
 use mc_base::{Kind, NodeId};
 use mc_renaming::Renaming;
@@ -46,7 +46,7 @@ fn same_kind(a: Option<Kind>, b: Option<Kind>) -> bool
 
 /// Whether a node's image is of its kind, and the way back leads to the node.
 fn goes(state: &State, other: &State, renaming: &Renaming, node: NodeId) -> bool
-    ensures { IsTrue result ↔ Goes (image renaming.now) (way_back (image renaming.now) state.now) state.now.kinds other.now.kinds node }
+    ensures { IsTrue result ↔ GoesThere (image renaming.now) state.now other.now node }
 {
     let there = renaming.image(node);
     same_kind(other.kind(there), state.kind(node)) && back(state, renaming, there).0 == node.0
@@ -54,7 +54,7 @@ fn goes(state: &State, other: &State, renaming: &Renaming, node: NodeId) -> bool
 
 /// Whether the node from which the way leads to this one is of its kind, and goes to it.
 fn comes(state: &State, other: &State, renaming: &Renaming, node: NodeId) -> bool
-    ensures { IsTrue result ↔ Goes (way_back (image renaming.now) state.now) (image renaming.now) other.now.kinds state.now.kinds node }
+    ensures { IsTrue result ↔ ComesFrom (image renaming.now) state.now other.now node }
 {
     let from = back(state, renaming, node);
     same_kind(state.kind(from), other.kind(node)) && renaming.image(from).0 == node.0
@@ -62,7 +62,7 @@ fn comes(state: &State, other: &State, renaming: &Renaming, node: NodeId) -> boo
 
 /// Whether each node of the state goes to a node of the other of its kind, and comes back.
 fn all_go(state: &State, other: &State, renaming: &Renaming) -> bool
-    ensures { IsTrue result ↔ AllGo (image renaming.now) (way_back (image renaming.now) state.now) state.now.kinds other.now.kinds }
+    ensures { IsTrue result ↔ AllGoThere (image renaming.now) state.now other.now }
 {
     for node in state.nodes() {
         if !goes(state, other, renaming, *node) {
@@ -74,7 +74,7 @@ fn all_go(state: &State, other: &State, renaming: &Renaming) -> bool
 
 /// Whether each node of the other comes from a node of the state of its kind.
 fn all_come(state: &State, other: &State, renaming: &Renaming) -> bool
-    ensures { IsTrue result ↔ AllGo (way_back (image renaming.now) state.now) (image renaming.now) other.now.kinds state.now.kinds }
+    ensures { IsTrue result ↔ AllComeFrom (image renaming.now) state.now other.now }
 {
     for node in other.nodes() {
         if !comes(state, other, renaming, *node) {

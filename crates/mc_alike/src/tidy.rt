@@ -79,8 +79,8 @@ fn all_reached(alloc: Global, state: &State) -> Result<bool, NoMemory>
     Ok(true)
 }
 
-/// Whether a state is tidy: it is not false, each edge starts at a node that is reached, and no two nodes are equal that
-/// could be merged.
+/// Whether a state is tidy: it is not false, each edge starts at a node that is reached, and no two nodes are equal
+/// that could be merged.
 pub fn is_tidy(alloc: Global, state: &State) -> Result<bool, NoMemory>
     ensures { IfOk result (λ tidy. IsTrue tidy ↔ IsTidy state.now) }
 {

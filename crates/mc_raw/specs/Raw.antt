@@ -27,7 +27,15 @@ Writes defs vars structs raw (Some s) = IsWellFormedRaw defs vars structs raw ×
 
 -- nodes of these kinds alone, from node 0 on, and variables of which none is known
 abbrev pub begun : ℕ → List NodeKind → State
-begun vars kinds = record { env = replicate vars None; kinds = kinds_from 0 kinds; graph = no_edges; atoms = []; next = length kinds; whole = true }
+begun vars kinds =
+    record {
+      env = replicate vars None;
+      kinds = kinds_from 0 kinds;
+      graph = no_edges;
+      atoms = [];
+      next = length kinds;
+      whole = true;
+    }
 
 -- a rule of the struct has as many contents as there are fields
 abbrev pub RuleFits : Rule → StructId → ℕ → Type 0
@@ -64,7 +72,8 @@ abbrev pub AllAreThere : Kinds → List Edge → Type 0
 AllAreThere kinds es = (place : ℕ) (e : Edge) → slice_get es place ≡ Some e → AreNodes kinds (nodes_of e)
 
 -- variables, edges and atoms fit nodes of these kinds
-pub record PiecesFit (defs : List Def) (vars : List VarInfo) (structs : List StructInfo) (kinds : Kinds) (raw : RawState) : Type 0 where
+pub record PiecesFit (defs : List Def) (vars : List VarInfo) (structs : List StructInfo) (kinds : Kinds)
+    (raw : RawState) : Type 0 where
   pub vars_fit : MayHaveKinds kinds (map (λ x. x.kind) vars) raw.vars
   pub edges_fit : AllEdgesFit defs structs kinds raw.edges
   pub atoms_fit : AllAtomsFit kinds raw.atoms

@@ -11,7 +11,9 @@ use std::alloc::Global;
 use std::test::Fail;
 
 const ZERO: NodeKind = NodeKind::Zero;
+
 const INT: NodeKind = NodeKind::Int;
+
 const PTR: NodeKind = NodeKind::Ptr;
 
 /// A cell at a node with a number.
@@ -74,6 +76,7 @@ fn read(alloc: Global, raw: &RawState) -> Result<Option<State>, NoMemory> {
 }
 
 const LEFT_KINDS: [NodeKind; 6] = [ZERO, PTR, INT, PTR, INT, INT];
+
 const RIGHT_KINDS: [NodeKind; 6] = [ZERO, INT, PTR, INT, PTR, INT];
 
 /// Cells at n1 and n3 with n2 and n4, n2 being n4 and one more, and atoms.

@@ -27,8 +27,7 @@ returns-then-not-all_known_there c = (
 pub returns : goal.returns
 returns c =
     let f = image c.args.renaming.now in
-    let whole : c.args.state.now.whole ≡ c.args.other.now.whole = sym c.is_whole.ensures ∙ (c.if-not-same_flag.ensures.0 refl ∙ c.is_whole-2.ensures) in
-    (
+    let whole : c.args.state.now.whole ≡ c.args.other.now.whole = sym c.is_whole.ensures ∙ (c.if-not-same_flag.ensures.0 refl ∙ c.is_whole-2.ensures) in (
       λ t. same_from_parts c.derived_is_renamed.ensures.follows c.derived_is_renamed.ensures.is_false f c.args.state.now c.args.other.now c.is_bounded.ensures.bounded c.is_bounded-2.ensures.bounded
           (record {
             nodes = c.if-not-is_bijection.ensures.0 refl;

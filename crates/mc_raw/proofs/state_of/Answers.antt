@@ -26,8 +26,7 @@ pub returns : goal.returns
 returns c =
     let same = begun_kinds c.in_ok-state.state c.len.result c.as_slice-2.result.now c.args.raw.now.kinds c.in_ok-state.ensures c.as_slice-2.ensures in
     let fit = subst (λ (z : Kinds). PiecesFit c.args.defs.now c.args.vars.now c.args.structs.now z c.args.raw.now) same (c.if-not-pieces_fit.ensures.0 refl) in
-    let begins = subst BeginsWithZero c.as_slice.ensures (c.if-not-begins_with_zero.ensures.0 refl) in
-    (
+    let begins = subst BeginsWithZero c.as_slice.ensures (c.if-not-begins_with_zero.ensures.0 refl) in (
       well_formed c.args.defs.now c.args.vars.now c.args.structs.now c.args.raw.now begins fit,
       built_from c.len.result c.args.raw.now c.as_slice-2.result.now c.in_ok-state.state c.fill.new.state c.in_ok-state.ensures c.as_slice-2.ensures c.in_ok-fill.ensures,
     )

@@ -9,8 +9,7 @@ use Rattle.mc_alike.proofs.atoms.all_known_back.Goals as goal
 
 pub returns-then-not-knows : goal.returns-then-not-knows
 returns-then-not-knows c =
-    let ys = c.atoms-atom-items.result.now in
-    (
+    let ys = c.atoms-atom-items.result.now in (
       λ t. let w : false ≡ true = t in absurd (cc w),
       λ all.
           let here = each_here (λ (a : Atom). Derives c.args.state.now (moved_atom (way_back (image c.args.renaming.now) c.args.state.now) a)) ys _ c.atoms-atom-items.ensures c.loop-atom.atom-index _ (omega arith) all in

@@ -14,8 +14,7 @@ pub returns-then-not-is_image : goal.returns-then-not-is_image
 returns-then-not-is_image c =
     let v = c.loop-i.invariant in
     let l = v.lengths in
-    let m : c.loop-i.i < length c.args.from.now = omega arith in
-    (
+    let m : c.loop-i.i < length c.args.from.now = omega arith in (
       λ t. let w : false ≡ true = t in absurd (cc w),
       λ e. let w = c.if-not-is_image.ensures.1 (at_place (moved (image c.args.renaming.now)) c.args.from.now c.args.to.now c.loop-i.i _ _ m e) in absurd (cc w),
     )

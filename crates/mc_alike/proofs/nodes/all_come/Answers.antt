@@ -7,8 +7,7 @@ use Rattle.mc_alike.proofs.nodes.all_come.Goals as goal
 
 pub returns-then-not-comes : goal.returns-then-not-comes
 returns-then-not-comes c =
-    let ys = c.nodes-node-items.result.now in
-    (
+    let ys = c.nodes-node-items.result.now in (
       λ t. let w : false ≡ true = t in absurd (cc w),
       λ all. let w = c.if-not-comes.ensures.1 (each_here (λ (n : NodeId). Goes (way_back (image c.args.renaming.now) c.args.state.now) (image c.args.renaming.now) c.args.other.now.kinds c.args.state.now.kinds n) ys _ c.nodes-node-items.ensures c.loop-node.node-index _ (omega arith) all) in absurd (cc w),
     )

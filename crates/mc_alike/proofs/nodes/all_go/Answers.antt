@@ -7,8 +7,7 @@ use Rattle.mc_alike.proofs.nodes.all_go.Goals as goal
 
 pub returns-then-not-goes : goal.returns-then-not-goes
 returns-then-not-goes c =
-    let ys = c.nodes-node-items.result.now in
-    (
+    let ys = c.nodes-node-items.result.now in (
       λ t. let w : false ≡ true = t in absurd (cc w),
       λ all. let w = c.if-not-goes.ensures.1 (each_here (λ (n : NodeId). Goes (image c.args.renaming.now) (way_back (image c.args.renaming.now) c.args.state.now) c.args.state.now.kinds c.args.other.now.kinds n) ys _ c.nodes-node-items.ensures c.loop-node.node-index _ (omega arith) all) in absurd (cc w),
     )

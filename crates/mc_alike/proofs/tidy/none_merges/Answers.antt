@@ -6,8 +6,7 @@ use Rattle.mc_alike.proofs.tidy.none_merges.Goals as goal
 
 pub returns-then-not-none_merges_with : goal.returns-then-not-none_merges_with
 returns-then-not-none_merges_with c =
-    let ys = c.nodes-keep-items.result.now in
-    (
+    let ys = c.nodes-keep-items.result.now in (
       λ t. let w : false ≡ true = t in absurd (cc w),
       λ all. let w = c.if-not-none_merges_with.ensures.1 (each_here (λ (n : NodeId). NoneMergesWith c.args.state.now n) ys _ c.nodes-keep-items.ensures c.loop-keep.keep-index _ (omega arith) all) in absurd (cc w),
     )

@@ -6,8 +6,7 @@ use Rattle.mc_alike.proofs.tidy.none_merges_with.Goals as goal
 
 pub returns-then-can_be_merged : goal.returns-then-can_be_merged
 returns-then-can_be_merged c =
-    let ys = c.nodes-gone-items.result.now in
-    (
+    let ys = c.nodes-gone-items.result.now in (
       λ t. let w : false ≡ true = t in absurd (cc w),
       λ all. absurd (each_here (λ (n : NodeId). CanBeMerged c.args.state.now c.args.keep n → ⊥) ys _ c.nodes-gone-items.ensures c.loop-gone.gone-index _ (omega arith) all (c.if-can_be_merged.ensures.0 refl)),
     )

@@ -14,8 +14,7 @@ returns-then-not-may_have_kind c =
     let v = c.loop-i.invariant in
     let l = v.lengths in
     let m : c.loop-i.i < length c.args.vars.now = omega arith in
-    let n : c.loop-i.i < length c.args.nodes.now = omega arith in
-    (
+    let n : c.loop-i.i < length c.args.nodes.now = omega arith in (
       λ t. let w : false ≡ true = t in absurd (cc w),
       λ h. let w = c.if-not-may_have_kind.ensures.1 (may_at c.args.state.now.kinds (λ (x : VarInfo). x.kind) c.args.vars.now c.args.nodes.now c.loop-i.i _ _ m n (v.back h)).0 in absurd (cc w),
     )

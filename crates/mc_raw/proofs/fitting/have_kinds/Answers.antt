@@ -15,8 +15,7 @@ returns-then-not-has_kind c =
     let v = c.loop-i.invariant in
     let l = v.lengths in
     let m : c.loop-i.i < length c.args.kinds.now = omega arith in
-    let n : c.loop-i.i < length c.args.nodes.now = omega arith in
-    (
+    let n : c.loop-i.i < length c.args.nodes.now = omega arith in (
       λ t. let w : false ≡ true = t in absurd (cc w),
       λ h. let w = c.if-not-has_kind.ensures.1 (have_at c.args.state.now.kinds c.args.kinds.now c.args.nodes.now c.loop-i.i _ _ m n (v.back h)).0 in absurd (cc w),
     )
