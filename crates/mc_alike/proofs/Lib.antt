@@ -1,0 +1,4 @@
+pub mod Images
+pub mod Places
+pub mod Same
+pub mod Tidiness

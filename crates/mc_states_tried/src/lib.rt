@@ -1,0 +1,5 @@
+//! States that documents write, compared and asked whether they are tidy.
+#![tactic(auto)]
+
+#[cfg(test)]
+mod tests;
