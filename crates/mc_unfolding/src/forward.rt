@@ -72,7 +72,7 @@ fn unfolded_at(
     ensures { IfOk result (λ t. t ≡ unfolded_at s.now edge seg.now.at seg.now.args.now seg.now.stop seg.now.ends.now rule.now place) }
 {
     let mut nodes = Vec::new(alloc);
-    let mut next = opened_at(alloc, s, edge, seg.at, seg.args.as_slice(), rule, &mut nodes)?;
+    let mut next = opened_at(alloc, s, edge, seg.at, seg.args, rule, &mut nodes)?;
     add_body_to(alloc, &mut next, nodes.as_slice(), seg.stop, seg.ends, place, rule)?;
     add_atoms(alloc, &mut next, nodes.as_slice(), rule)?;
     Ok(next)
@@ -211,10 +211,10 @@ pub fn unfold_seg(
     let rules = rules_of(defs.as_slice(), *pred);
     let seg = Segment {
         at: *at,
-        args,
+        args: args.as_slice(),
         pred: *pred,
         stop: *end,
-        ends: end_args,
+        ends: end_args.as_slice(),
     };
     match by_each_call(alloc, s, edge, &seg, rules) {
         Ok(next) => Ok(next),

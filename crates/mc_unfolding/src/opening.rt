@@ -1,6 +1,7 @@
 // States in which an edge is opened: the body of a rule stands in its place, at new nodes, and the rule's atoms are known.
-ghost use Rattle.std.specs.Prelude.{◌≡◌, ◌∷◌, ◌++◌, [], IfOk, OnOk, Some, None, drop, length, map, suc};
+ghost use Rattle.std.specs.Prelude.{◌≡◌, ◌∷◌, ◌++◌, [], IfOk, OnOk, Some, None, drop, length, map, slice_get, suc};
 ghost use Rattle.std.specs.List.{AllByRecursion};
+ghost use Rattle.std.specs.Option.{option_copied};
 ghost use Rattle.mc_base.specs.declared.ids.NodeId.{NodeId as Node};
 ghost use Rattle.mc_defs.specs.Instances.{node_of, atom_of};
 ghost use Rattle.mc_graph.specs.declared.edge.Edge.TheVariants.{Block};
@@ -23,10 +24,10 @@ use std::alloc::Global;
 #[derive(Clone, Copy)]
 pub struct Segment<'a> {
     pub at: NodeId,
-    pub args: &'a Args<NodeId>,
+    pub args: &'a [NodeId],
     pub pred: PredId,
     pub stop: NodeId,
-    pub ends: &'a Args<NodeId>,
+    pub ends: &'a [NodeId],
 }
 
 /// The node of a name.
@@ -37,6 +38,17 @@ pub fn node_of(nodes: &[NodeId], name: u64) -> NodeId
         Some(node) => *node,
         None => NodeId(0),
     }
+}
+
+/// A list of these nodes.
+pub fn args_of(alloc: Global, nodes: &[NodeId]) -> Result<Args<NodeId>, NoMemory>
+    ensures { IfOk result (λ args. args ≡ nodes.now) }
+{
+    let mut args = Args::new(alloc);
+    for node in nodes {
+        args.push(*node)?;
+    }
+    Ok(args)
 }
 
 /// The nodes of names.
@@ -67,13 +79,13 @@ fn call_segment(
     alloc: Global,
     nodes: &[NodeId],
     end: NodeId,
-    ends: &Args<NodeId>,
+    ends: &[NodeId],
     call: &Call,
 ) -> Result<Edge, NoMemory>
     ensures { IfOk result (λ e. e ≡ call_segment nodes.now end ends.now call.now) }
 {
     let args = nodes_of_names(alloc, nodes, call.args.as_slice())?;
-    let end_args = ends.copy(alloc)?;
+    let end_args = args_of(alloc, ends)?;
     Ok(Edge::Seg {
         at: node_of(nodes, call.at),
         args,
@@ -126,13 +138,20 @@ fn add_calls(alloc: Global, s: &mut State, nodes: &[NodeId], calls: &[Call]) -> 
     Ok(())
 }
 
+/// The call at a place.
+pub fn call_at(calls: &[Call], place: usize) -> Option<&Call>
+    ensures { option_copied result ≡ slice_get calls.now place }
+{
+    calls.get(place)
+}
+
 /// Adds calls as edges, of which the one at a place goes on as a segment to an end. Without memory the state is lost.
 fn add_calls_to(
     alloc: Global,
     s: &mut State,
     nodes: &[NodeId],
     end: NodeId,
-    ends: &Args<NodeId>,
+    ends: &[NodeId],
     place: usize,
     calls: &[Call],
 ) -> Result<(), NoMemory>
@@ -141,15 +160,19 @@ fn add_calls_to(
     ensures { OnOk result (s.new ≡ with_edges s.old (calls_to nodes.now end ends.now place calls.now)) }
 {
     rules_stand_at_nodes();
-    let Some(call) = calls.get(place) else {
-        add_calls(alloc, s, nodes, calls)?;
-        return Ok(());
-    };
-    add_calls(alloc, s, nodes, &calls[..place])?;
-    let edge = call_segment(alloc, nodes, end, ends, call)?;
-    s.add_edge(edge)?;
-    add_calls(alloc, s, nodes, &calls[place + 1..])?;
-    Ok(())
+    match call_at(calls, place) {
+        Some(call) => {
+            add_calls(alloc, s, nodes, &calls[..place])?;
+            let edge = call_segment(alloc, nodes, end, ends, call)?;
+            s.add_edge(edge)?;
+            add_calls(alloc, s, nodes, &calls[place + 1..])?;
+            Ok(())
+        }
+        None => {
+            add_calls(alloc, s, nodes, calls)?;
+            Ok(())
+        }
+    }
 }
 
 /// Adds the body of a rule. Without memory the state is lost.
@@ -170,7 +193,7 @@ pub fn add_body_to(
     s: &mut State,
     nodes: &[NodeId],
     end: NodeId,
-    ends: &Args<NodeId>,
+    ends: &[NodeId],
     place: usize,
     rule: &Rule,
 ) -> Result<(), NoMemory>
@@ -264,16 +287,55 @@ fn put_equal(left: &[NodeId], right: &[NodeId], atoms: &mut Vec<Atom>) -> Result
     Ok(())
 }
 
+/// A node and those of a list are equal to another node and those of another list, one by one.
+#[tactic(auto, using(std::proofs::lemmas::List::append_assoc))]
+fn equal_atoms(
+    alloc: Global,
+    at: NodeId,
+    args: &[NodeId],
+    stop: NodeId,
+    ends: &[NodeId],
+) -> Result<Vec<Atom>, NoMemory>
+    ensures { IfOk result (λ atoms. atoms.items ≡ equal_atoms (at ∷ args.now) (stop ∷ ends.now)) }
+{
+    let mut atoms = Vec::new(alloc);
+    atoms.push(Atom::Eq(at, stop, 0))?;
+    put_equal(args, ends, &mut atoms)?;
+    Ok(atoms)
+}
+
+/// Writes that a node and arguments are equal to an end, one by one. Without memory the state is lost.
+pub fn assume_equal(
+    alloc: Global,
+    s: &mut State,
+    at: NodeId,
+    args: &[NodeId],
+    stop: NodeId,
+    ends: &[NodeId],
+) -> Result<(), NoMemory>
+    requires { AllByRecursion (IsWellFormed s.old.kinds) (equal_atoms (at ∷ args.now) (stop ∷ ends.now)) }
+    ensures { OnOk result (s.new ≡ with_atoms s.old (equal_atoms (at ∷ args.now) (stop ∷ ends.now))) }
+{
+    let atoms = equal_atoms(alloc, at, args, stop, ends)?;
+    assume_all(s, atoms.as_slice())?;
+    Ok(())
+}
+
+/// A copy of a state without an edge.
+fn without_edge(alloc: Global, s: &State, edge: EdgeId) -> Result<State, NoMemory>
+    ensures { IfOk result (λ t. t ≡ with_only_edges s.now (without s.now.graph.edges edge)) }
+{
+    let mut next = s.copy(alloc)?;
+    next.take_edge(edge)?;
+    Ok(next)
+}
+
 /// A copy of a state in which a Seg is empty: it ends where it begins.
 pub fn emptied(alloc: Global, s: &State, edge: EdgeId, seg: &Segment<'_>) -> Result<State, NoMemory>
     requires { AllByRecursion (IsWellFormed s.now.kinds) (equal_atoms (seg.now.at ∷ seg.now.args.now) (seg.now.stop ∷ seg.now.ends.now)) }
     ensures { IfOk result (λ t. t ≡ emptied s.now edge seg.now.at seg.now.args.now seg.now.stop seg.now.ends.now) }
 {
-    let mut next = s.copy(alloc)?;
-    next.take_edge(edge)?;
-    let mut atoms = Vec::new(alloc);
-    atoms.push(Atom::Eq(seg.at, seg.stop, 0))?;
-    put_equal(seg.args.as_slice(), seg.ends.as_slice(), &mut atoms)?;
-    assume_all(&mut next, atoms.as_slice())?;
+    let mut next = without_edge(alloc, s, edge)?;
+    assume_equal(alloc, &mut next, seg.at, seg.args, seg.stop, seg.ends)?;
     Ok(next)
 }

@@ -91,7 +91,7 @@ pub fn is_reached_back(s: &State, defs: &[Def], access: Option<NodeId>, seg: &Se
     ensures { (know : Test) → Tells know s.now → result ≡ is_reached_back know defs.now access (parts seg.now.at seg.now.args.now seg.now.pred seg.now.stop seg.now.ends.now) }
 {
     match access {
-        Some(node) => ends_back(s, defs, seg.pred, node, seg.ends.as_slice()),
+        Some(node) => ends_back(s, defs, seg.pred, node, seg.ends),
         None => false,
     }
 }

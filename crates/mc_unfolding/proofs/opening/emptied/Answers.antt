@@ -1,6 +1,11 @@
-use Rattle.std.proofs.Common.{rules}
-use Rattle.mc_unfolding.proofs.Equal.{formed_there}
+use Rattle.std.proofs.Common.{◌∷◌, subst, sym}
+use Rattle.std.specs.List.{AllByRecursion}
+use Rattle.mc_pure.specs.Pure.{IsWellFormed}
+use Rattle.mc_state.specs.State.{State}
+use Rattle.mc_unfold.specs.Unfolded.{equal_atoms}
 use Rattle.mc_unfolding.proofs.opening.emptied.Goals as goal
 
-pub assume_all-requires : goal.assume_all-requires
-assume_all-requires c = formed_there _ _ _ _ (search rules) (search rules) c.requires
+pub assume_equal-requires : goal.assume_equal-requires
+assume_equal-requires c =
+    let seg = c.args.seg.now in
+    subst (λ (t : State). AllByRecursion (IsWellFormed t.kinds) (equal_atoms (seg.at ∷ seg.args.now) (seg.stop ∷ seg.ends.now))) (sym c.in_ok-next.ensures) c.requires
