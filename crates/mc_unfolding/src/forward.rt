@@ -120,6 +120,25 @@ fn put_call(
     }
 }
 
+/// What a rule makes of a Seg for each of some calls of the predicate, put behind other states.
+fn put_calls(
+    alloc: Global,
+    s: &State,
+    edge: EdgeId,
+    seg: &Segment<'_>,
+    rule: &Rule,
+    calls: &[Call],
+    next: &mut Vec<State>,
+) -> Result<(), NoMemory>
+    requires { TakesRuleTo s.now seg.now.at seg.now.args.now seg.now.stop seg.now.ends.now rule.now }
+    ensures { OnOk result (next.new.items ≡ next.old.items ++ map (unfolded_at s.now edge seg.now.at seg.now.args.now seg.now.stop seg.now.ends.now rule.now) (own_places seg.now.pred 0 calls.now)) }
+{
+    for (place, call) in calls.iter().enumerate() {
+        put_call(alloc, s, edge, seg, rule, place, call, next)?;
+    }
+    Ok(())
+}
+
 /// What a rule makes of a Seg for each of its calls of the predicate, put behind other states.
 fn put_each_call(
     alloc: Global,
@@ -132,9 +151,7 @@ fn put_each_call(
     requires { TakesRuleTo s.now seg.now.at seg.now.args.now seg.now.stop seg.now.ends.now rule.now }
     ensures { OnOk result (next.new.items ≡ next.old.items ++ map (unfolded_at s.now edge seg.now.at seg.now.args.now seg.now.stop seg.now.ends.now rule.now) (own_places seg.now.pred 0 rule.now.calls)) }
 {
-    for (place, call) in rule.calls.as_slice().iter().enumerate() {
-        put_call(alloc, s, edge, seg, rule, place, call, next)?;
-    }
+    put_calls(alloc, s, edge, seg, rule, rule.calls.as_slice(), next)?;
     Ok(())
 }
 

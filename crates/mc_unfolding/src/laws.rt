@@ -1,5 +1,5 @@
 // What the rules that unfold rest on. The law is what a function with no body ensures.
-ghost use Rattle.mc_unfolding.specs.Taking.{IndTakesRules, SegTakesRules};
+ghost use Rattle.mc_unfolding.specs.Taking.{BackTakesRules, IndTakesRules, SegTakesRules};
 
 use mc_state::nodes_are_there;
 use mc_unfold::{rules_are_made, states_stay_well_made};
@@ -8,6 +8,7 @@ use mc_unfold::{rules_are_made, states_stay_well_made};
 pub fn edges_take_rules()
     ensures ind { IndTakesRules }
     ensures seg { SegTakesRules }
+    ensures back { BackTakesRules }
 {
     nodes_are_there();
     rules_are_made();

@@ -111,7 +111,7 @@ fn block_edge(alloc: Global, nodes: &[NodeId], shape: StructId, rule: &Rule) -> 
 }
 
 /// Adds a rule's block, where it has one. Without memory the state is lost.
-fn add_block(alloc: Global, s: &mut State, nodes: &[NodeId], rule: &Rule) -> Result<(), NoMemory>
+pub fn add_block(alloc: Global, s: &mut State, nodes: &[NodeId], rule: &Rule) -> Result<(), NoMemory>
     requires { AreNodes s.old.kinds nodes.now }
     ensures { OnOk result (s.new ≡ with_edges s.old (block_edges nodes.now rule.now.block rule.now.contents)) }
 {
@@ -126,7 +126,7 @@ fn add_block(alloc: Global, s: &mut State, nodes: &[NodeId], rule: &Rule) -> Res
 
 /// Adds calls as edges. Without memory the state is lost.
 #[tactic(auto, using(crate::proofs::After::after_edge))]
-fn add_calls(alloc: Global, s: &mut State, nodes: &[NodeId], calls: &[Call]) -> Result<(), NoMemory>
+pub fn add_calls(alloc: Global, s: &mut State, nodes: &[NodeId], calls: &[Call]) -> Result<(), NoMemory>
     requires { AreNodes s.old.kinds nodes.now }
     ensures { OnOk result (s.new ≡ with_edges s.old (map (call_edge nodes.now) calls.now)) }
 {

@@ -1,4 +1,4 @@
-use Rattle.mc_unfolding.proofs.Taking.{TakingLaws, ind_takes, seg_takes}
+use Rattle.mc_unfolding.proofs.Taking.{TakingLaws, back_takes, ind_takes, seg_takes}
 use Rattle.mc_unfolding.proofs.laws.edges_take_rules.Goals as goal
 
 pub returns : goal.returns
@@ -11,4 +11,4 @@ returns c =
       rules = c.rules_are_made.ensures.rules;
       equal = c.rules_are_made.ensures.equal;
     } in
-    record { ind = ind_takes laws; seg = seg_takes laws }
+    record { ind = ind_takes laws; seg = seg_takes laws; back = back_takes laws }

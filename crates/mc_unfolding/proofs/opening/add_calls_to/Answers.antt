@@ -5,19 +5,19 @@ use Rattle.mc_state.specs.State.{State, with_edges}
 use Rattle.mc_unfolding.proofs.After.{around_edges, calls_past, segment_there}
 use Rattle.mc_unfolding.proofs.opening.add_calls_to.Goals as goal
 
-pub returns-in-None : goal.returns-in-None
-returns-in-None c =
+pub returns-in_ok-add_calls-in-None : goal.returns-in_ok-add_calls-in-None
+returns-in_ok-add_calls-in-None c =
     let none : slice_get c.args.calls.now c.args.place ≡ None = search rules in
-    c.in_ok-add_calls-3.ensures ∙ ap (with_edges c.args.s.now) (calls_past c.args.nodes.now c.args.end c.args.ends.now c.args.place c.args.calls.now none)
+    c.in_ok-add_calls-in-None.ensures ∙ ap (with_edges c.args.s.now) (calls_past c.args.nodes.now c.args.end c.args.ends.now c.args.place c.args.calls.now none)
 
 pub add_edge-requires : goal.add_edge-requires
 add_edge-requires c =
     let there = segment_there c.rules_stand_at_nodes.ensures.name_there c.args.s.now.kinds c.args.nodes.now c.requires.nodes c.args.end c.args.ends.now c.in-Some.call.now c.requires.ends in
-    subst (λ (t : State). AreNodes t.kinds (nodes_of c.in_ok-edge.edge)) (sym c.in_ok-add_calls.ensures)
-    (subst (λ e. AreNodes c.args.s.now.kinds (nodes_of e)) (sym c.in_ok-edge.ensures) there)
+    subst (λ (t : State). AreNodes t.kinds (nodes_of c.in_ok-edge-in-Some.edge)) (sym c.in_ok-add_calls-in-Some.ensures)
+    (subst (λ e. AreNodes c.args.s.now.kinds (nodes_of e)) (sym c.in_ok-edge-in-Some.ensures) there)
 
-pub returns-in-Some : goal.returns-in-Some
-returns-in-Some c =
+pub returns-in_ok-add_calls-in-Some-2 : goal.returns-in_ok-add_calls-in-Some-2
+returns-in_ok-add_calls-in-Some-2 c =
     let some : slice_get c.args.calls.now c.args.place ≡ Some c.in-Some.call.now = search rules in
-    around_edges c.args.s.now c.add_calls.new.s c.add_edge.new.self c.add_calls-2.new.s c.args.nodes.now c.args.end c.args.ends.now c.args.place c.args.calls.now c.in-Some.call.now c.in_ok-edge.edge
-    some c.in_ok-add_calls.ensures c.in_ok-edge.ensures c.in_ok-add_edge.ensures.ok c.in_ok-add_calls-2.ensures
+    around_edges c.args.s.now _ _ _ c.args.nodes.now c.args.end c.args.ends.now c.args.place c.args.calls.now c.in-Some.call.now c.in_ok-edge-in-Some.edge
+    some c.in_ok-add_calls-in-Some.ensures c.in_ok-edge-in-Some.ensures c.in_ok-add_edge-in-Some.ensures.ok c.in_ok-add_calls-in-Some-2.ensures
