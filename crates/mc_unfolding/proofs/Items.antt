@@ -1,8 +1,8 @@
 -- Lists that grow by what each item of another list becomes.
-use Rattle.std.proofs.Common.{◌≡◌, ◌<◌, ◌+◌, ℕ, zero, suc, Some, Bool, true, false, List, [], ◌∷◌, ◌++◌, map, drop, length, get_or, slice_get, refl, sym, ◌∙◌, ap, subst, arith}
+use Rattle.std.proofs.Common.{◌≡◌, ◌<◌, ◌+◌, ◌-◌, ℕ, zero, suc, Some, Bool, true, false, List, [], ◌∷◌, ◌++◌, map, take, drop, length, get_or, slice_get, refl, sym, ◌∙◌, ap, subst, arith}
 use Rattle.std.specs.Prelude.{◌==◌, if◌then◌else◌}
 use Rattle.std.specs.List.{AllByRecursion}
-use Rattle.std.proofs.lemmas.List.{append_assoc, drop_more}
+use Rattle.std.proofs.lemmas.List.{append_assoc, drop_more, length-drop}
 use Rattle.mc_base.specs.declared.ids.NodeId.{NodeId}
 use Rattle.mc_base.specs.declared.ids.PredId.{PredId}
 use Rattle.mc_defs.specs.declared.rules.Call.{Call}
@@ -26,6 +26,14 @@ module _ {X : Type 0} where
   found_here [] i x inside is = absurd (omega arith)
   found_here (y ∷ xs) zero x inside is = ap (λ z. Some z) (sym is)
   found_here (y ∷ xs) (suc i) x inside is = let within : i < length xs = omega arith in found_here xs i x within is
+
+  -- all of a list is taken, also behind a place
+  whole : (xs : List X) → take (length xs) xs ≡ xs
+  whole [] = refl
+  whole (x ∷ xs) = ap (λ l. x ∷ l) (whole xs)
+
+  pub rest_whole : (xs : List X) (n : ℕ) → take (length xs - n) (drop n xs) ≡ drop n xs
+  rest_whole xs n = ap (λ m. take m (drop n xs)) (sym (length-drop n xs)) ∙ whole (drop n xs)
 
 module _ {X Y : Type 0} where
   -- what an item becomes is put behind what those before it became

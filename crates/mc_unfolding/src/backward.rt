@@ -1,5 +1,5 @@
 // Unfolding a segment from its end.
-ghost use Rattle.std.specs.Prelude.{◌≡◌, ◌∷◌, ◌++◌, [], IfOk, OnOk, Some, drop, length, map, remove, slice_get, take};
+ghost use Rattle.std.specs.Prelude.{◌≡◌, ◌<◌, ◌∷◌, ◌++◌, [], IfOk, OnOk, Some, drop, length, map, remove, slice_get, take};
 ghost use Rattle.std.specs.List.{AllByRecursion};
 ghost use Rattle.mc_back.specs.Judges.{unfolding_back};
 ghost use Rattle.mc_back.specs.Unfolded.{atoms_behind, back_successors, body_behind, unfolded_back};
@@ -18,7 +18,7 @@ ghost use Rattle.mc_unfolding.specs.Taking.{TakesRuleBack, parts};
 use crate::forward::rules_of;
 use crate::laws::edges_take_rules;
 use crate::opening::{
-    Segment, add_atoms, add_block, add_calls, args_of, assume_equal, emptied, node_of, nodes_of_names,
+    Segment, add_atoms, add_block, add_calls, args_of, assume_equal, calls_behind, emptied, node_of, nodes_of_names,
     opened,
 };
 use crate::positions::is_reached_back;
@@ -92,7 +92,7 @@ fn add_calls_without(
     ensures { OnOk result (s.new ≡ with_edges s.old (map (call_edge nodes.now) (remove calls.now place))) }
 {
     add_calls(alloc, s, nodes, &calls[..place])?;
-    add_calls(alloc, s, nodes, &calls[place + 1..])?;
+    add_calls(alloc, s, nodes, calls_behind(calls, place))?;
     Ok(())
 }
 

@@ -1,5 +1,5 @@
 // States in which an edge is opened: the body of a rule stands in its place, at new nodes, and the rule's atoms are known.
-ghost use Rattle.std.specs.Prelude.{◌≡◌, ◌∷◌, ◌++◌, [], IfOk, OnOk, Some, None, drop, length, map, slice_get, suc};
+ghost use Rattle.std.specs.Prelude.{◌≡◌, ◌<◌, ◌+◌, ◌∷◌, ◌++◌, [], IfOk, OnOk, Some, None, drop, length, map, slice_get, suc};
 ghost use Rattle.std.specs.List.{AllByRecursion};
 ghost use Rattle.std.specs.Option.{option_copied};
 ghost use Rattle.mc_base.specs.declared.ids.NodeId.{NodeId as Node};
@@ -145,6 +145,14 @@ pub fn call_at(calls: &[Call], place: usize) -> Option<&Call>
     calls.get(place)
 }
 
+/// The calls behind the one at a place.
+pub fn calls_behind(calls: &[Call], place: usize) -> &[Call]
+    requires { place < length calls.now }
+    ensures { result.now ≡ drop (place + 1) calls.now }
+{
+    &calls[place + 1..]
+}
+
 /// Adds calls as edges, of which the one at a place goes on as a segment to an end. Without memory the state is lost.
 fn add_calls_to(
     alloc: Global,
@@ -165,7 +173,7 @@ fn add_calls_to(
             add_calls(alloc, s, nodes, &calls[..place])?;
             let edge = call_segment(alloc, nodes, end, ends, call)?;
             s.add_edge(edge)?;
-            add_calls(alloc, s, nodes, &calls[place + 1..])?;
+            add_calls(alloc, s, nodes, calls_behind(calls, place))?;
             Ok(())
         }
         None => {

@@ -9,8 +9,8 @@ put_call-requires c =
     let i = c.loop-place.place in
     let within : i < length calls = omega arith in
     let count : length c.args.rule.now.calls ≡ length calls = ap length c.requires.calls in
-    let there : slice_get c.args.rule.now.calls i ≡ Some c.loop-place-item.result =
-    ap (λ cs. slice_get cs i) c.requires.calls ∙ found_here calls i c.loop-place-item.result within c.loop-place-item.is in
+    let there : slice_get c.args.rule.now.calls i ≡ Some c.index-calls-place.result =
+    ap (λ cs. slice_get cs i) c.requires.calls ∙ found_here calls i c.index-calls-place.result within c.index-calls-place.is in
     record { rule = c.requires.rule; call = there; inside = omega arith }
 
 pub loop-place-preserved : goal.loop-place-preserved
@@ -18,5 +18,5 @@ loop-place-preserved c =
     let seg = c.args.seg.now in
     let calls = c.args.calls.now in
     let inside : c.loop-place.place < length calls = omega arith in
-    own_put (unfolded_back c.args.s.now c.args.edge seg.at seg.args.now seg.pred seg.stop seg.ends.now c.args.rule.now) seg.pred calls c.loop-place.place c.loop-place-item.result
-    c.loop-place.next.items c.put_call.new.next.items _ inside c.loop-place-item.is c.in_ok-put_call.ensures c.loop-place.invariant
+    own_put (unfolded_back c.args.s.now c.args.edge seg.at seg.args.now seg.pred seg.stop seg.ends.now c.args.rule.now) seg.pred calls c.loop-place.place c.index-calls-place.result
+    c.loop-place.next.items c.put_call.new.next.items _ inside c.index-calls-place.is c.in_ok-put_call.ensures c.loop-place.invariant

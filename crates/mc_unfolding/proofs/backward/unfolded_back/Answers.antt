@@ -37,7 +37,9 @@ returns c =
     let place = c.args.place in
     let names : c.as_slice.result.now ≡ rule.names = search rules in
     let nodes : c.as_slice-2.result.now ≡ new_nodes s rule = search rules in
-    let filled = λ (t : State) ns. with_atoms (with_edges t (body_behind seg.at seg.args.now seg.pred ns rule place)) (atoms_behind ns seg.stop seg.ends.now rule place) in
+    let base = with_only_edges (with_nodes s rule.names) (without s.graph.edges c.args.edge) in
+    let list = c.as_slice-2.result.now in
     c.in_ok-add_behind.ensures
-    ∙ ap (λ (t : State). filled t c.as_slice-2.result.now) (c.in_ok-next.ensures.state ∙ ap (λ ks. with_only_edges (with_nodes s ks) (without s.graph.edges c.args.edge)) names)
-    ∙ ap (filled (with_only_edges (with_nodes s rule.names) (without s.graph.edges c.args.edge))) nodes
+    ∙ ap (λ (t : State). with_atoms (with_edges t (body_behind seg.at seg.args.now seg.pred list rule place)) (atoms_behind list seg.stop seg.ends.now rule place))
+    (c.in_ok-next.ensures.state ∙ ap (λ ks. with_only_edges (with_nodes s ks) (without s.graph.edges c.args.edge)) names)
+    ∙ ap (λ ns. with_atoms (with_edges base (body_behind seg.at seg.args.now seg.pred ns rule place)) (atoms_behind ns seg.stop seg.ends.now rule place)) nodes

@@ -8,5 +8,5 @@ loop-place-preserved c =
     let seg = c.args.seg.now in
     let calls = c.args.calls.now in
     let inside : c.loop-place.place < length calls = omega arith in
-    own_put (unfolded_at c.args.s.now c.args.edge seg.at seg.args.now seg.stop seg.ends.now c.args.rule.now) seg.pred calls c.loop-place.place c.loop-place-item.result
-    c.loop-place.next.items c.put_call.new.next.items _ inside c.loop-place-item.is c.in_ok-put_call.ensures c.loop-place.invariant
+    own_put (unfolded_at c.args.s.now c.args.edge seg.at seg.args.now seg.stop seg.ends.now c.args.rule.now) seg.pred calls c.loop-place.place c.index-calls-place.result
+    c.loop-place.next.items c.put_call.new.next.items _ inside c.index-calls-place.is c.in_ok-put_call.ensures c.loop-place.invariant
