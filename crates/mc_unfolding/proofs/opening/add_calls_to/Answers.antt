@@ -1,5 +1,6 @@
-use Rattle.std.proofs.Common.{rules, ◌≡◌, ◌∙◌, Some, None, ap, slice_get, subst, sym}
+use Rattle.std.proofs.Common.{rules, ◌≡◌, ◌∙◌, Some, None, ap, map, slice_get, subst, sym}
 use Rattle.mc_graph.specs.Edges.{nodes_of}
+use Rattle.mc_state.specs.Bodies.{call_edge}
 use Rattle.mc_state.specs.Fits.{AreNodes}
 use Rattle.mc_state.specs.State.{State, with_edges}
 use Rattle.mc_unfolding.proofs.After.{around_edges, calls_past, segment_there}
@@ -20,4 +21,5 @@ pub returns-in_ok-add_calls-in-Some-2 : goal.returns-in_ok-add_calls-in-Some-2
 returns-in_ok-add_calls-in-Some-2 c =
     let some : slice_get c.args.calls.now c.args.place ≡ Some c.in-Some.call.now = search rules in
     around_edges c.args.s.now _ _ _ c.args.nodes.now c.args.end c.args.ends.now c.args.place c.args.calls.now c.in-Some.call.now c.in_ok-edge-in-Some.edge
-    some c.in_ok-add_calls-in-Some.ensures c.in_ok-edge-in-Some.ensures c.in_ok-add_edge-in-Some.ensures.ok c.in_ok-add_calls-in-Some-2.ensures
+    some c.in_ok-add_calls-in-Some.ensures c.in_ok-edge-in-Some.ensures c.in_ok-add_edge-in-Some.ensures.ok
+    (c.in_ok-add_calls-in-Some-2.ensures ∙ ap (λ cs. with_edges c.add_edge.new.self (map (call_edge c.args.nodes.now) cs)) c.calls_behind.ensures)
