@@ -7,7 +7,6 @@ ghost use Rattle.mc_defs.specs.declared.rules.Def.{Def};
 ghost use Rattle.mc_premises.specs.Known.{Test, Tells};
 ghost use Rattle.mc_premises.specs.Premises.{Judged, AnswersBy};
 ghost use Rattle.mc_rule.specs.Made.{IsMadeFor};
-ghost use Rattle.mc_state.specs.Fits.{IsBounded};
 ghost use Rattle.mc_state.specs.Rules.{IsSound};
 ghost use Rattle.mc_state.specs.State.{State as Symbolic};
 
@@ -33,5 +32,8 @@ pub trait LogicRule {
         requires { IsMadeFor defs.now state.now }
         ensures { (know : Test) → Tells know state.now → AnswersBy (λ next. next.items) (judged self.now know defs.now access state.now) result };
 
-    ghost sound: { (rule : Self) (know : Test) (defs : List Def) (access : Option Node) (s : Symbolic) (next : List Symbolic) → IsBounded s → IsMadeFor defs s → Tells know s → judged rule know defs access s ≡ Ok next → IsSound defs s next };
+    /// Whatever stands for a state stands for one of the successors that the rule gives. The law is what this function
+    /// ensures, and it does nothing.
+    fn is_sound(&self)
+        ensures { (know : Test) (defs : List Def) (access : Option Node) (s : Symbolic) (next : List Symbolic) → IsMadeFor defs s → Tells know s → judged self.now know defs access s ≡ Ok next → IsSound defs s next };
 }

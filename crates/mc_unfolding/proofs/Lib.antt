@@ -1,0 +1,5 @@
+pub mod After
+pub mod Ends
+pub mod Equal
+pub mod Items
+pub mod Taking

@@ -1,0 +1,16 @@
+//! The rules that unfold an edge, decided: what they give at a state, or their first premise that is unmet.
+#![tactic(auto)]
+
+mod backward;
+mod forward;
+mod laws;
+mod opening;
+mod positions;
+mod rules;
+
+pub use backward::unfold_back;
+pub use forward::{unfold_ind, unfold_seg};
+pub use laws::edges_take_rules;
+pub use opening::Segment;
+pub use positions::{is_back, is_reached_back};
+pub use rules::{UnfoldBack, UnfoldInd, UnfoldSeg};
