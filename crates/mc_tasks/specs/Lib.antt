@@ -1,0 +1,4 @@
+pub mod Left
+pub mod Leading
+pub mod Entering
+pub mod Going

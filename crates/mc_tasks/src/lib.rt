@@ -1,0 +1,14 @@
+//! What is left to do of a resolved program, and what its variables hold.
+#![tactic(auto)]
+
+mod entering;
+mod leading;
+mod next;
+mod tasks;
+mod values;
+mod work;
+
+pub use leading::Decided;
+pub use next::{Atom, Next};
+pub use tasks::Target;
+pub use work::Work;
