@@ -1,5 +1,5 @@
 -- How a run goes on in code.
-use Rattle.std.specs.Prelude.{◌≡◌, ◌⊎◌, List, ◌∷◌, Option, Some, None, map}
+use Rattle.std.specs.Prelude.{◌≡◌, List, ◌∷◌, Option, Some, None, map}
 use Rattle.mc_text.specs.declared.place.Place.{Place}
 use Rattle.mc_resolved.specs.Programs.{Initial, Stmt, declaration, simple, free, assume_shape}
 use Rattle.mc_resolved.specs.Programs.{assert_shape, assert_empty, break_loop, continue_loop, returns}
@@ -25,7 +25,9 @@ branches_of w = asked w.tasks
 -- ---- the next step
 -- a `break` or a `continue` is first
 abbrev pub LeavesLoop : Tasks → Type 0
-LeavesLoop tasks = (p : Place) × (rest : Tasks) × ((tasks ≡ task (perform (break_loop p)) rest) ⊎ (tasks ≡ task (perform (continue_loop p)) rest))
+LeavesLoop (task (perform (break_loop p)) rest) = Unit {0}
+LeavesLoop (task (perform (continue_loop p)) rest) = Unit {0}
+LeavesLoop _ = ⊥
 
 -- the declarator is the first of several, and the others are left
 abbrev pub IsFirst : Place → Initial → Tasks → Tasks → Type 0
@@ -55,10 +57,8 @@ Keeps Next.Stuck w values = Unit {0}
 Keeps _ w values = values_of w ≡ values
 
 -- the next step is there, and this is it
-pub record Stands (next : Next) (w : Work) (values : Values) (tasks : Tasks) : Type 0 where
-  pub ready : moved values tasks ≡ None
-  pub has : Has next w tasks
-  pub keeps : Keeps next w values
+abbrev pub Stands : Next → Work → Values → Tasks → Type 0
+Stands next w values tasks = (moved values tasks ≡ None) × Has next w tasks × Keeps next w values
 
 -- a move is made, or the next step is there
 abbrev pub Advances : Values → Tasks → Option Next → Work → Type 0

@@ -1,10 +1,10 @@
 -- What the code's stack leaves to do.
 use Rattle.std.specs.Prelude.{ℤ, List, [], ◌∷◌, Option, None, map, option_map}
-use Rattle.mc_resolved.specs.Programs.{Cond, plain, compare, Simple, Stmt, declaration, simple}
+use Rattle.mc_resolved.specs.Programs.{Cond, plain, compare, Head, Simple, Stmt, declaration, simple}
 use Rattle.mc_resolved.specs.Configs.{Target, nowhere, stored, returned, perform, again, test, always, end_block}
 use Rattle.mc_resolved.specs.Configs.{end_loop, end_turn, end_call, take_result, Tasks, done, task, Branch, go_on}
 use Rattle.mc_resolved.specs.Configs.{fails, stops}
-use Rattle.mc_resolved.specs.Moves.{in_a_row, turn}
+use Rattle.mc_resolved.specs.Moves.{in_a_row, started, turn}
 use Rattle.mc_resolved.specs.Views.{condition_of, expression_of, initial_of, left_of, simple_of, statement_of, stmts_of}
 use Rattle.mc_tasks.specs.declared.next.Atom.{Atom}
 use Rattle.mc_tasks.specs.declared.tasks.Target.{Target as TargetCode}
@@ -17,7 +17,7 @@ target_of TargetCode.Nowhere = nowhere
 target_of (TargetCode.Stored l p) = stored (left_of l.now) p
 target_of (TargetCode.Returned p) = returned p
 
--- ---- conditions of one part
+-- an atomic condition
 abbrev pub atom_of : Atom → Cond
 atom_of (Atom.Plain p e) = plain p (expression_of e.now)
 atom_of (Atom.Compare p c x y) = compare p c (expression_of x.now) (expression_of y.now)
@@ -81,3 +81,7 @@ abbrev mutual
   pub asked : List Task → Branches
   asked [] = (stops, stops)
   asked (t ∷ ts) = answered t (left ts) (asked ts)
+
+-- a `for` is entered
+abbrev pub entered_for : Head → Stmt → Tasks → Tasks
+entered_for h a rest = started h.start (task (again h.condition a h.last) (task (end_loop h.variables) rest))

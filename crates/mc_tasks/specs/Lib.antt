@@ -1,4 +1,3 @@
 pub mod Left
 pub mod Leading
-pub mod Entering
 pub mod Going

@@ -1,33 +1,14 @@
-// Statements and conditions are entered.
-ghost use Rattle.std.specs.Prelude.{◌≡◌, IfOk, MatchOption, OnOk, None, Some, map};
-ghost use Rattle.mc_resolved.specs.Configs.{Values, again, done, end_loop, perform, task, test};
+// Loops are entered, and conditions put.
+ghost use Rattle.std.specs.Prelude.{◌≡◌, OnOk, [], None, Some};
+ghost use Rattle.mc_resolved.specs.Configs.{again, done, end_loop, task, test};
 ghost use Rattle.mc_resolved.specs.Moves.{started, tested, turn};
-ghost use Rattle.mc_resolved.specs.Programs.{declaration};
-ghost use Rattle.mc_resolved.specs.Views.{condition_of, head_of, initial_of, start_of, statement_of};
-ghost use Rattle.mc_tasks.specs.Left.{asked, awaited, body_of, condition_in, last_of, left};
-ghost use Rattle.mc_tasks.specs.Entering.{Declares, TakesApart, entered_for};
+ghost use Rattle.mc_resolved.specs.Views.{condition_of, head_of, start_of, statement_of};
+ghost use Rattle.mc_tasks.specs.Left.{asked, awaited, body_of, condition_in, entered_for, last_of, left};
 
-use crate::next::{Atom, Next};
 use crate::tasks::{Task, Turns, Waiting, push_turn};
 use mc_base::NoMemory;
-use mc_resolved::{Condition, ForHead, ForStart, Initial, Statement};
+use mc_resolved::{Condition, ForHead, ForStart, Statement};
 use mc_stack::Stack;
-use mc_text::Place;
-
-/// A declaration is at its end, or its first declarator is the next step.
-pub fn push_declared<'a>(
-    tasks: &mut Stack<Task<'a>>,
-    place: Place,
-    items: &'a [Initial],
-) -> Result<Option<Next<'a>>, NoMemory>
-    ensures { IfOk result (λ found. Declares place (map initial_of items.now) (left tasks.old) found (left tasks.new)) }
-{
-    let [first, more @ ..] = items else {
-        return Ok(None);
-    };
-    tasks.push(Task::Declare(place, more))?;
-    Ok(Some(Next::Declare(place, first)))
-}
 
 /// A condition is to be tested, and this waits for its answer.
 pub fn push_test<'a>(
@@ -41,33 +22,6 @@ pub fn push_test<'a>(
     tasks.push(Task::Waits(waiting))?;
     tasks.push(Task::Test(condition))?;
     Ok(())
-}
-
-/// The parts of a condition are to be tested, or it is atomic and the next step.
-pub fn push_parts<'a>(
-    tasks: &mut Stack<Task<'a>>,
-    condition: &'a Condition,
-) -> Result<Option<Next<'a>>, NoMemory>
-    ensures { IfOk result (λ found. TakesApart (condition_of condition.now) tasks.old found tasks.new) }
-{
-    match condition {
-        Condition::Plain(place, value) => Ok(Some(Next::Test(Atom::Plain(*place, value)))),
-        Condition::Compare(place, mark, first, second) => {
-            Ok(Some(Next::Test(Atom::Compare(*place, *mark, first, second))))
-        }
-        Condition::Not(part) => {
-            push_test(tasks, Waiting::Not, part)?;
-            Ok(None)
-        }
-        Condition::Both(first, second) => {
-            push_test(tasks, Waiting::Both(second), first)?;
-            Ok(None)
-        }
-        Condition::Either(first, second) => {
-            push_test(tasks, Waiting::Either(second), first)?;
-            Ok(None)
-        }
-    }
 }
 
 /// A loop is at its condition, if it has one.

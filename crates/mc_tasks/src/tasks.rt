@@ -3,7 +3,7 @@ ghost use Rattle.std.specs.Prelude.{◌≡◌, OnOk, map};
 ghost use Rattle.mc_resolved.specs.Configs.{end_turn, task};
 ghost use Rattle.mc_resolved.specs.Moves.{finished, given, in_a_row, turn};
 ghost use Rattle.mc_resolved.specs.Views.{statement_of, stmts_of};
-ghost use Rattle.mc_tasks.specs.Left.{body_of, condition_in, last_of, left, maybe_simple, target_of};
+ghost use Rattle.mc_tasks.specs.Left.{body_of, condition_in, last_of, left, target_of};
 
 use mc_base::NoMemory;
 use mc_resolved::{Condition, Initial, LeftValue, Simple, Statement};

@@ -1,5 +1,6 @@
 // What the variables of a function hold.
-ghost use Rattle.std.specs.Prelude.{◌≡◌, IfOk, map};
+ghost use Rattle.std.specs.Prelude.{◌≡◌, ◌∷◌, IfOk, List, map};
+ghost use Rattle.mc_resolved.specs.Programs.{Local as LocalTree};
 ghost use Rattle.mc_resolved.specs.Configs.{held, with_variable, without};
 ghost use Rattle.mc_resolved.specs.Steps.{passed};
 ghost use Rattle.mc_resolved.specs.Views.{local_of};
@@ -39,12 +40,28 @@ pub fn undefine(values: &mut [Option<i64>], variables: &[usize])
     }
 }
 
-/// What a variable holds as its function begins, by its number.
-fn first_value(index: usize, parameters: usize, arguments: &[i64]) -> Option<i64> {
-    if index < parameters && index < arguments.len() {
-        Some(arguments[index])
-    } else {
-        None
+/// The parameters that are left to hold an argument, and the arguments that are left.
+#[derive(Drop)]
+struct Passing<'a> {
+    parameters: usize,
+    arguments: &'a [i64],
+}
+
+impl Passing<'_> {
+    /// What the next variable holds as its function begins.
+    fn next(&mut self) -> Option<i64>
+        ensures { (x : LocalTree) (xs : List LocalTree)
+            → passed self.old.parameters (x ∷ xs) self.old.arguments.now ≡ result ∷ passed self.new.parameters xs self.new.arguments.now }
+    {
+        if self.parameters == 0 {
+            return None;
+        }
+        self.parameters -= 1;
+        let [first, more @ ..] = self.arguments else {
+            return None;
+        };
+        self.arguments = more;
+        Some(*first)
     }
 }
 
@@ -58,8 +75,13 @@ pub fn first_values(
     ensures { IfOk result (λ values. values.items ≡ passed parameters (map local_of locals.now) arguments.now) }
 {
     let mut values = Vec::with_capacity(alloc, locals.len())?;
-    for index in 0..locals.len() {
-        values.push(first_value(index, parameters, arguments))?;
+    let mut passing = Passing {
+        parameters,
+        arguments,
+    };
+    for _ in locals {
+        let value = passing.next();
+        values.push(value)?;
     }
     Ok(values)
 }

@@ -1,12 +1,13 @@
 // A run that is under way, without its heap.
-use crate::next::Next;
-use crate::entering::{push_again, push_declared, push_do, push_for, push_parts, push_test, push_while};
+use crate::next::{Atom, Next};
+use crate::entering::{push_again, push_do, push_for, push_test, push_while};
 use crate::leading::{Decided, Led, lead};
 use crate::tasks::{Target, Task, Waiting, push_result, push_row, push_turn};
 use crate::values::{first_values, set_value, undefine, value_of};
 use mc_base::NoMemory;
-use mc_resolved::{Function, Statement};
+use mc_resolved::{Condition, Function, Initial, Statement};
 use mc_stack::Stack;
+use mc_text::Place;
 use std::alloc::Global;
 use std::mem;
 
@@ -18,14 +19,14 @@ pub struct Work<'a> {
     alloc: Global,
 }
 
-ghost use Rattle.std.specs.Prelude.{◌≡◌, IfOk, MatchOption, OnOk, []};
+ghost use Rattle.std.specs.Prelude.{◌≡◌, IfOk, OnOk, [], map};
 ghost use Rattle.mc_resolved.specs.Configs.{done, end_call, held, task, with_variable};
 ghost use Rattle.mc_resolved.specs.Moves.{in_a_row};
 ghost use Rattle.mc_resolved.specs.Steps.{passed, returning, start};
 ghost use Rattle.mc_resolved.specs.Views.{function_of};
 
 impl<'a> Work<'a> {
-    ghost use Rattle.std.specs.Prelude.{MatchBool, Some, None, if◌then◌else◌};
+    ghost use Rattle.std.specs.Prelude.{Some, None, if◌then◌else◌};
     ghost use Rattle.mc_resolved.specs.Configs.{perform, test};
     ghost use Rattle.mc_resolved.specs.Moves.{at_turn, behind_loop};
     ghost use Rattle.mc_resolved.specs.Programs.{declaration, for_loop};
@@ -76,8 +77,9 @@ impl<'a> Work<'a> {
         ensures { IfOk result (λ next. Comes self.old next self.new) }
     {
         loop {
-            if let Some(next) = self.advance()? {
-                return Ok(next);
+            match self.advance()? {
+                Some(next) => return Ok(next),
+                None => {}
             }
         }
     }
@@ -96,7 +98,7 @@ impl<'a> Work<'a> {
                 Ok(found)
             }
             Task::Declare(place, items) => {
-                let found = push_declared(&mut self.tasks, place, items)?;
+                let found = self.declare(place, items)?;
                 Ok(found)
             }
             Task::Simple(simple) => Ok(Some(Next::Simple(simple))),
@@ -109,7 +111,7 @@ impl<'a> Work<'a> {
                 Ok(Some(Next::Always))
             }
             Task::Test(condition) => {
-                let found = push_parts(&mut self.tasks, condition)?;
+                let found = self.take_apart(condition)?;
                 Ok(found)
             }
             Task::Waits(_) => Ok(Some(Next::Done)),
@@ -137,7 +139,7 @@ impl<'a> Work<'a> {
     {
         match statement {
             Statement::Declaration(place, items) => {
-                let found = push_declared(&mut self.tasks, *place, items.as_slice())?;
+                let found = self.declare(*place, items.as_slice())?;
                 Ok(found)
             }
             Statement::Block(variables, parts) => {
@@ -179,22 +181,72 @@ impl<'a> Work<'a> {
                 push_for(&mut self.tasks, head, part)?;
                 Ok(None)
             }
-            Statement::Break(_) => Ok(self.leave_loop()),
-            Statement::Continue(_) => Ok(self.end_turn()),
+            Statement::Break(_) => {
+                if self.leave_loop() {
+                    Ok(None)
+                } else {
+                    Ok(Some(Next::Stuck))
+                }
+            }
+            Statement::Continue(_) => {
+                if self.end_turn() {
+                    Ok(None)
+                } else {
+                    Ok(Some(Next::Stuck))
+                }
+            }
             Statement::Return(place, value) => Ok(Some(Next::Return(*place, value))),
         }
     }
 
-    // Behind the innermost loop.
-    fn leave_loop(&mut self) -> Option<Next<'a>>
-        ensures { MatchOption result (behind_loop (values_of self.old) (tasks_of self.old) ≡ Some (values_of self.new, tasks_of self.new))
-            (λ next. (next ≡ Next.Stuck) × (behind_loop (values_of self.old) (tasks_of self.old) ≡ None)) }
+    // A declaration is at its end, or its first declarator is the next step.
+    fn declare(
+        &mut self,
+        place: Place,
+        items: &'a [Initial],
+    ) -> Result<Option<Next<'a>>, NoMemory>
+        ensures { IfOk result (λ found. let a = declaration place (map initial_of items.now) in Advances (values_of self.old) (task (perform a) (tasks_of self.old)) found self.new) }
+    {
+        let [first, more @ ..] = items else {
+            return Ok(None);
+        };
+        self.tasks.push(Task::Declare(place, more))?;
+        Ok(Some(Next::Declare(place, first)))
+    }
+
+    // A condition is taken apart, or it is the next step.
+    fn take_apart(&mut self, condition: &'a Condition) -> Result<Option<Next<'a>>, NoMemory>
+        ensures { IfOk result (λ found. let here = test (condition_of condition.now) (branches_of self.old).0 (branches_of self.old).1 in Advances (values_of self.old) (task here done) found self.new) }
+    {
+        match condition {
+            Condition::Plain(place, value) => Ok(Some(Next::Test(Atom::Plain(*place, value)))),
+            Condition::Compare(place, mark, first, second) => {
+                Ok(Some(Next::Test(Atom::Compare(*place, *mark, first, second))))
+            }
+            Condition::Not(part) => {
+                push_test(&mut self.tasks, Waiting::Not, part)?;
+                Ok(None)
+            }
+            Condition::Both(first, second) => {
+                push_test(&mut self.tasks, Waiting::Both(second), first)?;
+                Ok(None)
+            }
+            Condition::Either(first, second) => {
+                push_test(&mut self.tasks, Waiting::Either(second), first)?;
+                Ok(None)
+            }
+        }
+    }
+
+    // Goes behind the innermost loop, if there is one.
+    fn leave_loop(&mut self) -> bool
+        ensures { behind_loop (values_of self.old) (tasks_of self.old) ≡ (if result then Some (values_of self.new, tasks_of self.new) else None) }
     {
         while let Some(task) = self.tasks.pop() {
             match task {
                 Task::EndLoop(variables) => {
                     undefine(&mut self.values, variables);
-                    return None;
+                    return true;
                 }
                 Task::EndBlock(variables) => undefine(&mut self.values, variables),
                 Task::Perform(_, _) => {}
@@ -203,23 +255,22 @@ impl<'a> Work<'a> {
                 Task::Again(_) => {}
                 Task::EndTurn => {}
                 Task::TakeResult(_, _) => {}
-                Task::Always(_) => return Some(Next::Stuck),
-                Task::Test(_) => return Some(Next::Stuck),
-                Task::Waits(_) => return Some(Next::Stuck),
-                Task::EndCall(_, _) => return Some(Next::Stuck),
+                Task::Always(_) => return false,
+                Task::Test(_) => return false,
+                Task::Waits(_) => return false,
+                Task::EndCall(_, _) => return false,
             }
         }
-        Some(Next::Stuck)
+        false
     }
 
-    // At the end of the turn of the innermost loop.
-    fn end_turn(&mut self) -> Option<Next<'a>>
-        ensures { MatchOption result (at_turn (values_of self.old) (tasks_of self.old) ≡ Some (values_of self.new, tasks_of self.new))
-            (λ next. (next ≡ Next.Stuck) × (at_turn (values_of self.old) (tasks_of self.old) ≡ None)) }
+    // Goes to the end of the turn of the innermost loop, if there is one.
+    fn end_turn(&mut self) -> bool
+        ensures { at_turn (values_of self.old) (tasks_of self.old) ≡ (if result then Some (values_of self.new, tasks_of self.new) else None) }
     {
         while let Some(task) = self.tasks.pop() {
             match task {
-                Task::EndTurn => return None,
+                Task::EndTurn => return true,
                 Task::EndBlock(variables) => undefine(&mut self.values, variables),
                 Task::Perform(_, _) => {}
                 Task::Declare(_, _) => {}
@@ -227,13 +278,13 @@ impl<'a> Work<'a> {
                 Task::Again(_) => {}
                 Task::EndLoop(_) => {}
                 Task::TakeResult(_, _) => {}
-                Task::Always(_) => return Some(Next::Stuck),
-                Task::Test(_) => return Some(Next::Stuck),
-                Task::Waits(_) => return Some(Next::Stuck),
-                Task::EndCall(_, _) => return Some(Next::Stuck),
+                Task::Always(_) => return false,
+                Task::Test(_) => return false,
+                Task::Waits(_) => return false,
+                Task::EndCall(_, _) => return false,
             }
         }
-        Some(Next::Stuck)
+        false
     }
 
     /// The condition that was next has this answer. Where none was, the run stops.
@@ -306,7 +357,7 @@ impl<'a> Work<'a> {
         ensures values { values_of self.new ≡ [] }
         ensures tasks { tasks_of self.new ≡ done }
     {
-        self.tasks = Stack::new(self.alloc);
+        'tasks: while let Some(_task) = self.tasks.pop() {}
         self.values = Vec::new(self.alloc);
     }
 }

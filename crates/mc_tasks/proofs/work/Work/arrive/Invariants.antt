@@ -1,0 +1,14 @@
+use Rattle.std.proofs.Common.{◌≡◌}
+use Rattle.mc_resolved.specs.Configs.{Values, Tasks}
+use Rattle.mc_resolved.specs.Moves.{Arrives}
+use Rattle.mc_tasks.specs.Going.{tasks_of, values_of}
+use Rattle.mc_tasks.proofs.Falling.{weight}
+use Rattle.mc_tasks.proofs.work.Work.arrive.Given as goal
+
+abbrev pub invariant-loop-advance : goal.invariant-loop-advance
+invariant-loop-advance l =
+    (values : Values) (tasks : Tasks) → Arrives (values_of l.self) (tasks_of l.self) values tasks
+    → Arrives (values_of l.initial.self) (tasks_of l.initial.self) values tasks
+
+abbrev pub decreases-loop-advance : goal.decreases-loop-advance
+decreases-loop-advance l = weight (tasks_of l.self)
