@@ -5,6 +5,8 @@ mod entering;
 mod leading;
 mod next;
 mod tasks;
+#[cfg(test)]
+mod tests;
 mod values;
 mod work;
 

@@ -248,7 +248,7 @@ impl<'a> Work<'a> {
                     undefine(&mut self.values, variables);
                     return true;
                 }
-                Task::EndBlock(variables) => undefine(&mut self.values, variables),
+                Task::EndBlock(inner) => undefine(&mut self.values, inner),
                 Task::Perform(_, _) => {}
                 Task::Declare(_, _) => {}
                 Task::Simple(_) => {}

@@ -5,10 +5,10 @@ use Rattle.mc_tasks.specs.Going.{tasks_of, values_of}
 use Rattle.mc_tasks.proofs.Falling.{weight}
 use Rattle.mc_tasks.proofs.work.Work.arrive.Given as goal
 
-abbrev pub invariant-loop-advance : goal.invariant-loop-advance
-invariant-loop-advance l =
+abbrev pub invariant-loop-next : goal.invariant-loop-next
+invariant-loop-next l =
     (values : Values) (tasks : Tasks) → Arrives (values_of l.self) (tasks_of l.self) values tasks
     → Arrives (values_of l.initial.self) (tasks_of l.initial.self) values tasks
 
-abbrev pub decreases-loop-advance : goal.decreases-loop-advance
-decreases-loop-advance l = weight (tasks_of l.self)
+abbrev pub decreases-loop-next : goal.decreases-loop-next
+decreases-loop-next l = weight (tasks_of l.self)

@@ -1,11 +1,7 @@
-use Rattle.std.proofs.Common.{◌≡◌, List, ◌∷◌, ap, ◌∙◌}
-use Rattle.mc_resolved.specs.Moves.{behind_loop}
-use Rattle.mc_tasks.specs.Left.{left}
-use Rattle.mc_tasks.specs.declared.tasks.Task.{Task}
-use Rattle.mc_tasks.proofs.Rows.{behind_row}
+use Rattle.std.proofs.Common.{◌∙◌}
+use Rattle.mc_tasks.proofs.Rows.{behind_passes}
 use Rattle.mc_tasks.proofs.work.Work.leave_loop.Goals as goal
 
 pub loop-task-preserved-in-Perform : goal.loop-task-preserved-in-Perform
 loop-task-preserved-in-Perform c =
-    let e : c.loop-task.self.tasks ≡ Task.Perform c.in-Perform.field-0 c.in-Perform.field-1 ∷ c.pop.new.self = cc in
-    c.loop-task.invariant ∙ ap (λ (ts : List Task). behind_loop c.loop-task.self.values (left ts)) e ∙ behind_row _ _ _
+    c.loop-task.invariant ∙ behind_passes c.loop-task.self.values.items c.loop-task.self.tasks c.pop.new.self c.in-Some.task c.in-Perform.field-0 c.in-Perform.field-1 c.in-Some.ensures c.in-Perform.is
