@@ -4,9 +4,9 @@ use Rattle.mc_resolved.specs.Programs.{Cond, plain, compare, negation, both, eit
 use Rattle.mc_resolved.specs.Programs.{Stmt, declaration, block, empty, simple, free, assert, assume, assume_shape}
 use Rattle.mc_resolved.specs.Programs.{assert_shape, assert_empty, if_only, if_else, while_loop, do_loop, for_loop}
 use Rattle.mc_resolved.specs.Programs.{break_loop, continue_loop, returns, Stmts, no_more, then, Simple}
-use Rattle.mc_resolved.specs.Configs.{Values, without, Target, nowhere, stored, returned, Task, perform, again, test}
+use Rattle.mc_resolved.specs.Configs.{Values, without, nowhere, stored, returned, Task, perform, again, test}
 use Rattle.mc_resolved.specs.Configs.{always, end_block, end_loop, end_turn, end_call, take_result, Tasks, done, task, Branch}
-use Rattle.mc_resolved.specs.Moves.{in_a_row, started, finished, behind_loop, at_turn, moved}
+use Rattle.mc_resolved.specs.Moves.{in_a_row, started, behind_loop, at_turn, moved}
 
 abbrev pub condition_weight : Cond → ℕ
 condition_weight (plain p e) = 1

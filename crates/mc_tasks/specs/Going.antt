@@ -1,14 +1,13 @@
 -- How a run goes on in code.
 use Rattle.std.specs.Prelude.{◌≡◌, List, ◌∷◌, Option, Some, None, map}
 use Rattle.mc_text.specs.declared.place.Place.{Place}
-use Rattle.mc_resolved.specs.Programs.{Initial, Stmt, declaration, simple, free, assume_shape}
+use Rattle.mc_resolved.specs.Programs.{Initial, declaration, simple, free, assume_shape}
 use Rattle.mc_resolved.specs.Programs.{assert_shape, assert_empty, break_loop, continue_loop, returns}
 use Rattle.mc_resolved.specs.Configs.{Values, perform, test, always, take_result, Tasks, done, task}
 use Rattle.mc_resolved.specs.Moves.{moved, Arrives}
 use Rattle.mc_resolved.specs.Views.{argument_of, expression_of, initial_of, right_of, simple_of}
 use Rattle.mc_tasks.specs.Left.{Branches, asked, atom_of, left, target_of}
 use Rattle.mc_tasks.specs.declared.next.Next.{Next}
-
 use Rattle.mc_tasks.specs.declared.work.Work.{Work}
 use Rattle.std.specs.Option.{option_map}
 
@@ -71,4 +70,3 @@ pub record Comes (before : Work) (next : Next) (after : Work) : Type 0 where
   pub tasks : Tasks
   pub arrives : Arrives (values_of before) (tasks_of before) values tasks
   pub stands : Stands next after values tasks
-

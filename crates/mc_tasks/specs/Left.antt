@@ -1,5 +1,5 @@
 -- What the code's stack leaves to do.
-use Rattle.std.specs.Prelude.{ℤ, List, [], ◌∷◌, Option, None, map, option_map}
+use Rattle.std.specs.Prelude.{List, [], ◌∷◌, Option, map, option_map}
 use Rattle.mc_resolved.specs.Programs.{Cond, plain, compare, Head, Simple, Stmt, declaration, simple}
 use Rattle.mc_resolved.specs.Configs.{Target, nowhere, stored, returned, perform, again, test, always, end_block}
 use Rattle.mc_resolved.specs.Configs.{end_loop, end_turn, end_call, take_result, Tasks, done, task, Branch, go_on}

@@ -69,10 +69,7 @@ pub enum Task<'a> {
 }
 
 /// The statements of a row are next.
-pub fn push_row<'a>(
-    tasks: &mut Stack<Task<'a>>,
-    row: &'a [Statement],
-) -> Result<(), NoMemory>
+pub fn push_row<'a>(tasks: &mut Stack<Task<'a>>, row: &'a [Statement]) -> Result<(), NoMemory>
     ensures { OnOk result (left tasks.new ≡ in_a_row (stmts_of (map statement_of row.now)) (left tasks.old)) }
 {
     if let [first, more @ ..] = row {

@@ -5,10 +5,7 @@ use mc_text::{Place, Text};
 use std::alloc::{AllocError, Global};
 use std::test::Fail;
 
-const AT: Place = Place {
-    line: 1,
-    column: 1,
-};
+const AT: Place = Place { line: 1, column: 1 };
 
 // The condition that is this number.
 fn number(n: u32) -> Condition {
@@ -87,7 +84,10 @@ fn continues(rt: HostRuntime) -> Result<(), Fail> {
     let function = function(alloc, Statement::While(AT, Condition::Not(both), body))?;
     let mut work = Work::start(alloc, &function)?;
     for _ in 0..2 {
-        let tested = matches!(work.arrive()?, Next::Test(Atom::Plain(_, Expression::Number(0))));
+        let tested = matches!(
+            work.arrive()?,
+            Next::Test(Atom::Plain(_, Expression::Number(0)))
+        );
         assert!(rt; tested);
         assert_eq!(rt; work.decide(false)?, Decided::GoesOn);
         let declared = matches!(work.arrive()?, Next::Declare(_, _));
@@ -108,7 +108,10 @@ fn calls(rt: HostRuntime) -> Result<(), Fail> {
     assert_eq!(rt; work.held(1), None);
     work.go_back(Some(8))?;
     assert_eq!(rt; work.held(0), Some(3));
-    let taken = matches!(work.arrive()?, Next::TakeResult(Target::Returned(_), Some(8)));
+    let taken = matches!(
+        work.arrive()?,
+        Next::TakeResult(Target::Returned(_), Some(8))
+    );
     assert!(rt; taken);
     let behind = matches!(work.arrive()?, Next::AssertEmpty(_));
     assert!(rt; behind);

@@ -1,7 +1,7 @@
 // A run that is under way, without its heap.
-use crate::next::{Atom, Next};
 use crate::entering::{push_again, push_do, push_for, push_test, push_while};
 use crate::leading::{Decided, Led, lead};
+use crate::next::{Atom, Next};
 use crate::tasks::{Target, Task, Waiting, push_result, push_row, push_turn};
 use crate::values::{first_values, set_value, undefine, value_of};
 use mc_base::NoMemory;
@@ -200,11 +200,7 @@ impl<'a> Work<'a> {
     }
 
     // A declaration is at its end, or its first declarator is the next step.
-    fn declare(
-        &mut self,
-        place: Place,
-        items: &'a [Initial],
-    ) -> Result<Option<Next<'a>>, NoMemory>
+    fn declare(&mut self, place: Place, items: &'a [Initial]) -> Result<Option<Next<'a>>, NoMemory>
         ensures { IfOk result (λ found. let a = declaration place (map initial_of items.now) in Advances (values_of self.old) (task (perform a) (tasks_of self.old)) found self.new) }
     {
         let [first, more @ ..] = items else {

@@ -1,6 +1,5 @@
-use Rattle.std.proofs.Common.{◌≡◌, Some}
 use Rattle.mc_resolved.specs.Moves.{here, there}
-use Rattle.mc_tasks.specs.Going.{Stands, tasks_of, values_of}
+use Rattle.mc_tasks.specs.Going.{tasks_of, values_of}
 use Rattle.mc_tasks.proofs.Arriving.{goes_on, stands_at}
 use Rattle.mc_tasks.proofs.Falling.{moved-falls}
 use Rattle.mc_tasks.proofs.work.Work.arrive.Goals as goal

@@ -1,4 +1,3 @@
-use Rattle.std.proofs.Common.{◌≡◌}
 use Rattle.mc_resolved.specs.Configs.{Values, Tasks}
 use Rattle.mc_resolved.specs.Moves.{Arrives}
 use Rattle.mc_tasks.specs.Going.{tasks_of, values_of}

@@ -14,5 +14,5 @@ returns c =
     let items : List InitialCode = c.args.items.now in
     let more : List InitialCode = take (length items - 1) (drop 1 items) in
     let split : items ≡ c.first-item.result ∷ more =
-      first_of items c.first-item.result c.in-len1-up.len_at_least c.first-item.is ∙ ap (λ (rest : List InitialCode). c.first-item.result ∷ rest) (sym (take_rest items 1)) in
+    first_of items c.first-item.result c.in-len1-up.len_at_least c.first-item.is ∙ ap (λ (rest : List InitialCode). c.first-item.result ∷ rest) (sym (take_rest items 1)) in
     (rw split refl, (map initial_of more, left c.args.self.now.tasks, ap (λ (tasks : List Task). left tasks) c.in_ok-push.ensures, ap (λ (all : List InitialCode). task (perform (declaration c.args.place (map initial_of all))) (left c.args.self.now.tasks)) split), refl)
