@@ -30,7 +30,8 @@ LeavesLoop _ = ⊥
 
 -- the declarator is the first of several, and the others are left
 abbrev pub IsFirst : Place → Initial → Tasks → Tasks → Type 0
-IsFirst p item rest tasks = (items : List Initial) × (behind : Tasks) × (rest ≡ task (perform (declaration p items)) behind)
+IsFirst p item rest tasks =
+    (items : List Initial) × (behind : Tasks) × (rest ≡ task (perform (declaration p items)) behind)
     × (tasks ≡ task (perform (declaration p (item ∷ items))) behind)
 
 -- this is first among the tasks, and what is behind it is left
@@ -40,9 +41,11 @@ Has (Next.Declare p item) w tasks = IsFirst p (initial_of item.now) (tasks_of w)
 Has (Next.Simple x) w tasks = tasks ≡ task (perform (simple (simple_of x.now))) (tasks_of w)
 Has (Next.Free p e) w tasks = tasks ≡ task (perform (free p (expression_of e.now))) (tasks_of w)
 Has (Next.AssumeShape a) w tasks =
-    tasks ≡ task (perform (assume_shape a.now.place a.now.predicate a.now.variable (map argument_of a.now.arguments.items))) (tasks_of w)
+    let args = map argument_of a.now.arguments.items in
+    tasks ≡ task (perform (assume_shape a.now.place a.now.predicate a.now.variable args)) (tasks_of w)
 Has (Next.AssertShape a) w tasks =
-    tasks ≡ task (perform (assert_shape a.now.place a.now.predicate (argument_of a.now.start) (map argument_of a.now.arguments.items))) (tasks_of w)
+    let args = map argument_of a.now.arguments.items in
+    tasks ≡ task (perform (assert_shape a.now.place a.now.predicate (argument_of a.now.start) args)) (tasks_of w)
 Has (Next.AssertEmpty p) w tasks = tasks ≡ task (perform (assert_empty p)) (tasks_of w)
 Has (Next.Return p r) w tasks = tasks ≡ task (perform (returns p (option_map right_of r.now))) (tasks_of w)
 Has (Next.Test c) w tasks = tasks ≡ task (test (atom_of c) (branches_of w).0 (branches_of w).1) done

@@ -19,4 +19,5 @@ led_to Decided.Stops tasks = stops
 -- from this stack the answer leads into its branch, or gives an answer of the condition around, which leads there
 abbrev pub Leads : List Task → Bool → Branches → Led → List Task → Type 0
 Leads before answer branches (Led.To decided) after = led_to decided (left after) ≡ chosen answer branches
-Leads before answer branches (Led.Around outer) after = (after ≡ before) × (chosen outer (asked before) ≡ chosen answer branches)
+Leads before answer branches (Led.Around outer) after =
+    (after ≡ before) × (chosen outer (asked before) ≡ chosen answer branches)

@@ -32,6 +32,10 @@ body_of t = statement_of t.body.now
 abbrev pub last_of : Turns → Option Simple
 last_of t = option_map (λ x. simple_of x.now) t.last
 
+-- a turn of the loop, and the loop again
+abbrev pub turn_of : Turns → Tasks → Tasks
+turn_of t rest = turn (condition_in t) (body_of t) (last_of t) rest
+
 -- ---- conditions
 -- where a condition leads that is true, and one that is false
 abbrev pub Branches : Type 0
@@ -48,7 +52,7 @@ awaited Waiting.Assume rest around = (go_on rest, stops)
 awaited (Waiting.If a) rest around = (go_on (task (perform (statement_of a.now)) rest), go_on rest)
 awaited (Waiting.IfElse a b) rest around =
     (go_on (task (perform (statement_of a.now)) rest), go_on (task (perform (statement_of b.now)) rest))
-awaited (Waiting.Loop t) rest around = (go_on (turn (condition_in t) (body_of t) (last_of t) rest), go_on rest)
+awaited (Waiting.Loop t) rest around = (go_on (turn_of t rest), go_on rest)
 
 -- where nothing waits for an answer, the run stops
 abbrev pub answered : Task → Tasks → Branches → Branches
@@ -58,11 +62,12 @@ answered _ rest around = (stops, stops)
 -- ---- tasks
 -- this is to be done, and then the rest; behind a condition there are only its branches
 abbrev pub first : Task → Tasks → Branches → Tasks
-first (Task.Perform a more) rest around = task (perform (statement_of a.now)) (in_a_row (stmts_of (map statement_of more.now)) rest)
+first (Task.Perform a more) rest around =
+    task (perform (statement_of a.now)) (in_a_row (stmts_of (map statement_of more.now)) rest)
 first (Task.Declare p items) rest around = task (perform (declaration p (map initial_of items.now))) rest
 first (Task.Simple x) rest around = task (perform (simple (simple_of x.now))) rest
 first (Task.Again t) rest around = task (again (condition_in t) (body_of t) (last_of t)) rest
-first (Task.Always t) rest around = task (always (turn (condition_in t) (body_of t) (last_of t) rest)) done
+first (Task.Always t) rest around = task (always (turn_of t rest)) done
 first (Task.Test c) rest around = task (test (condition_of c.now) around.0 around.1) done
 first (Task.Waits w) rest around = done
 first (Task.EndBlock xs) rest around = task (end_block xs.now) rest

@@ -3,7 +3,7 @@ ghost use Rattle.std.specs.Prelude.{◌≡◌, OnOk, [], None, Some};
 ghost use Rattle.mc_resolved.specs.Configs.{again, done, end_loop, task, test};
 ghost use Rattle.mc_resolved.specs.Moves.{started, tested, turn};
 ghost use Rattle.mc_resolved.specs.Views.{condition_of, head_of, start_of, statement_of};
-ghost use Rattle.mc_tasks.specs.Left.{asked, awaited, body_of, condition_in, entered_for, last_of, left};
+ghost use Rattle.mc_tasks.specs.Left.{asked, awaited, condition_in, entered_for, left, turn_of};
 
 use crate::tasks::{Task, Turns, Waiting, push_turn};
 use mc_base::NoMemory;
@@ -16,8 +16,8 @@ pub fn push_test<'a>(
     waiting: Waiting<'a>,
     condition: &'a Condition,
 ) -> Result<(), NoMemory>
-    ensures { OnOk result (let branches = awaited waiting.entry (left tasks.old) (asked tasks.old) in left tasks.new
-        ≡ task (test (condition_of condition.now) branches.0 branches.1) done) }
+    ensures { OnOk result (let branches = awaited waiting.entry (left tasks.old) (asked tasks.old) in
+        left tasks.new ≡ task (test (condition_of condition.now) branches.0 branches.1) done) }
 {
     tasks.push(Task::Waits(waiting))?;
     tasks.push(Task::Test(condition))?;
@@ -27,7 +27,7 @@ pub fn push_test<'a>(
 /// A loop is at its condition, if it has one.
 pub fn push_again<'a>(tasks: &mut Stack<Task<'a>>, turns: Turns<'a>) -> Result<(), NoMemory>
     ensures { OnOk result (left tasks.new
-        ≡ tested (condition_in turns.entry) (turn (condition_in turns.entry) (body_of turns.entry) (last_of turns.entry) (left tasks.old)) (left tasks.old)) }
+        ≡ tested (condition_in turns.entry) (turn_of turns.entry (left tasks.old)) (left tasks.old)) }
 {
     match turns.condition {
         None => {
@@ -47,8 +47,8 @@ pub fn push_while<'a>(
     condition: &'a Condition,
     body: &'a Statement,
 ) -> Result<(), NoMemory>
-    ensures { OnOk result (left tasks.new
-        ≡ task (again (Some (condition_of condition.now)) (statement_of body.now) None) (task (end_loop []) (left tasks.old))) }
+    ensures { OnOk result (let a = again (Some (condition_of condition.now)) (statement_of body.now) None in
+        left tasks.new ≡ task a (task (end_loop []) (left tasks.old))) }
 {
     let turns = Turns {
         condition: Some(condition),

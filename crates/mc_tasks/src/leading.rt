@@ -33,7 +33,8 @@ pub fn lead<'a>(
     waiting: Waiting<'a>,
     answer: bool,
 ) -> Result<Led, NoMemory>
-    ensures { IfOk result (λ led. Leads tasks.old answer (awaited waiting.entry (left tasks.old) (asked tasks.old)) led tasks.new) }
+    ensures { IfOk result (λ led. let branches = awaited waiting.entry (left tasks.old) (asked tasks.old) in
+        Leads tasks.old answer branches led tasks.new) }
 {
     match waiting {
         Waiting::Not => Ok(Led::Around(!answer)),

@@ -2,6 +2,7 @@
 #![tactic(auto)]
 
 mod entering;
+mod laws;
 mod leading;
 mod next;
 mod tasks;
@@ -10,6 +11,7 @@ mod tests;
 mod values;
 mod work;
 
+pub use laws::moves_end;
 pub use leading::Decided;
 pub use next::{Atom, Next};
 pub use tasks::Target;

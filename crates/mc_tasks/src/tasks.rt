@@ -1,9 +1,8 @@
 // What is left to do, one thing after the other.
 ghost use Rattle.std.specs.Prelude.{◌≡◌, OnOk, map};
-ghost use Rattle.mc_resolved.specs.Configs.{end_turn, task};
-ghost use Rattle.mc_resolved.specs.Moves.{finished, given, in_a_row, turn};
+ghost use Rattle.mc_resolved.specs.Moves.{given, in_a_row};
 ghost use Rattle.mc_resolved.specs.Views.{statement_of, stmts_of};
-ghost use Rattle.mc_tasks.specs.Left.{body_of, condition_in, last_of, left, target_of};
+ghost use Rattle.mc_tasks.specs.Left.{left, target_of, turn_of};
 
 use mc_base::NoMemory;
 use mc_resolved::{Condition, Initial, LeftValue, Simple, Statement};
@@ -80,7 +79,7 @@ pub fn push_row<'a>(tasks: &mut Stack<Task<'a>>, row: &'a [Statement]) -> Result
 
 /// One turn of a loop is next, and then the loop again.
 pub fn push_turn<'a>(tasks: &mut Stack<Task<'a>>, turns: Turns<'a>) -> Result<(), NoMemory>
-    ensures { OnOk result (left tasks.new ≡ turn (condition_in turns.entry) (body_of turns.entry) (last_of turns.entry) (left tasks.old)) }
+    ensures { OnOk result (left tasks.new ≡ turn_of turns.entry (left tasks.old)) }
 {
     tasks.push(Task::Again(turns))?;
     if let Some(last) = turns.last {

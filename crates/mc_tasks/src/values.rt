@@ -51,7 +51,8 @@ impl Passing<'_> {
     /// What the next variable holds as its function begins.
     fn next(&mut self) -> Option<i64>
         ensures { (x : LocalTree) (xs : List LocalTree)
-            → passed self.old.parameters (x ∷ xs) self.old.arguments.now ≡ result ∷ passed self.new.parameters xs self.new.arguments.now }
+            → passed self.old.parameters (x ∷ xs) self.old.arguments.now
+            ≡ result ∷ passed self.new.parameters xs self.new.arguments.now }
     {
         if self.parameters == 0 {
             return None;

@@ -135,7 +135,8 @@ impl<'a> Work<'a> {
 
     // A statement is entered, or it is the next step.
     fn enter(&mut self, statement: &'a Statement) -> Result<Option<Next<'a>>, NoMemory>
-        ensures { IfOk result (λ found. Advances (values_of self.old) (task (perform (statement_of statement.now)) (tasks_of self.old)) found self.new) }
+        ensures { IfOk result (λ found. let here = task (perform (statement_of statement.now)) (tasks_of self.old) in
+            Advances (values_of self.old) here found self.new) }
     {
         match statement {
             Statement::Declaration(place, items) => {
@@ -201,7 +202,8 @@ impl<'a> Work<'a> {
 
     // A declaration is at its end, or its first declarator is the next step.
     fn declare(&mut self, place: Place, items: &'a [Initial]) -> Result<Option<Next<'a>>, NoMemory>
-        ensures { IfOk result (λ found. let a = declaration place (map initial_of items.now) in Advances (values_of self.old) (task (perform a) (tasks_of self.old)) found self.new) }
+        ensures { IfOk result (λ found. let a = declaration place (map initial_of items.now) in
+            Advances (values_of self.old) (task (perform a) (tasks_of self.old)) found self.new) }
     {
         let [first, more @ ..] = items else {
             return Ok(None);
@@ -212,7 +214,9 @@ impl<'a> Work<'a> {
 
     // A condition is taken apart, or it is the next step.
     fn take_apart(&mut self, condition: &'a Condition) -> Result<Option<Next<'a>>, NoMemory>
-        ensures { IfOk result (λ found. let here = test (condition_of condition.now) (branches_of self.old).0 (branches_of self.old).1 in Advances (values_of self.old) (task here done) found self.new) }
+        ensures { IfOk result (λ found. let branches = branches_of self.old in
+            let here = test (condition_of condition.now) branches.0 branches.1 in
+            Advances (values_of self.old) (task here done) found self.new) }
     {
         match condition {
             Condition::Plain(place, value) => Ok(Some(Next::Test(Atom::Plain(*place, value)))),
@@ -236,7 +240,8 @@ impl<'a> Work<'a> {
 
     // Goes behind the innermost loop, if there is one.
     fn leave_loop(&mut self) -> bool
-        ensures { behind_loop (values_of self.old) (tasks_of self.old) ≡ (if result then Some (values_of self.new, tasks_of self.new) else None) }
+        ensures { behind_loop (values_of self.old) (tasks_of self.old)
+            ≡ (if result then Some (values_of self.new, tasks_of self.new) else None) }
     {
         while let Some(task) = self.tasks.pop() {
             match task {
@@ -262,7 +267,8 @@ impl<'a> Work<'a> {
 
     // Goes to the end of the turn of the innermost loop, if there is one.
     fn end_turn(&mut self) -> bool
-        ensures { at_turn (values_of self.old) (tasks_of self.old) ≡ (if result then Some (values_of self.new, tasks_of self.new) else None) }
+        ensures { at_turn (values_of self.old) (tasks_of self.old)
+            ≡ (if result then Some (values_of self.new, tasks_of self.new) else None) }
     {
         while let Some(task) = self.tasks.pop() {
             match task {
@@ -285,7 +291,8 @@ impl<'a> Work<'a> {
 
     /// The condition that was next has this answer. Where none was, the run stops.
     pub fn decide(&mut self, answer: bool) -> Result<Decided, NoMemory>
-        ensures branch { IfOk result (λ decided. led_to decided (tasks_of self.new) ≡ chosen answer (branches_of self.old)) }
+        ensures branch { IfOk result (λ decided.
+            led_to decided (tasks_of self.new) ≡ chosen answer (branches_of self.old)) }
         ensures values { values_of self.new ≡ values_of self.old }
     {
         let mut holds = answer;
@@ -308,9 +315,10 @@ impl<'a> Work<'a> {
         arguments: &[i64],
         target: Target<'a>,
     ) -> Result<(), NoMemory>
-        ensures values { OnOk result (let f = function_of function.now in values_of self.new ≡ passed f.parameters f.locals arguments.now) }
-        ensures tasks { OnOk result (let saved = end_call (values_of self.old) (target_of target.entry) in tasks_of self.new
-            ≡ in_a_row (function_of function.now).body (task saved (tasks_of self.old))) }
+        ensures values { OnOk result (let f = function_of function.now in
+            values_of self.new ≡ passed f.parameters f.locals arguments.now) }
+        ensures tasks { OnOk result (let end = end_call (values_of self.old) (target_of target.entry) in
+            tasks_of self.new ≡ in_a_row (function_of function.now).body (task end (tasks_of self.old))) }
     {
         let locals = function.locals.as_slice();
         let values = first_values(self.alloc, locals, function.parameters, arguments)?;
