@@ -41,8 +41,7 @@ turn_of t rest = turn (condition_in t) (body_of t) (last_of t) rest
 abbrev pub Branches : Type 0
 Branches = Branch × Branch
 
--- those of the condition above, where this waits for its answer: behind this the rest is left, and these are those of the
--- condition around
+-- those of the condition for whose answer this waits; behind this the rest is left, and around it are other branches
 abbrev pub awaited : Waiting → Tasks → Branches → Branches
 awaited Waiting.Not rest around = (around.1, around.0)
 awaited (Waiting.Both d) rest around = (go_on (task (test (condition_of d.now) around.0 around.1) done), around.1)

@@ -66,8 +66,8 @@ pub fn push_do<'a>(
     body: &'a Statement,
     condition: &'a Condition,
 ) -> Result<(), NoMemory>
-    ensures { OnOk result (left tasks.new
-        ≡ turn (Some (condition_of condition.now)) (statement_of body.now) None (task (end_loop []) (left tasks.old))) }
+    ensures { OnOk result (let c = Some (condition_of condition.now) in
+        left tasks.new ≡ turn c (statement_of body.now) None (task (end_loop []) (left tasks.old))) }
 {
     let turns = Turns {
         condition: Some(condition),
@@ -85,7 +85,8 @@ pub fn push_for<'a>(
     head: &'a ForHead,
     body: &'a Statement,
 ) -> Result<(), NoMemory>
-    ensures { OnOk result (left tasks.new ≡ entered_for (head_of head.now) (statement_of body.now) (left tasks.old)) }
+    ensures { OnOk result (left tasks.new
+        ≡ entered_for (head_of head.now) (statement_of body.now) (left tasks.old)) }
 {
     let turns = Turns {
         condition: head.condition.as_ref(),
