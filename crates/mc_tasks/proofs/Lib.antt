@@ -1,0 +1,4 @@
+pub mod Falling
+pub mod Rows
+pub mod Arriving
+pub mod Ending
