@@ -37,7 +37,7 @@ length_without [] vars = refl
 length_without (u ∷ us) vars = length_without us (with_value vars u None) ∙ length_set vars u.0 None
 
 -- a variable is one of these, or none of them
-same_number : (i j : ℕ) → (i ≡ j) ⊎ (i ≡ j → ⊥)
+pub same_number : (i j : ℕ) → (i ≡ j) ⊎ (i ≡ j → ⊥)
 same_number zero zero = inl refl
 same_number zero (suc j) = inr (λ e. omega (arith, e))
 same_number (suc i) zero = inr (λ e. omega (arith, e))

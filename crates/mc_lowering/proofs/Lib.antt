@@ -16,3 +16,5 @@ pub mod Allocating
 pub mod Whole
 pub mod Adding
 pub mod Arguing
+pub mod Holding
+pub mod Growing

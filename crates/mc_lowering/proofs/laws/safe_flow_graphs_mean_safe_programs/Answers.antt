@@ -1,3 +1,7 @@
+use Rattle.mc_lowering.proofs.Growing.{lowered}
+use Rattle.mc_lowering.proofs.Freeing.{freeing}
+use Rattle.mc_lowering.proofs.Allocating.{allocating}
+use Rattle.mc_lowering.proofs.Holding.{Held}
 use Rattle.mc_lowering.proofs.Safe.{safe_program}
 use Rattle.mc_lowering.proofs.laws.safe_flow_graphs_mean_safe_programs.Goals as goal
 
