@@ -22,17 +22,20 @@ points_of (stage a n k) = n
 abbrev pub variables_of : Stage → ℕ
 variables_of (stage a n k) = k
 
-pub record IsGrown (s : Stage) (n k : ℕ) : Type 0 where
-  pub points : points_of s ≤ n
-  pub variables : variables_of s ≤ k
+pub record IsGrown (p v n k : ℕ) : Type 0 where
+  pub points : p ≤ n
+  pub variables : v ≤ k
 
 abbrev pub Grows : Stage → Stage → Type 0
-Grows s u = IsGrown s (points_of u) (variables_of u)
+Grows s u = IsGrown (points_of s) (variables_of s) (points_of u) (variables_of u)
+
+abbrev pub GrowsTo : Stage → (n k : ℕ) → Type 0
+GrowsTo s n k = IsGrown (points_of s) (variables_of s) n k
 
 pub same : (s : Stage) → Grows s s
 same s = record { points = omega arith; variables = omega arith }
 
-pub on : {s m : Stage} {n k : ℕ} → Grows s m → IsGrown m n k → IsGrown s n k
+pub on : {p v m l n k : ℕ} → IsGrown p v m l → IsGrown m l n k → IsGrown p v n k
 on first second = record { points = omega (arith, first.points, second.points); variables = omega (arith, first.variables, second.variables) }
 
 pub appended : {g : Graph} {role : Role} {place : Place} {code : PointId → Instr} {s u : Stage} → Appends g role place code s u → Grows s u
@@ -77,20 +80,20 @@ all_evaluated : {g : Graph} {out : ℕ} {place : Place} {es : List Expr} {ts us 
 all_evaluated {s = s} evaluates_none = same s
 all_evaluated (evaluates_next first rest) = on (evaluated first) (all_evaluated rest)
 
-compared : {g : Graph} {place : Place} {c : Comparison} {a b : Operand} {ts : List VarId} {s : Stage} {t f n k : ℕ} → Compares g place c a b ts s t f n k → IsGrown s n k
+compared : {g : Graph} {place : Place} {c : Comparison} {a b : Operand} {ts : List VarId} {s : Stage} {t f n k : ℕ} → Compares g place c a b ts s t f n k → GrowsTo s n k
 compared (compares is first second) =
     let one = undefined first in
     let two = undefined second in
     record { points = omega (arith, one.points, two.points); variables = omega (arith, one.variables, two.variables) }
 
-pub tested : {g : Graph} {out : ℕ} {c : Cond} {s : Stage} {t f n k : ℕ} → Tests g out c s t f n k → IsGrown s n k
+pub tested : {g : Graph} {out : ℕ} {c : Cond} {s : Stage} {t f n k : ℕ} → Tests g out c s t f n k → GrowsTo s n k
 tested (tests_plain first test) = on (evaluated first) (compared test)
 tested (tests_compare first second test) = on (evaluated first) (on (evaluated second) (compared test))
 tested (tests_negation test) = tested test
-tested (tests_both {a = a} {m = m} {j = j} first second) = on {m = stage a m j} (tested first) (tested second)
-tested (tests_either {a = a} {m = m} {j = j} first second) = on {m = stage a m j} (tested first) (tested second)
+tested (tests_both {a = a} {m = m} {j = j} first second) = on (tested first) (tested second)
+tested (tests_either {a = a} {m = m} {j = j} first second) = on (tested first) (tested second)
 
-pub tested_perhaps : {g : Graph} {out : ℕ} {c : Option Cond} {s : Stage} {t f n k : ℕ} → TestsPerhaps g out c s t f n k → IsGrown s n k
+pub tested_perhaps : {g : Graph} {out : ℕ} {c : Option Cond} {s : Stage} {t f n k : ℕ} → TestsPerhaps g out c s t f n k → GrowsTo s n k
 tested_perhaps tests_always = record { points = omega arith; variables = omega arith }
 tested_perhaps (tests_once test) = tested test
 
@@ -162,23 +165,14 @@ mutual
   lowered (shapes_assumed made args is) = appended is
   lowered (shapes_asserted value args is) = appended is
   lowered (emptiness_asserted is) = appended is
-  lowered (ifs {t = t} {m = m} {k = k} test body is) = on {m = stage t m k} (tested test) (on (lowered body) (appended is))
+  lowered (ifs {t = t} {m = m} {k = k} test body is) = on (tested test) (on (lowered body) (appended is))
   lowered (ifs_else {t = t} {f = f} {m = m} {k = k} {i = i} {j = j} test first second is) =
-      on {m = stage f i j} (on {m = stage t m k} (tested test) (once_more (lowered first))) (on (lowered second) (appended is))
-    where
-      once_more : {q n l : ℕ} {s : Stage} → Grows s (stage q n l) → IsGrown s n l
-      once_more h = h
-  lowered (whiles {t = t} {m = m} {i = i} is test body ends) = on (appended is) (on {m = stage t m i} (tested test) (on (lowered body) (to_exit (appended ends))))
-    where
-      to_exit : {q r n l : ℕ} {u : Stage} → Grows (stage q n l) u → IsGrown (stage r n l) (points_of u) (variables_of u)
-      to_exit h = record { points = h.points; variables = h.variables }
+      on (on (tested test) (lowered first)) (on (lowered second) (appended is))
+  lowered (whiles {t = t} {m = m} {i = i} is test body ends) = on (appended is) (on (tested test) (on (lowered body) (appended ends)))
   lowered (dos {e = e} {l = l} is body turn test ends) =
-      on (appended is) (on (lowered body) (on (appended turn) (on {m = stage e e l} (tested test) (appended ends))))
+      on (appended is) (on (lowered body) (on (appended turn) (on (tested test) (appended ends))))
   lowered (fors {t = t} {p = p} {y = y} start is test body turn last ends leave) =
-      on (started start) (on (appended is) (on {m = stage t p y} (tested_perhaps test) (on (lowered body) (on (appended turn) (on (finished last) (to_exit (on (appended ends) (left leave))))))))
-    where
-      to_exit : {q r n l : ℕ} {u : Stage} → Grows (stage q n l) u → IsGrown (stage r n l) (points_of u) (variables_of u)
-      to_exit h = record { points = h.points; variables = h.variables }
+      on (started start) (on (appended is) (on (tested_perhaps test) (on (lowered body) (on (appended turn) (on (finished last) (on (appended ends) (left leave)))))))
   lowered (breaks is leave) = let h = left leave in record { points = h.points; variables = h.variables }
   lowered (continues is leave) = let h = left leave in record { points = h.points; variables = h.variables }
   lowered returns_nothing = record { points = omega arith; variables = omega arith }

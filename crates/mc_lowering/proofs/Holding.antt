@@ -129,6 +129,26 @@ among x (y ∷ xs) = elim (same_number y x) [
     neither y xs apart absent (zero, less, e) = apart e
     neither y xs apart absent (suc k, less, e) = absent (k, omega (arith, less), e)
 
+pub neither_in : (ks bs : List ℕ) (x : ℕ) → (Contains ks x → ⊥) → (Contains bs x → ⊥) → Contains (ks ++ bs) x → ⊥
+neither_in [] bs x a b there = b there
+neither_in (c ∷ ks) bs x a b (zero, less, e) = a (0, omega arith, e)
+neither_in (c ∷ ks) bs x a b (suc k, less, e) = neither_in ks bs x (λ is. a (later_in c x ks is)) b (k, omega (arith, less), e)
+
+pub in_right : (ks bs : List ℕ) (x : ℕ) → Contains bs x → Contains (ks ++ bs) x
+in_right [] bs x is = is
+in_right (c ∷ ks) bs x is = later_in c x (ks ++ bs) (in_right ks bs x is)
+
+pub in_left : (ks bs : List ℕ) (x : ℕ) → Contains ks x → Contains (ks ++ bs) x
+in_left [] bs x is = absurd (omega (arith, is.1))
+in_left (c ∷ ks) bs x (zero, less, e) = (0, omega arith, e)
+in_left (c ∷ ks) bs x (suc k, less, e) = later_in c x (ks ++ bs) (in_left ks bs x (k, omega (arith, less), e))
+
+pub in_either : (ks bs : List ℕ) (x : ℕ) → Contains (ks ++ bs) x → Contains ks x ⊎ Contains bs x
+in_either ks bs x there = elim (among x ks) [
+  | inl is ↦ inl is
+  | inr absent ↦ elim (among x bs) [ inl is ↦ inr is | inr also ↦ absurd (neither_in ks bs x absent also there) ]
+]
+
 -- ---- one variable
 pub set_at : (values : Values) (x : ℕ) (w : Option ℤ) → x < length values → held (with_variable values x w) x ≡ w
 set_at values x w within = get_or-set_same values x w None within
@@ -324,20 +344,6 @@ both_undone xs ys values mid later first second = record {
   same = λ x absent. second.same x (λ is. absent (in_right xs ys x is)) ∙ first.same x (λ is. absent (in_left xs ys x is));
   long = second.long ∙ first.long;
 }
-  where
-    neither_in : (ks bs : List ℕ) (x : ℕ) → (Contains ks x → ⊥) → (Contains bs x → ⊥) → Contains (ks ++ bs) x → ⊥
-    neither_in [] bs x a b there = b there
-    neither_in (c ∷ ks) bs x a b (zero, less, e) = a (0, omega arith, e)
-    neither_in (c ∷ ks) bs x a b (suc k, less, e) = neither_in ks bs x (λ is. a (later_in c x ks is)) b (k, omega (arith, less), e)
-
-    in_right : (ks bs : List ℕ) (x : ℕ) → Contains bs x → Contains (ks ++ bs) x
-    in_right [] bs x is = is
-    in_right (c ∷ ks) bs x is = later_in c x (ks ++ bs) (in_right ks bs x is)
-
-    in_left : (ks bs : List ℕ) (x : ℕ) → Contains ks x → Contains (ks ++ bs) x
-    in_left [] bs x is = absurd (omega (arith, is.1))
-    in_left (c ∷ ks) bs x (zero, less, e) = (0, omega arith, e)
-    in_left (c ∷ ks) bs x (suc k, less, e) = later_in c x (ks ++ bs) (in_left ks bs x (k, omega (arith, less), e))
 
 -- ---- other scopes
 abbrev pub with_scope : Frame → List ℕ → List Limit → Frame

@@ -18,3 +18,8 @@ pub mod Adding
 pub mod Arguing
 pub mod Holding
 pub mod Growing
+pub mod Following
+pub mod Entering
+pub mod Walking
+pub mod Pairing
+pub mod Combining

@@ -3,4 +3,5 @@ pub mod Values
 pub mod Lowering
 pub mod Runs
 pub mod Scopes
+pub mod CallFree
 pub mod Examples

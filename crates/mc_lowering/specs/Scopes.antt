@@ -1,5 +1,5 @@
 -- Programs whose variables are in scope where they are written.
-use Rattle.std.specs.Prelude.{◌≡◌, ◌<◌, ◌≤◌, ◌++◌, ℕ, List, Option, Some, None, Contains, All, length, slice_get}
+use Rattle.std.specs.Prelude.{◌≡◌, ◌<◌, ◌≤◌, ◌++◌, ℕ, List, [], ◌∷◌, Option, Some, None, Contains, length, slice_get}
 use Rattle.mc_resolved.specs.Programs.{Action, assign, add, subtract, call, Simple, Initial, Start, nothing, declares}
 use Rattle.mc_resolved.specs.Programs.{performs, Stmt, declaration, block, empty, simple, free, assert, assume}
 use Rattle.mc_resolved.specs.Programs.{assume_shape, assert_shape, assert_empty, if_only, if_else, while_loop, do_loop}
@@ -21,7 +21,8 @@ WritesIn count scope (subtract l e) = IsIn count scope l.variable
 WritesIn count scope (call c) = Unit {0}
 
 abbrev pub DeclareIn : ℕ → List ℕ → List Initial → Type 0
-DeclareIn count scope items = All (λ item. IsIn count scope item.variable) items
+DeclareIn count scope [] = Unit {0}
+DeclareIn count scope (item ∷ items) = IsIn count scope item.variable × DeclareIn count scope items
 
 abbrev pub StartsIn : ℕ → List ℕ → Start → Type 0
 StartsIn count scope nothing = Unit {0}

@@ -1,3 +1,5 @@
+use Rattle.mc_lowering.proofs.Entering.{theirs}
+use Rattle.mc_lowering.proofs.Following.{Follows}
 use Rattle.mc_lowering.proofs.Growing.{lowered}
 use Rattle.mc_lowering.proofs.Freeing.{freeing}
 use Rattle.mc_lowering.proofs.Allocating.{allocating}
