@@ -23,3 +23,7 @@ pub mod Entering
 pub mod Walking
 pub mod Pairing
 pub mod Combining
+pub mod Acting
+pub mod Looping
+pub mod Forms
+pub mod Running

@@ -56,8 +56,11 @@ abbrev tasks_or : Tasks → Option (Values × Tasks) → Tasks
 tasks_or ts None = ts
 tasks_or ts (Some p) = p.1
 
+never_both : (o : Option (Values × Tasks)) (p : Values × Tasks) → o ≡ None → o ≡ Some p → ⊥
+never_both o p none some = let e = sym none ∙ some in absurd (grind arith)
+
 behind_move : {values w : Values} {tasks us : Tasks} (later : Values) (after : Tasks) → moved values tasks ≡ Some (later, after) → Arrives values tasks w us → Arrives later after w us
-behind_move later after some (here none) = let e : None ≡ Some (later, after) = sym none ∙ some in absurd (cc)
+behind_move {values = values} {tasks = tasks} later after some (here none) = absurd (never_both (moved values tasks) (later, after) none some)
 behind_move {w = w} {us = us} later after some (there {later = later'} {next = after'} is path) =
     let e : Some (later', after') ≡ Some (later, after) = sym is ∙ some in
     subst (λ z. Arrives z after w us) (ap (values_or later) e) (subst (λ z. Arrives later' z w us) (ap (tasks_or after) e) path)
@@ -125,7 +128,7 @@ block_pair {g} {c} {scope} {xs} {late} {callers} {k} {rest} {s} {u} values vars 
 pub led_match : {g : Graph} {f : Frame} {callers : List Frame} {tasks : Tasks} {t : ℕ} (values : Values) (vars : Vars) (heap : Heap) → Leads g f callers (go_on tasks) t → Held g (with_values f values ∷ callers) vars
     → Match g (config tasks values heap) (at t vars heap)
 led_match values vars heap (leads follows moves) h = match follows (moves values vars h)
-led_match values vars heap (leads_to_test test yes no) h = match_test test yes no h
+led_match values vars heap (leads_to_test tests truly falsely) h = match_test tests truly falsely h
 
 goes_further : (g : Graph) {r : flow.Result} {d : flow.Config} {some left : List Choice} (e : flow.Config) → Goes (FlowStep g) d some (next e left) → Goes (FlowStep g) e left r → Goes (FlowStep g) d some r
 goes_further g e (one step) rest = more step rest
@@ -144,30 +147,30 @@ decided_pair : {g : Graph} {f : Frame} {callers : List Frame} {d : Cond} {x y : 
     → moved values (task (test d x y) done) ≡ None
     → IsDecided g (λ r. Tries (here_of values heap) d x y choices r) (λ b rest. led (here_of values heap) b rest) x y place a t e vars heap choices
     → Leads g f callers x t → Leads g f callers y e → Held g (with_values f values ∷ callers) vars → PairOf g (config (task (test d x y) done) values heap) a vars heap choices
-decided_pair {g} {d = d} {x = x} {y = y} values vars heap choices none (decided_waits never_source never) yes no h =
+decided_pair {g} {d = d} {x = x} {y = y} values vars heap choices none (decided_waits never_source never) truly falsely h =
     both_wait (λ r s. never_source r (step_does g (task (test d x y) done) values heap choices r none s)) never
-decided_pair {g} {d = d} {x = x} {y = y} values vars heap choices none (decided_faults kind is goes) yes no h =
+decided_pair {g} {d = d} {x = x} {y = y} values vars heap choices none (decided_faults kind is goes) truly falsely h =
     both_end (does_step g (task (test d x y) done) values heap choices _ none is) goes
-decided_pair {g} {d = d} {x = x} {y = y} values vars heap choices none (decided_true left is goes) yes no h =
-    led_pair x values vars heap choices left (does_step g (task (test d x y) done) values heap choices _ none is) goes yes h
-decided_pair {g} {d = d} {x = x} {y = y} values vars heap choices none (decided_false left is goes) yes no h =
-    led_pair y values vars heap choices left (does_step g (task (test d x y) done) values heap choices _ none is) goes no h
+decided_pair {g} {d = d} {x = x} {y = y} values vars heap choices none (decided_true left is goes) truly falsely h =
+    led_pair x values vars heap choices left (does_step g (task (test d x y) done) values heap choices _ none is) goes truly h
+decided_pair {g} {d = d} {x = x} {y = y} values vars heap choices none (decided_false left is goes) truly falsely h =
+    led_pair y values vars heap choices left (does_step g (task (test d x y) done) values heap choices _ none is) goes falsely h
 
 pub test_pair : {g : Graph} {f : Frame} {callers : List Frame} {d : Cond} {s : Stage} {t e n k : ℕ} (x y : Branch) (values : Values) (vars : Vars) (heap : Heap) (choices : List Choice)
     → Tests g f.out d s t e n k → Leads g f callers x t → Leads g f callers y e → Held g (with_values f values ∷ callers) vars
     → PairOf g (config (task (test d x y) done) values heap) (goal_of s) vars heap choices
-test_pair x y values vars heap choices (tests_plain value compares_there) yes no h =
-    decided_pair values vars heap choices refl (decides_plain (here_of values heap) x y vars choices value compares_there h.clean h.long h.all.0.agree) yes no h
-test_pair x y values vars heap choices (tests_compare first second compares_there) yes no h =
-    decided_pair values vars heap choices refl (decides_compare (here_of values heap) x y vars choices first second compares_there h.clean h.long h.all.0.agree) yes no h
-test_pair x y values vars heap choices (tests_negation {c = c} rest) yes no h =
-    source_moved (task (test (negation c) x y) done) (task (test c y x) done) values values choices refl (match_test rest no yes h) (omega arith)
-test_pair x y values vars heap choices (tests_both {c = c} {d = d} first second) yes no h =
+test_pair x y values vars heap choices (tests_plain value compares_there) truly falsely h =
+    decided_pair values vars heap choices refl (decides_plain (here_of values heap) x y vars choices value compares_there h.clean h.long h.all.0.agree) truly falsely h
+test_pair x y values vars heap choices (tests_compare first second compares_there) truly falsely h =
+    decided_pair values vars heap choices refl (decides_compare (here_of values heap) x y vars choices first second compares_there h.clean h.long h.all.0.agree) truly falsely h
+test_pair x y values vars heap choices (tests_negation {c = c} rest) truly falsely h =
+    source_moved (task (test (negation c) x y) done) (task (test c y x) done) values values choices refl (match_test rest falsely truly h) (omega arith)
+test_pair x y values vars heap choices (tests_both {c = c} {d = d} first second) truly falsely h =
     source_moved (task (test (both c d) x y) done) (task (test c (go_on (task (test d x y) done)) y) done) values values choices refl
-    (match_test first (leads_to_test second yes no) no h) (omega arith)
-test_pair x y values vars heap choices (tests_either {c = c} {d = d} first second) yes no h =
+    (match_test first (leads_to_test second truly falsely) falsely h) (omega arith)
+test_pair x y values vars heap choices (tests_either {c = c} {d = d} first second) truly falsely h =
     source_moved (task (test (either c d) x y) done) (task (test c x (go_on (task (test d x y) done))) done) values values choices refl
-    (match_test first yes (leads_to_test second yes no) h) (omega arith)
+    (match_test first truly (leads_to_test second truly falsely) h) (omega arith)
 
 -- a condition that is missing
 pub always_pair : {g : Graph} {f : Frame} {callers : List Frame} {go : Tasks} {role : Role} {place : Place} {a t : ℕ} (values : Values) (vars : Vars) (heap : Heap) (choices : List Choice)

@@ -89,7 +89,7 @@ none_undone values = record { none = λ x there. absurd (omega (arith, there.1))
 
 pub to_turn : {g : Graph} {c : Around} {scope : List ℕ} {late : List Limit} {callers : List Frame} {k a : ℕ} {tasks : Tasks} (l : Loop) → c.loop ≡ Some l
     → Follows g c scope late callers k tasks a → ToTurn g c scope late callers k tasks
-to_turn l e (over falls same is) = absurd (cc)
+to_turn l e (over fall same is) = absurd (cc)
 to_turn l e (performs {a = a} {rest = rest} {s = s} {u = u} is scoped free_of bound within low more) =
     let grown = lowered is in
     turn_before (task (perform a) rest) (omega (arith, low, grown.variables)) (λ values. refl) (λ values. refl) (omega arith) (to_turn l e more)
@@ -125,8 +125,8 @@ to_turn {g} {k = k} l e (ends_block {c = c} {scope = scope} {xs = xs} {late = la
       less = omega (arith, t.less);
       less_rest = omega (arith, t.less_rest);
     }
-to_turn l e (agains loops exits within more) = absurd (cc)
-to_turn {g} {k = k} l e (ends_turn {c = c} {scope = scope} {xs = xs} {late = late} {callers = callers} {condition = condition} {a = a} {last = last} {rest = rest} {h = h} {e = exit} {turn = turn} {r = r} {first = first} loops exits within more) =
+to_turn l e (agains loops way_out within more) = absurd (cc)
+to_turn {g} {k = k} l e (ends_turn {c = c} {scope = scope} {xs = xs} {late = late} {callers = callers} {condition = condition} {a = a} {last = last} {rest = rest} {h = h} {e = exit} {turn = turn} {r = r} {first = first} loops way_out within more) =
     record {
       outside = c;
       outer = scope;
@@ -143,7 +143,7 @@ to_turn {g} {k = k} l e (ends_turn {c = c} {scope = scope} {xs = xs} {late = lat
       first = first;
       loop_is = refl;
       loops = loops;
-      exits = exits;
+      exits = way_out;
       within = within;
       follows = more;
       later = λ values. values;
@@ -156,7 +156,7 @@ to_turn {g} {k = k} l e (ends_turn {c = c} {scope = scope} {xs = xs} {late = lat
       less = omega arith;
       less_rest = omega (arith, lighter_rest last condition a xs rest);
     }
-to_turn l e (ends_loop exits more) = absurd (cc)
+to_turn l e (ends_loop way_out more) = absurd (cc)
 
 -- ---- the end of the entry
 pub record ToEnd (g : Graph) (out : ℕ) (tasks : Tasks) : Type 0 where
@@ -164,16 +164,16 @@ pub record ToEnd (g : Graph) (out : ℕ) (tasks : Tasks) : Type 0 where
   pub is : IsPoint g out plain nowhere End
 
 pub to_end : {g : Graph} {c : Around} {scope : List ℕ} {late : List Limit} {callers : List Frame} {k a : ℕ} {tasks : Tasks} → Follows g c scope late callers k tasks a → ToEnd g c.out tasks
-to_end (over falls same is) = record { returns = λ v. refl; is = is }
+to_end (over fall same is) = record { returns = λ v. refl; is = is }
 to_end (performs is scoped free_of bound within low more) = let t = to_end more in record { returns = t.returns; is = t.is }
 to_end (skips is more) = to_end more
 to_end (raises low more) = to_end more
 to_end (ends_block leave low more) = let t = to_end more in record { returns = t.returns; is = t.is }
-to_end (agains loops exits within more) = let t = to_end more in record { returns = t.returns; is = t.is }
-to_end (ends_turn {last = last} {condition = condition} {a = a} {xs = xs} {rest = rest} loops exits within more) =
+to_end (agains loops way_out within more) = let t = to_end more in record { returns = t.returns; is = t.is }
+to_end (ends_turn {xs = xs} {condition = condition} {a = a} {last = last} {rest = rest} loops way_out within more) =
     let t = to_end more in record { returns = λ v. passes_turn last v ∙ t.returns v; is = t.is }
   where
     passes_turn : (end : Option Simple) (v : Option ℤ) → returning (finished end (loop_tasks condition a last xs rest)) v ≡ returning rest v
     passes_turn None v = refl
     passes_turn (Some x) v = refl
-to_end (ends_loop exits more) = let t = to_end more in record { returns = t.returns; is = t.is }
+to_end (ends_loop way_out more) = let t = to_end more in record { returns = t.returns; is = t.is }

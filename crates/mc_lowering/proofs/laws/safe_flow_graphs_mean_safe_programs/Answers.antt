@@ -1,3 +1,7 @@
+use Rattle.mc_lowering.proofs.Running.{call_free_runs_match}
+use Rattle.mc_lowering.proofs.Walking.{to_turn, to_end}
+use Rattle.mc_lowering.proofs.Pairing.{test_pair}
+use Rattle.mc_lowering.proofs.Combining.{adding_field}
 use Rattle.mc_lowering.proofs.Entering.{theirs}
 use Rattle.mc_lowering.proofs.Following.{Follows}
 use Rattle.mc_lowering.proofs.Growing.{lowered}
