@@ -67,30 +67,30 @@ performed_pair {g} tasks values vars heap choices once none (performed_faults ki
 performed_pair {g} {c} {scope} {late} {callers} {k} {n} tasks values vars heap choices once none (performed later now after left is goes changes) within low follows h =
     both_go (does_step g tasks values heap choices _ none is) goes (match follows (changes_held g c scope late callers k n values later vars now once within low changes h))
 
-assign_performed : {g : Graph} {c : Around} {place : Place} {l : Left} {s u : Stage} (right : Right) (scope : List ℕ) (h : Here) (rest : Tasks) (n : ℕ) (vars : Vars) (choices : List Choice)
+assign_performed : {g : Graph} {place : Place} {l : Left} {s u : Stage} (c : Around) (right : Right) (scope : List ℕ) (h : Here) (rest : Tasks) (n : ℕ) (vars : Vars) (choices : List Choice)
     → Assigns g c.out place l right s u → IsFreeRight right → IsIn (length c.function.locals) scope l.variable → variables_of s ≤ n → IsClean g vars → length vars ≡ length g.owners → Agree g c.out h.values vars
     → IsPerformed g (λ r. SourceAssigns g.program h l right place rest choices r) rest (Sets g c scope n) place (goal_of s) (goal_of u) h.values vars h.heap choices
-assign_performed {g} {c} {l = l} {s = s} (expression e) scope h rest n vars choices is free_of is_in less clean long agree =
+assign_performed {g} {l = l} {s = s} c (expression e) scope h rest n vars choices is free_of is_in less clean long agree =
     assigning g.program h rest (Sets g c scope n) vars choices is (λ v made. may_set g c scope s n l.variable v is_in less made) clean long agree
-assign_performed (result_of d) scope h rest n vars choices is free_of is_in less clean long agree = absurd free_of
-assign_performed {g} {c} {l = l} {s = s} (allocation shape fields) scope h rest n vars choices is free_of is_in less clean long agree =
+assign_performed c (result_of d) scope h rest n vars choices is free_of is_in less clean long agree = absurd free_of
+assign_performed {g} {l = l} {s = s} c (allocation shape fields) scope h rest n vars choices is free_of is_in less clean long agree =
     allocating g.program h rest (Sets g c scope n) vars choices is (λ v made. may_set g c scope s n l.variable v is_in less made) clean long agree
 
-pub performing : {g : Graph} {c : Around} {place : Place} {action : Action} {s u : Stage} (scope : List ℕ) (h : Here) (rest : Tasks) (n : ℕ) (vars : Vars) (choices : List Choice)
+pub performing : {g : Graph} {place : Place} {action : Action} {s u : Stage} (c : Around) (scope : List ℕ) (h : Here) (rest : Tasks) (n : ℕ) (vars : Vars) (choices : List Choice)
     → Performs g c.out place action s u → IsFreeAction action → WritesIn (length c.function.locals) scope action → variables_of u ≤ n → IsClean g vars → length vars ≡ length g.owners → Agree g c.out h.values vars
     → IsPerformed g (λ r. SourcePerforms g.program h action place rest choices r) rest (Sets g c scope n) place (goal_of s) (goal_of u) h.values vars h.heap choices
-performing scope h rest n vars choices (performs_assign {right = right} is) free_of is_in less clean long agree =
-    assign_performed right scope h rest n vars choices is free_of is_in (omega (arith, less, (grown (performs_assign is)).variables)) clean long agree
-performing scope h rest n vars choices (performs_result inner puts undone) free_of is_in less clean long agree = absurd free_of
-performing {g} {c} scope h rest n vars choices (performs_add (changes_variable {x = x} {v = v} {m = m} value made is undone)) free_of is_in less clean long agree =
+performing c scope h rest n vars choices (performs_assign {right = right} is) free_of is_in less clean long agree =
+    assign_performed c right scope h rest n vars choices is free_of is_in (omega (arith, less, (grown (performs_assign is)).variables)) clean long agree
+performing c scope h rest n vars choices (performs_result inner puts undone) free_of is_in less clean long agree = absurd free_of
+performing {g} c scope h rest n vars choices (performs_add (changes_variable {x = x} {v = v} {m = m} value made is undone)) free_of is_in less clean long agree =
     adding h rest (Sets g c scope n) vars choices value (may_set g c scope m n x v is_in (omega (arith, less, (on (appended is) (undefined undone)).variables)) made) made is undone clean long agree
-performing {g} {c} scope h rest n vars choices (performs_add (changes_field value made walk kind loads computes is undone)) free_of is_in less clean long agree =
+performing {g} c scope h rest n vars choices (performs_add (changes_field value made walk kind loads computes is undone)) free_of is_in less clean long agree =
     adding_field h rest (Sets g c scope n) vars choices value made walk loads computes is undone clean long agree
-performing {g} {c} scope h rest n vars choices (performs_subtract (changes_variable {x = x} {v = v} {m = m} value made is undone)) free_of is_in less clean long agree =
+performing {g} c scope h rest n vars choices (performs_subtract (changes_variable {x = x} {v = v} {m = m} value made is undone)) free_of is_in less clean long agree =
     subtracting h rest (Sets g c scope n) vars choices value (may_set g c scope m n x v is_in (omega (arith, less, (on (appended is) (undefined undone)).variables)) made) made is undone clean long agree
-performing {g} {c} scope h rest n vars choices (performs_subtract (changes_field value made walk kind loads computes is undone)) free_of is_in less clean long agree =
+performing {g} c scope h rest n vars choices (performs_subtract (changes_field value made walk kind loads computes is undone)) free_of is_in less clean long agree =
     subtracting_field h rest (Sets g c scope n) vars choices value made walk loads computes is undone clean long agree
-performing scope h rest n vars choices (performs_call inner) free_of is_in less clean long agree = absurd free_of
+performing c scope h rest n vars choices (performs_call inner) free_of is_in less clean long agree = absurd free_of
 
 -- ---- declarators
 pub declare_pair : {g : Graph} {c : Around} {scope : List ℕ} {late : List Limit} {callers : List Frame} {k : ℕ} {place : Place} {items : List Initial} {rest : Tasks} {s u : Stage} (values : Values) (vars : Vars) (heap : Heap) (choices : List Choice)
@@ -115,7 +115,7 @@ declare_pair {g} {c} {scope} {late} {callers} {k} {place} {rest = rest} {u = u} 
     let near : IsWithin (variables_of n) late = within_less (variables_of n) (variables_of u) late (declared more).variables within in
     subst (λ a. PairOf g (config tasks values heap) a vars heap choices) (sym (same_goal makes))
     (performed_pair tasks values vars heap choices once refl
-    (performing scope (here_of values heap) later (variables_of n) vars choices does free_of.0 scoped.0 (omega arith) h.clean h.long h.all.0.agree)
+    (performing c scope (here_of values heap) later (variables_of n) vars choices does free_of.0 scoped.0 (omega arith) h.clean h.long h.all.0.agree)
     near (omega (arith, low, more_variables makes, (grown does).variables)) (performs (declarations more) scoped.1 free_of.1 bound within (omega arith) follows) h)
   where
     same_goal : {owner : Rattle.mc_lowering.specs.Graphs.Owner} {info : Rattle.mc_base.specs.declared.plain.VarInfo.VarInfo} {i j : Stage} {v : VarId} → Creates g owner info i v j → goal_of i ≡ goal_of j
@@ -159,10 +159,10 @@ assert_by predicate place tasks values vars heap choices (Some v) None into out 
 assert_by {g} predicate place tasks values vars heap choices (Some v) (Some args) into out into_flow out_flow later =
     demand_pair (HoldsSomewhere g.program.defs predicate v args (region_of heap)) Shape place tasks values vars heap choices into out into_flow out_flow later
 
-pub assert_pair : {g : Graph} {c : Around} {q a : ℕ} {rest : Tasks} {s : Stage} {argument : Argument} {args : List Argument} {o : Operand} {os : List Operand} (predicate : PredId) (place : Place) (values : Values) (vars : Vars) (heap : Heap) (choices : List Choice)
+pub assert_pair : {g : Graph} {q a : ℕ} {rest : Tasks} {s : Stage} {argument : Argument} {args : List Argument} {o : Operand} {os : List Operand} (c : Around) (predicate : PredId) (place : Place) (values : Values) (vars : Vars) (heap : Heap) (choices : List Choice)
     → IsArgument g c.out s argument o → AreArguments g c.out s args os → Agree g c.out values vars → IsPoint g a plain place (AssertShape predicate o os (point q))
     → Match g (config rest values heap) (at q vars heap) → PairOf g (config (task (perform (assert_shape place predicate argument args)) rest) values heap) a vars heap choices
-assert_pair {g} {c} {q} {a} {rest} {argument = argument} {args = args} {o = o} {os = os} predicate place values vars heap choices value arguments agree is later =
+assert_pair {g} {q} {a} {rest} {argument = argument} {args = args} {o = o} {os = os} c predicate place values vars heap choices value arguments agree is later =
     let tasks : Tasks = task (perform (assert_shape place predicate argument args)) rest in
     let e : argument_value values argument ≡ operand_value vars o = same_argument values vars value agree in
     let k : all_there (map (argument_value values) args) ≡ values_of vars os = same_arguments values vars arguments agree in
@@ -201,11 +201,11 @@ assume_by : {g : Graph} {q a : ℕ} {rest : Tasks} (predicate : PredId) (x : ℕ
 assume_by predicate x v place tasks values vars heap choices None into out into_flow out_flow later = both_end (into _ refl) (one (into_flow _ refl))
 assume_by predicate x v place tasks values vars heap choices (Some args) into out into_flow out_flow later = add_pair predicate args x v place tasks values vars heap choices into out into_flow out_flow later
 
-pub assume_pair : {g : Graph} {c : Around} {q a : ℕ} {rest : Tasks} {s : Stage} {args : List Argument} {os : List Operand} (predicate : PredId) (x : ℕ) (v : VarId) (place : Place) (values : Values) (vars : Vars) (heap : Heap) (choices : List Choice)
+pub assume_pair : {g : Graph} {q a : ℕ} {rest : Tasks} {s : Stage} {args : List Argument} {os : List Operand} (c : Around) (predicate : PredId) (x : ℕ) (v : VarId) (place : Place) (values : Values) (vars : Vars) (heap : Heap) (choices : List Choice)
     → AreArguments g c.out s args os → Agree g c.out values vars → IsPoint g a plain place (AssumeShape predicate v os (point q))
     → ((w : ℤ) (later : Heap) → Match g (config rest (with_variable values x (Some w)) later) (at q (with_value vars v (Some w)) later))
     → PairOf g (config (task (perform (assume_shape place predicate x args)) rest) values heap) a vars heap choices
-assume_pair {g} {c} {q} {a} {rest} {args = args} {os = os} predicate x v place values vars heap choices arguments agree is later =
+assume_pair {g} {q} {a} {rest} {args = args} {os = os} c predicate x v place values vars heap choices arguments agree is later =
     let tasks : Tasks = task (perform (assume_shape place predicate x args)) rest in
     let k : all_there (map (argument_value values) args) ≡ values_of vars os = same_arguments values vars arguments agree in
     assume_by predicate x v place tasks values vars heap choices (values_of vars os)

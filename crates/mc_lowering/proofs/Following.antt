@@ -8,7 +8,7 @@ use Rattle.mc_flow.specs.Steps as flow
 use Rattle.mc_resolved.specs.Programs.{Cond, plain as plain_cond, compare, negation, both, either, Simple, Start, nothing, declares, performs as begins, Function, Stmt, declaration, block, empty, simple, free, assert, assume, assume_shape, assert_shape, assert_empty, if_only, if_else, while_loop, do_loop, for_loop, break_loop, continue_loop, returns, Stmts, no_more, then}
 use Rattle.mc_resolved.specs.Configs.{Values, held, without, perform, again, test, always, end_block, end_loop, end_turn, end_call, take_result, Task, Tasks, done, task, Branch, go_on, fails, stops, Config}
 use Rattle.mc_resolved.specs.Moves.{in_a_row, finished, behind_loop, at_turn}
-use Rattle.mc_lowering.specs.Graphs.{Graph, Role, plain, head, merge, stop, Stage, stage, point, nowhere, IsPoint, Leaves}
+use Rattle.mc_lowering.specs.Graphs.{Graph, Role, plain, head, merge, stop, Stage, stage, point, nowhere, IsPoint, Appends, appends, Leaves}
 use Rattle.mc_lowering.specs.Values.{Tests}
 use Rattle.mc_lowering.specs.Lowering.{Loop, Around, in_block, in_loop, in_body, Lowers, LowersAll, lowers_none, lowers_next, Finishes, Falls}
 use Rattle.mc_lowering.specs.Scopes.{IsScopedIn, AreScopedIn, FinishesIn}
@@ -30,16 +30,19 @@ pub data Skips (g : Graph) : ℕ → ℕ → Type 0 where
   no_skip : {a : ℕ} → Skips g a a
   one_skip : {a b : ℕ} {role : Role} {place : Place} → IsPoint g a role place (Skip (point b)) → GoesOn role → Skips g a b
 
+pub skip_ahead : {g : Graph} {role : Role} {place : Place} {s u : Stage} → Appends g role place (λ q. Skip q) s u → GoesOn role → Skips g (goal_of s) (goal_of u)
+skip_ahead (appends is) goes = one_skip is goes
+
 -- the condition of a loop, which may be missing: then there is a Skip
 pub data Asks (g : Graph) (out : ℕ) : Option Cond → (a t f : ℕ) → Type 0 where
-  asks : {c : Cond} {a b t f n k p q : ℕ} → Skips g a b → Tests g out c (stage b p q) t f n k → Asks g out (Some c) a t f
+  asks : {c : Cond} {s : Stage} {a t f n k : ℕ} → Skips g a (goal_of s) → Tests g out c s t f n k → Asks g out (Some c) a t f
   asks_nothing : {a t f : ℕ} {role : Role} {place : Place} → IsPoint g a role place (Skip (point t)) → GoesOn role → Asks g out None a t f
 
 -- a loop that is begun again at a point: its body, and what ends a turn
 pub data IsLoop (g : Graph) (c : Around) (scope : List ℕ) (condition : Option Cond) (a : Stmt) (last : Option Simple) (h e turn first : ℕ) : Type 0 where
-  is_loop : {t b q bp bk ip ik qp qk hp hk : ℕ} → Asks g c.out condition h t e → Skips g t b
-      → Lowers g (in_loop c e turn) a (stage b bp bk) (stage turn ip ik) → IsScopedIn (length c.function.locals) scope a → IsCallFree a → ip ≤ c.out → ik ≤ first
-      → Skips g turn q → Finishes g c.out last (stage q qp qk) (stage h hp hk) → FinishesIn (length c.function.locals) scope last → IsFreeLast last → hp ≤ c.out → hk ≤ first
+  is_loop : {t ip ik hp hk : ℕ} {s q : Stage} → Asks g c.out condition h t e → Skips g t (goal_of s)
+      → Lowers g (in_loop c e turn) a s (stage turn ip ik) → IsScopedIn (length c.function.locals) scope a → IsCallFree a → ip ≤ c.out → ik ≤ first
+      → Skips g turn (goal_of q) → Finishes g c.out last q (stage h hp hk) → FinishesIn (length c.function.locals) scope last → IsFreeLast last → hp ≤ c.out → hk ≤ first
       → IsLoop g c scope condition a last h e turn first
 
 -- the exit of a loop, where its own variables become undefined

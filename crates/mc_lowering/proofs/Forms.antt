@@ -29,12 +29,12 @@ use Rattle.mc_lowering.proofs.Freeing.{freeing}
 use Rattle.mc_lowering.proofs.Performing.{one_set}
 use Rattle.mc_lowering.proofs.Holding.{AreOnce, Limit, Frame, Held}
 use Rattle.mc_lowering.proofs.Growing.{points_of, variables_of, appended, left, on, tested, tested_perhaps, all_lowered, lowered, started as start_grown, finished as last_grown}
-use Rattle.mc_lowering.proofs.Following.{GoesOn, Skips, no_skip, one_skip, asks, IsLoop, is_loop, Exits, exits, IsWithin, within_less, frame_of, around_loop, outer_limits, loop_tasks, Follows, over, performs, skips, raises, ends_block, agains, ends_turn, ends_loop, Leads, leads, leads_to_fault, leads_to_stop, Match, match, match_test, match_always, match_end, weight, weight_in_a_row, follows_in_a_row, held_raised}
+use Rattle.mc_lowering.proofs.Following.{GoesOn, Skips, no_skip, one_skip, skip_ahead, asks, IsLoop, is_loop, Exits, exits, IsWithin, within_less, frame_of, around_loop, outer_limits, loop_tasks, Follows, over, performs, skips, raises, ends_block, agains, ends_turn, ends_loop, Leads, leads, leads_to_fault, leads_to_stop, Match, match, match_test, match_always, match_end, weight, weight_in_a_row, follows_in_a_row, held_raised}
 use Rattle.mc_lowering.proofs.Entering.{block_entered, loop_entered}
 use Rattle.mc_lowering.proofs.Walking.{ToEnd, to_end}
 use Rattle.mc_lowering.proofs.Pairing.{config, PairOf, here_of, does_step, step_does, source_moved, skips_pair, exits_pair, block_pair, test_pair, always_pair}
 use Rattle.mc_lowering.proofs.Acting.{Sets, may_set, changes_held, performed_pair, performing, declare_pair, empty_pair, assert_pair, assume_pair}
-use Rattle.mc_lowering.proofs.Looping.{relimited, again_pair, turn_pair, break_pair, continue_pair, nothing_made, perhaps_asks, exits_of, starts_follow, started_weight}
+use Rattle.mc_lowering.proofs.Looping.{relimited, again_pair, turn_pair, break_pair, continue_pair, nothing_made, perhaps_asks, exits_of, exits_nothing, starts_follow, started_weight}
 
 -- ---- `return` of the entry
 end_match : {g : Graph} {out : ℕ} {rest : Tasks} (v : Option ℤ) (vars : Vars) (heap : Heap) → ToEnd g out rest
@@ -68,16 +68,17 @@ allocated_returned {g} {shape = shape} {fields = fields} {rest = rest} {place = 
 allocated_returned {g} {shape = shape} {fields = fields} {rest = rest} {place = place} {v = v} values vars heap choices t (allocated u after others into step) =
     both_go (does_step g (task (perform (returns place (Some (allocation shape fields)))) rest) values heap choices _ refl (into _ refl)) (one step) (end_match (Some u) (with_value vars v (Some u)) after t)
 
-return_pair : {g : Graph} {c : Around} {place : Place} {v : VarId} {right : Right} {rest : Tasks} {s u : Stage} (values : Values) (vars : Vars) (heap : Heap) (choices : List Choice)
+return_pair : {g : Graph} {place : Place} {v : VarId} {right : Right} {rest : Tasks} {s u : Stage} (c : Around) (values : Values) (vars : Vars) (heap : Heap) (choices : List Choice)
     → IsMade g (result c.out) v s → SetsTo g c.out place v right s u → goal_of u ≡ c.out → ToEnd g c.out rest → Rattle.mc_lowering.proofs.Changing.IsClean g vars → length vars ≡ length g.owners → Rattle.mc_lowering.proofs.Evaluating.Agree g c.out values vars
     → PairOf g (config (task (perform (returns place (Some right))) rest) values heap) (goal_of s) vars heap choices
-return_pair {g} {c} {place = place} {v = v} {right = expression e} {rest = rest} {s = s} {u = u} values vars heap choices (is_made owned before) sets same t clean long agree =
+return_pair {g} {place = place} {v = v} {right = expression e} {rest = rest} {s = s} {u = u} c values vars heap choices (is_made owned before) sets same t clean long agree =
     let within : v.0 < length g.owners = slice_get_within g.owners v.0 (result c.out) owned in
     set_returned (expression e) values vars heap choices t
     (subst (λ z. IsSet g (λ r. Returns g.program (here_of values heap) (Some (expression e)) rest place choices r) (λ w others. gone_back heap rest (Some w) others) place v (goal_of s) z vars heap choices) same
     (setting values (λ r. Returns g.program (here_of values heap) (Some (expression e)) rest place choices r) (λ w others. gone_back heap rest (Some w) others) vars heap choices sets
     (return_uses g e place rest values heap choices) clean long agree (omega (arith, within, long)) (λ ts are is_in. not_temporary g ts v (result c.out) are owned refl is_in)))
-return_pair {g} {c} {place = place} {v = v} {right = allocation shape fields} {rest = rest} values vars heap choices (is_made owned before) (sets_allocated count (appends {n = n} {b = b} is)) same t clean long agree =
+return_pair {right = Rattle.mc_resolved.specs.Programs.result_of d} c values vars heap choices made sets same t clean long agree = elim sets [ ]
+return_pair {g} {place = place} {v = v} {right = allocation shape fields} {rest = rest} c values vars heap choices (is_made owned before) (sets_allocated count (appends {n = n} {b = b} is)) same t clean long agree =
     allocated_returned values vars heap choices t
     (subst (λ z. IsAllocated g (λ w after others r. r ≡ gone_back after rest (Some w) others) shape fields v n z vars heap choices) same
     (allocates g (λ w after others r. r ≡ gone_back after rest (Some w) others) shape fields v n b place vars heap choices count is))
@@ -97,9 +98,9 @@ statement_pair {g} {c} {scope} {late} {callers} {k} {rest = rest} {u = u} values
     (block_entered g c scope xs late callers k values vars scoped.0 h)) (omega (arith, weight_in_a_row ss (task (end_block xs) rest)))
 statement_pair {g} {c} {scope} {late} {callers} {k} {rest = rest} {s = s} values vars heap choices once empties scoped free_of bound within low later h =
     source_moved (task (perform empty) rest) rest values values choices refl (match later (held_raised g c scope late callers k (variables_of s) values vars low h)) (omega arith)
-statement_pair {scope = scope} {rest = rest} {u = u} values vars heap choices once (simples {x = x} does) scoped free_of bound within low later h =
+statement_pair {c = c} {scope = scope} {rest = rest} {u = u} values vars heap choices once (simples {x = x} does) scoped free_of bound within low later h =
     performed_pair (task (perform (simple x)) rest) values vars heap choices once refl
-    (performing scope (here_of values heap) rest (variables_of u) vars choices does free_of scoped (omega arith) h.clean h.long h.all.0.agree) within
+    (performing c scope (here_of values heap) rest (variables_of u) vars choices does free_of scoped (omega arith) h.clean h.long h.all.0.agree) within
     (omega (arith, low, (Rattle.mc_lowering.proofs.Growing.performed does).variables)) later h
 statement_pair {g} {c} {scope} {rest = rest} {u = u} values vars heap choices once (frees {place = place} {e = e} value is undone) scoped free_of bound within low later h =
     performed_pair (task (perform (free place e)) rest) values vars heap choices once refl
@@ -116,79 +117,106 @@ statement_pair {g} {c} {scope} {late} {callers} {k} {rest = rest} values vars he
     (match_test {f = frame_of c scope late k values} truth
     (leads later (λ some others there. held_raised g c scope late callers k j some others (omega (arith, low, grew.variables)) there)) (leads_to_stop is) h) (omega arith)
 statement_pair {g} {c} {scope} {late} {callers} {k} values vars heap choices once (shapes_assumed {place = place} {predicate = predicate} {x = x} {v = v} {s = s} made arguments (appends {k = j} is)) scoped free_of bound within low later h =
-    assume_pair predicate x v place values vars heap choices arguments h.all.0.agree is
+    assume_pair c predicate x v place values vars heap choices arguments h.all.0.agree is
     (λ w after. match later (changes_held g c scope late callers k j values (with_variable values x (Some w)) vars (with_value vars v (Some w)) once within low
     (one_set x v (Some w) (may_set g c scope s j x v scoped (omega arith) made)) h))
 statement_pair {g} {c} {scope} {late} {callers} {k} values vars heap choices once (shapes_asserted {place = place} {predicate = predicate} value arguments (appends {k = j} is)) scoped free_of bound within low later h =
-    assert_pair predicate place values vars heap choices value arguments h.all.0.agree is (match later (held_raised g c scope late callers k j values vars low h))
+    assert_pair c predicate place values vars heap choices value arguments h.all.0.agree is (match later (held_raised g c scope late callers k j values vars low h))
 statement_pair {g} {c} {scope} {late} {callers} {k} values vars heap choices once (emptiness_asserted {place = place} (appends {k = j} is)) scoped free_of bound within low later h =
     empty_pair place values vars heap choices is (match later (held_raised g c scope late callers k j values vars low h))
-statement_pair {g} {c} {scope} {late} {callers} {k} {rest = rest} values vars heap choices once (ifs {place = place} {d = d} {a = a} {t = t} {m = m} {k = i} truth body (appends {n = n} {k = l} is)) scoped free_of bound within low later h =
+statement_pair {g} {c} {scope} {late} {callers} {k} {rest = rest} {u = u} values vars heap choices once (ifs {place = place} {d = d} {a = a} {n = n} {l = l} truth body joins) scoped free_of bound within low later h =
     let first = tested truth in
     let grew = lowered body in
+    let ends = appended joins in
+    let meet : Follows g c scope late callers l rest n = raises ends.variables (skips (skip_ahead joins tt) later) in
     source_moved (task (perform (if_only place d a)) rest) (task (test d (go_on (task (perform a) rest)) (go_on rest)) done) values values choices refl
     (match_test {f = frame_of c scope late k values} truth
-    (leads (performs {k = k} body scoped free_of (omega (arith, bound)) within (omega (arith, low, first.variables)) (skips (one_skip is tt) later)) (λ some others there. there))
-    (leads (skips (one_skip is tt) later) (λ some others there. held_raised g c scope late callers k l some others (omega (arith, low, first.variables, grew.variables)) there)) h) (omega arith)
-statement_pair {g} {c} {scope} {late} {callers} {k} {rest = rest} values vars heap choices once (ifs_else {place = place} {d = d} {a = a} {b = b} {k = i} {j = j} truth body other (appends {n = n} {k = l} is)) scoped free_of bound within low later h =
+    (leads (performs {k = k} body scoped free_of (omega (arith, bound, ends.points)) (within_less l (variables_of u) late ends.variables within) (omega (arith, low, first.variables)) meet) (λ some others there. there))
+    (leads meet (λ some others there. held_raised g c scope late callers k l some others (omega (arith, low, first.variables, grew.variables)) there)) h) (omega arith)
+statement_pair {g} {c} {scope} {late} {callers} {k} {rest = rest} {u = u} values vars heap choices once (ifs_else {place = place} {d = d} {a = a} {b = b} {j = j} {n = n} {l = l} truth body other joins) scoped free_of bound within low later h =
     let first = tested truth in
     let grew = lowered body in
     let also = lowered other in
+    let ends = appended joins in
+    let near : IsWithin l late = within_less l (variables_of u) late ends.variables within in
+    let meet : Follows g c scope late callers l rest n = raises ends.variables (skips (skip_ahead joins tt) later) in
     source_moved (task (perform (if_else place d a b)) rest) (task (test d (go_on (task (perform a) rest)) (go_on (task (perform b) rest))) done) values values choices refl
     (match_test {f = frame_of c scope late k values} truth
-    (leads (performs {k = k} body scoped.0 free_of.0 (omega (arith, bound, also.points)) (within_less j l late also.variables within) (omega (arith, low, first.variables)) (raises also.variables (skips (one_skip is tt) later))) (λ some others there. there))
-    (leads (performs {k = k} other scoped.1 free_of.1 (omega (arith, bound)) within (omega (arith, low, first.variables, grew.variables)) (skips (one_skip is tt) later)) (λ some others there. there)) h) (omega arith)
-statement_pair {g} {c} {scope} {late} {callers} {k} {rest = rest} values vars heap choices once (whiles {place = place} {d = d} {a = a} {n = n} {t = t} {m = m} {i = i} {e = e} {j = j} (appends {b = b} begin) truth body (appends {b = w} ends)) scoped free_of bound within low later h =
+    (leads (performs {k = k} body scoped.0 free_of.0 (omega (arith, bound, also.points, ends.points)) (within_less j l late also.variables near) (omega (arith, low, first.variables)) (raises also.variables meet)) (λ some others there. there))
+    (leads (performs {k = k} other scoped.1 free_of.1 (omega (arith, bound, ends.points)) near (omega (arith, low, first.variables, grew.variables)) meet) (λ some others there. there)) h) (omega arith)
+statement_pair {g} {c} {scope} {late} {callers} {k} {rest = rest} {u = u} values vars heap choices once (whiles {place = place} {d = d} {a = a} {n = n} {t = t} {e = e} {j = j} begin truth body ends_at) scoped free_of bound within low later h =
+    let began = appended begin in
     let grew = lowered body in
     let first = tested truth in
+    let ends = appended ends_at in
+    let loops : IsLoop g c scope (Some d) a None n e n j =
+    is_loop {q = stage n 0 0} (asks (skip_ahead begin tt) truth) no_skip body scoped free_of (omega (arith, bound, ends.points)) (omega arith) no_skip finishes_none tt tt (omega arith) (omega arith) in
     source_moved (task (perform (while_loop place d a)) rest) (loop_tasks (Some d) a None [] rest) values values choices refl
-    (match
-    (agains {xs = []} {k = k} (is_loop {qp = 0} {qk = 0} (asks (one_skip begin tt) truth) no_skip body scoped free_of (omega (arith, bound)) (omega arith) no_skip finishes_none tt tt (omega arith) (omega arith))
-    (exits ends (leaves (nothing_made g c.out (stage w (suc e) j)) undefines_none)) within later)
-    (loop_entered g c scope [] late callers k k j values vars (λ x there in_scope. absurd (omega (arith, there.1))) (omega (arith, low, first.variables, grew.variables)) h)) (omega arith)
-statement_pair {g} {c} {scope} {late} {callers} {k} {rest = rest} values vars heap choices once (dos {place = place} {d = d} {a = a} {n = n} {k = q} {i = i} {j = j} {e = e} {l = l} (appends {b = b} begin) body (appends {b = h_at} turn_is) truth (appends {b = w} ends)) scoped free_of bound within low later h =
+    (match (agains {xs = []} {k = k} loops (exits_nothing ends_at) (within_less j (variables_of u) late ends.variables within) (raises ends.variables later))
+    (loop_entered g c scope [] late callers k k j values vars (λ x there in_scope. absurd (omega (arith, there.1))) (omega (arith, low, began.variables, first.variables, grew.variables)) h)) (omega arith)
+statement_pair {g} {c} {scope} {late} {callers} {k} {rest = rest} {u = u} values vars heap choices once (dos {place = place} {d = d} {a = a} {m = m} {n = n} {i = i} {j = j} {e = e} {l = l} begin body turn_is truth ends_at) scoped free_of bound within low later h =
+    let began = appended begin in
     let grew = lowered body in
+    let turned = appended turn_is in
     let second = tested truth in
-    let loops : IsLoop g c scope (Some d) a None h_at e i l = is_loop {qp = suc i} {qk = j} (asks no_skip truth) (one_skip begin tt) body scoped free_of (omega (arith, bound, second.points)) second.variables (one_skip turn_is tt) finishes_none tt tt (omega (arith, bound, second.points)) second.variables in
-    let way_out : Exits g c [] e w l = exits ends (leaves (nothing_made g c.out (stage w (suc e) l)) undefines_none) in
+    let ends = appended ends_at in
+    let near : IsWithin l late = within_less l (variables_of u) late ends.variables within in
+    let loops : IsLoop g c scope (Some d) a None (goal_of m) e i l =
+    is_loop {q = stage (goal_of m) 0 0} (asks no_skip truth) (skip_ahead begin tt) body scoped free_of (omega (arith, bound, ends.points, second.points, turned.points)) (omega (arith, turned.variables, second.variables))
+    (skip_ahead turn_is tt) finishes_none tt tt (omega arith) (omega arith) in
     source_moved (task (perform (do_loop place a d)) rest) (task (perform a) (task end_turn (loop_tasks (Some d) a None [] rest))) values values choices refl
     (match
-    (skips (one_skip begin tt)
-    (performs {k = 0} body scoped free_of (omega (arith, bound, second.points)) (second.variables, within_less j l late second.variables within) (omega arith) (ends_turn {xs = []} loops way_out within later)))
+    (skips (skip_ahead begin tt)
+    (performs {k = 0} body scoped free_of (omega (arith, bound, ends.points, second.points, turned.points)) (omega (arith, turned.variables, second.variables), within_less j l late (omega (arith, turned.variables, second.variables)) near) (omega arith)
+    (ends_turn {xs = []} loops (exits_nothing ends_at) near (raises ends.variables later))))
     (relimited g c e i scope (outer_limits c [] l late) callers 0 0 values vars
-    (loop_entered g c scope [] late callers k 0 l values vars (λ x there in_scope. absurd (omega (arith, there.1))) (omega (arith, low, grew.variables, second.variables)) h))) (omega arith)
-statement_pair {g} {c} {scope} {late} {callers} {k} {rest = rest} {u = u} values vars heap choices once (fors {h = hd} {a = a} {n = n} {k = q} {t = t} {p = p} {y = y} {i = i} {j = j} {e = e} {l = l} start (appends {b = b} begin) truth body (appends {b = q_at} turn_is) last_part (appends {b = w} ends) leave) scoped free_of bound within low later h =
-    let began = start_grown start in
+    (loop_entered g c scope [] late callers k 0 l values vars (λ x there in_scope. absurd (omega (arith, there.1))) (omega (arith, low, began.variables, grew.variables, turned.variables, second.variables)) h))) (omega arith)
+statement_pair {g} {c} {scope} {late} {callers} {k} {rest = rest} {u = u} values vars heap choices once (fors {h = hd} {a = a} {n = n} {k = q} {i = i} {e = e} {l = l} start begin truth body turn_is last_part ends_at leave) scoped free_of bound within low later h =
+    let first = start_grown start in
+    let began = appended begin in
     let second = tested_perhaps truth in
     let grew = lowered body in
+    let turned = appended turn_is in
     let finish = last_grown last_part in
+    let ends = appended ends_at in
     let gone = left leave in
-    let near : IsWithin l late = within_less l (variables_of u) late gone.variables within in
-    let loops : IsLoop g c (hd.variables ++ scope) hd.condition a hd.last n e i l = is_loop (perhaps_asks truth begin) no_skip body scoped.3 free_of.2 (omega (arith, bound, gone.points, finish.points)) finish.variables (one_skip turn_is tt) last_part scoped.2 free_of.1 (omega (arith, bound, gone.points)) (omega arith) in
+    let near : IsWithin l late = within_less l (variables_of u) late (omega (arith, ends.variables, gone.variables)) within in
+    let loops : IsLoop g c (hd.variables ++ scope) hd.condition a hd.last n e i l =
+    is_loop (perhaps_asks begin truth) no_skip body scoped.3 free_of.2 (omega (arith, bound, gone.points, ends.points, finish.points, turned.points)) (omega (arith, finish.variables, turned.variables)) (skip_ahead turn_is tt) last_part scoped.2 free_of.1
+    (omega (arith, bound, gone.points, ends.points)) (omega arith) in
     source_moved (task (perform (for_loop hd a)) rest) (started hd.start (loop_tasks hd.condition a hd.last hd.variables rest)) values values choices refl
     (match
-    (starts_follow {f = c} hd.start start scoped.1 free_of.0 (omega (arith, bound, gone.points, finish.points, grew.points, second.points)) (omega (arith, finish.variables, grew.variables, second.variables), within_less q l late (omega (arith, finish.variables, grew.variables, second.variables)) near)
-    (λ j_at. agains {k = j_at} loops (exits_of ends leave) near (raises gone.variables later)))
-    (loop_entered g c scope hd.variables late callers k 0 l values vars scoped.0 (omega (arith, low, began.variables, finish.variables, grew.variables, second.variables)) h))
+    (starts_follow c hd.start start scoped.1 free_of.0 (omega (arith, bound, gone.points, ends.points, finish.points, turned.points, grew.points, second.points, began.points))
+    (omega (arith, finish.variables, turned.variables, grew.variables, second.variables, began.variables), within_less q l late (omega (arith, finish.variables, turned.variables, grew.variables, second.variables, began.variables)) near)
+    (λ j_at. agains {k = j_at} loops (exits_of ends_at leave) near (raises (omega (arith, ends.variables, gone.variables)) later)))
+    (loop_entered g c scope hd.variables late callers k 0 l values vars scoped.0 (omega (arith, low, first.variables, began.variables, finish.variables, turned.variables, grew.variables, second.variables)) h))
     (omega (arith, started_weight hd.start (loop_tasks hd.condition a hd.last hd.variables rest)))
 statement_pair {k = k} values vars heap choices once (breaks {place = place} is leave) scoped free_of bound within low later h = break_pair place values vars heap choices is leave low (raises (omega (arith, low, (left leave).variables)) later) h
 statement_pair {k = k} values vars heap choices once (continues {place = place} is leave) scoped free_of bound within low later h = continue_pair place values vars heap choices is leave low (raises (omega (arith, low, (left leave).variables)) later) h
 statement_pair {g} {c} {rest = rest} values vars heap choices once (returns_nothing {place = place}) scoped free_of bound within low later h =
     source_goes (does_step g (task (perform (returns place None)) rest) values heap choices (gone_back heap rest None choices) refl refl) (end_match None vars heap (to_end later))
     (let e : weight (returning rest None).1 ≡ 0 = ap (λ z. weight z.1) ((to_end later).returns None) in omega (arith, e))
-statement_pair values vars heap choices once (returns_value made sets) scoped free_of bound within low later h =
-    return_pair values vars heap choices made sets refl (to_end later) h.clean h.long h.all.0.agree
+statement_pair {c = c} values vars heap choices once (returns_value made sets) scoped free_of bound within low later h =
+    return_pair c values vars heap choices made sets refl (to_end later) h.clean h.long h.all.0.agree
 statement_pair values vars heap choices once (returns_result made inner is undone) scoped free_of bound within low later h = absurd free_of
+
+-- ---- the end of the entry
+over_pair : {g : Graph} {f : Rattle.mc_resolved.specs.Programs.Function} {out : ℕ} {s u : Stage} (values : Values) (vars : Vars) (heap : Heap) (choices : List Choice) → Falls g f out s u → goal_of u ≡ out
+    → IsPoint g out plain nowhere End → PairOf g (config done values heap) (goal_of s) vars heap choices
+over_pair {g} {out = out} values vars heap choices (falls_in_main {v = v} main made (appends {n = n} {b = b} is)) same there =
+    let zero_there : Option ℤ = Some (Rattle.std.specs.Prelude.pos 0) in
+    let ends : IsPoint g b plain nowhere End = subst (λ z. IsPoint g z plain nowhere End) (sym same) there in
+    both_end (does_step g done values heap choices (finished_run ended) refl refl)
+    (more (step_at g n nowhere (Copy v (Rattle.mc_flow.specs.declared.instr.Operand.TheVariants.Const (Rattle.std.specs.Prelude.pos 0)) (point b)) vars heap choices (next (at b (with_value vars v zero_there) heap) choices) is refl)
+    (one (step_at g b nowhere End (with_value vars v zero_there) heap choices (finished_run ended) ends refl)))
+over_pair {g} {s = s} values vars heap choices (falls no_main) same there =
+    both_end (does_step g done values heap choices (finished_run ended) refl refl)
+    (one (step_at g (goal_of s) nowhere End vars heap choices (finished_run ended) (subst (λ z. IsPoint g z plain nowhere End) (sym same) there) refl))
 
 -- ---- tasks
 tasks_pair : {g : Graph} {c : Around} {scope : List ℕ} {late : List Limit} {callers : List Frame} {k a : ℕ} {tasks : Tasks} (values : Values) (vars : Vars) (heap : Heap) (choices : List Choice)
     → AreOnce g → Follows g c scope late callers k tasks a → Held g (frame_of c scope late k values ∷ callers) vars → PairOf g (config tasks values heap) a vars heap choices
-tasks_pair {g} values vars heap choices once (over {out = out} (falls_in_main {v = v} main made (appends {n = n} is)) refl stops_there) h =
-    both_end (does_step g done values heap choices (finished_run ended) refl refl)
-    (more (step_at g n nowhere (Copy v (Rattle.mc_flow.specs.declared.instr.Operand.TheVariants.Const (Rattle.std.specs.Prelude.pos 0)) (point out)) vars heap choices (next (at out (with_value vars v (Some (Rattle.std.specs.Prelude.pos 0))) heap) choices) is refl)
-    (one (step_at g out nowhere End (with_value vars v (Some (Rattle.std.specs.Prelude.pos 0))) heap choices (finished_run ended) stops_there refl)))
-tasks_pair {g} values vars heap choices once (over {out = out} (falls no_main) refl stops_there) h =
-    both_end (does_step g done values heap choices (finished_run ended) refl refl) (one (step_at g out nowhere End vars heap choices (finished_run ended) stops_there refl))
+tasks_pair values vars heap choices once (over fall same stops_there) h = over_pair values vars heap choices fall same stops_there
 tasks_pair values vars heap choices once (performs is scoped free_of bound within low later) h = statement_pair values vars heap choices once is scoped free_of bound within low later h
 tasks_pair values vars heap choices once (skips is later) h = skips_pair vars heap choices is (tasks_pair values vars heap choices once later h)
 tasks_pair {g} {c} {scope} {late} {callers} {k} values vars heap choices once (raises {j = j} low later) h =

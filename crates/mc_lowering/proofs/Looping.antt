@@ -20,7 +20,7 @@ use Rattle.mc_lowering.proofs.Stepping.{Vars}
 use Rattle.mc_lowering.proofs.Evaluating.{goal_of}
 use Rattle.mc_lowering.proofs.Holding.{Limit, Frame, Held, AreTheirs, AreUndone, undone_held, in_left}
 use Rattle.mc_lowering.proofs.Growing.{points_of, variables_of, undefined}
-use Rattle.mc_lowering.proofs.Following.{Skips, no_skip, one_skip, Asks, asks, asks_nothing, IsLoop, is_loop, Exits, exits, IsWithin, within_less, frame_of, around_loop, outer_limits, loop_tasks, Follows, performs, skips, raises, agains, ends_turn, ends_loop, leads, match, match_test, match_always, weight, perhaps_weight, limited, no_late}
+use Rattle.mc_lowering.proofs.Following.{Skips, no_skip, one_skip, skip_ahead, Asks, asks, asks_nothing, IsLoop, is_loop, Exits, exits, IsWithin, within_less, frame_of, around_loop, outer_limits, loop_tasks, Follows, performs, skips, raises, agains, ends_turn, ends_loop, leads, match, match_test, match_always, weight, perhaps_weight, limited, no_late}
 use Rattle.mc_lowering.proofs.Entering.{theirs}
 use Rattle.mc_lowering.proofs.Walking.{ToTurn, to_turn}
 use Rattle.mc_lowering.proofs.Pairing.{config, PairOf, source_moved, skips_pair, undefines_pair, exits_pair}
@@ -40,10 +40,10 @@ pub unlimited : (g : Graph) (c : Around) (e turn : ℕ) (scope : List ℕ) (late
 unlimited g c e turn scope late callers k j values vars h =
     limited g (in_loop c e turn) (around_loop c) scope late callers k j values vars refl refl (λ ls. no_late g c.out values j) h
 
-ends_here : {g : Graph} {c : Around} {scope xs : List ℕ} {late : List Limit} {callers : List Frame} {condition : Option Cond} {a : Stmt} {rest : Tasks} {h e turn r first q qp qk hp hk : ℕ} (last : Option Simple)
+ends_here : {g : Graph} {c : Around} {scope xs : List ℕ} {late : List Limit} {callers : List Frame} {condition : Option Cond} {a : Stmt} {rest : Tasks} {h e turn r first hp hk : ℕ} {q : Stage} (last : Option Simple)
     → IsLoop g c (xs ++ scope) condition a last h e turn first → Exits g c xs e r first → IsWithin first late → Follows g c scope late callers first rest r
-    → Finishes g c.out last (stage q qp qk) (stage h hp hk) → FinishesIn (length c.function.locals) (xs ++ scope) last → IsFreeLast last → hp ≤ c.out → hk ≤ first
-    → Follows g (around_loop c) (xs ++ scope) (outer_limits c xs first late) callers 0 (finished last (loop_tasks condition a last xs rest)) q
+    → Finishes g c.out last q (stage h hp hk) → FinishesIn (length c.function.locals) (xs ++ scope) last → IsFreeLast last → hp ≤ c.out → hk ≤ first
+    → Follows g (around_loop c) (xs ++ scope) (outer_limits c xs first late) callers 0 (finished last (loop_tasks condition a last xs rest)) (goal_of q)
 ends_here None loops way_out within later finishes_none scoped free_of bound low = agains loops way_out within later
 ends_here {c = c} {xs = xs} {late = late} {first = first} {hk = hk} (Some x) loops way_out within later (finishes does) scoped free_of bound low =
     performs {a = simple x} (simples does) scoped free_of bound (within_outer c xs hk first late low within) (omega arith) (agains loops way_out within later)
@@ -56,9 +56,9 @@ turn_follows {last = last} (is_loop asking begins body scoped free_of bound low 
     skips ends (ends_here last (is_loop asking begins body scoped free_of bound low ends last_part last_scoped last_free last_bound last_low) way_out within later last_part last_scoped last_free last_bound last_low)
 
 -- the body
-body_follows : {g : Graph} {c : Around} {scope xs : List ℕ} {late : List Limit} {callers : List Frame} {condition : Option Cond} {a : Stmt} {last : Option Simple} {rest : Tasks} {h e turn r first t b bp bk ip ik : ℕ}
+body_follows : {g : Graph} {c : Around} {scope xs : List ℕ} {late : List Limit} {callers : List Frame} {condition : Option Cond} {a : Stmt} {last : Option Simple} {rest : Tasks} {h e turn r first t ip ik : ℕ} {s : Stage}
     → IsLoop g c (xs ++ scope) condition a last h e turn first → Exits g c xs e r first → IsWithin first late → Follows g c scope late callers first rest r
-    → Skips g t b → Lowers g (in_loop c e turn) a (stage b bp bk) (stage turn ip ik) → IsScopedIn (length c.function.locals) (xs ++ scope) a → IsCallFree a → ip ≤ c.out → ik ≤ first
+    → Skips g t (goal_of s) → Lowers g (in_loop c e turn) a s (stage turn ip ik) → IsScopedIn (length c.function.locals) (xs ++ scope) a → IsCallFree a → ip ≤ c.out → ik ≤ first
     → Follows g (in_loop c e turn) (xs ++ scope) (outer_limits c xs first late) callers 0 (task (perform a) (task end_turn (finished last (loop_tasks condition a last xs rest)))) t
 body_follows {c = c} {xs = xs} {late = late} {first = first} {ik = ik} loops way_out within later begins body scoped free_of bound low =
     skips begins (performs body scoped free_of bound (within_outer c xs ik first late low within) (omega arith) (ends_turn loops way_out within later))
@@ -102,9 +102,9 @@ turn_or n None = n
 turn_or n (Some l) = l.turn
 
 -- the blocks that are left become undefined
-left_held : {g : Graph} {c : Around} {scope : List ℕ} {late : List Limit} {callers : List Frame} {k : ℕ} {s : Stage} {vs : List VarId} (values now : Values) (vars : Vars) → AreMade g c.out (λ x. Contains c.blocks x) s vs → k ≤ variables_of s
+left_held : {g : Graph} {scope : List ℕ} {late : List Limit} {callers : List Frame} {k : ℕ} {s : Stage} {vs : List VarId} (c : Around) (values now : Values) (vars : Vars) → AreMade g c.out (λ x. Contains c.blocks x) s vs → k ≤ variables_of s
     → AreUndone c.blocks values now → Held g (frame_of c scope late k values ∷ callers) vars → Held g (frame_of c scope late k now ∷ callers) (flow_without vars vs)
-left_held {g} {c} {scope} {late} {callers} {k} {s} {vs} values now vars made low undone h =
+left_held {g} {scope} {late} {callers} {k} {s} {vs} c values now vars made low undone h =
     let mine : AreTheirs g c.out values c.blocks vs = theirs g c.out values c.blocks vs s k made (λ x v there owned from. h.all.0.late.0 x v there owned from) low in
     undone_held g (frame_of c scope late k values) callers now c.blocks vs vars mine undone h
 
@@ -113,7 +113,7 @@ pub break_pair : {g : Graph} {c : Around} {scope : List ℕ} {late : List Limit}
     → PairOf g (config (task (perform (break_loop place)) rest) values heap) (goal_of s) vars heap choices
 break_pair {g} {c} {scope} {late} {callers} {k} {rest = rest} {s = s} {l = l} place values vars heap choices is (leaves {vs = vs} made undone) low follows h =
     let t = to_turn l is follows in
-    let there : Held g (frame_of c scope late k (t.later values) ∷ callers) (flow_without vars vs) = left_held values (t.later values) vars made low (t.undone values) h in
+    let there : Held g (frame_of c scope late k (t.later values) ∷ callers) (flow_without vars vs) = left_held c values (t.later values) vars made low (t.undone values) h in
     let e : t.exit ≡ l.exit = ap (exit_or 0) (sym t.loop_is ∙ is) in
     undefines_pair vars heap choices undone
     (subst (λ z. PairOf g (config (task (perform (break_loop place)) rest) values heap) z (flow_without vars vs) heap choices) e
@@ -125,7 +125,7 @@ pub continue_pair : {g : Graph} {c : Around} {scope : List ℕ} {late : List Lim
     → PairOf g (config (task (perform (continue_loop place)) rest) values heap) (goal_of s) vars heap choices
 continue_pair {g} {c} {scope} {late} {callers} {k} {rest = rest} {s = s} {l = l} place values vars heap choices is (leaves {vs = vs} made undone) low follows h =
     let t = to_turn l is follows in
-    let there : Held g (frame_of c scope late k (t.later values) ∷ callers) (flow_without vars vs) = left_held values (t.later values) vars made low (t.undone values) h in
+    let there : Held g (frame_of c scope late k (t.later values) ∷ callers) (flow_without vars vs) = left_held c values (t.later values) vars made low (t.undone values) h in
     let e : t.turn ≡ l.turn = ap (turn_or 0) (sym t.loop_is ∙ is) in
     undefines_pair vars heap choices undone
     (subst (λ z. PairOf g (config (task (perform (continue_loop place)) rest) values heap) z (flow_without vars vs) heap choices) e
@@ -140,22 +140,25 @@ nothing_made g out s = record {
   only = λ i d within. absurd (omega (arith, within));
 }
 
-pub perhaps_asks : {g : Graph} {out : ℕ} {c : Option Cond} {a b p q t e n k : ℕ} {place : Place} → TestsPerhaps g out c (stage b p q) t e n k → IsPoint g a head place (Skip (point b)) → Asks g out c a t e
-perhaps_asks tests_always is = asks_nothing is tt
-perhaps_asks (tests_once test_there) is = asks (one_skip is tt) test_there
+pub perhaps_asks : {g : Graph} {out : ℕ} {c : Option Cond} {s m : Stage} {t e n k : ℕ} {place : Place} → Appends g head place (λ q. Skip q) s m → TestsPerhaps g out c m t e n k → Asks g out c (goal_of s) t e
+perhaps_asks (appends is) tests_always = asks_nothing is tt
+perhaps_asks is (tests_once test_there) = asks (skip_ahead is tt) test_there
 
 -- the exit with its Undef
-pub exits_of : {g : Graph} {c : Around} {xs : List ℕ} {e w n first : ℕ} {place : Place} {u : Stage} → IsPoint g e plain place (Skip (point w)) → Leaves g c.out nowhere xs (stage w n first) u → Exits g c xs e (goal_of u) first
-exits_of is (leaves made undefines_none) = exits is (leaves made undefines_none)
-exits_of is (leaves made (undefines (appends there))) = exits is (leaves made (undefines (appends there)))
+pub exits_of : {g : Graph} {c : Around} {xs : List ℕ} {place : Place} {s w u : Stage} → Appends g plain place (λ q. Skip q) s w → Leaves g c.out nowhere xs w u → Exits g c xs (goal_of s) (goal_of u) (variables_of s)
+exits_of (appends is) (leaves made undefines_none) = exits is (leaves made undefines_none)
+exits_of (appends is) (leaves made (undefines (appends there))) = exits is (leaves made (undefines (appends there)))
 
-pub starts_follow : {g : Graph} {f : Around} {scope : List ℕ} {late : List Limit} {callers : List Frame} {rest : Tasks} {s u : Stage} (start : Start)
+pub exits_nothing : {g : Graph} {c : Around} {place : Place} {s u : Stage} → Appends g plain place (λ q. Skip q) s u → Exits g c [] (goal_of s) (goal_of u) (variables_of s)
+exits_nothing {g} {c} {u = u} is = exits_of is (leaves (nothing_made g c.out u) undefines_none)
+
+pub starts_follow : {g : Graph} {scope : List ℕ} {late : List Limit} {callers : List Frame} {rest : Tasks} {s u : Stage} (f : Around) (start : Start)
     → Starts g f.function f.out start s u → StartsIn (length f.function.locals) scope start → IsFreeStart start → points_of u ≤ f.out → IsWithin (variables_of u) late
     → ((k : ℕ) → Follows g (around_loop f) scope late callers k rest (goal_of u)) → Follows g (around_loop f) scope late callers 0 (started start rest) (goal_of s)
-starts_follow source.nothing starts_nothing scoped free_of bound within later = later 0
-starts_follow {u = u} (source.declares place items) (starts_declaring declares) scoped free_of bound within later =
+starts_follow f source.nothing starts_nothing scoped free_of bound within later = later 0
+starts_follow {u = u} f (source.declares place items) (starts_declaring declares) scoped free_of bound within later =
     performs {a = declaration place items} (declarations declares) scoped free_of bound within (omega arith) (later (variables_of u))
-starts_follow {u = u} (source.performs x) (starts_performing does) scoped free_of bound within later =
+starts_follow {u = u} f (source.performs x) (starts_performing does) scoped free_of bound within later =
     performs {a = simple x} (simples does) scoped free_of bound within (omega arith) (later (variables_of u))
 
 pub started_weight : (start : Start) (rest : Tasks) → weight (started start rest) ≤ 1 + weight rest

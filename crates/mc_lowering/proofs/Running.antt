@@ -36,12 +36,15 @@ length_passed : (locals : List Local) → length (passed 0 locals []) ≡ length
 length_passed [] = refl
 length_passed (l ∷ locals) = ap suc (length_passed locals)
 
-undefined_all : (n v : ℕ) → slice_index_or (replicate {X = Option ℤ} n None) v None ≡ None
+abbrev undefined_vars : ℕ → Vars
+undefined_vars n = replicate n None
+
+undefined_all : (n v : ℕ) → slice_index_or (undefined_vars n) v None ≡ None
 undefined_all zero v = refl
 undefined_all (suc n) zero = refl
 undefined_all (suc n) (suc v) = undefined_all n v
 
-length_all : (n : ℕ) → length (replicate {X = Option ℤ} n None) ≡ n
+length_all : (n : ℕ) → length (undefined_vars n) ≡ n
 length_all zero = refl
 length_all (suc n) = ap suc (length_all n)
 

@@ -5,7 +5,10 @@ ghost use Rattle.mc_lowering.specs.Examples.{values_graph, values_main, while_gr
 ghost use Rattle.mc_flow.specs.Steps.{IsSafeFlow};
 ghost use Rattle.mc_lowering.specs.Graphs.{Graph};
 ghost use Rattle.mc_lowering.specs.Lowering.{IsLowering, Makes};
+ghost use Rattle.mc_lowering.specs.CallFree.{AreCallFree};
 ghost use Rattle.mc_lowering.specs.Runs.{RunsMatch};
+ghost use Rattle.mc_lowering.specs.Scopes.{IsScoped};
+ghost use Rattle.std.specs.Prelude.{ℕ};
 ghost use Rattle.mc_resolved.specs.Programs.{Function};
 ghost use Rattle.mc_resolved.specs.Steps.{IsSafeProgram};
 
@@ -28,4 +31,13 @@ pub fn small_programs_are_lowered()
 /// Where the runs of a program and of its flow graph match, a safe flow graph means a safe program.
 pub fn safe_flow_graphs_mean_safe_programs()
     ensures { (g : Graph) (entry : Function) → RunsMatch g entry → IsSafeFlow g.flow g.program.defs → IsSafeProgram g.program entry }
+{}
+
+/// A program whose entry calls no function, with its flow graph: the one comes to a fault, an end or a stop exactly where the
+/// other does, if what is written is in scope.
+pub fn runs_without_calls_match()
+    ensures {
+        (g : Graph) (entry : Function) (out count : ℕ) → IsLowering g entry out count → IsScoped entry
+        → AreCallFree entry.body → RunsMatch g entry
+    }
 {}
