@@ -116,7 +116,7 @@ changed (changes_variable value made is undone) = on (evaluated value) (on (appe
 changed (changes_field value made walk kind loads computes is undone) =
     on (evaluated value) (on (walked walk) (on (taken loads) (on (taken computes) (on (appended is) (undefined undone)))))
 
-received : {g : Graph} {f : Function} {out x parameters : ℕ} {s u : Stage} {vs : List VarId} → Receives g f out x parameters s vs u → Grows s u
+pub received : {g : Graph} {f : Function} {out x parameters : ℕ} {s u : Stage} {vs : List VarId} → Receives g f out x parameters s vs u → Grows s u
 received {s = s} receives_none = same s
 received (receives is makes rest) = on (created makes) (received rest)
 

@@ -27,3 +27,4 @@ pub mod Acting
 pub mod Looping
 pub mod Forms
 pub mod Running
+pub mod Passing
