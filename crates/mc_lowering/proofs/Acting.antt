@@ -1,5 +1,5 @@
 -- Simple statements, declarators and shape commands go on together with their points.
-use Rattle.std.proofs.Common.{◌<◌, ◌≤◌, ◌≡◌, ◌⊎◌, ◌++◌, inl, inr, ℕ, suc, ℤ, List, [], ◌∷◌, Option, Some, None, length, refl, sym, ap, ◌∙◌, subst, arith}
+use Rattle.std.proofs.Common.{◌<◌, ◌≤◌, ◌≡◌, ◌⊎◌, ◌++◌, inl, inr, ℕ, suc, ℤ, ◌+ℤ◌, ◌-ℤ◌, List, [], ◌∷◌, Option, Some, None, length, refl, sym, ap, ◌∙◌, subst, arith}
 use Rattle.std.specs.Prelude.{slice_get, map}
 use Rattle.mc_base.specs.declared.ids.PredId.{PredId}
 use Rattle.mc_base.specs.declared.ids.VarId.{VarId}
@@ -16,15 +16,15 @@ use Rattle.mc_flow.specs.Values.{value_of as operand_value, values_of, with_valu
 use Rattle.mc_flow.specs.declared.instr.Operand.{Operand}
 use Rattle.mc_flow.specs.declared.instr.Instr.TheVariants.{Undef, AssumeShape, AssertShape, AssertEmpty}
 use Rattle.mc_flow.specs.Steps as flow
-use Rattle.mc_resolved.specs.Programs.{Left, Right, expression, result_of, allocation, Action, Initial, Argument, Stmt, declaration, assume_shape, assert_shape, assert_empty}
+use Rattle.mc_resolved.specs.Programs.{Left, Expr, Call, Right, expression, result_of, allocation, Argument, assume_shape, assert_shape, assert_empty}
 use Rattle.mc_resolved.specs.Configs.{Values, with_variable, perform, Tasks, task, Result}
 use Rattle.mc_resolved.specs.Moves.{moved}
-use Rattle.mc_resolved.specs.Steps.{Here, Does, Step, Assigns as SourceAssigns, Performs as SourcePerforms, AddsShape, Assumes, Demands, Asserts, argument_value}
+use Rattle.mc_resolved.specs.Steps.{Here, Step, Assigns as SourceAssigns, Combines, AddsShape, Assumes, Demands, Asserts, argument_value}
 use Rattle.mc_lowering.specs.Graphs.{Graph, local, plain, Stage, stage, point, var, IsPoint, Appends, appends, Creates, creates, IsMade, is_made}
-use Rattle.mc_lowering.specs.Lowering.{Around, Assigns, Changes as Combined, changes_variable, changes_field, Performs, performs_assign, performs_result, performs_add, performs_subtract, performs_call, Declares, declares_none, declares_undefined, declares_value, IsArgument, AreArguments, declarations}
+use Rattle.mc_lowering.specs.Lowering.{Around, Assigns, assigns_variable, Changes as Combined, changes_variable, changes_field, IsArgument, AreArguments}
+use Rattle.mc_lowering.specs.Values.{a_sum, a_difference}
 use Rattle.mc_lowering.specs.Runs.{FlowStep}
-use Rattle.mc_lowering.specs.Scopes.{IsIn, WritesIn, DeclareIn}
-use Rattle.mc_lowering.specs.CallFree.{IsFreeRight, IsFreePerhaps, IsFreeAction, AreFreeItems}
+use Rattle.mc_lowering.specs.Scopes.{IsIn}
 use Rattle.mc_lowering.proofs.Simulating.{Goes, one, Alike, alike_next, alike_last, Paired, both_go, both_end, both_wait, both_choose}
 use Rattle.mc_lowering.proofs.Stepping.{Vars, at, Never, never_from, step_at, step_from}
 use Rattle.mc_lowering.proofs.Evaluating.{Agree, goal_of}
@@ -35,9 +35,9 @@ use Rattle.mc_lowering.proofs.Freeing.{adding, subtracting}
 use Rattle.mc_lowering.proofs.Combining.{adding_field, subtracting_field}
 use Rattle.mc_lowering.proofs.Arguing.{same_argument, same_arguments}
 use Rattle.mc_lowering.proofs.Holding.{AreOnce, Limit, Frame, Held, IsUnder, set_held}
-use Rattle.mc_lowering.proofs.Growing.{points_of, variables_of, appended, undefined, on, declared, performed as grown}
-use Rattle.mc_lowering.proofs.Following.{IsWithin, within_less, frame_of, Follows, performs, Match, match, held_raised}
-use Rattle.mc_lowering.proofs.Pairing.{config, PairOf, here_of, does_step, step_does, source_moved}
+use Rattle.mc_lowering.proofs.Growing.{variables_of, appended, undefined, on}
+use Rattle.mc_lowering.proofs.Following.{IsWithin, frame_of, Follows, Match, match, held_raised}
+use Rattle.mc_lowering.proofs.Pairing.{config, PairOf, here_of, does_step, step_does}
 
 -- ---- what a statement may set
 -- the function's variables that are in scope and made by then
@@ -58,71 +58,42 @@ changes_held g c scope late callers k n values later vars now once within low (o
     set_held g (frame_of c scope late n values) callers vars x v w once may.0 may.1 (may.2, under_within v.0 n late may.2 within) (held_raised g c scope late callers k n values vars low h)
 
 -- ---- statements that are one step
-pub performed_pair : {g : Graph} {c : Around} {scope : List ℕ} {late : List Limit} {callers : List Frame} {k n a b : ℕ} {rest : Tasks} {place : Place} (tasks : Tasks) (values : Values) (vars : Vars) (heap : Heap) (choices : List Choice)
-    → AreOnce g → moved values tasks ≡ None → IsPerformed g (λ r. Does g.program (here_of values heap) tasks choices r) rest (Sets g c scope n) place a b values vars heap choices
+pub performed_by : {g : Graph} {c : Around} {scope : List ℕ} {late : List Limit} {callers : List Frame} {k n a b : ℕ} {rest : Tasks} {place : Place} {P : Result → Type 0} (tasks : Tasks) (values : Values) (vars : Vars) (heap : Heap) (choices : List Choice)
+    → AreOnce g → ((r : Result) → P r → Step g.program (config tasks values heap) choices r) → ((r : Result) → Step g.program (config tasks values heap) choices r → P r)
+    → IsPerformed g P rest (Sets g c scope n) place a b values vars heap choices
     → IsWithin n late → k ≤ n → Follows g c scope late callers n rest b → Held g (frame_of c scope late k values ∷ callers) vars → PairOf g (config tasks values heap) a vars heap choices
-performed_pair {g} tasks values vars heap choices once none (performed_waits never_source never) within low follows h =
-    both_wait (λ r s. never_source r (step_does g tasks values heap choices r none s)) never
-performed_pair {g} tasks values vars heap choices once none (performed_faults kind is goes) within low follows h = both_end (does_step g tasks values heap choices _ none is) goes
-performed_pair {g} {c} {scope} {late} {callers} {k} {n} tasks values vars heap choices once none (performed later now after left is goes changes) within low follows h =
-    both_go (does_step g tasks values heap choices _ none is) goes (match follows (changes_held g c scope late callers k n values later vars now once within low changes h))
+performed_by tasks values vars heap choices once into out (performed_waits never_source never) within low follows h = both_wait (λ r s. never_source r (out r s)) never
+performed_by tasks values vars heap choices once into out (performed_faults kind is goes) within low follows h = both_end (into _ is) goes
+performed_by {g} {c} {scope} {late} {callers} {k} {n} tasks values vars heap choices once into out (performed later now after left is goes changes) within low follows h =
+    both_go (into _ is) goes (match follows (changes_held g c scope late callers k n values later vars now once within low changes h))
 
-assign_performed : {g : Graph} {place : Place} {l : Left} {s u : Stage} (c : Around) (right : Right) (scope : List ℕ) (h : Here) (rest : Tasks) (n : ℕ) (vars : Vars) (choices : List Choice)
-    → Assigns g c.out place l right s u → IsFreeRight right → IsIn (length c.function.locals) scope l.variable → variables_of s ≤ n → IsClean g vars → length vars ≡ length g.owners → Agree g c.out h.values vars
+nothing_assigned : {g : Graph} {out : ℕ} {place : Place} {l : Left} {d : Call} {s u : Stage} → Assigns g out place l (result_of d) s u → ⊥
+nothing_assigned (assigns_variable made sets) = elim sets [ ]
+
+pub assign_performed : {g : Graph} {place : Place} {l : Left} {s u : Stage} (c : Around) (right : Right) (scope : List ℕ) (h : Here) (rest : Tasks) (n : ℕ) (vars : Vars) (choices : List Choice)
+    → Assigns g c.out place l right s u → IsIn (length c.function.locals) scope l.variable → variables_of s ≤ n → IsClean g vars → length vars ≡ length g.owners → Agree g c.out h.values vars
     → IsPerformed g (λ r. SourceAssigns g.program h l right place rest choices r) rest (Sets g c scope n) place (goal_of s) (goal_of u) h.values vars h.heap choices
-assign_performed {g} {l = l} {s = s} c (expression e) scope h rest n vars choices is free_of is_in less clean long agree =
+assign_performed {g} {l = l} {s = s} c (expression e) scope h rest n vars choices is is_in less clean long agree =
     assigning g.program h rest (Sets g c scope n) vars choices is (λ v made. may_set g c scope s n l.variable v is_in less made) clean long agree
-assign_performed c (result_of d) scope h rest n vars choices is free_of is_in less clean long agree = absurd free_of
-assign_performed {g} {l = l} {s = s} c (allocation shape fields) scope h rest n vars choices is free_of is_in less clean long agree =
+assign_performed c (result_of d) scope h rest n vars choices is is_in less clean long agree = absurd (nothing_assigned is)
+assign_performed {g} {l = l} {s = s} c (allocation shape fields) scope h rest n vars choices is is_in less clean long agree =
     allocating g.program h rest (Sets g c scope n) vars choices is (λ v made. may_set g c scope s n l.variable v is_in less made) clean long agree
 
-pub performing : {g : Graph} {place : Place} {action : Action} {s u : Stage} (c : Around) (scope : List ℕ) (h : Here) (rest : Tasks) (n : ℕ) (vars : Vars) (choices : List Choice)
-    → Performs g c.out place action s u → IsFreeAction action → WritesIn (length c.function.locals) scope action → variables_of u ≤ n → IsClean g vars → length vars ≡ length g.owners → Agree g c.out h.values vars
-    → IsPerformed g (λ r. SourcePerforms g.program h action place rest choices r) rest (Sets g c scope n) place (goal_of s) (goal_of u) h.values vars h.heap choices
-performing c scope h rest n vars choices (performs_assign {right = right} is) free_of is_in less clean long agree =
-    assign_performed c right scope h rest n vars choices is free_of is_in (omega (arith, less, (grown (performs_assign is)).variables)) clean long agree
-performing c scope h rest n vars choices (performs_result inner puts undone) free_of is_in less clean long agree = absurd free_of
-performing {g} c scope h rest n vars choices (performs_add (changes_variable {x = x} {v = v} {m = m} value made is undone)) free_of is_in less clean long agree =
+pub add_performed : {g : Graph} {place : Place} {l : Left} {e : Expr} {s u : Stage} (c : Around) (scope : List ℕ) (h : Here) (rest : Tasks) (n : ℕ) (vars : Vars) (choices : List Choice)
+    → Combined g c.out place a_sum l e s u → IsIn (length c.function.locals) scope l.variable → variables_of u ≤ n → IsClean g vars → length vars ≡ length g.owners → Agree g c.out h.values vars
+    → IsPerformed g (λ r. Combines (λ a b. a +ℤ b) h l e place rest choices r) rest (Sets g c scope n) place (goal_of s) (goal_of u) h.values vars h.heap choices
+add_performed {g} c scope h rest n vars choices (changes_variable {x = x} {v = v} {m = m} value made is undone) is_in less clean long agree =
     adding h rest (Sets g c scope n) vars choices value (may_set g c scope m n x v is_in (omega (arith, less, (on (appended is) (undefined undone)).variables)) made) made is undone clean long agree
-performing {g} c scope h rest n vars choices (performs_add (changes_field value made walk kind loads computes is undone)) free_of is_in less clean long agree =
+add_performed {g} c scope h rest n vars choices (changes_field value made walk kind loads computes is undone) is_in less clean long agree =
     adding_field h rest (Sets g c scope n) vars choices value made walk loads computes is undone clean long agree
-performing {g} c scope h rest n vars choices (performs_subtract (changes_variable {x = x} {v = v} {m = m} value made is undone)) free_of is_in less clean long agree =
+
+pub subtract_performed : {g : Graph} {place : Place} {l : Left} {e : Expr} {s u : Stage} (c : Around) (scope : List ℕ) (h : Here) (rest : Tasks) (n : ℕ) (vars : Vars) (choices : List Choice)
+    → Combined g c.out place a_difference l e s u → IsIn (length c.function.locals) scope l.variable → variables_of u ≤ n → IsClean g vars → length vars ≡ length g.owners → Agree g c.out h.values vars
+    → IsPerformed g (λ r. Combines (λ a b. a -ℤ b) h l e place rest choices r) rest (Sets g c scope n) place (goal_of s) (goal_of u) h.values vars h.heap choices
+subtract_performed {g} c scope h rest n vars choices (changes_variable {x = x} {v = v} {m = m} value made is undone) is_in less clean long agree =
     subtracting h rest (Sets g c scope n) vars choices value (may_set g c scope m n x v is_in (omega (arith, less, (on (appended is) (undefined undone)).variables)) made) made is undone clean long agree
-performing {g} c scope h rest n vars choices (performs_subtract (changes_field value made walk kind loads computes is undone)) free_of is_in less clean long agree =
+subtract_performed {g} c scope h rest n vars choices (changes_field value made walk kind loads computes is undone) is_in less clean long agree =
     subtracting_field h rest (Sets g c scope n) vars choices value made walk loads computes is undone clean long agree
-performing c scope h rest n vars choices (performs_call inner) free_of is_in less clean long agree = absurd free_of
-
--- ---- declarators
-pub declare_pair : {g : Graph} {c : Around} {scope : List ℕ} {late : List Limit} {callers : List Frame} {k : ℕ} {place : Place} {items : List Initial} {rest : Tasks} {s u : Stage} (values : Values) (vars : Vars) (heap : Heap) (choices : List Choice)
-    → AreOnce g → Declares g c.function c.out place items s u → DeclareIn (length c.function.locals) scope items → AreFreeItems items → points_of u ≤ c.out → IsWithin (variables_of u) late → k ≤ variables_of s
-    → Follows g c scope late callers (variables_of u) rest (goal_of u) → Held g (frame_of c scope late k values ∷ callers) vars
-    → PairOf g (config (task (perform (declaration place items)) rest) values heap) (goal_of s) vars heap choices
-declare_pair {g} {c} {scope} {late} {callers} {k} {place} {rest = rest} {s = s} values vars heap choices once declares_none scoped free_of bound within low follows h =
-    source_moved (task (perform (declaration place [])) rest) rest values values choices refl (match follows (held_raised g c scope late callers k (variables_of s) values vars low h)) (omega arith)
-declare_pair {g} {c} {scope} {late} {callers} {k} {place} {rest = rest} {u = u} values vars heap choices once (declares_undefined {x = x} {items = items} is (creates {n = m} {k = i} owned info) (appends {n = n} {b = b} point_is) more) scoped free_of bound within low follows h =
-    let v : VarId = var i in
-    let tasks : Tasks = task (perform (declaration place (record { variable = x; value = None } ∷ items))) rest in
-    let later : Tasks = task (perform (declaration place items)) rest in
-    let grew = declared more in
-    let near : IsWithin (suc i) late = within_less (suc i) (variables_of u) late grew.variables within in
-    both_go (does_step g tasks values heap choices (next (config later (with_variable values x None) heap) choices) refl refl)
-    (one (step_at g n place (Undef (v ∷ []) (point b)) vars heap choices (next (at b (with_value vars v None) heap) choices) point_is refl))
-    (match (performs (declarations more) scoped.1 free_of.1 bound within (omega arith) follows)
-    (changes_held g c scope late callers k (suc i) values (with_variable values x None) vars (with_value vars v None) once near (omega (arith, low)) (one_set x v None (owned, scoped.0, omega arith)) h))
-declare_pair {g} {c} {scope} {late} {callers} {k} {place} {rest = rest} {u = u} values vars heap choices once (declares_value {x = x} {right = right} {items = items} {n = n} is makes does more) scoped free_of bound within low follows h =
-    let tasks : Tasks = task (perform (declaration place (record { variable = x; value = Some right } ∷ items))) rest in
-    let later : Tasks = task (perform (declaration place items)) rest in
-    let near : IsWithin (variables_of n) late = within_less (variables_of n) (variables_of u) late (declared more).variables within in
-    subst (λ a. PairOf g (config tasks values heap) a vars heap choices) (sym (same_goal makes))
-    (performed_pair tasks values vars heap choices once refl
-    (performing c scope (here_of values heap) later (variables_of n) vars choices does free_of.0 scoped.0 (omega arith) h.clean h.long h.all.0.agree)
-    near (omega (arith, low, more_variables makes, (grown does).variables)) (performs (declarations more) scoped.1 free_of.1 bound within (omega arith) follows) h)
-  where
-    same_goal : {owner : Rattle.mc_lowering.specs.Graphs.Owner} {info : Rattle.mc_base.specs.declared.plain.VarInfo.VarInfo} {i j : Stage} {v : VarId} → Creates g owner info i v j → goal_of i ≡ goal_of j
-    same_goal (creates owned info) = refl
-
-    more_variables : {owner : Rattle.mc_lowering.specs.Graphs.Owner} {info : Rattle.mc_base.specs.declared.plain.VarInfo.VarInfo} {i j : Stage} {v : VarId} → Creates g owner info i v j → variables_of i ≤ variables_of j
-    more_variables (creates owned info) = omega arith
 
 -- ---- shapes
 demand_pair : {g : Graph} {q a : ℕ} {rest : Tasks} (P : Type 0) (kind : FaultKind) (place : Place) (tasks : Tasks) (values : Values) (vars : Vars) (heap : Heap) (choices : List Choice)

@@ -73,7 +73,7 @@ in_or_not v (u ∷ us) = elim (same_variable u v) [
 within_or : (n : ℕ) (vars : Vars) → (n < length vars) ⊎ (length vars < suc n)
 within_or n vars = elim (dec_lt n (length vars)) [ yes h ↦ inl h | no h ↦ inr (omega (arith, h)) ]
 
-past_none : (vars : Vars) (n : ℕ) → length vars < suc n → slice_index_or vars n None ≡ None
+pub past_none : (vars : Vars) (n : ℕ) → length vars < suc n → slice_index_or vars n None ≡ None
 past_none [] n past = refl
 past_none (x ∷ vars) zero past = absurd (omega (arith, past))
 past_none (x ∷ vars) (suc n) past = past_none vars n (omega (arith, past))

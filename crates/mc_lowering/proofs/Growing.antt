@@ -76,7 +76,7 @@ mutual
   computed (of_plus first second) = on (evaluated first) (evaluated second)
   computed (of_difference first second) = on (evaluated first) (evaluated second)
 
-all_evaluated : {g : Graph} {out : ℕ} {place : Place} {es : List Expr} {ts us : List VarId} {s u : Stage} {os : List Operand} → EvaluatesAll g out place es ts s os us u → Grows s u
+pub all_evaluated : {g : Graph} {out : ℕ} {place : Place} {es : List Expr} {ts us : List VarId} {s u : Stage} {os : List Operand} → EvaluatesAll g out place es ts s os us u → Grows s u
 all_evaluated {s = s} evaluates_none = same s
 all_evaluated (evaluates_next first rest) = on (evaluated first) (all_evaluated rest)
 
@@ -97,7 +97,7 @@ pub tested_perhaps : {g : Graph} {out : ℕ} {c : Option Cond} {s : Stage} {t f 
 tested_perhaps tests_always = record { points = omega arith; variables = omega arith }
 tested_perhaps (tests_once test) = tested test
 
-put : {g : Graph} {out : ℕ} {place : Place} {l : Left} {o : Operand} {ts : List VarId} {s u : Stage} → Puts g out place l o ts s u → Grows s u
+pub put : {g : Graph} {out : ℕ} {place : Place} {l : Left} {o : Operand} {ts : List VarId} {s u : Stage} → Puts g out place l o ts s u → Grows s u
 put (puts_variable made is undone) = on (appended is) (undefined undone)
 put (puts_field made walk is undone) = on (walked walk) (on (appended is) (undefined undone))
 
@@ -120,11 +120,11 @@ pub received : {g : Graph} {f : Function} {out x parameters : ℕ} {s u : Stage}
 received {s = s} receives_none = same s
 received (receives is makes rest) = on (created makes) (received rest)
 
-passed : {g : Graph} {place : Place} {vs : List VarId} {os : List Operand} {s u : Stage} → Passes g place vs os s u → Grows s u
+pub passed : {g : Graph} {place : Place} {vs : List VarId} {os : List Operand} {s u : Stage} → Passes g place vs os s u → Grows s u
 passed {s = s} passes_none = same s
 passed (passes is rest) = on (appended is) (passed rest)
 
-awaited : {g : Graph} {out : ℕ} {place : Place} {kind : Option Kind} {s u : Stage} {v : Option VarId} → Awaits g out place kind s v u → Grows s u
+pub awaited : {g : Graph} {out : ℕ} {place : Place} {kind : Option Kind} {s u : Stage} {v : Option VarId} → Awaits g out place kind s v u → Grows s u
 awaited {s = s} awaits_none = same s
 awaited (awaits makes is) = on (created makes) (appended is)
 

@@ -7,6 +7,7 @@ use Rattle.mc_base.specs.declared.ids.VarId.{VarId}
 use Rattle.mc_base.specs.declared.plain.Kind.{Kind}
 use Rattle.mc_flow.specs.Values.{value_in, with_value, without as flow_without}
 use Rattle.mc_resolved.specs.Configs.{Values, held, with_variable, without}
+use Rattle.mc_resolved.specs.Programs.{Function}
 use Rattle.mc_lowering.specs.Graphs.{Graph, Owner, local, result, temporary}
 use Rattle.mc_lowering.specs.Scopes.{IsIn}
 use Rattle.mc_lowering.proofs.Stepping.{Vars}
@@ -18,7 +19,7 @@ use Rattle.mc_lowering.proofs.Changing.{IsClean, length_set, length_without, in_
 abbrev pub AreOnce : Graph → Type 0
 AreOnce g = (owner : Owner) (v w : ℕ) → slice_get g.owners v ≡ Some owner → slice_get g.owners w ≡ Some owner → v ≡ w
 
-abbrev out_of : Owner → ℕ
+abbrev pub out_of : Owner → ℕ
 out_of (local out x) = out
 out_of (result out) = out
 out_of (temporary j kind) = j
@@ -28,7 +29,7 @@ variable_of (local out x) = x
 variable_of (result out) = 0
 variable_of (temporary j kind) = 0
 
-abbrev sort_of : Owner → ℕ
+abbrev pub sort_of : Owner → ℕ
 sort_of (local out x) = 0
 sort_of (result out) = 1
 sort_of (temporary j kind) = 2
@@ -68,20 +69,20 @@ abbrev pub AreLate : Graph → ℕ → Values → List Limit → Type 0
 AreLate g out values [] = Unit {0}
 AreLate g out values (l ∷ ls) = IsLate g out values l × AreLate g out values ls
 
--- an occurrence of a function that runs: how many variables it has, which are in scope, and what they hold
+-- an occurrence of a function that runs: which of its variables are in scope, and what they hold
 pub record Frame : Type 0 where
   pub out : ℕ
-  pub count : ℕ
+  pub function : Function
   pub scope : List ℕ
   pub limits : List Limit
   pub values : Values
 
 pub record FrameHeld (g : Graph) (f : Frame) (vars : Vars) : Type 0 where
   pub agree : Agree g f.out f.values vars
-  pub long : length f.values ≡ f.count
+  pub long : length f.values ≡ length f.function.locals
   pub scoped : (x : ℕ) → (Contains f.scope x → ⊥) → held f.values x ≡ None
   pub late : AreLate g f.out f.values f.limits
-  pub quiet : (v : ℕ) → slice_get g.owners v ≡ Some (result f.out) → slice_index_or vars v None ≡ None
+  pub quiet : (kind : Kind) → f.function.result ≡ Some kind → (v : ℕ) → slice_get g.owners v ≡ Some (result f.out) → slice_index_or vars v None ≡ None
 
 abbrev pub AllHeld : Graph → List Frame → Vars → Type 0
 AllHeld g [] vars = Unit {0}
@@ -192,20 +193,20 @@ frame_apart g f vars v out x w owned apart h = record {
   long = h.long;
   scoped = h.scoped;
   late = h.late;
-  quiet = λ u owns. get_or-set_other vars v u w None (no_result g v u out x f.out owned owns) ∙ h.quiet u owns;
+  quiet = λ kind is u owns. get_or-set_other vars v u w None (no_result g v u out x f.out owned owns) ∙ h.quiet kind is u owns;
 }
 
-frames_apart : (g : Graph) (fs : List Frame) (vars : Vars) (v out x : ℕ) (w : Option ℤ) → slice_get g.owners v ≡ Some (local out x) → IsNone out fs → AllHeld g fs vars → AllHeld g fs (slice_set vars v w)
+pub frames_apart : (g : Graph) (fs : List Frame) (vars : Vars) (v out x : ℕ) (w : Option ℤ) → slice_get g.owners v ≡ Some (local out x) → IsNone out fs → AllHeld g fs vars → AllHeld g fs (slice_set vars v w)
 frames_apart g [] vars v out x w owned none all = tt
 frames_apart g (f ∷ fs) vars v out x w owned none all = (frame_apart g f vars v out x w owned none.0 all.0, frames_apart g fs vars v out x w owned none.1 all.1)
 
 abbrev pub with_values : Frame → Values → Frame
-with_values f values = record { out = f.out; count = f.count; scope = f.scope; limits = f.limits; values = values }
+with_values f values = record { out = f.out; function = f.function; scope = f.scope; limits = f.limits; values = values }
 
 length_put : (values : Values) (x : ℕ) (w : Option ℤ) → length (with_variable values x w) ≡ length values
 length_put values x w = length_set values x w
 
-pub set_held : (g : Graph) (f : Frame) (fs : List Frame) (vars : Vars) (x : ℕ) (v : VarId) (w : Option ℤ) → AreOnce g → slice_get g.owners v.0 ≡ Some (local f.out x) → IsIn f.count f.scope x → IsUnder v.0 f.limits
+pub set_held : (g : Graph) (f : Frame) (fs : List Frame) (vars : Vars) (x : ℕ) (v : VarId) (w : Option ℤ) → AreOnce g → slice_get g.owners v.0 ≡ Some (local f.out x) → IsIn (length f.function.locals) f.scope x → IsUnder v.0 f.limits
     → Held g (f ∷ fs) vars → Held g (with_values f (with_variable f.values x w) ∷ fs) (with_value vars v w)
 set_held g f fs vars x v w once owned is_in under h =
     let known : v.0 < length g.owners = slice_get_within g.owners v.0 (local f.out x) owned in
@@ -217,7 +218,7 @@ set_held g f fs vars x v w once owned is_in under h =
           long = length_put f.values x w ∙ mine.long;
           scoped = λ y absent. set_other f.values x y w (λ e. absent (subst (λ z. Contains f.scope z) (sym e) is_in.1)) ∙ mine.scoped y absent;
           late = late_set g f.out f.values x v.0 w f.limits once owned under mine.late;
-          quiet = λ u owns. get_or-set_other vars v.0 u w None (no_result g v.0 u f.out x f.out owned owns) ∙ mine.quiet u owns;
+          quiet = λ kind is u owns. get_or-set_other vars v.0 u w None (no_result g v.0 u f.out x f.out owned owns) ∙ mine.quiet kind is u owns;
         },
         frames_apart g fs vars v.0 f.out x w owned (inside_none f.out fs h.nested.0) h.all.1,
       );
@@ -248,11 +249,11 @@ pub record AreTheirs (g : Graph) (out : ℕ) (values : Values) (xs : List ℕ) (
   pub all : (x : ℕ) (v : VarId) → Contains xs x → slice_get g.owners v.0 ≡ Some (local out x) → Contains vs v ⊎ (held values x ≡ None)
   pub only : (v : VarId) → Contains vs v → (x : ℕ) × Contains xs x × (slice_get g.owners v.0 ≡ Some (local out x))
 
-abbrev var_at : ℕ → VarId
+abbrev pub var_at : ℕ → VarId
 var_at v = record { 0 = v }
 
 -- another owner's variable is kept
-kept_apart : (g : Graph) (out : ℕ) (values : Values) (xs : List ℕ) (vs : List VarId) (vars : Vars) (u : ℕ) → AreTheirs g out values xs vs → ((x : ℕ) → slice_get g.owners u ≡ Some (local out x) → ⊥)
+pub kept_apart : (g : Graph) (out : ℕ) (values : Values) (xs : List ℕ) (vs : List VarId) (vars : Vars) (u : ℕ) → AreTheirs g out values xs vs → ((x : ℕ) → slice_get g.owners u ≡ Some (local out x) → ⊥)
     → slice_index_or (flow_without vars vs) u None ≡ slice_index_or vars u None
 kept_apart g out values xs vs vars u theirs other =
     without_out vs vars (var_at u) (λ there. let one = theirs.only (var_at u) there in other one.0 one.2)
@@ -263,7 +264,7 @@ frame_kept g f out values xs vs vars theirs apart h = record {
   long = h.long;
   scoped = h.scoped;
   late = h.late;
-  quiet = λ u owns. kept_apart g out values xs vs vars u theirs (λ x owned. no_result g u u out x f.out owned owns refl) ∙ h.quiet u owns;
+  quiet = λ kind is u owns. kept_apart g out values xs vs vars u theirs (λ x owned. no_result g u u out x f.out owned owns refl) ∙ h.quiet kind is u owns;
 }
 
 pub frames_kept : (g : Graph) (fs : List Frame) (out : ℕ) (values : Values) (xs : List ℕ) (vs : List VarId) (vars : Vars) → AreTheirs g out values xs vs → IsNone out fs → AllHeld g fs vars → AllHeld g fs (flow_without vars vs)
@@ -301,7 +302,7 @@ undone_held g f fs later xs vs vars theirs undone h =
           long = undone.long ∙ mine.long;
           scoped = λ y absent. stays_undefined xs f.values later y undone (mine.scoped y absent);
           late = late_stays g f.out xs f.values later f.limits undone mine.late;
-          quiet = λ u owns. kept_apart g f.out f.values xs vs vars u theirs (λ x owned. no_result g u u f.out x f.out owned owns refl) ∙ mine.quiet u owns;
+          quiet = λ kind is u owns. kept_apart g f.out f.values xs vs vars u theirs (λ x owned. no_result g u u f.out x f.out owned owns refl) ∙ mine.quiet kind is u owns;
         },
         frames_kept g fs f.out f.values xs vs vars theirs (inside_none f.out fs h.nested.0) h.all.1,
       );
@@ -347,7 +348,7 @@ both_undone xs ys values mid later first second = record {
 
 -- ---- other scopes
 abbrev pub with_scope : Frame → List ℕ → List Limit → Frame
-with_scope f scope limits = record { out = f.out; count = f.count; scope = scope; limits = limits; values = f.values }
+with_scope f scope limits = record { out = f.out; function = f.function; scope = scope; limits = limits; values = f.values }
 
 pub rescoped : (g : Graph) (f : Frame) (fs : List Frame) (vars : Vars) (scope : List ℕ) (limits : List Limit) → ((x : ℕ) → (Contains scope x → ⊥) → held f.values x ≡ None) → AreLate g f.out f.values limits
     → Held g (f ∷ fs) vars → Held g (with_scope f scope limits ∷ fs) vars

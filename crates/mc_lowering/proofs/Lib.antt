@@ -28,3 +28,7 @@ pub mod Looping
 pub mod Forms
 pub mod Running
 pub mod Passing
+pub mod Leaving
+pub mod Calling
+pub mod Beginning
+pub mod Declaring

@@ -15,7 +15,6 @@ use Rattle.mc_lowering.specs.Graphs.{Graph, plain, head, Stage, stage, point, no
 use Rattle.mc_lowering.specs.Values.{Tests, TestsPerhaps, tests_always, tests_once}
 use Rattle.mc_lowering.specs.Lowering.{Loop, Around, in_loop, in_body, Lowers, declarations, simples, Starts, starts_nothing, starts_declaring, starts_performing, Finishes, finishes_none, finishes}
 use Rattle.mc_lowering.specs.Scopes.{IsScopedIn, StartsIn, FinishesIn, AreNew}
-use Rattle.mc_lowering.specs.CallFree.{IsCallFree, IsFreeStart, IsFreeLast}
 use Rattle.mc_lowering.proofs.Stepping.{Vars}
 use Rattle.mc_lowering.proofs.Evaluating.{goal_of}
 use Rattle.mc_lowering.proofs.Holding.{Limit, Frame, Held, AreTheirs, AreUndone, undone_held, in_left}
@@ -42,46 +41,46 @@ unlimited g c e turn scope late callers k j values vars h =
 
 ends_here : {g : Graph} {c : Around} {scope xs : List ℕ} {late : List Limit} {callers : List Frame} {condition : Option Cond} {a : Stmt} {rest : Tasks} {h e turn r first hp hk : ℕ} {q : Stage} (last : Option Simple)
     → IsLoop g c (xs ++ scope) condition a last h e turn first → Exits g c xs e r first → IsWithin first late → Follows g c scope late callers first rest r
-    → Finishes g c.out last q (stage h hp hk) → FinishesIn (length c.function.locals) (xs ++ scope) last → IsFreeLast last → hp ≤ c.out → hk ≤ first
+    → Finishes g c.out last q (stage h hp hk) → FinishesIn (length c.function.locals) (xs ++ scope) last → hp ≤ c.out → hk ≤ first
     → Follows g (around_loop c) (xs ++ scope) (outer_limits c xs first late) callers 0 (finished last (loop_tasks condition a last xs rest)) (goal_of q)
-ends_here None loops way_out within later finishes_none scoped free_of bound low = agains loops way_out within later
-ends_here {c = c} {xs = xs} {late = late} {first = first} {hk = hk} (Some x) loops way_out within later (finishes does) scoped free_of bound low =
-    performs {a = simple x} (simples does) scoped free_of bound (within_outer c xs hk first late low within) (omega arith) (agains loops way_out within later)
+ends_here None loops way_out within later finishes_none scoped bound low = agains loops way_out within later
+ends_here {c = c} {xs = xs} {late = late} {first = first} {hk = hk} (Some x) loops way_out within later (finishes does) scoped bound low =
+    performs {a = simple x} (simples does) scoped bound (within_outer c xs hk first late low within) (omega arith) (agains loops way_out within later)
 
 -- from the end of a turn to the loop again
 pub turn_follows : {g : Graph} {c : Around} {scope xs : List ℕ} {late : List Limit} {callers : List Frame} {condition : Option Cond} {a : Stmt} {last : Option Simple} {rest : Tasks} {h e turn r first : ℕ}
     → IsLoop g c (xs ++ scope) condition a last h e turn first → Exits g c xs e r first → IsWithin first late → Follows g c scope late callers first rest r
     → Follows g (around_loop c) (xs ++ scope) (outer_limits c xs first late) callers 0 (finished last (loop_tasks condition a last xs rest)) turn
-turn_follows {last = last} (is_loop asking begins body scoped free_of bound low ends last_part last_scoped last_free last_bound last_low) way_out within later =
-    skips ends (ends_here last (is_loop asking begins body scoped free_of bound low ends last_part last_scoped last_free last_bound last_low) way_out within later last_part last_scoped last_free last_bound last_low)
+turn_follows {last = last} (is_loop asking begins body scoped bound low ends last_part last_scoped last_bound last_low) way_out within later =
+    skips ends (ends_here last (is_loop asking begins body scoped bound low ends last_part last_scoped last_bound last_low) way_out within later last_part last_scoped last_bound last_low)
 
 -- the body
 body_follows : {g : Graph} {c : Around} {scope xs : List ℕ} {late : List Limit} {callers : List Frame} {condition : Option Cond} {a : Stmt} {last : Option Simple} {rest : Tasks} {h e turn r first t ip ik : ℕ} {s : Stage}
     → IsLoop g c (xs ++ scope) condition a last h e turn first → Exits g c xs e r first → IsWithin first late → Follows g c scope late callers first rest r
-    → Skips g t (goal_of s) → Lowers g (in_loop c e turn) a s (stage turn ip ik) → IsScopedIn (length c.function.locals) (xs ++ scope) a → IsCallFree a → ip ≤ c.out → ik ≤ first
+    → Skips g t (goal_of s) → Lowers g (in_loop c e turn) a s (stage turn ip ik) → IsScopedIn (length c.function.locals) (xs ++ scope) a → ip ≤ c.out → ik ≤ first
     → Follows g (in_loop c e turn) (xs ++ scope) (outer_limits c xs first late) callers 0 (task (perform a) (task end_turn (finished last (loop_tasks condition a last xs rest)))) t
-body_follows {c = c} {xs = xs} {late = late} {first = first} {ik = ik} loops way_out within later begins body scoped free_of bound low =
-    skips begins (performs body scoped free_of bound (within_outer c xs ik first late low within) (omega arith) (ends_turn loops way_out within later))
+body_follows {c = c} {xs = xs} {late = late} {first = first} {ik = ik} loops way_out within later begins body scoped bound low =
+    skips begins (performs body scoped bound (within_outer c xs ik first late low within) (omega arith) (ends_turn loops way_out within later))
 
 pub again_pair : {g : Graph} {c : Around} {scope xs : List ℕ} {late : List Limit} {callers : List Frame} {condition : Option Cond} {a : Stmt} {last : Option Simple} {rest : Tasks} {h e turn r first k : ℕ} (values : Values) (vars : Vars) (heap : Heap) (choices : List Choice)
     → IsLoop g c (xs ++ scope) condition a last h e turn first → Exits g c xs e r first → IsWithin first late → Follows g c scope late callers first rest r
     → Held g (frame_of (around_loop c) (xs ++ scope) (outer_limits c xs first late) k values ∷ callers) vars → PairOf g (config (loop_tasks condition a last xs rest) values heap) h vars heap choices
 again_pair {g} {c} {scope} {xs} {late} {callers} {a = a} {last = last} {rest = rest} {e = e} {turn = turn} {first = first} {k = k} values vars heap choices
-    (is_loop (asks {c = d} skip test_there) begins body scoped free_of bound low ends last_part last_scoped last_free last_bound last_low) way_out within later h =
-    let loops = is_loop (asks skip test_there) begins body scoped free_of bound low ends last_part last_scoped last_free last_bound last_low in
+    (is_loop (asks {c = d} skip test_there) begins body scoped bound low ends last_part last_scoped last_bound last_low) way_out within later h =
+    let loops = is_loop (asks skip test_there) begins body scoped bound low ends last_part last_scoped last_bound last_low in
     let tasks : Tasks = loop_tasks (Some d) a last xs rest in
     skips_pair vars heap choices skip
     (source_moved tasks (task (test d (go_on (task (perform a) (task end_turn (finished last tasks)))) (go_on (task (end_loop xs) rest))) done) values values choices refl
     (match_test {f = frame_of (around_loop c) (xs ++ scope) (outer_limits c xs first late) k values} test_there
-    (leads (body_follows loops way_out within later begins body scoped free_of bound low) (λ some others there. relimited g c e turn (xs ++ scope) (outer_limits c xs first late) callers k 0 some others there))
+    (leads (body_follows loops way_out within later begins body scoped bound low) (λ some others there. relimited g c e turn (xs ++ scope) (outer_limits c xs first late) callers k 0 some others there))
     (leads (ends_loop way_out later) (λ some others there. there)) h) (omega arith))
 again_pair {g} {c} {scope} {xs} {late} {callers} {a = a} {last = last} {rest = rest} {e = e} {turn = turn} {first = first} {k = k} values vars heap choices
-    (is_loop (asks_nothing skip goes) begins body scoped free_of bound low ends last_part last_scoped last_free last_bound last_low) way_out within later h =
-    let loops = is_loop (asks_nothing skip goes) begins body scoped free_of bound low ends last_part last_scoped last_free last_bound last_low in
+    (is_loop (asks_nothing skip goes) begins body scoped bound low ends last_part last_scoped last_bound last_low) way_out within later h =
+    let loops = is_loop (asks_nothing skip goes) begins body scoped bound low ends last_part last_scoped last_bound last_low in
     let tasks : Tasks = loop_tasks None a last xs rest in
     source_moved tasks (task (always (task (perform a) (task end_turn (finished last tasks)))) done) values values choices refl
     (match_always {f = frame_of (around_loop c) (xs ++ scope) (outer_limits c xs first late) k values} skip goes
-    (leads (body_follows loops way_out within later begins body scoped free_of bound low) (λ some others there. relimited g c e turn (xs ++ scope) (outer_limits c xs first late) callers k 0 some others there)) h) (omega arith)
+    (leads (body_follows loops way_out within later begins body scoped bound low) (λ some others there. relimited g c e turn (xs ++ scope) (outer_limits c xs first late) callers k 0 some others there)) h) (omega arith)
 
 -- the end of a turn
 pub turn_pair : {g : Graph} {c : Around} {scope xs : List ℕ} {late : List Limit} {callers : List Frame} {condition : Option Cond} {a : Stmt} {last : Option Simple} {rest : Tasks} {h e turn r first k : ℕ} (values : Values) (vars : Vars) (heap : Heap) (choices : List Choice)
@@ -153,13 +152,13 @@ pub exits_nothing : {g : Graph} {c : Around} {place : Place} {s u : Stage} → A
 exits_nothing {g} {c} {u = u} is = exits_of is (leaves (nothing_made g c.out u) undefines_none)
 
 pub starts_follow : {g : Graph} {scope : List ℕ} {late : List Limit} {callers : List Frame} {rest : Tasks} {s u : Stage} (f : Around) (start : Start)
-    → Starts g f.function f.out start s u → StartsIn (length f.function.locals) scope start → IsFreeStart start → points_of u ≤ f.out → IsWithin (variables_of u) late
+    → Starts g f.function f.out start s u → StartsIn (length f.function.locals) scope start → points_of u ≤ f.out → IsWithin (variables_of u) late
     → ((k : ℕ) → Follows g (around_loop f) scope late callers k rest (goal_of u)) → Follows g (around_loop f) scope late callers 0 (started start rest) (goal_of s)
-starts_follow f source.nothing starts_nothing scoped free_of bound within later = later 0
-starts_follow {u = u} f (source.declares place items) (starts_declaring declares) scoped free_of bound within later =
-    performs {a = declaration place items} (declarations declares) scoped free_of bound within (omega arith) (later (variables_of u))
-starts_follow {u = u} f (source.performs x) (starts_performing does) scoped free_of bound within later =
-    performs {a = simple x} (simples does) scoped free_of bound within (omega arith) (later (variables_of u))
+starts_follow f source.nothing starts_nothing scoped bound within later = later 0
+starts_follow {u = u} f (source.declares place items) (starts_declaring declares) scoped bound within later =
+    performs {a = declaration place items} (declarations declares) scoped bound within (omega arith) (later (variables_of u))
+starts_follow {u = u} f (source.performs x) (starts_performing does) scoped bound within later =
+    performs {a = simple x} (simples does) scoped bound within (omega arith) (later (variables_of u))
 
 pub started_weight : (start : Start) (rest : Tasks) → weight (started start rest) ≤ 1 + weight rest
 started_weight source.nothing rest = omega arith

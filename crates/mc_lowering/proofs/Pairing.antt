@@ -130,7 +130,7 @@ pub led_match : {g : Graph} {f : Frame} {callers : List Frame} {tasks : Tasks} {
 led_match values vars heap (leads follows moves) h = match follows (moves values vars h)
 led_match values vars heap (leads_to_test tests truly falsely) h = match_test tests truly falsely h
 
-goes_further : (g : Graph) {r : flow.Result} {d : flow.Config} {some left : List Choice} (e : flow.Config) → Goes (FlowStep g) d some (next e left) → Goes (FlowStep g) e left r → Goes (FlowStep g) d some r
+pub goes_further : (g : Graph) {r : flow.Result} {d : flow.Config} {some left : List Choice} (e : flow.Config) → Goes (FlowStep g) d some (next e left) → Goes (FlowStep g) e left r → Goes (FlowStep g) d some r
 goes_further g e (one step) rest = more step rest
 goes_further g e (more step tail) rest = more step (goes_further g e tail rest)
 

@@ -28,7 +28,7 @@ use Rattle.mc_lowering.specs.Runs.{FlowStep}
 use Rattle.mc_lowering.proofs.Simulating.{Goes, one}
 use Rattle.mc_lowering.proofs.SourceOnce.{one_value}
 use Rattle.mc_lowering.proofs.Stepping.{Vars, at, Never, step_at}
-use Rattle.mc_lowering.proofs.Evaluating.{AreTemporaries, OnlyNew, nothing_new, both_new, Agree, agree_later, goal_of, Leads, leads_on, leads_step, stays, Ended, ended_waits, ended_faults, ended_gives, evaluating, temporaries, grows, Kept, kept, kept_value, set_here, set_elsewhere, used_owner}
+use Rattle.mc_lowering.proofs.Evaluating.{AreTemporaries, OnlyNew, nothing_new, both_new, Agree, agree_later, goal_of, Leads, leads_on, stays, Ended, ended_waits, ended_faults, ended_gives, evaluating, temporaries, grows, Kept, kept, kept_value, set_here, set_elsewhere, used_owner}
 use Rattle.mc_lowering.proofs.Changing.{IsClean, length_set, length_without, same_list, same_variable, in_or_not, without_in, without_out}
 use Rattle.mc_lowering.proofs.Holding.{AreOnce, Frame, AllHeld, IsNone, frames_apart, same_local}
 use Rattle.mc_lowering.proofs.Growing.{variables_of, received}
@@ -116,12 +116,17 @@ received_owned {x = x} (receives is (creates owned info) rest) = ((x, owned), re
 
 pub data Copied (g : Graph) (place : Place) (vs : List VarId) (ws : List (Option ℤ)) (a b : ℕ) (vars : Vars) (heap : Heap) (choices : List Choice) : Type 0 where
   copied_none : all_there ws ≡ None → Goes (FlowStep g) (at a vars heap) choices (finished_run (fault Uninit place)) → Copied g place vs ws a b vars heap choices
-  copied_all : (zs : List ℤ) → all_there ws ≡ Some zs → Leads g heap a vars choices b (put_all vs zs vars) choices → Copied g place vs ws a b vars heap choices
+  copied_all : (zs : List ℤ) → all_there ws ≡ Some zs → Goes (FlowStep g) (at a vars heap) choices (next (at b (put_all vs zs vars) heap) choices) → Copied g place vs ws a b vars heap choices
+  copied_same : vs ≡ [] → all_there ws ≡ Some [] → a ≡ b → Copied g place vs ws a b vars heap choices
 
 copied_behind : (g : Graph) (place : Place) (v : VarId) (vs : List VarId) (z : ℤ) (ws : List (Option ℤ)) (a m b : ℕ) (vars : Vars) (heap : Heap) (choices : List Choice)
     → FlowStep g (at a vars heap) choices (next (at m (with_value vars v (Some z)) heap) choices) → Copied g place vs ws m b (with_value vars v (Some z)) heap choices → Copied g place (v ∷ vs) (Some z ∷ ws) a b vars heap choices
 copied_behind g place v vs z ws a m b vars heap choices step (copied_none none goes) = copied_none (ap (option_map (λ zs. z ∷ zs)) none) (Rattle.mc_lowering.proofs.Simulating.more step goes)
-copied_behind g place v vs z ws a m b vars heap choices step (copied_all zs some leads) = copied_all (z ∷ zs) (ap (option_map (λ ys. z ∷ ys)) some) (leads_on (leads_step step) leads)
+copied_behind g place v vs z ws a m b vars heap choices step (copied_all zs some goes) = copied_all (z ∷ zs) (ap (option_map (λ ys. z ∷ ys)) some) (Rattle.mc_lowering.proofs.Simulating.more step goes)
+copied_behind g place v vs z ws a m b vars heap choices step (copied_same empty some same) =
+    copied_all (z ∷ []) (ap (option_map (λ ys. z ∷ ys)) some)
+    (one (subst (λ q. FlowStep g (at a vars heap) choices (next (at q (put_all vs [] (with_value vars v (Some z))) heap) choices)) same
+    (subst (λ us. FlowStep g (at a vars heap) choices (next (at m (put_all us [] (with_value vars v (Some z))) heap) choices)) (sym empty) step)))
 
 same_operand : (g : Graph) (inner x : ℕ) (v : VarId) (w : Option ℤ) (vars : Vars) (o : Operand) → slice_get g.owners v.0 ≡ Some (local inner x) → IsOuter g inner o → operand_value (with_value vars v w) o ≡ operand_value vars o
 same_operand g inner x v w vars (Var y) owned outer = set_elsewhere vars v y w (λ e. outer x (subst (λ z. slice_get g.owners z.0 ≡ Some (local inner x)) e owned))
@@ -144,7 +149,7 @@ copied_first g place v vs o os a m b vars heap choices (Some z) holds is rest =
 
 pub copying : {g : Graph} {place : Place} {vs : List VarId} {os : List Operand} {s u : Stage} (inner : ℕ) (vars : Vars) (heap : Heap) (choices : List Choice) → Passes g place vs os s u → AreOwned g inner vs → AreOuter g inner os
     → Copied g place vs (map (operand_value vars) os) (goal_of s) (goal_of u) vars heap choices
-copying {g} {s = s} inner vars heap choices passes_none owned outer = copied_all [] refl (stays g heap (goal_of s) vars choices)
+copying {g} {s = s} inner vars heap choices passes_none owned outer = copied_same refl refl refl
 copying {g} {place} {u = u} inner vars heap choices (passes {v = v} {vs = vs} {o = o} {os = os} (appends {n = n} {b = b} is) rest) owned outer =
     copied_first g place v vs o os n b (goal_of u) vars heap choices (operand_value vars o) refl is
     (λ z. subst (λ ws. Copied g place vs ws b (goal_of u) (with_value vars v (Some z)) heap choices) (same_operands g inner owned.0.0 v (Some z) vars os owned.0.1 outer.1)

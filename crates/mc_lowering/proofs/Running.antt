@@ -1,4 +1,4 @@
--- Runs of a program without calls and of its flow graph match.
+-- Runs of a program and of its flow graph match.
 use Rattle.std.proofs.Common.{◌<◌, ◌≤◌, ◌≡◌, ℕ, zero, suc, ℤ, List, [], ◌∷◌, Option, Some, None, length, refl, sym, ap, ◌∙◌, subst, arith}
 use Rattle.std.specs.Prelude.{◌↔◌, slice_index_or, replicate}
 use Rattle.mc_base.specs.Runs.{next, Reaches}
@@ -13,8 +13,7 @@ use Rattle.mc_resolved.specs.Steps.{passed}
 use Rattle.mc_lowering.specs.Graphs.{Graph, plain, Stage, stage, nowhere, IsPoint, Appends, appends, creates}
 use Rattle.mc_lowering.specs.Lowering.{in_body, LowersAll, Answers, answers_none, answers, Falls, falls_in_main, falls, Makes, makes, IsLowering}
 use Rattle.mc_lowering.specs.Runs.{ComesTo, FlowStep, RunsMatch}
-use Rattle.mc_lowering.specs.Scopes.{IsScoped}
-use Rattle.mc_lowering.specs.CallFree.{AreCallFree}
+use Rattle.mc_lowering.specs.Scopes.{IsScoped, AreScoped, AreNoticed}
 use Rattle.mc_lowering.proofs.Simulating.{alike, longer, left_of_one}
 use Rattle.mc_lowering.proofs.SourceOnce.{source_once}
 use Rattle.mc_lowering.proofs.FlowOnce.{flow_once}
@@ -57,7 +56,7 @@ begins_held g f out k scope same = record {
       long = length_passed f.locals;
       scoped = λ x absent. nothing_passed f.locals x;
       late = (no_late g out (passed 0 f.locals []) k, tt);
-      quiet = λ v owned. undefined_all (length g.flow.vars) v;
+      quiet = λ kind is v owned. undefined_all (length g.flow.vars) v;
     },
     tt,
   );
@@ -76,25 +75,25 @@ answers_goal : {g : Graph} {out : ℕ} {kind : Option Rattle.mc_base.specs.decla
 answers_goal answers_none = refl
 answers_goal (answers (creates owned info)) = refl
 
-body_match : {g : Graph} {entry : Function} {out k : ℕ} {m n : Stage} → length g.flow.vars ≡ length g.owners → (scoped : IsScoped entry) → AreCallFree entry.body
+body_match : {g : Graph} {entry : Function} {out k : ℕ} {m n : Stage} → length g.flow.vars ≡ length g.owners → (scoped : IsScoped entry)
     → LowersAll g (in_body entry out) entry.body m n → Falls g entry out n (stage out out k) → IsPoint g out plain nowhere Rattle.mc_flow.specs.declared.instr.Instr.TheVariants.End
     → Match g (resolved.start entry) (at (goal_of m) (replicate (length g.flow.vars) None) Rattle.std.specs.FinMap.empty)
-body_match {g} {entry} {out} {n = n} same scoped free_of body fall ends =
-    match (follows_in_a_row entry.body 0 body scoped.body free_of (falls_bound fall) tt (omega arith) (over fall refl ends)) (begins_held g entry out 0 scoped.own same)
+body_match {g} {entry} {out} {n = n} same scoped body fall ends =
+    match (follows_in_a_row entry.body 0 body scoped.body (falls_bound fall) tt (omega arith) (over fall refl ends)) (begins_held g entry out 0 scoped.own same)
 
-made_match : {g : Graph} {entry : Function} {out count : ℕ} → length g.flow.vars ≡ length g.owners → (once : Rattle.mc_lowering.proofs.Holding.AreOnce g) → IsScoped entry → AreCallFree entry.body → Makes g entry out count → RunsMatch g entry
-made_match {g} {entry} same once scoped free_of (makes {out = out} (appends {b = b} begin) result body fall ends) choices final =
+made_match : {g : Graph} {entry : Function} {out count : ℕ} → length g.flow.vars ≡ length g.owners → Rattle.mc_lowering.proofs.Holding.AreOnce g → AreScoped g.program → AreNoticed g.program → IsScoped entry → Makes g entry out count → RunsMatch g entry
+made_match {g} {entry} same once all_scoped all_noticed scoped (makes {out = out} (appends {b = b} begin) result body fall ends) choices final =
     let start : flow.Config = at b (replicate (length g.flow.vars) None) Rattle.std.specs.FinMap.empty in
     let step : FlowStep g (flow.start g.flow) choices (next start choices) = skip_step g 0 b plain nowhere (replicate (length g.flow.vars) None) Rattle.std.specs.FinMap.empty choices begin tt in
     let there : Match g (resolved.start entry) start =
-    subst (λ z. Match g (resolved.start entry) (at z (replicate (length g.flow.vars) None) Rattle.std.specs.FinMap.empty)) (sym (answers_goal result)) (body_match same scoped free_of body fall ends) in
+    subst (λ z. Match g (resolved.start entry) (at z (replicate (length g.flow.vars) None) Rattle.std.specs.FinMap.empty)) (sym (answers_goal result)) (body_match same scoped body fall ends) in
     let both : ComesTo (resolved.Step g.program) (resolved.start entry) choices final ↔ ComesTo (FlowStep g) start choices final =
-    alike (resolved.Step g.program) (FlowStep g) (Match g) (λ c. weight c.tasks) (source_once g.program) (flow_once g) (pairs g once) (resolved.start entry) start choices final there in (
+    alike (resolved.Step g.program) (FlowStep g) (Match g) (λ c. weight c.tasks) (source_once g.program) (flow_once g) (pairs g once all_scoped all_noticed) (resolved.start entry) start choices final there in (
       λ run. longer (FlowStep g) final step (both.0 run),
       λ run.
           let left : (m : ℕ) × (m < run.0) × Reaches (FlowStep g) m start choices final = left_of_one (FlowStep g) (flow_once g) (flow.start g.flow) choices (next start choices) run.0 final step run.1 in
           both.1 (left.0, left.2),
     )
 
-pub call_free_runs_match : (g : Graph) (entry : Function) (out count : ℕ) → IsLowering g entry out count → IsScoped entry → AreCallFree entry.body → RunsMatch g entry
-call_free_runs_match g entry out count l scoped free_of = made_match (l.variables ∙ sym l.owners) l.once scoped free_of l.made
+pub runs_match : (g : Graph) (entry : Function) (out count : ℕ) → IsLowering g entry out count → AreScoped g.program → AreNoticed g.program → RunsMatch g entry
+runs_match g entry out count l all_scoped all_noticed = made_match (l.variables ∙ sym l.owners) l.once all_scoped all_noticed (all_scoped g.program.entry entry l.there) l.made

@@ -1,17 +1,20 @@
 -- From within a loop to the end of its turn, and from within a function to its end.
-use Rattle.std.proofs.Common.{◌<◌, ◌≤◌, ◌+◌, ◌≡◌, ◌++◌, ℕ, ℤ, List, [], ◌∷◌, Option, Some, None, refl, sym, ap, ◌∙◌, subst, arith}
+use Rattle.std.proofs.Common.{◌<◌, ◌≤◌, ◌+◌, ◌≡◌, ◌++◌, ℕ, ℤ, List, [], ◌∷◌, Option, Some, None, length, refl, sym, ap, ◌∙◌, subst, arith}
 use Rattle.std.specs.Prelude.{Contains}
-use Rattle.mc_flow.specs.declared.instr.Instr.TheVariants.{End}
-use Rattle.mc_resolved.specs.Programs.{Cond, Simple, Stmt, simple}
-use Rattle.mc_resolved.specs.Configs.{Values, held, without, perform, again, end_block, end_loop, end_turn, Tasks, done, task}
-use Rattle.mc_resolved.specs.Moves.{finished, behind_loop, at_turn}
+use Rattle.mc_flow.specs.declared.instr.Instr.TheVariants.{Undef, End}
+use Rattle.mc_resolved.specs.Programs.{Cond, Simple, Stmt, simple, Function}
+use Rattle.mc_base.specs.declared.ids.VarId.{VarId}
+use Rattle.mc_text.specs.declared.place.Place.{Place}
+use Rattle.mc_lowering.proofs.Evaluating.{goal_of}
+use Rattle.mc_resolved.specs.Configs.{Values, Target, held, without, perform, again, end_block, end_loop, end_turn, Tasks, done, task}
+use Rattle.mc_resolved.specs.Moves.{finished, behind_loop, at_turn, given}
 use Rattle.mc_resolved.specs.Steps.{returning}
-use Rattle.mc_lowering.specs.Graphs.{Graph, plain, nowhere, IsPoint}
+use Rattle.mc_lowering.specs.Graphs.{Graph, plain, nowhere, Stage, stage, point, IsPoint, AreMade}
 use Rattle.mc_lowering.specs.Lowering.{Loop, Around, in_block}
 use Rattle.mc_lowering.proofs.Stepping.{Vars}
-use Rattle.mc_lowering.proofs.Holding.{Limit, Frame, Held, AreUndone, both_undone, without_undone, in_left, in_right}
+use Rattle.mc_lowering.proofs.Holding.{Limit, limit, IsLate, AreLate, Frame, Held, AreUndone, both_undone, without_undone, in_left, in_right}
 use Rattle.mc_lowering.proofs.Growing.{variables_of, lowered}
-use Rattle.mc_lowering.proofs.Following.{IsLoop, Exits, IsWithin, frame_of, around_loop, outer_limits, loop_tasks, Follows, over, performs, skips, raises, ends_block, agains, ends_turn, ends_loop, weight, limited, no_late, held_raised}
+use Rattle.mc_lowering.proofs.Following.{IsLoop, Exits, IsWithin, frame_of, around_loop, outer_limits, loop_tasks, Follows, over, performs, skips, raises, ends_block, agains, ends_turn, ends_loop, ends_call, below, IsResult, Wants, weight, limited, no_late, held_raised}
 use Rattle.mc_lowering.proofs.Entering.{block_left}
 
 -- ---- the end of the turn
@@ -90,7 +93,7 @@ none_undone values = record { none = λ x there. absurd (omega (arith, there.1))
 pub to_turn : {g : Graph} {c : Around} {scope : List ℕ} {late : List Limit} {callers : List Frame} {k a : ℕ} {tasks : Tasks} (l : Loop) → c.loop ≡ Some l
     → Follows g c scope late callers k tasks a → ToTurn g c scope late callers k tasks
 to_turn l e (over fall same is) = absurd (cc)
-to_turn l e (performs {a = a} {rest = rest} {s = s} {u = u} is scoped free_of bound within low more) =
+to_turn l e (performs {a = a} {rest = rest} {s = s} {u = u} is scoped bound within low more) =
     let grown = lowered is in
     turn_before (task (perform a) rest) (omega (arith, low, grown.variables)) (λ values. refl) (λ values. refl) (omega arith) (to_turn l e more)
 to_turn l e (skips {tasks = tasks} is more) = to_turn l e more
@@ -157,23 +160,38 @@ to_turn {g} {k = k} l e (ends_turn {c = c} {scope = scope} {xs = xs} {late = lat
       less_rest = omega (arith, lighter_rest last condition a xs rest);
     }
 to_turn l e (ends_loop way_out more) = absurd (cc)
+to_turn l e (ends_call is made res inside wanted low within more) = absurd (cc)
 
--- ---- the end of the entry
-pub record ToEnd (g : Graph) (out : ℕ) (tasks : Tasks) : Type 0 where
-  pub returns : (v : Option ℤ) → returning tasks v ≡ ([], done)
-  pub is : IsPoint g out plain nowhere End
+-- ---- the end of the function
+-- where the run ends, or the caller goes on
+pub data ToOut (g : Graph) (f : Function) (out : ℕ) (late : List Limit) : List Frame → Tasks → Type 0 where
+  out_of_run : {callers : List Frame} {tasks : Tasks} → ((v : Option ℤ) → returning tasks v ≡ ([], done)) → IsPoint g out plain nowhere End → ToOut g f out late callers tasks
+  out_of_call : {tasks rest : Tasks} {d : Around} {scope : List ℕ} {outer_late : List Limit} {callers : List Frame} {k j b m : ℕ} {place : Place} {us : List VarId} {saved : Values} {target : Target} {ret : Option VarId} {s : Stage}
+      → ((v : Option ℤ) → returning tasks v ≡ (saved, given target v rest))
+      → ((values : Values) → AreLate g out values late → IsLate g out values (limit m (below (length f.locals))))
+      → IsPoint g out plain place (Undef us (point (goal_of s))) → AreMade g out (λ x. x < length f.locals) (stage out out m) us → IsResult g f out ret → out < d.out
+      → Wants g d scope target ret s j b → k ≤ j → IsWithin j outer_late → Follows g d scope outer_late callers j rest b
+      → ToOut g f out late (frame_of d scope outer_late k saved ∷ callers) tasks
 
-pub to_end : {g : Graph} {c : Around} {scope : List ℕ} {late : List Limit} {callers : List Frame} {k a : ℕ} {tasks : Tasks} → Follows g c scope late callers k tasks a → ToEnd g c.out tasks
-to_end (over fall same is) = record { returns = λ v. refl; is = is }
-to_end (performs is scoped free_of bound within low more) = let t = to_end more in record { returns = t.returns; is = t.is }
-to_end (skips is more) = to_end more
-to_end (raises low more) = to_end more
-to_end (ends_block leave low more) = let t = to_end more in record { returns = t.returns; is = t.is }
-to_end (agains loops way_out within more) = let t = to_end more in record { returns = t.returns; is = t.is }
-to_end (ends_turn {xs = xs} {condition = condition} {a = a} {last = last} {rest = rest} loops way_out within more) =
-    let t = to_end more in record { returns = λ v. passes_turn last v ∙ t.returns v; is = t.is }
+out_before : {g : Graph} {f : Function} {out : ℕ} {late : List Limit} {callers : List Frame} {tasks : Tasks} (wider : List Limit) (more : Tasks) → ((v : Option ℤ) → returning more v ≡ returning tasks v)
+    → ((values : Values) → AreLate g out values wider → AreLate g out values late) → ToOut g f out late callers tasks → ToOut g f out wider callers more
+out_before wider more same less (out_of_run ends is) = out_of_run (λ v. same v ∙ ends v) is
+out_before wider more same less (out_of_call ends late is made res inside wanted low within follows) =
+    out_of_call (λ v. same v ∙ ends v) (λ values there. late values (less values there)) is made res inside wanted low within follows
+
+pub to_out : {g : Graph} {c : Around} {scope : List ℕ} {late : List Limit} {callers : List Frame} {k a : ℕ} {tasks : Tasks} → Follows g c scope late callers k tasks a → ToOut g c.function c.out late callers tasks
+to_out (over fall same is) = out_of_run (λ v. refl) is
+to_out (performs {late = late} {a = a} {rest = rest} is scoped bound within low more) = out_before late (task (perform a) rest) (λ v. refl) (λ values there. there) (to_out more)
+to_out (skips is more) = to_out more
+to_out (raises low more) = to_out more
+to_out (ends_block {xs = xs} {late = late} {rest = rest} leave low more) = out_before late (task (end_block xs) rest) (λ v. refl) (λ values there. there) (to_out more)
+to_out (agains {c = c} {xs = xs} {late = late} {condition = condition} {a = a} {last = last} {rest = rest} {first = first} loops way_out within more) =
+    out_before (outer_limits c xs first late) (loop_tasks condition a last xs rest) (λ v. refl) (λ values there. there.1) (to_out more)
+to_out (ends_turn {c = c} {xs = xs} {late = late} {condition = condition} {a = a} {last = last} {rest = rest} {first = first} loops way_out within more) =
+    out_before (outer_limits c xs first late) (task end_turn (finished last (loop_tasks condition a last xs rest))) (λ v. passes_turn last v) (λ values there. there.1) (to_out more)
   where
     passes_turn : (end : Option Simple) (v : Option ℤ) → returning (finished end (loop_tasks condition a last xs rest)) v ≡ returning rest v
     passes_turn None v = refl
     passes_turn (Some x) v = refl
-to_end (ends_loop way_out more) = let t = to_end more in record { returns = t.returns; is = t.is }
+to_out (ends_loop {c = c} {xs = xs} {late = late} {rest = rest} {first = first} way_out more) = out_before (outer_limits c xs first late) (task (end_loop xs) rest) (λ v. refl) (λ values there. there.1) (to_out more)
+to_out (ends_call is made res inside wanted low within more) = out_of_call (λ v. refl) (λ values there. there.0) is made res inside wanted low within more

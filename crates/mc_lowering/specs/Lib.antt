@@ -3,5 +3,4 @@ pub mod Values
 pub mod Lowering
 pub mod Runs
 pub mod Scopes
-pub mod CallFree
 pub mod Examples
