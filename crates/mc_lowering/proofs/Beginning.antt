@@ -113,10 +113,10 @@ data Awaited (g : Graph) (f : Function) (inner : ℕ) (ret : Option VarId) (a b 
 awaiting : {g : Graph} {f : Function} {inner : ℕ} {place : Place} {res : Option Kind} {ret : Option VarId} {s u : Stage} (vars : Vars) (heap : Heap) (choices : List Choice) → f.result ≡ res → Awaits g inner place res s ret u
     → Awaited g f inner ret (goal_of s) (goal_of u) vars heap choices
 awaiting vars heap choices e awaits_none = awaited_nothing e refl refl
-awaiting {g} {place = place} vars heap choices e (awaits (creates {k = k} owned info) is) = awaited (record { 0 = k }) e refl owned (undef_step is owned)
+awaiting {g} {place = place} vars heap choices e (awaits (creates {k = k} owned info) is) = awaited (record { 0 = k }) e refl owned (undef_step is)
   where
-    undef_step : {i j : Stage} → Appends g plain place (λ q. Undef (record { 0 = k } ∷ []) q) i j → slice_get g.owners k ≡ Some (result _) → FlowStep g (at (goal_of i) vars heap) choices (next (at (goal_of j) (with_value vars (record { 0 = k }) None) heap) choices)
-    undef_step (appends {n = n} {b = b} there) own = step_at g n place (Undef (record { 0 = k } ∷ []) (point b)) vars heap choices (next (at b (with_value vars (record { 0 = k }) None) heap) choices) there refl
+    undef_step : {i j : Stage} → Appends g plain place (λ q. Undef (record { 0 = k } ∷ []) q) i j → FlowStep g (at (goal_of i) vars heap) choices (next (at (goal_of j) (with_value vars (record { 0 = k }) None) heap) choices)
+    undef_step (appends {n = n} {b = b} there) = step_at g n place (Undef (record { 0 = k } ∷ []) (point b)) vars heap choices (next (at b (with_value vars (record { 0 = k }) None) heap) choices) there refl
 
 awaited_result : {g : Graph} {f : Function} {inner : ℕ} {ret : Option VarId} {a b : ℕ} {vars : Vars} {heap : Heap} {choices : List Choice} → Awaited g f inner ret a b vars heap choices → IsResult g f inner ret
 awaited_result {g} {f} {inner} (awaited_nothing e same there) = subst (λ z. IsResult g f inner z) (sym same) no_result
@@ -147,8 +147,8 @@ more_points : {g : Graph} {role : Role} {place : Place} {code : PointId → Inst
 more_points (appends is) = omega arith
 
 -- ---- the whole call
-call_of : {g : Graph} {scope : List ℕ} {late : List Limit} {callers : List Frame} {k inner top n_goal : ℕ} {place : Place} {d : Call} {f : Function} {vs ts : List VarId} {os : List Operand} {ret : Option VarId} {target : Target} {rest : Tasks} {s m i q r : Stage}
-    (c : Around) (tasks : Tasks) (values : Values) (vars : Vars) (heap : Heap) (choices : List Choice)
+call_of : {g : Graph} {scope : List ℕ} {late : List Limit} {callers : List Frame} {k inner top n_goal : ℕ} {place : Place} {f : Function} {vs ts : List VarId} {os : List Operand} {ret : Option VarId} {s m i q r : Stage}
+    (c : Around) (d : Call) (target : Target) (rest tasks : Tasks) (values : Values) (vars : Vars) (heap : Heap) (choices : List Choice)
     → AreOnce g → (scoped : IsScoped f) → IsNoticed f → slice_get g.program.functions d.function ≡ Some f → Receives g f inner 0 f.parameters s vs m → AreTemporaries g ts → Undefines g place ts i q
     → Awaits g inner place f.result q ret r → variables_of m ≤ top → inner < c.out
     → ((zs : List ℤ) → IsResult g f inner ret → Follows g (in_body f inner) scoped.own (limit top (below (length f.locals)) ∷ []) (frame_of c scope late k values ∷ callers) 0 (in_a_row f.body (task (end_call values target) rest)) (goal_of r))
@@ -158,11 +158,11 @@ call_of : {g : Graph} {scope : List ℕ} {late : List Limit} {callers : List Fra
     → ((later : Vars) (left : List Choice) → Copied g place vs (map (operand_value later) os) n_goal (goal_of i) later heap left)
     → AllEnded g (here_of values heap) d.arguments place [] ts os (goal_of m) n_goal vars choices
     → PairOf g (config tasks values heap) (goal_of m) vars heap choices
-call_of c tasks values vars heap choices once scoped noticed is receives_at are undone waiting low inside follows into out h copied (all_waits none never) =
+call_of c d target rest tasks values vars heap choices once scoped noticed is receives_at are undone waiting low inside follows into out h copied (all_waits none never) =
     both_wait (λ r s. let q = out r s in none q.0 q.1) never
-call_of c tasks values vars heap choices once scoped noticed is receives_at are undone waiting low inside follows into out h copied (all_faults kind comes goes) =
+call_of c d target rest tasks values vars heap choices once scoped noticed is receives_at are undone waiting low inside follows into out h copied (all_faults kind comes goes) =
     both_end (into _ (no_arguments kind, comes, refl)) goes
-call_of {g} {scope} {late} {callers} {k} {inner = inner} {top = top} {n_goal = n_goal} {place = place} {d = d} {f = f} {vs = vs} {ts = ts} {os = os} {ret = ret} {target = target} {rest = rest} {m = m} {i = i} {q = q} {r = r} c tasks values vars heap choices once scoped noticed is receives_at are undone waiting low inside follows into out h copied (all_gives later ws left comes leads new gave) =
+call_of {g} {scope} {late} {callers} {k} {inner = inner} {top = top} {n_goal = n_goal} {place = place} {f = f} {vs = vs} {ts = ts} {os = os} {ret = ret} {m = m} {i = i} {q = q} {r = r} c d target rest tasks values vars heap choices once scoped noticed is receives_at are undone waiting low inside follows into out h copied (all_gives later ws left comes leads new gave) =
     copied_call (copied later left)
   where
     fs : List Frame
@@ -203,24 +203,24 @@ call_of {g} {scope} {late} {callers} {k} {inner = inner} {top = top} {n_goal = n
     awaited_call : (zs : List ℤ) → all_there (map (operand_value later) os) ≡ Some zs
         → ((res : flow.Result) → Goes (FlowStep g) (at (goal_of q) (put_all vs zs vars) heap) left res → Goes (FlowStep g) (at n_goal later heap) left res)
         → (f.result ≡ None → Goes (FlowStep g) (at n_goal later heap) left (next (at (goal_of q) (put_all vs zs vars) heap) left))
-        → Awaited g f inner ret (goal_of q) (goal_of r) (put_all vs zs vars) heap left → PairOf g (config tasks values heap) (goal_of m) vars heap choices
-    awaited_call zs e on_ways direct (awaited_nothing none same_ret same_goal) =
-        begins_at zs (put_all vs zs vars) e (awaited_result (awaited_nothing none same_ret same_goal)) (begun_vars zs) (λ kind is_kind u owns. absurd (no_kind kind none is_kind))
+        → IsResult g f inner ret → Awaited g f inner ret (goal_of q) (goal_of r) (put_all vs zs vars) heap left → PairOf g (config tasks values heap) (goal_of m) vars heap choices
+    awaited_call zs e on_ways direct res (awaited_nothing none same_ret same_goal) =
+        begins_at zs (put_all vs zs vars) e res (begun_vars zs) (λ kind is_kind u owns. absurd (no_kind kind none is_kind))
         (subst (λ z. Goes (FlowStep g) (at n_goal later heap) left (next (at z (put_all vs zs vars) heap) left)) same_goal (direct none))
-    awaited_call zs e on_ways direct (awaited v is_kind same_ret owned step) =
-        with_result zs v e (awaited_result (awaited v is_kind same_ret owned step)) owned (on_ways _ (one step))
+    awaited_call zs e on_ways direct res (awaited v is_kind same_ret owned step) =
+        with_result zs v e res owned (on_ways _ (one step))
 
     copied_call : Copied g place vs (map (operand_value later) os) n_goal (goal_of i) later heap left → PairOf g (config tasks values heap) (goal_of m) vars heap choices
     copied_call (copied_none none goes) = both_end (given_all None none (finished_run (fault Uninit place)) refl) (leads.goes _ goes)
     copied_call (copied_all zs some goes) =
         let way : Goes (FlowStep g) (at n_goal later heap) left (next (at (goal_of q) (put_all vs zs vars) heap) left) =
         subst (λ z. Goes (FlowStep g) (at n_goal later heap) left (next (at (goal_of q) z heap) left)) (cleaned_all zs) (goes_undone (at n_goal later heap) left (put_all vs zs later) heap left undone goes) in
-        awaited_call zs some (λ res on_goes. goes_further g (at (goal_of q) (put_all vs zs vars) heap) way on_goes) (λ none. way) (awaiting (put_all vs zs vars) heap left refl waiting)
+        awaited_call zs some (λ res on_goes. goes_further g (at (goal_of q) (put_all vs zs vars) heap) way on_goes) (λ none. way) (awaited_result (awaiting (put_all vs zs vars) heap left refl waiting)) (awaiting (put_all vs zs vars) heap left refl waiting)
     copied_call (copied_same empty some same) =
         awaited_call [] some
         (λ res on_goes. subst (λ z. Goes (FlowStep g) (at z later heap) left res) (sym same)
         (undoes_then later heap left res undone (subst (λ z. Goes (FlowStep g) (at (goal_of q) z heap) left res) (sym (no_puts empty)) on_goes)))
-        (λ none. absurd (never_noticed none empty)) (awaiting (put_all vs [] vars) heap left refl waiting)
+        (λ none. absurd (never_noticed none empty)) (awaited_result (awaiting (put_all vs [] vars) heap left refl waiting)) (awaiting (put_all vs [] vars) heap left refl waiting)
       where
         no_put : (ps : List VarId) (some_vars : Vars) → put_all ps [] some_vars ≡ some_vars
         no_put [] some_vars = refl
@@ -248,7 +248,7 @@ call_pair {g} {c} {scope} {late} {callers} {k} {place = place} {d = d} {target =
     let apart : c.out ≡ inner → ⊥ = λ e. omega (arith, e, inside) in
     let grew : IsGrown (points_of m) (variables_of m) inner top = on (all_evaluated values_at) (on (passed_grown copies) (on (undefined undone) (on (awaited_grown waiting) (all_lowered body)))) in
     subst (λ z. PairOf g (config tasks values heap) z vars heap choices) (sym (received_goal receives_at))
-    (call_of c tasks values vars heap choices once scoped (all_noticed d.function f is) is receives_at (all_temporaries values_at (no_temporaries g)) undone waiting grew.variables inside
+    (call_of c d target rest tasks values vars heap choices once scoped (all_noticed d.function f is) is receives_at (all_temporaries values_at (no_temporaries g)) undone waiting grew.variables inside
     (λ zs res. follows_in_a_row f.body 0 body scoped.body (omega arith) (omega arith, tt) (omega arith) (ends_call (point_of ends) made res inside wanted low within later))
     into out h (λ now left. copying inner now heap left copies (received_owned receives_at) (outer_operands inner apart values_at))
     (evaluating_all (here_of values heap) vars choices values_at (no_temporaries g) h.long h.all.0.agree))

@@ -129,12 +129,12 @@ nothing_pair {g} {scope} {late} {k = k} c values vars heap choices (out_of_call 
     (left g frame (frame_of d outer outer_late i saved ∷ callers) m us vars made (ending g frame (frame_of d outer outer_late i saved ∷ callers) m vars there h))))
 
 -- ---- the result is taken
-one_undone : {g : Graph} {place : Place} {ret : VarId} {m u : Stage} (e : flow.Config) (choices : List Choice) (mid : Vars) (heap : Heap) (others : List Choice) → Undefines g place (ret ∷ []) m u
+pub one_undone : {g : Graph} {place : Place} {ret : VarId} {m u : Stage} (e : flow.Config) (choices : List Choice) (mid : Vars) (heap : Heap) (others : List Choice) → Undefines g place (ret ∷ []) m u
     → Goes (FlowStep g) e choices (next (at (goal_of m) mid heap) others) → Goes (FlowStep g) e choices (next (at (goal_of u) (with_value mid ret None) heap) others)
 one_undone {g} {place} {ret} e choices mid heap others (undefines (appends {n = n} {b = b} is)) goes =
     goes_further g (at n mid heap) goes (one (step_at g n place (Undef (ret ∷ []) (point b)) mid heap others (next (at b (with_value mid ret None) heap) others) is refl))
 
-stored_pair : {g : Graph} {c : Around} {scope : List ℕ} {late : List Limit} {callers : List Frame} {k j inner : ℕ} {l : Left} {place : Place} {ret : VarId} {rest : Tasks} {s m u : Stage} (v : Option ℤ) (values : Values) (vars : Vars) (heap : Heap) (choices : List Choice)
+pub stored_pair : {g : Graph} {c : Around} {scope : List ℕ} {late : List Limit} {callers : List Frame} {k j inner : ℕ} {l : Left} {place : Place} {ret : VarId} {rest : Tasks} {s m u : Stage} (v : Option ℤ) (values : Values) (vars : Vars) (heap : Heap) (choices : List Choice)
     → AreOnce g → Puts g c.out place l (Var ret) [] s m → Undefines g place (ret ∷ []) m u → Rattle.mc_lowering.specs.Scopes.IsIn (length c.function.locals) scope l.variable → variables_of m ≤ j
     → slice_get g.owners ret.0 ≡ Some (result inner) → inner < c.out → value_in vars ret ≡ v → k ≤ j → IsWithin j late → Follows g c scope late callers j rest (goal_of u)
     → Held g (frame_of c scope late k values ∷ callers) vars → PairOf g (config (task (take_result (stored l place) v) rest) values heap) (goal_of s) vars heap choices

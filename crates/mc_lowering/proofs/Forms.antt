@@ -48,11 +48,11 @@ its_result g out v w vars once owned long u owns =
     ap (λ z. slice_index_or (with_value vars v w) z None) (once (result out) u v.0 owns owned) ∙ set_here vars v w (omega (arith, within, long))
 
 -- the value was put there
-value_pair : {g : Graph} {scope : List ℕ} {late : List Limit} {callers : List Frame} {k a : ℕ} {rest : Tasks} {v : VarId} (c : Around) (tasks : Tasks) (u : ℤ) (values : Values) (vars : Vars) (heap after : Heap) (choices others : List Choice)
+value_pair : {g : Graph} {scope : List ℕ} {late : List Limit} {callers : List Frame} {k a : ℕ} {rest : Tasks} (c : Around) (v : VarId) (tasks : Tasks) (u : ℤ) (values : Values) (vars : Vars) (heap after : Heap) (choices others : List Choice)
     → AreOnce g → slice_get g.owners v.0 ≡ Some (result c.out) → ToOut g c.function c.out late callers rest → Step g.program (config tasks values heap) choices (gone_back after rest (Some u) others)
     → Goes (FlowStep g) (at a vars heap) choices (next (at c.out (with_value vars v (Some u)) after) others) → Held g (frame_of c scope late k values ∷ callers) vars
     → PairOf g (config tasks values heap) a vars heap choices
-value_pair {g} {scope} {late} {callers} {k} {v = v} c tasks u values vars heap after choices others once owned t step goes h =
+value_pair {g} {scope} {late} {callers} {k} c v tasks u values vars heap after choices others once owned t step goes h =
     let frame : Frame = frame_of c scope late k values in
     out_pair (config tasks values heap) frame (Some u) vars (with_value vars v (Some u)) heap after choices others refl refl t h.all.0.late.1 step goes
     (λ m late_of. ending_set g frame callers m vars v (Some u) owned (ending g frame callers m vars late_of h))
@@ -67,7 +67,7 @@ set_returned {g} {rest = rest} {place = place} c right values vars heap choices 
 set_returned {g} {rest = rest} {place = place} c right values vars heap choices once owned t h (set_faults kind is goes) =
     both_end (does_step g (task (perform (returns place (Some right))) rest) values heap choices _ refl is) goes
 set_returned {g} {rest = rest} {place = place} {v = v} c right values vars heap choices once owned t h (set_gives u others is goes) =
-    value_pair c (task (perform (returns place (Some right))) rest) u values vars heap heap choices others once owned t (does_step g (task (perform (returns place (Some right))) rest) values heap choices _ refl is) goes h
+    value_pair c v (task (perform (returns place (Some right))) rest) u values vars heap heap choices others once owned t (does_step g (task (perform (returns place (Some right))) rest) values heap choices _ refl is) goes h
 
 return_uses : (g : Graph) (e : Expr) (place : Place) (rest : Tasks) (values : Values) (heap : Heap) (choices : List Choice)
     → Uses e place values heap choices (λ r. Returns g.program (here_of values heap) (Some (expression e)) rest place choices r) (λ u others. gone_back heap rest (Some u) others)
@@ -85,7 +85,7 @@ allocated_returned : {g : Graph} {scope : List ℕ} {late : List Limit} {callers
 allocated_returned {g} {shape = shape} {fields = fields} {rest = rest} {place = place} c values vars heap choices once owned t h (allocated_waits none never) =
     both_wait (λ r s. none r (step_does g (task (perform (returns place (Some (allocation shape fields)))) rest) values heap choices r refl s)) never
 allocated_returned {g} {shape = shape} {fields = fields} {rest = rest} {place = place} {v = v} c values vars heap choices once owned t h (allocated u after others into step) =
-    value_pair c (task (perform (returns place (Some (allocation shape fields)))) rest) u values vars heap after choices others once owned t
+    value_pair c v (task (perform (returns place (Some (allocation shape fields)))) rest) u values vars heap after choices others once owned t
     (does_step g (task (perform (returns place (Some (allocation shape fields)))) rest) values heap choices _ refl (into _ refl)) (one step) h
 
 return_pair : {g : Graph} {scope : List ℕ} {late : List Limit} {callers : List Frame} {k : ℕ} {place : Place} {v : VarId} {right : Right} {rest : Tasks} {s u : Stage} (c : Around) (values : Values) (vars : Vars) (heap : Heap) (choices : List Choice)
