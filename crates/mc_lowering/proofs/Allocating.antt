@@ -19,7 +19,7 @@ use Rattle.mc_resolved.specs.Configs.{with_variable, held, Tasks, Result}
 use Rattle.mc_resolved.specs.Programs.{Left, allocation, Program}
 use Rattle.mc_resolved.specs.Steps.{Here, after, Allocates, Assigns}
 use Rattle.mc_resolved.specs.Values.{assigned}
-use Rattle.mc_lowering.specs.Graphs.{Graph, local, temporary, Stage, stage, plain, point, IsPoint, appends, is_made}
+use Rattle.mc_lowering.specs.Graphs.{Graph, local, temporary, Stage, stage, plain, point, IsPoint, appends, IsMade, is_made}
 use Rattle.mc_lowering.specs.Values.{struct_at, puts_field}
 use Rattle.mc_lowering.specs.Lowering.{sets_allocated, Assigns as LowersTo, assigns_variable, assigns_allocated}
 use Rattle.mc_lowering.specs.Runs.{FlowStep}
@@ -28,7 +28,7 @@ use Rattle.mc_lowering.proofs.Stepping.{Vars, at, Never, never_from, step_at, st
 use Rattle.mc_lowering.proofs.Evaluating.{AreTemporaries, no_temporaries, one_more, OnlyNew, new_set, set_here, Agree, agree_later, goal_of, used_owner, uses_goal}
 use Rattle.mc_lowering.proofs.Changing.{IsClean}
 use Rattle.mc_lowering.proofs.Storing.{IsPut, put_faults, put_gives, putting}
-use Rattle.mc_lowering.proofs.Performing.{IsPerformed, performed_waits, performed_faults, performed, nothing_set, one_set}
+use Rattle.mc_lowering.proofs.Performing.{Settable, IsPerformed, performed_waits, performed_faults, performed, nothing_set, one_set}
 
 abbrev pub Go : Type 1
 Go = ℤ → Heap → List Choice → Result → Type 0
@@ -77,46 +77,46 @@ allocates g go shape fields t n q place vars heap (choose_malloc (suc m) ∷ cho
 ]
 
 -- ---- into a variable
-variable_allocated : (g : Graph) (p : Program) (h : Here) (x shape fields : ℕ) (v : VarId) (rest : Tasks) (out : ℕ) (place : Place) (n b : ℕ) (vars : Vars) (choices : List Choice) → slice_get g.owners v.0 ≡ Some (local out x)
+variable_allocated : (g : Graph) (p : Program) (h : Here) (x shape fields : ℕ) (v : VarId) (rest : Tasks) (May : Settable) (place : Place) (n b : ℕ) (vars : Vars) (choices : List Choice) → May x v
     → IsAllocated g (λ w heap left other. other ≡ after rest place left (assigned h.values heap (record { variable = x; fields = [] }) (Some w))) shape fields v n b vars h.heap choices
-    → IsPerformed g (λ r. Assigns p h (record { variable = x; fields = [] }) (allocation shape fields) place rest choices r) rest out place n b h.values vars h.heap choices
-variable_allocated g p h x shape fields v rest out place n b vars choices owned (allocated_waits none never) = performed_waits none never
-variable_allocated g p h x shape fields v rest out place n b vars choices owned (allocated w later left into step) =
-    performed (with_variable h.values x (Some w)) (with_value vars v (Some w)) later left (into _ refl) (one step) (one_set x v (Some w) owned)
+    → IsPerformed g (λ r. Assigns p h (record { variable = x; fields = [] }) (allocation shape fields) place rest choices r) rest May place n b h.values vars h.heap choices
+variable_allocated g p h x shape fields v rest May place n b vars choices may (allocated_waits none never) = performed_waits none never
+variable_allocated g p h x shape fields v rest May place n b vars choices may (allocated w later left into step) =
+    performed (with_variable h.values x (Some w)) (with_value vars v (Some w)) later left (into _ refl) (one step) (one_set x v (Some w) may)
 
 -- ---- into a field
-put_allocated : (g : Graph) (p : Program) (h : Here) (l : Left) (shape fields : ℕ) (rest : Tasks) (out : ℕ) (place : Place) (n m b : ℕ) (vars now : Vars) (later : Heap) (choices left : List Choice) (w : ℤ)
+put_allocated : (g : Graph) (p : Program) (h : Here) (l : Left) (shape fields : ℕ) (rest : Tasks) (May : Settable) (place : Place) (n m b : ℕ) (vars now : Vars) (later : Heap) (choices left : List Choice) (w : ℤ)
     → ((r : Result) → r ≡ after rest place left (assigned h.values later l (Some w)) → Assigns p h l (allocation shape fields) place rest choices r)
     → FlowStep g (at n vars h.heap) choices (next (at m now later) left) → IsPut g (assigned h.values later l (Some w)) h.values place m b vars now later left
-    → IsPerformed g (λ r. Assigns p h l (allocation shape fields) place rest choices r) rest out place n b h.values vars h.heap choices
-put_allocated g p h l shape fields rest out place n m b vars now later choices left w into step (put_faults kind change goes) =
+    → IsPerformed g (λ r. Assigns p h l (allocation shape fields) place rest choices r) rest May place n b h.values vars h.heap choices
+put_allocated g p h l shape fields rest May place n m b vars now later choices left w into step (put_faults kind change goes) =
     performed_faults kind (into _ (sym (ap (after rest place left) change))) (more step goes)
-put_allocated g p h l shape fields rest out place n m b vars now later choices left w into step (put_gives final change goes) =
+put_allocated g p h l shape fields rest May place n m b vars now later choices left w into step (put_gives final change goes) =
     performed h.values vars final left (into _ (sym (ap (after rest place left) change))) (more step goes) nothing_set
 
-field_allocated : (g : Graph) (p : Program) (h : Here) (l : Left) (shape fields : ℕ) (t : VarId) (rest : Tasks) (out : ℕ) (place : Place) (n m b : ℕ) (vars : Vars) (choices : List Choice)
+field_allocated : (g : Graph) (p : Program) (h : Here) (l : Left) (shape fields : ℕ) (t : VarId) (rest : Tasks) (May : Settable) (place : Place) (n m b : ℕ) (vars : Vars) (choices : List Choice)
     → ((later : Heap) (left : List Choice) (w : ℤ) → IsPut g (assigned h.values later l (Some w)) h.values place m b vars (with_value vars t (Some w)) later left)
     → IsAllocated g (λ w heap left other. other ≡ after rest place left (assigned h.values heap l (Some w))) shape fields t n m vars h.heap choices
     → ((r : Result) → Assigns p h l (allocation shape fields) place rest choices r → Allocates h.heap shape fields choices (λ w heap left other. other ≡ after rest place left (assigned h.values heap l (Some w))) r)
     → ((r : Result) → Allocates h.heap shape fields choices (λ w heap left other. other ≡ after rest place left (assigned h.values heap l (Some w))) r → Assigns p h l (allocation shape fields) place rest choices r)
-    → IsPerformed g (λ r. Assigns p h l (allocation shape fields) place rest choices r) rest out place n b h.values vars h.heap choices
-field_allocated g p h l shape fields t rest out place n m b vars choices puts (allocated_waits none never) out_of into = performed_waits (λ r q. none r (out_of r q)) never
-field_allocated g p h l shape fields t rest out place n m b vars choices puts (allocated w later left go step) out_of into =
-    put_allocated g p h l shape fields rest out place n m b vars (with_value vars t (Some w)) later choices left w (λ r q. into r (go r q)) step (puts later left w)
+    → IsPerformed g (λ r. Assigns p h l (allocation shape fields) place rest choices r) rest May place n b h.values vars h.heap choices
+field_allocated g p h l shape fields t rest May place n m b vars choices puts (allocated_waits none never) out_of into = performed_waits (λ r q. none r (out_of r q)) never
+field_allocated g p h l shape fields t rest May place n m b vars choices puts (allocated w later left go step) out_of into =
+    put_allocated g p h l shape fields rest May place n m b vars (with_value vars t (Some w)) later choices left w (λ r q. into r (go r q)) step (puts later left w)
 
 -- `malloc` as an assigned value
-pub allocating : {g : Graph} {out : ℕ} {place : Place} {l : Left} {shape fields : ℕ} {s u : Stage} (p : Program) (h : Here) (rest : Tasks) (vars : Vars) (choices : List Choice)
-    → LowersTo g out place l (allocation shape fields) s u → IsClean g vars → length vars ≡ length g.owners → Agree g out h.values vars
-    → IsPerformed g (λ r. Assigns p h l (allocation shape fields) place rest choices r) rest out place (goal_of s) (goal_of u) h.values vars h.heap choices
-allocating {g} {out} {place} {shape = shape} {fields = fields} p h rest vars choices (assigns_variable {x = x} {v = v} (is_made owned earlier) (sets_allocated count (appends {n = n} {b = b} is))) clean long agree =
-    variable_allocated g p h x shape fields v rest out place n b vars choices owned
+pub allocating : {g : Graph} {out : ℕ} {place : Place} {l : Left} {shape fields : ℕ} {s u : Stage} (p : Program) (h : Here) (rest : Tasks) (May : Settable) (vars : Vars) (choices : List Choice)
+    → LowersTo g out place l (allocation shape fields) s u → ((v : VarId) → IsMade g (local out l.variable) v s → May l.variable v) → IsClean g vars → length vars ≡ length g.owners → Agree g out h.values vars
+    → IsPerformed g (λ r. Assigns p h l (allocation shape fields) place rest choices r) rest May place (goal_of s) (goal_of u) h.values vars h.heap choices
+allocating {g} {out} {place} {shape = shape} {fields = fields} p h rest May vars choices (assigns_variable {x = x} {v = v} (is_made owned earlier) (sets_allocated count (appends {n = n} {b = b} is))) may clean long agree =
+    variable_allocated g p h x shape fields v rest May place n b vars choices (may v (is_made owned earlier))
     (allocates g (λ w heap left other. other ≡ after rest place left (assigned h.values heap (record { variable = x; fields = [] }) (Some w))) shape fields v n b place vars h.heap choices count is)
-allocating {g} {out} {place} {shape = shape} {fields = fields} {s = s} {u = u} p h rest vars choices (assigns_allocated {x = x} {f = f} {fs = fs} {t = t} count uses (appends {n = n} {k = k} {b = b} is) (puts_field {y = y} {us = us} (is_made owned earlier) walk stores undone)) clean long agree =
+allocating {g} {out} {place} {shape = shape} {fields = fields} {s = s} {u = u} p h rest May vars choices (assigns_allocated {x = x} {f = f} {fs = fs} {t = t} count uses (appends {n = n} {k = k} {b = b} is) (puts_field {y = y} {us = us} (is_made owned earlier) walk stores undone)) may clean long agree =
     let at_t : slice_get g.owners t.0 ≡ Some (temporary 0 Ptr) = used_owner g 0 Ptr s (stage n n k) t uses in
     let are : AreTemporaries g (t ∷ []) = one_more g [] t Ptr (no_temporaries g) at_t in
     let within : t.0 < length g.owners = slice_get_within g.owners t.0 (temporary 0 Ptr) at_t in
-    subst (λ a. IsPerformed g (λ r. Assigns p h (record { variable = x; fields = f ∷ fs }) (allocation shape fields) place rest choices r) rest out place a (goal_of u) h.values vars h.heap choices) (sym (uses_goal uses))
-    (field_allocated g p h (record { variable = x; fields = f ∷ fs }) shape fields t rest out place n b (goal_of u) vars choices
+    subst (λ a. IsPerformed g (λ r. Assigns p h (record { variable = x; fields = f ∷ fs }) (allocation shape fields) place rest choices r) rest May place a (goal_of u) h.values vars h.heap choices) (sym (uses_goal uses))
+    (field_allocated g p h (record { variable = x; fields = f ∷ fs }) shape fields t rest May place n b (goal_of u) vars choices
     (λ later left w.
     let new : OnlyNew [] (t ∷ []) vars (with_value vars t (Some w)) = new_set g [] t Ptr vars (Some w) (no_temporaries g) at_t in
     putting h.values (held h.values x) (Some w) vars (with_value vars t (Some w)) later left walk stores undone are new clean (new.long ∙ long)

@@ -37,7 +37,7 @@ length_without [] vars = refl
 length_without (u ∷ us) vars = length_without us (with_value vars u None) ∙ length_set vars u.0 None
 
 -- a variable is one of these, or none of them
-same_number : (i j : ℕ) → (i ≡ j) ⊎ (i ≡ j → ⊥)
+pub same_number : (i j : ℕ) → (i ≡ j) ⊎ (i ≡ j → ⊥)
 same_number zero zero = inl refl
 same_number zero (suc j) = inr (λ e. omega (arith, e))
 same_number (suc i) zero = inr (λ e. omega (arith, e))
@@ -73,7 +73,7 @@ in_or_not v (u ∷ us) = elim (same_variable u v) [
 within_or : (n : ℕ) (vars : Vars) → (n < length vars) ⊎ (length vars < suc n)
 within_or n vars = elim (dec_lt n (length vars)) [ yes h ↦ inl h | no h ↦ inr (omega (arith, h)) ]
 
-past_none : (vars : Vars) (n : ℕ) → length vars < suc n → slice_index_or vars n None ≡ None
+pub past_none : (vars : Vars) (n : ℕ) → length vars < suc n → slice_index_or vars n None ≡ None
 past_none [] n past = refl
 past_none (x ∷ vars) zero past = absurd (omega (arith, past))
 past_none (x ∷ vars) (suc n) past = past_none vars n (omega (arith, past))

@@ -15,7 +15,7 @@ use Rattle.mc_resolved.specs.Configs.{Values, with_variable, Tasks, Result}
 use Rattle.mc_resolved.specs.Programs.{FieldAt, Expr, expression, Program}
 use Rattle.mc_resolved.specs.Steps.{Here, after, Assigns}
 use Rattle.mc_resolved.specs.Values.{assigned, Evaluates as Source}
-use Rattle.mc_lowering.specs.Graphs.{Graph, local, Stage, is_made}
+use Rattle.mc_lowering.specs.Graphs.{Graph, local, Stage, IsMade, is_made}
 use Rattle.mc_lowering.specs.Values.{puts_field}
 use Rattle.mc_lowering.specs.Lowering.{Assigns as LowersTo, assigns_variable, assigns_field}
 use Rattle.mc_lowering.specs.Runs.{FlowStep}
@@ -27,17 +27,21 @@ use Rattle.mc_lowering.proofs.Setting.{Uses, IsSet, set_waits, set_faults, set_g
 use Rattle.mc_lowering.proofs.Storing.{IsPut, put_faults, put_gives, putting}
 
 -- ---- what comes of a statement
+-- which variable of the source may be set, and with it this one of the flow graph
+abbrev pub Settable : Type 1
+Settable = ℕ → VarId → Type 0
+
 -- the variables of both are as before, or one of them is set in both
-pub data Changes (g : Graph) (out : ℕ) (values : Values) (vars : Vars) : Values → Vars → Type 0 where
-  nothing_set : Changes g out values vars values vars
-  one_set : (x : ℕ) (v : VarId) (w : Option ℤ) → slice_get g.owners v.0 ≡ Some (local out x) → Changes g out values vars (with_variable values x w) (with_value vars v w)
+pub data Changes (May : Settable) (values : Values) (vars : Vars) : Values → Vars → Type 0 where
+  nothing_set : Changes May values vars values vars
+  one_set : (x : ℕ) (v : VarId) (w : Option ℤ) → May x v → Changes May values vars (with_variable values x w) (with_value vars v w)
 
 -- both wait, both have the same fault, or both go on with the same change
-pub data IsPerformed (g : Graph) (P : Result → Type 0) (rest : Tasks) (out : ℕ) (place : Place) (a b : ℕ) (values : Values) (vars : Vars) (heap : Heap) (choices : List Choice) : Type 0 where
-  performed_waits : ((r : Result) → P r → ⊥) → Never g (at a vars heap) choices → IsPerformed g P rest out place a b values vars heap choices
-  performed_faults : (kind : FaultKind) → P (finished (fault kind place)) → Goes (FlowStep g) (at a vars heap) choices (finished (fault kind place)) → IsPerformed g P rest out place a b values vars heap choices
+pub data IsPerformed (g : Graph) (P : Result → Type 0) (rest : Tasks) (May : Settable) (place : Place) (a b : ℕ) (values : Values) (vars : Vars) (heap : Heap) (choices : List Choice) : Type 0 where
+  performed_waits : ((r : Result) → P r → ⊥) → Never g (at a vars heap) choices → IsPerformed g P rest May place a b values vars heap choices
+  performed_faults : (kind : FaultKind) → P (finished (fault kind place)) → Goes (FlowStep g) (at a vars heap) choices (finished (fault kind place)) → IsPerformed g P rest May place a b values vars heap choices
   performed : (later : Values) (now : Vars) (after_heap : Heap) (left : List Choice) → P (next (record { tasks = rest; values = later; heap = after_heap }) left)
-      → Goes (FlowStep g) (at a vars heap) choices (next (at b now after_heap) left) → Changes g out values vars later now → IsPerformed g P rest out place a b values vars heap choices
+      → Goes (FlowStep g) (at a vars heap) choices (next (at b now after_heap) left) → Changes May values vars later now → IsPerformed g P rest May place a b values vars heap choices
 
 -- ---- a variable gets a value
 variable_uses : (p : Program) (h : Here) (x : ℕ) (e : Expr) (place : Place) (rest : Tasks) (choices : List Choice)
@@ -51,48 +55,48 @@ variable_uses p h x e place rest choices =
       evaluates = λ r q. (q.0, q.1);
     }
 
-variable_performed : (g : Graph) (P : Result → Type 0) (rest : Tasks) (out : ℕ) (place : Place) (x : ℕ) (v : VarId) (a b : ℕ) (values : Values) (vars : Vars) (heap : Heap) (choices : List Choice)
-    → slice_get g.owners v.0 ≡ Some (local out x)
+variable_performed : (g : Graph) (P : Result → Type 0) (rest : Tasks) (May : Settable) (place : Place) (x : ℕ) (v : VarId) (a b : ℕ) (values : Values) (vars : Vars) (heap : Heap) (choices : List Choice)
+    → May x v
     → IsSet g P (λ u left. next (record { tasks = rest; values = with_variable values x (Some u); heap = heap }) left) place v a b vars heap choices
-    → IsPerformed g P rest out place a b values vars heap choices
-variable_performed g P rest out place x v a b values vars heap choices owned (set_waits none never) = performed_waits none never
-variable_performed g P rest out place x v a b values vars heap choices owned (set_faults kind is goes) = performed_faults kind is goes
-variable_performed g P rest out place x v a b values vars heap choices owned (set_gives u left is goes) =
-    performed (with_variable values x (Some u)) (with_value vars v (Some u)) heap left is goes (one_set x v (Some u) owned)
+    → IsPerformed g P rest May place a b values vars heap choices
+variable_performed g P rest May place x v a b values vars heap choices may (set_waits none never) = performed_waits none never
+variable_performed g P rest May place x v a b values vars heap choices may (set_faults kind is goes) = performed_faults kind is goes
+variable_performed g P rest May place x v a b values vars heap choices may (set_gives u left is goes) =
+    performed (with_variable values x (Some u)) (with_value vars v (Some u)) heap left is goes (one_set x v (Some u) may)
 
 -- ---- a field gets a value
-put_performed : (g : Graph) (p : Program) (h : Here) (x : ℕ) (f : FieldAt) (fs : List FieldAt) (e : Expr) (rest : Tasks) (out : ℕ) (place : Place) (a m b : ℕ) (vars now : Vars) (choices left : List Choice) (w : Option ℤ)
+put_performed : (g : Graph) (p : Program) (h : Here) (x : ℕ) (f : FieldAt) (fs : List FieldAt) (e : Expr) (rest : Tasks) (May : Settable) (place : Place) (a m b : ℕ) (vars now : Vars) (choices left : List Choice) (w : Option ℤ)
     → Source h.values h.heap e choices (value_of w left) → Leads g h.heap a vars choices m now left
     → IsPut g (assigned h.values h.heap (record { variable = x; fields = f ∷ fs }) w) h.values place m b vars now h.heap left
-    → IsPerformed g (λ r. Assigns p h (record { variable = x; fields = f ∷ fs }) (expression e) place rest choices r) rest out place a b h.values vars h.heap choices
-put_performed g p h x f fs e rest out place a m b vars now choices left w is leads (put_faults kind change goes) =
+    → IsPerformed g (λ r. Assigns p h (record { variable = x; fields = f ∷ fs }) (expression e) place rest choices r) rest May place a b h.values vars h.heap choices
+put_performed g p h x f fs e rest May place a m b vars now choices left w is leads (put_faults kind change goes) =
     performed_faults kind (value_of w left, is, sym (ap (after rest place left) change)) (leads.goes _ goes)
-put_performed g p h x f fs e rest out place a m b vars now choices left w is leads (put_gives later change goes) =
+put_performed g p h x f fs e rest May place a m b vars now choices left w is leads (put_gives later change goes) =
     performed h.values vars later left (value_of w left, is, sym (ap (after rest place left) change)) (leads.goes _ goes) nothing_set
 
-field_performed : (g : Graph) (p : Program) (h : Here) (x : ℕ) (f : FieldAt) (fs : List FieldAt) (e : Expr) (rest : Tasks) (out : ℕ) (place : Place) (o : Operand) (ts : List VarId) (a m b : ℕ) (vars : Vars) (choices : List Choice)
+field_performed : (g : Graph) (p : Program) (h : Here) (x : ℕ) (f : FieldAt) (fs : List FieldAt) (e : Expr) (rest : Tasks) (May : Settable) (place : Place) (o : Operand) (ts : List VarId) (a m b : ℕ) (vars : Vars) (choices : List Choice)
     → ((now : Vars) (left : List Choice) (w : Option ℤ) → OnlyNew [] ts vars now → operand_value now o ≡ w
     → IsPut g (assigned h.values h.heap (record { variable = x; fields = f ∷ fs }) w) h.values place m b vars now h.heap left)
     → Ended g (λ r. Source h.values h.heap e choices r) place [] ts o a m vars h.heap choices
-    → IsPerformed g (λ r. Assigns p h (record { variable = x; fields = f ∷ fs }) (expression e) place rest choices r) rest out place a b h.values vars h.heap choices
-field_performed g p h x f fs e rest out place o ts a m b vars choices puts (ended_waits none never) = performed_waits (λ r q. none q.0 q.1) never
-field_performed g p h x f fs e rest out place o ts a m b vars choices puts (ended_faults kind is goes) = performed_faults kind (fault_of kind, is, refl) goes
-field_performed g p h x f fs e rest out place o ts a m b vars choices puts (ended_gives now w left is leads new holds) =
-    put_performed g p h x f fs e rest out place a m b vars now choices left w is leads (puts now left w new holds)
+    → IsPerformed g (λ r. Assigns p h (record { variable = x; fields = f ∷ fs }) (expression e) place rest choices r) rest May place a b h.values vars h.heap choices
+field_performed g p h x f fs e rest May place o ts a m b vars choices puts (ended_waits none never) = performed_waits (λ r q. none q.0 q.1) never
+field_performed g p h x f fs e rest May place o ts a m b vars choices puts (ended_faults kind is goes) = performed_faults kind (fault_of kind, is, refl) goes
+field_performed g p h x f fs e rest May place o ts a m b vars choices puts (ended_gives now w left is leads new holds) =
+    put_performed g p h x f fs e rest May place a m b vars now choices left w is leads (puts now left w new holds)
 
 -- an assignment of an expression
-pub assigning : {g : Graph} {out : ℕ} {place : Place} {l : Rattle.mc_resolved.specs.Programs.Left} {e : Expr} {s u : Stage} (p : Program) (h : Here) (rest : Tasks) (vars : Vars) (choices : List Choice)
-    → LowersTo g out place l (expression e) s u → IsClean g vars → length vars ≡ length g.owners → Agree g out h.values vars
-    → IsPerformed g (λ r. Assigns p h l (expression e) place rest choices r) rest out place (goal_of s) (goal_of u) h.values vars h.heap choices
-assigning {g} {out} {place} {e = e} {s = s} {u = u} p h rest vars choices (assigns_variable {x = x} {v = v} (is_made owned earlier) sets) clean long agree =
+pub assigning : {g : Graph} {out : ℕ} {place : Place} {l : Rattle.mc_resolved.specs.Programs.Left} {e : Expr} {s u : Stage} (p : Program) (h : Here) (rest : Tasks) (May : Settable) (vars : Vars) (choices : List Choice)
+    → LowersTo g out place l (expression e) s u → ((v : VarId) → IsMade g (local out l.variable) v s → May l.variable v) → IsClean g vars → length vars ≡ length g.owners → Agree g out h.values vars
+    → IsPerformed g (λ r. Assigns p h l (expression e) place rest choices r) rest May place (goal_of s) (goal_of u) h.values vars h.heap choices
+assigning {g} {out} {place} {e = e} {s = s} {u = u} p h rest May vars choices (assigns_variable {x = x} {v = v} (is_made owned earlier) sets) may clean long agree =
     let within : v.0 < length g.owners = slice_get_within g.owners v.0 (local out x) owned in
-    variable_performed g (λ r. Assigns p h (record { variable = x; fields = [] }) (expression e) place rest choices r) rest out place x v (goal_of s) (goal_of u) h.values vars h.heap choices owned
+    variable_performed g (λ r. Assigns p h (record { variable = x; fields = [] }) (expression e) place rest choices r) rest May place x v (goal_of s) (goal_of u) h.values vars h.heap choices (may v (is_made owned earlier))
     (setting h.values (λ r. Assigns p h (record { variable = x; fields = [] }) (expression e) place rest choices r)
     (λ w left. next (record { tasks = rest; values = with_variable h.values x (Some w); heap = h.heap }) left) vars h.heap choices sets
     (variable_uses p h x e place rest choices) clean long agree (omega (arith, within, long)) (λ ts are there. not_temporary g ts v (local out x) are owned refl there))
-assigning {g} {out} {place} {e = e} {s = s} {u = u} p h rest vars choices (assigns_field {x = x} {f = f} {fs = fs} {o = o} {ts = ts} {m = m} evaluated (puts_field {y = y} {us = us} (is_made owned earlier) walk stores undone)) clean long agree =
+assigning {g} {out} {place} {e = e} {s = s} {u = u} p h rest May vars choices (assigns_field {x = x} {f = f} {fs = fs} {o = o} {ts = ts} {m = m} evaluated (puts_field {y = y} {us = us} (is_made owned earlier) walk stores undone)) may clean long agree =
     let are : AreTemporaries g ts = temporaries evaluated (no_temporaries g) in
-    field_performed g p h x f fs e rest out place o ts (goal_of s) (goal_of m) (goal_of u) vars choices
+    field_performed g p h x f fs e rest May place o ts (goal_of s) (goal_of m) (goal_of u) vars choices
     (λ now left w new holds.
     putting h.values (Rattle.mc_resolved.specs.Configs.held h.values x) w vars now h.heap left walk stores undone are new clean (new.long ∙ long)
     (kept us evaluated (Rattle.mc_lowering.proofs.Evaluating.walk_temporaries walk are)) holds ((agree_later g out h.values [] ts vars now are new agree).same x y.0 owned))

@@ -73,7 +73,7 @@ after_first : (one : Evaluated) (more : List Choice → Arguments → Type 0) �
 after_first (fault_of kind) more same r s i j = joined i j
 after_first (value_of v choices) more same r s (x, is, e) (y, is', f) = e ∙ ap (λ z. put_before v z) (same choices x y is is') ∙ sym f
 
-evaluate_all : (h : Here) (es : List Expr) (choices : List Choice) → IsDetermined (EvaluateAll h es choices)
+pub evaluate_all : (h : Here) (es : List Expr) (choices : List Choice) → IsDetermined (EvaluateAll h es choices)
 evaluate_all h [] choices r s i j = joined i j
 evaluate_all h (e ∷ es) choices r s (x, is, rest) (y, is', rest') =
     after_first x _ (λ left. evaluate_all h es left) r s rest (subst (λ z. AfterFirst (λ left others. EvaluateAll h es left others) z s) (sym (one_value h.values h.heap e choices x y is is')) rest')

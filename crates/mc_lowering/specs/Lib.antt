@@ -2,4 +2,5 @@ pub mod Graphs
 pub mod Values
 pub mod Lowering
 pub mod Runs
+pub mod Scopes
 pub mod Examples
