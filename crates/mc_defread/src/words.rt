@@ -1,7 +1,7 @@
 // Names in order, of which few are compared one by one.
 ghost use Rattle.mc_ast.specs.Names.{is_same};
-ghost use Rattle.mc_defread.specs.Words.{behind};
-ghost use Rattle.std.specs.Prelude.{◌≡◌, ◌++◌, ◌∷◌, [], position, length, IfOk, OnErr, OnOk};
+ghost use Rattle.mc_defread.specs.Words.{behind, words_of};
+ghost use Rattle.std.specs.Prelude.{◌≡◌, ◌++◌, ◌∷◌, [], position, length, IfOk, IfSome, OnErr, OnOk};
 
 use mc_names::Names;
 use mc_text::Text;
@@ -54,6 +54,53 @@ fn hashed<'a>(alloc: Global, words: &[&'a Text], last: &'a Text) -> Result<Names
     Ok(names)
 }
 
+impl<'a> Order<'a> {
+    fn len(&self) -> usize
+        ensures { result ≡ length (words_of self.now) }
+    {
+        match self {
+            Order::Few(words) => words.len(),
+            Order::Many(names) => names.len(),
+        }
+    }
+
+    // The first place of a name, from 0 on.
+    fn place(&self, name: &Text) -> Option<usize>
+        ensures { result ≡ position (λ word. is_same word name.now) (words_of self.now) }
+    {
+        match self {
+            Order::Few(words) => place_among(words.as_slice(), name),
+            Order::Many(names) => names.place(name),
+        }
+    }
+
+    // All of them and one more, found by hash, where they are as many as are compared.
+    fn grown(&self, alloc: Global, name: &'a Text) -> Result<Option<Names<'a>>, AllocError>
+        ensures { IfOk result (λ grown. IfSome grown (λ names. names ≡ words_of self.now ++ name.now ∷ [])) }
+    {
+        match self {
+            Order::Few(words) if words.len() >= FEW => {
+                Ok(Some(hashed(alloc, words.as_slice(), name)?))
+            }
+            Order::Few(_) | Order::Many(_) => Ok(None),
+        }
+    }
+
+    // Adds a name at the end. Without memory the names stay.
+    fn add(&mut self, name: &'a Text) -> Result<(), AllocError>
+        ensures err { OnErr result (words_of self.new ≡ words_of self.old) }
+        ensures ok { OnOk result (words_of self.new ≡ words_of self.old ++ name.now ∷ []) }
+    {
+        match self {
+            Order::Few(words) => {
+                words.push(name)?;
+                Ok(())
+            }
+            Order::Many(names) => names.push(name),
+        }
+    }
+}
+
 impl<'a> Words<'a> {
     /// No names.
     pub fn new(alloc: Global) -> Words<'a>
@@ -68,20 +115,14 @@ impl<'a> Words<'a> {
     pub fn len(&self) -> usize
         ensures { result ≡ length self.now }
     {
-        match &self.order {
-            Order::Few(words) => words.len(),
-            Order::Many(names) => names.len(),
-        }
+        self.order.len()
     }
 
     /// The first place of a name, from 0 on.
     pub fn place(&self, name: &Text) -> Option<usize>
         ensures { result ≡ position (λ word. is_same word name.now) self.now }
     {
-        match &self.order {
-            Order::Few(words) => place_among(words.as_slice(), name),
-            Order::Many(names) => names.place(name),
-        }
+        self.order.place(name)
     }
 
     /// Adds a name at the end. Without memory the names stay.
@@ -89,17 +130,12 @@ impl<'a> Words<'a> {
         ensures err { OnErr result (self.new ≡ self.old) }
         ensures ok { OnOk result (self.new ≡ self.old ++ name.now ∷ []) }
     {
-        match &mut self.order {
-            Order::Many(names) => names.push(name),
-            Order::Few(words) => {
-                if words.len() < FEW {
-                    words.push(name)?;
-                    return Ok(());
-                }
-                let names = hashed(alloc, words.as_slice(), name)?;
+        match self.order.grown(alloc, name)? {
+            Some(names) => {
                 self.order = Order::Many(names);
                 Ok(())
             }
+            None => self.order.add(name),
         }
     }
 }
