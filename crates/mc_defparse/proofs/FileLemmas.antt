@@ -17,6 +17,7 @@ use Rattle.mc_defparse.specs.declared.tree.DefText.{DefText}
 use Rattle.mc_defparse.specs.declared.block.BlockReader.TheVariants as BlockReader
 use Rattle.mc_defparse.specs.declared.item.ItemReader.TheVariants as ItemReader
 use Rattle.mc_defparse.specs.declared.front.HeadReader.TheVariants as HeadReader
+use Rattle.mc_defparse.specs.declared.file.FileReader.{FileReader}
 use Rattle.mc_defparse.specs.declared.step.Took.{Took}
 use Rattle.mc_defparse.specs.Grammar.{Is, IsWord, IsItem, call, fixes, relates, bounds, last_item, next_item, block, bare, with_block, rule, last_rule, next_rule, head, definition, MoreDefs, end_defs, next_def}
 use Rattle.mc_defparse.specs.Steps.{Takes, Then}
@@ -155,11 +156,11 @@ pub items_item : (done : List DefText) (h : Head) (rules : List RuleText) (b : O
 items_item done h rules b items token a = record { forward = λ tokens rest x n. more_forward done h rules b items a n; backward = λ tokens rest x l. (l.3.0, l.3.1, l.3.2, next_item l.2 l.3.3, l.3.4, l.3.5) }
 
 -- ---- steps
-same_took : {now other : Tokens → Tokens → List DefText → Type 0} (behind : Tokens → Tokens → List DefText → Type 0) {token : Token} → SameAt now other token → (took : Took (List DefText)) → FileTookIs other behind token took → FileTookIs now behind token took
+same_took : {now other : Tokens → Tokens → List DefText → Type 0} (behind : FileReader) {token : Token} → SameAt now other token → (took : Took) → FileTookIs other behind token took → FileTookIs now behind token took
 same_took behind s Took.Taken t = same_takes s t
-same_took behind s (Took.Closed file) c = (same_closes s c.0, c.1)
+same_took behind s Took.Closed c = (same_closes s c.0, c.1)
 same_took behind s Took.Stuck stuck = same_stuck s stuck
 
-pub same_result : {E : Type 0} (now other behind : Tokens → Tokens → List DefText → Type 0) (token : Token) → SameAt now other token → (r : Result (Took (List DefText)) E) → IfOk r (λ took. FileTookIs other behind token took) → IfOk r (λ took. FileTookIs now behind token took)
+pub same_result : {E : Type 0} (now other : Tokens → Tokens → List DefText → Type 0) (behind : FileReader) (token : Token) → SameAt now other token → (r : Result Took E) → IfOk r (λ took. FileTookIs other behind token took) → IfOk r (λ took. FileTookIs now behind token took)
 same_result now other behind token s (Ok took) t = same_took behind s took t
 same_result now other behind token s (Err e) t = tt

@@ -89,8 +89,3 @@ same_closes s c = record { forward = λ tokens rest y n. c.forward tokens rest y
 
 pub same_stuck : {X : Type 0} {now other : Tokens → Tokens → X → Type 0} {token : Token} → SameAt now other token → IsStuckAt other token → IsStuckAt now token
 same_stuck s stuck = λ tokens rest x n. stuck tokens rest x (s.forward tokens rest x n)
-
-pub same_step : {R X : Type 0} (completes : R → Tokens → Tokens → X → Type 0) {now other : Tokens → Tokens → X → Type 0} {token : Token} → SameAt now other token → (step : Step R X) → StepIs completes other token step → StepIs completes now token step
-same_step completes s (Taken r) t = same_takes s t
-same_step completes s (Closed t) c = same_closes s c
-same_step completes s Stuck stuck = same_stuck s stuck

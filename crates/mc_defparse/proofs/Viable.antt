@@ -30,9 +30,9 @@ use Rattle.mc_defparse.specs.declared.file.At.{At}
 use Rattle.mc_defparse.specs.declared.file.FileReader.{FileReader}
 use Rattle.mc_defparse.specs.Grammar.{Is, IsWord, plain, unsigned, number, last_name, relates, last_content, last_item, bare, last_rule, last_parameter, end_defs}
 use Rattle.mc_defparse.specs.Steps.{Then, First}
-use Rattle.mc_defparse.specs.Readers.{Stops, SumStops, BoundStops, NamesStop, FixedStops, NameStops, NumberStops, CompletesItem}
-use Rattle.mc_defparse.specs.Blocks.{ContentsStop, ContentStops, ColonStops, FieldStops, OpeningStops, CompletesBlock}
-use Rattle.mc_defparse.specs.Heads.{ParametersEnd, ParameterEnds, KindEnds, ThisEnds, OpeningEnds, CompletesHead}
+use Rattle.mc_defparse.specs.Readers.{Stops, SumStops, BoundStops, NamesStop, FixedStops, NameStops, NumberStops, item_of, CompletesItem}
+use Rattle.mc_defparse.specs.Blocks.{ContentsStop, ContentStops, ColonStops, FieldStops, OpeningStops, block_of, CompletesBlock}
+use Rattle.mc_defparse.specs.Heads.{ParametersEnd, ParameterEnds, KindEnds, ThisEnds, OpeningEnds, head_of, CompletesHead}
 use Rattle.mc_defparse.specs.Files.{RulesEnd, ItemsEnd, BodyEnds, BraceEnds, FirstRuleEnds, ThisGoesOn, CompletesAt, CompletesFile}
 
 abbrev at_start : Place
@@ -128,17 +128,17 @@ can_start = record { more = a_name ∷ mark (codes "=") ∷ a_number ∷ mark (c
 can_item : (reader : ItemReader) → CanEnd (CompletesItem reader)
 can_item ItemReader.Start = can_start
 can_item ItemReader.Int = can_first (Is Symbol.Name) (λ x. FixedStops Kind.Int (name_of x)) a_name is_name (can_fixed Kind.Int (name_of a_name))
-can_item (ItemReader.Name x) = can_name x
-can_item (ItemReader.Fixed kind x) = can_fixed kind x
-can_item (ItemReader.Argument p xs) = can_first (Is Symbol.Name) (λ x. NamesStop p (xs ++ name_of x ∷ [])) a_name is_name (can_names p (xs ++ name_of a_name ∷ []))
-can_item (ItemReader.Arguments p xs) = can_names p xs
-can_item (ItemReader.Sum x r) = can_sum x r
+can_item (ItemReader.Name x) = can_name (name_of x.now)
+can_item (ItemReader.Fixed kind x) = can_fixed kind (name_of x.now)
+can_item (ItemReader.Argument p xs) = can_first (Is Symbol.Name) (λ x. NamesStop (name_of p.now) (xs ++ name_of x ∷ [])) a_name is_name (can_names (name_of p.now) (xs ++ name_of a_name ∷ []))
+can_item (ItemReader.Arguments p xs) = can_names (name_of p.now) xs
+can_item (ItemReader.Sum x r) = can_sum (name_of x.now) r
 can_item (ItemReader.Negative x r place) = can_number _
-can_item (ItemReader.Base x r base) = record { more = mark (codes ";") ∷ []; tree = Relates x r (Sum.Name base); completes = λ rest. rw is_semicolon (refl, refl) }
+can_item (ItemReader.Base x r base) = record { more = mark (codes ";") ∷ []; tree = Relates (name_of x.now) r (Sum.Name (name_of base.now)); completes = λ rest. rw is_semicolon (refl, refl) }
 can_item (ItemReader.Offset x r base minus) = can_number _
-can_item (ItemReader.Bound x b) = can_bound x b
+can_item (ItemReader.Bound x b) = can_bound (name_of x.now) b
 can_item (ItemReader.NegativeBound x b place) = can_number _
-can_item (ItemReader.Whole item) = can_stop item
+can_item (ItemReader.Whole item) = can_stop (item_of item)
 
 -- ---- blocks
 can_contents : (shape : Name) (cs : List Content) → CanEnd (ContentsStop shape cs)
@@ -158,12 +158,12 @@ can_opening shape = can_first (Is Symbol.OpenBrace) (λ opening. FieldStops shap
 
 can_block : (reader : BlockReader) → CanEnd (CompletesBlock reader)
 can_block BlockReader.Shape = can_first (Is Symbol.Name) (λ shape. OpeningStops (name_of shape)) a_name is_name (can_opening (name_of a_name))
-can_block (BlockReader.Opening shape) = can_opening shape
-can_block (BlockReader.Field shape cs) = can_field shape cs
-can_block (BlockReader.Colon shape cs f) = can_colon shape cs f
-can_block (BlockReader.Content shape cs f) = can_content shape cs f
-can_block (BlockReader.Contents shape cs) = can_contents shape cs
-can_block (BlockReader.Whole block) = can_stop block
+can_block (BlockReader.Opening shape) = can_opening (name_of shape.now)
+can_block (BlockReader.Field shape cs) = can_field (name_of shape.now) cs
+can_block (BlockReader.Colon shape cs f) = can_colon (name_of shape.now) cs (name_of f.now)
+can_block (BlockReader.Content shape cs f) = can_content (name_of shape.now) cs (name_of f.now)
+can_block (BlockReader.Contents shape cs) = can_contents (name_of shape.now) cs
+can_block (BlockReader.Whole block) = can_stop (block_of block)
 
 -- ---- heads
 can_parameters : (p : Name) (ps : List Parameter) → CanEnd (ParametersEnd p ps)
@@ -187,12 +187,12 @@ can_head_opening p = can_first (Is Symbol.Open) (λ opening. ThisEnds p) (mark (
 
 can_head : (reader : HeadReader) → CanEnd (CompletesHead reader)
 can_head HeadReader.Name = can_first (Is Symbol.Name) (λ p. OpeningEnds (name_of p)) a_name is_name (can_head_opening (name_of a_name))
-can_head (HeadReader.Opening p) = can_head_opening p
-can_head (HeadReader.This p) = can_this p
-can_head (HeadReader.Parameters p ps) = can_parameters p ps
-can_head (HeadReader.Kind p ps) = can_kind p ps
-can_head (HeadReader.Parameter p ps kind) = can_parameter p ps kind
-can_head (HeadReader.Brace head) = record { more = mark (codes "{") ∷ []; tree = head; completes = λ rest. (is_open_brace, (refl, refl)) }
+can_head (HeadReader.Opening p) = can_head_opening (name_of p.now)
+can_head (HeadReader.This p) = can_this (name_of p.now)
+can_head (HeadReader.Parameters p ps) = can_parameters (name_of p.now) ps
+can_head (HeadReader.Kind p ps) = can_kind (name_of p.now) ps
+can_head (HeadReader.Parameter p ps kind) = can_parameter (name_of p.now) ps kind
+can_head (HeadReader.Brace head) = record { more = mark (codes "{") ∷ []; tree = head_of head; completes = λ rest. (is_open_brace, (refl, refl)) }
 
 -- ---- files
 -- the same with one token at least
@@ -239,7 +239,7 @@ can_at At.FirstRule done h rules b items = can_first_rule done h
 can_at At.Rules done h rules b items = can_rules done h rules
 can_at At.Brace done h rules b items = can_brace done h rules
 can_at At.Start done h rules b items = can_body done h rules
-can_at (At.This this) done h rules b items = can_go_on done h rules this
+can_at (At.This this) done h rules b items = can_go_on done h rules (name_of this.now)
 can_at (At.Block reader) done h rules b items = then_finish (can_block reader) (λ found. can_items done h rules (Some found) [])
 can_at At.Items done h rules b items = can_items done h rules b items
 can_at (At.Item reader) done h rules b items = then_finish (can_item reader) (λ item. can_items done h rules b (items ++ item ∷ []))

@@ -7,6 +7,7 @@ use Rattle.mc_defparse.specs.declared.symbols.Symbol.TheVariants as Symbol
 use Rattle.mc_defparse.specs.declared.tree.Content.{Content}
 use Rattle.mc_defparse.specs.declared.tree.Block.{Block}
 use Rattle.mc_defparse.specs.declared.block.BlockReader.{BlockReader}
+use Rattle.mc_defparse.specs.declared.block.WholeBlock.{WholeBlock}
 use Rattle.mc_defparse.specs.declared.step.Step.{Step}
 use Rattle.mc_defparse.specs.Grammar.{Is, MoreContents}
 use Rattle.mc_defparse.specs.Steps.{StepIs, First}
@@ -31,15 +32,19 @@ FieldStops shape cs = First (Is Symbol.Name) (λ f. ColonStops shape cs (name_of
 abbrev pub OpeningStops : Name → Tokens → Tokens → Block → Type 0
 OpeningStops shape = First (Is Symbol.OpenBrace) (λ opening. FieldStops shape [])
 
+-- the block that the token of its struct makes
+abbrev pub block_of : WholeBlock → Block
+block_of block = record { shape = name_of block.shape.now; contents = block.contents; end = block.end }
+
 -- the tokens, up to the rest, complete what the reader has read to this block
 abbrev pub CompletesBlock : BlockReader → Tokens → Tokens → Block → Type 0
 CompletesBlock BlockReader.Shape = First (Is Symbol.Name) (λ shape. OpeningStops (name_of shape))
-CompletesBlock (BlockReader.Opening shape) = OpeningStops shape
-CompletesBlock (BlockReader.Field shape cs) = FieldStops shape cs
-CompletesBlock (BlockReader.Colon shape cs f) = ColonStops shape cs f
-CompletesBlock (BlockReader.Content shape cs f) = ContentStops shape cs f
-CompletesBlock (BlockReader.Contents shape cs) = ContentsStop shape cs
-CompletesBlock (BlockReader.Whole block) = Stops block
+CompletesBlock (BlockReader.Opening shape) = OpeningStops (name_of shape.now)
+CompletesBlock (BlockReader.Field shape cs) = FieldStops (name_of shape.now) cs
+CompletesBlock (BlockReader.Colon shape cs f) = ColonStops (name_of shape.now) cs (name_of f.now)
+CompletesBlock (BlockReader.Content shape cs f) = ContentStops (name_of shape.now) cs (name_of f.now)
+CompletesBlock (BlockReader.Contents shape cs) = ContentsStop (name_of shape.now) cs
+CompletesBlock (BlockReader.Whole block) = Stops (block_of block)
 
-abbrev pub BlockStepIs : BlockReader → Token → Step BlockReader Block → Type 0
-BlockStepIs reader token step = StepIs CompletesBlock (CompletesBlock reader) token step
+abbrev pub BlockStepIs : BlockReader → Token → Step BlockReader WholeBlock → Type 0
+BlockStepIs reader token step = StepIs CompletesBlock block_of (CompletesBlock reader) token step

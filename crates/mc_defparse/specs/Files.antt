@@ -2,7 +2,7 @@
 use Rattle.std.specs.Prelude.{◌≡◌, Option, Some, None, List, [], ◌∷◌, ◌++◌, ◌⊎◌, codes}
 use Rattle.mc_text.specs.declared.token.Token.{Token}
 use Rattle.mc_ast.specs.declared.trees.Name.{Name}
-use Rattle.mc_ast.specs.Names.{Tokens}
+use Rattle.mc_ast.specs.Names.{Tokens, name_of}
 use Rattle.mc_defparse.specs.declared.symbols.Symbol.TheVariants as Symbol
 use Rattle.mc_defparse.specs.declared.tree.Item.{Item}
 use Rattle.mc_defparse.specs.declared.tree.Block.{Block}
@@ -66,7 +66,7 @@ CompletesAt At.FirstRule done head rules block items = FirstRuleEnds done head
 CompletesAt At.Rules done head rules block items = RulesEnd done head rules
 CompletesAt At.Brace done head rules block items = BraceEnds done head rules
 CompletesAt At.Start done head rules block items = BodyEnds done head rules
-CompletesAt (At.This this) done head rules block items = ThisGoesOn done head rules this
+CompletesAt (At.This this) done head rules block items = ThisGoesOn done head rules (name_of this.now)
 CompletesAt (At.Block reader) done head rules block items = Then (CompletesBlock reader) (BlockEnds done head rules)
 CompletesAt At.Items done head rules block items = ItemsEnd done head rules block items
 CompletesAt (At.Item reader) done head rules block items = Then (CompletesItem reader) (ItemEnds done head rules block items)
@@ -74,8 +74,8 @@ CompletesAt (At.Item reader) done head rules block items = Then (CompletesItem r
 abbrev pub CompletesFile : FileReader → Tokens → Tokens → List DefText → Type 0
 CompletesFile reader = CompletesAt reader.at reader.done reader.head reader.rules reader.block reader.items
 
--- what a reader that steps in place makes of a token, of what completes it now and behind the token; it closes at the end alone
-abbrev pub FileTookIs : (now behind : Tokens → Tokens → List DefText → Type 0) → Token → Took (List DefText) → Type 0
-FileTookIs now behind token Took.Taken = Takes now behind token
-FileTookIs now behind token (Took.Closed file) = Closes now token file × (token.kind ≡ TokenKind.End)
+-- what a reader that steps in place makes of a token, of what completes it now and of the reader behind the token; it closes at the end alone, with its definitions
+abbrev pub FileTookIs : (now : Tokens → Tokens → List DefText → Type 0) → FileReader → Token → Took → Type 0
+FileTookIs now behind token Took.Taken = Takes now (CompletesFile behind) token
+FileTookIs now behind token Took.Closed = Closes now token behind.done × (token.kind ≡ TokenKind.End)
 FileTookIs now behind token Took.Stuck = IsStuckAt now token

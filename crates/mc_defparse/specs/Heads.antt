@@ -8,6 +8,7 @@ use Rattle.mc_defparse.specs.declared.symbols.Symbol.TheVariants as Symbol
 use Rattle.mc_defparse.specs.declared.tree.Parameter.{Parameter}
 use Rattle.mc_defparse.specs.declared.tree.Head.{Head}
 use Rattle.mc_defparse.specs.declared.front.HeadReader.{HeadReader}
+use Rattle.mc_defparse.specs.declared.front.WholeHead.{WholeHead}
 use Rattle.mc_defparse.specs.declared.step.Step.{Step}
 use Rattle.mc_defparse.specs.Grammar.{Is, IsWord, IsKind, MoreParameters, parameter}
 use Rattle.mc_defparse.specs.Steps.{StepIs, First, Gives}
@@ -32,15 +33,19 @@ ThisEnds p = First (IsWord (codes "this")) (λ this. ParametersEnd p [])
 abbrev pub OpeningEnds : Name → Tokens → Tokens → Head → Type 0
 OpeningEnds p = First (Is Symbol.Open) (λ opening. ThisEnds p)
 
+-- the head that the token of its name makes
+abbrev pub head_of : WholeHead → Head
+head_of head = record { name = name_of head.name.now; params = head.params }
+
 -- the tokens, up to the rest, complete what the reader has read to this head
 abbrev pub CompletesHead : HeadReader → Tokens → Tokens → Head → Type 0
 CompletesHead HeadReader.Name = First (Is Symbol.Name) (λ p. OpeningEnds (name_of p))
-CompletesHead (HeadReader.Opening p) = OpeningEnds p
-CompletesHead (HeadReader.This p) = ThisEnds p
-CompletesHead (HeadReader.Parameters p ps) = ParametersEnd p ps
-CompletesHead (HeadReader.Kind p ps) = KindEnds p ps
-CompletesHead (HeadReader.Parameter p ps kind) = ParameterEnds p ps kind
-CompletesHead (HeadReader.Brace head) = First (Is Symbol.OpenBrace) (λ brace. Gives head)
+CompletesHead (HeadReader.Opening p) = OpeningEnds (name_of p.now)
+CompletesHead (HeadReader.This p) = ThisEnds (name_of p.now)
+CompletesHead (HeadReader.Parameters p ps) = ParametersEnd (name_of p.now) ps
+CompletesHead (HeadReader.Kind p ps) = KindEnds (name_of p.now) ps
+CompletesHead (HeadReader.Parameter p ps kind) = ParameterEnds (name_of p.now) ps kind
+CompletesHead (HeadReader.Brace head) = First (Is Symbol.OpenBrace) (λ brace. Gives (head_of head))
 
-abbrev pub HeadStepIs : HeadReader → Token → Step HeadReader Head → Type 0
-HeadStepIs reader token step = StepIs CompletesHead (CompletesHead reader) token step
+abbrev pub HeadStepIs : HeadReader → Token → Step HeadReader WholeHead → Type 0
+HeadStepIs reader token step = StepIs CompletesHead head_of (CompletesHead reader) token step

@@ -15,6 +15,7 @@ use Rattle.mc_defparse.specs.declared.tree.Bound.TheVariants.{AtMost, AtLeast}
 use Rattle.mc_defparse.specs.declared.tree.Item.{Item}
 use Rattle.mc_defparse.specs.declared.tree.Item.TheVariants.{Call, Relates, Bounds}
 use Rattle.mc_defparse.specs.declared.item.ItemReader.{ItemReader}
+use Rattle.mc_defparse.specs.declared.item.WholeItem.{WholeItem}
 use Rattle.mc_defparse.specs.declared.step.Step.{Step}
 use Rattle.mc_defparse.specs.Grammar.{Is, IsNum, IsSum, MoreNames, IsItem}
 use Rattle.mc_defparse.specs.Steps.{StepIs, First, FirstNumber, BySymbol, Gives}
@@ -78,21 +79,29 @@ BaseStopsBy x r base Symbol.Minus token = NumberStops (moved_sum x r base true)
 BaseStopsBy x r base Symbol.Semicolon token = Gives (Relates x r (Sum.Name base))
 BaseStopsBy x r base symbol token = λ tokens rest item. ⊥
 
+-- the item that the tokens of its names make
+abbrev pub item_of : WholeItem → Item
+item_of (WholeItem.Call p xs) = Call (name_of p.now) xs
+item_of (WholeItem.Number x r m) = Relates (name_of x.now) r (Sum.Number m)
+item_of (WholeItem.Name x r base) = Relates (name_of x.now) r (Sum.Name (name_of base.now))
+item_of (WholeItem.Moved x r base m) = Relates (name_of x.now) r (Sum.Moved (name_of base.now) m)
+item_of (WholeItem.Bound x b m) = Bounds (name_of x.now) b m
+
 -- the tokens, up to the rest, complete what the reader has read to this item
 abbrev pub CompletesItem : ItemReader → Tokens → Tokens → Item → Type 0
 CompletesItem ItemReader.Start = λ tokens rest item. IsItem item tokens rest
 CompletesItem ItemReader.Int = First (Is Symbol.Name) (λ x. FixedStops Kind.Int (name_of x))
-CompletesItem (ItemReader.Name x) = NameStops x
-CompletesItem (ItemReader.Fixed kind x) = FixedStops kind x
-CompletesItem (ItemReader.Argument p xs) = NameThenStops p xs
-CompletesItem (ItemReader.Arguments p xs) = NamesStop p xs
-CompletesItem (ItemReader.Sum x r) = SumStops x r
-CompletesItem (ItemReader.Negative x r place) = NumberStops (signed_sum x r place)
-CompletesItem (ItemReader.Base x r base) = BySymbol (BaseStopsBy x r base)
-CompletesItem (ItemReader.Offset x r base minus) = NumberStops (moved_sum x r base minus)
-CompletesItem (ItemReader.Bound x b) = BoundStops x b
-CompletesItem (ItemReader.NegativeBound x b place) = NumberStops (signed_bound x b place)
-CompletesItem (ItemReader.Whole item) = Stops item
+CompletesItem (ItemReader.Name x) = NameStops (name_of x.now)
+CompletesItem (ItemReader.Fixed kind x) = FixedStops kind (name_of x.now)
+CompletesItem (ItemReader.Argument p xs) = NameThenStops (name_of p.now) xs
+CompletesItem (ItemReader.Arguments p xs) = NamesStop (name_of p.now) xs
+CompletesItem (ItemReader.Sum x r) = SumStops (name_of x.now) r
+CompletesItem (ItemReader.Negative x r place) = NumberStops (signed_sum (name_of x.now) r place)
+CompletesItem (ItemReader.Base x r base) = BySymbol (BaseStopsBy (name_of x.now) r (name_of base.now))
+CompletesItem (ItemReader.Offset x r base minus) = NumberStops (moved_sum (name_of x.now) r (name_of base.now) minus)
+CompletesItem (ItemReader.Bound x b) = BoundStops (name_of x.now) b
+CompletesItem (ItemReader.NegativeBound x b place) = NumberStops (signed_bound (name_of x.now) b place)
+CompletesItem (ItemReader.Whole item) = Stops (item_of item)
 
-abbrev pub ItemStepIs : ItemReader → Token → Step ItemReader Item → Type 0
-ItemStepIs reader token step = StepIs CompletesItem (CompletesItem reader) token step
+abbrev pub ItemStepIs : ItemReader → Token → Step ItemReader WholeItem → Type 0
+ItemStepIs reader token step = StepIs CompletesItem item_of (CompletesItem reader) token step

@@ -13,11 +13,11 @@ pub record Takes {X : Type 0} (now later : Tokens → Tokens → X → Type 0) (
   pub forward : (tokens rest : Tokens) (x : X) → now (token ∷ tokens) rest x → later tokens rest x
   pub backward : (tokens rest : Tokens) (x : X) → later tokens rest x → now (token ∷ tokens) rest x
 
--- the step is that of a reader at this token
-abbrev pub StepIs : {R X : Type 0} → (R → Tokens → Tokens → X → Type 0) → (Tokens → Tokens → X → Type 0) → Token → Step R X → Type 0
-StepIs completes now token (Taken reader) = Takes now (completes reader) token
-StepIs completes now token (Closed x) = Closes now token x
-StepIs completes now token Stuck = IsStuckAt now token
+-- the step is that of a reader at this token, which is complete with what the second function makes of the answer
+abbrev pub StepIs : {R X Y : Type 0} → (R → Tokens → Tokens → Y → Type 0) → (X → Y) → (Tokens → Tokens → Y → Type 0) → Token → Step R X → Type 0
+StepIs completes give now token (Taken reader) = Takes now (completes reader) token
+StepIs completes give now token (Closed x) = Closes now token (give x)
+StepIs completes give now token Stuck = IsStuckAt now token
 
 -- the tokens begin with those of an `a`, and go on as the second says of it
 abbrev pub Then : {A X : Type 0} → (Tokens → Tokens → A → Type 0) → (A → Tokens → Tokens → X → Type 0) → Tokens → Tokens → X → Type 0

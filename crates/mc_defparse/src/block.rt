@@ -1,69 +1,91 @@
 // The blocks of rules, behind `this ->` up to the `;`.
-ghost use Rattle.mc_defparse.specs.Blocks.{BlockStepIs};
+ghost use Rattle.mc_defparse.specs.Blocks.{BlockStepIs, block_of};
 ghost use Rattle.mc_defparse.specs.Symbols.{symbol_of};
 ghost use Rattle.std.specs.Prelude.{◌≡◌, IfOk};
 
 use crate::step::Step;
 use crate::symbols::Symbol;
 use crate::tree::{Block, Content};
-use mc_ast::{Name, name_at};
+use mc_ast::name_at;
 use mc_base::Items;
-use mc_text::Token;
+use mc_text::{Place, Token};
 use std::alloc::{AllocError, Global};
 
-/// What has been read of a block.
-pub enum BlockReader {
+/// A block, by the token of its struct, with the place of its `}`.
+#[derive(Drop)]
+pub struct WholeBlock<'t> {
+    pub shape: &'t Token,
+    pub contents: Items<Content>,
+    pub end: Place,
+}
+
+impl<'t> WholeBlock<'t> {
+    /// The block.
+    pub fn block(self, alloc: Global) -> Result<Block, AllocError>
+        ensures { IfOk result (λ block. block ≡ block_of self.entry) }
+    {
+        let WholeBlock {
+            shape,
+            contents,
+            end,
+        } = self;
+        Ok(Block {
+            shape: name_at(alloc, shape)?,
+            contents,
+            end,
+        })
+    }
+}
+
+/// What has been read of a block, by the tokens of its struct and of a field.
+pub enum BlockReader<'t> {
     /// Before the struct.
     Shape,
     /// Behind the struct.
-    Opening(Name),
+    Opening(&'t Token),
     /// Before a field.
-    Field(Name, Items<Content>),
+    Field(&'t Token, Items<Content>),
     /// Behind a field.
-    Colon(Name, Items<Content>, Name),
+    Colon(&'t Token, Items<Content>, &'t Token),
     /// Before the name of what a field holds.
-    Content(Name, Items<Content>, Name),
+    Content(&'t Token, Items<Content>, &'t Token),
     /// Behind a field and the name of what it holds.
-    Contents(Name, Items<Content>),
+    Contents(&'t Token, Items<Content>),
     /// Before the `;`.
-    Whole(Block),
+    Whole(WholeBlock<'t>),
 }
 
 /// Lets go of what has been read.
-impl Drop for BlockReader {
+impl Drop for BlockReader<'_> {
     fn drop(self) {
         match self {
-            BlockReader::Shape => {}
-            BlockReader::Opening(shape) => drop(shape),
-            BlockReader::Field(shape, contents) | BlockReader::Contents(shape, contents) => {
-                drop(shape);
-                drop(contents);
-            }
-            BlockReader::Colon(shape, contents, field)
-            | BlockReader::Content(shape, contents, field) => {
-                drop(shape);
-                drop(contents);
-                drop(field);
-            }
+            BlockReader::Shape | BlockReader::Opening(_) => {}
+            BlockReader::Field(_, contents)
+            | BlockReader::Contents(_, contents)
+            | BlockReader::Colon(_, contents, _)
+            | BlockReader::Content(_, contents, _) => drop(contents),
             BlockReader::Whole(block) => drop(block),
         }
     }
 }
 
-pub type BlockStep = Step<BlockReader, Block>;
+pub type BlockStep<'t> = Step<BlockReader<'t>, WholeBlock<'t>>;
 
-impl BlockReader {
+impl<'t> BlockReader<'t> {
     /// Takes the next token.
-    pub fn step(self, alloc: Global, token: &Token, symbol: Symbol) -> Result<BlockStep, AllocError>
+    pub fn step(
+        self,
+        alloc: Global,
+        token: &'t Token,
+        symbol: Symbol,
+    ) -> Result<BlockStep<'t>, AllocError>
         requires { symbol ≡ symbol_of token.now }
-        ensures { IfOk result (λ step. BlockStepIs self token.now step) }
+        ensures { IfOk result (λ step. BlockStepIs self.entry token.now step) }
     {
         match self {
-            BlockReader::Shape => before_shape(alloc, token, symbol),
+            BlockReader::Shape => Ok(before_shape(token, symbol)),
             BlockReader::Opening(shape) => Ok(behind_shape(alloc, shape, token, symbol)),
-            BlockReader::Field(shape, contents) => {
-                before_field(alloc, shape, contents, token, symbol)
-            }
+            BlockReader::Field(shape, contents) => Ok(before_field(shape, contents, token, symbol)),
             BlockReader::Colon(shape, contents, field) => {
                 Ok(behind_field(shape, contents, field, token, symbol))
             }
@@ -78,19 +100,19 @@ impl BlockReader {
     }
 }
 
-fn before_shape(alloc: Global, token: &Token, symbol: Symbol) -> Result<BlockStep, AllocError>
+fn before_shape<'t>(token: &'t Token, symbol: Symbol) -> BlockStep<'t>
     requires { symbol ≡ symbol_of token.now }
-    ensures { IfOk result (λ step. BlockStepIs BlockReader.Shape token.now step) }
+    ensures { BlockStepIs BlockReader.Shape token.now result }
 {
     match symbol {
-        Symbol::Name => Ok(Step::Taken(BlockReader::Opening(name_at(alloc, token)?))),
-        _ => Ok(Step::Stuck),
+        Symbol::Name => Step::Taken(BlockReader::Opening(token)),
+        _ => Step::Stuck,
     }
 }
 
-fn behind_shape(alloc: Global, shape: Name, token: &Token, symbol: Symbol) -> BlockStep
+fn behind_shape<'t>(alloc: Global, shape: &'t Token, token: &Token, symbol: Symbol) -> BlockStep<'t>
     requires { symbol ≡ symbol_of token.now }
-    ensures { BlockStepIs (BlockReader.Opening shape) token.now result }
+    ensures { BlockStepIs (BlockReader.Opening shape.entry) token.now result }
 {
     let _now = token;
     match symbol {
@@ -99,34 +121,30 @@ fn behind_shape(alloc: Global, shape: Name, token: &Token, symbol: Symbol) -> Bl
     }
 }
 
-fn before_field(
-    alloc: Global,
-    shape: Name,
+fn before_field<'t>(
+    shape: &'t Token,
     contents: Items<Content>,
-    token: &Token,
+    token: &'t Token,
     symbol: Symbol,
-) -> Result<BlockStep, AllocError>
+) -> BlockStep<'t>
     requires { symbol ≡ symbol_of token.now }
-    ensures { IfOk result (λ step. BlockStepIs (BlockReader.Field shape contents) token.now step) }
+    ensures { BlockStepIs (BlockReader.Field shape.entry contents) token.now result }
 {
     match symbol {
-        Symbol::Name => {
-            let field = name_at(alloc, token)?;
-            Ok(Step::Taken(BlockReader::Colon(shape, contents, field)))
-        }
-        _ => Ok(Step::Stuck),
+        Symbol::Name => Step::Taken(BlockReader::Colon(shape, contents, token)),
+        _ => Step::Stuck,
     }
 }
 
-fn behind_field(
-    shape: Name,
+fn behind_field<'t>(
+    shape: &'t Token,
     contents: Items<Content>,
-    field: Name,
+    field: &'t Token,
     token: &Token,
     symbol: Symbol,
-) -> BlockStep
+) -> BlockStep<'t>
     requires { symbol ≡ symbol_of token.now }
-    ensures { BlockStepIs (BlockReader.Colon shape contents field) token.now result }
+    ensures { BlockStepIs (BlockReader.Colon shape.entry contents field.entry) token.now result }
 {
     let _now = token;
     match symbol {
@@ -135,19 +153,20 @@ fn behind_field(
     }
 }
 
-fn before_content(
+fn before_content<'t>(
     alloc: Global,
-    shape: Name,
+    shape: &'t Token,
     mut contents: Items<Content>,
-    field: Name,
+    field: &'t Token,
     token: &Token,
     symbol: Symbol,
-) -> Result<BlockStep, AllocError>
+) -> Result<BlockStep<'t>, AllocError>
     requires { symbol ≡ symbol_of token.now }
-    ensures { IfOk result (λ step. BlockStepIs (BlockReader.Content shape contents field) token.now step) }
+    ensures { IfOk result (λ step. BlockStepIs (BlockReader.Content shape.entry contents field.entry) token.now step) }
 {
     match symbol {
         Symbol::Name => {
+            let field = name_at(alloc, field)?;
             let name = name_at(alloc, token)?;
             contents.push(Content { field, name })?;
             Ok(Step::Taken(BlockReader::Contents(shape, contents)))
@@ -156,13 +175,18 @@ fn before_content(
     }
 }
 
-fn behind_content(shape: Name, contents: Items<Content>, token: &Token, symbol: Symbol) -> BlockStep
+fn behind_content<'t>(
+    shape: &'t Token,
+    contents: Items<Content>,
+    token: &Token,
+    symbol: Symbol,
+) -> BlockStep<'t>
     requires { symbol ≡ symbol_of token.now }
-    ensures { BlockStepIs (BlockReader.Contents shape contents) token.now result }
+    ensures { BlockStepIs (BlockReader.Contents shape.entry contents) token.now result }
 {
     match symbol {
         Symbol::Comma => Step::Taken(BlockReader::Field(shape, contents)),
-        Symbol::CloseBrace => Step::Taken(BlockReader::Whole(Block {
+        Symbol::CloseBrace => Step::Taken(BlockReader::Whole(WholeBlock {
             shape,
             contents,
             end: token.place,
@@ -171,9 +195,9 @@ fn behind_content(shape: Name, contents: Items<Content>, token: &Token, symbol: 
     }
 }
 
-fn before_stop(block: Block, token: &Token, symbol: Symbol) -> BlockStep
+fn before_stop<'t>(block: WholeBlock<'t>, token: &Token, symbol: Symbol) -> BlockStep<'t>
     requires { symbol ≡ symbol_of token.now }
-    ensures { BlockStepIs (BlockReader.Whole block) token.now result }
+    ensures { BlockStepIs (BlockReader.Whole block.entry) token.now result }
 {
     let _now = token;
     match symbol {

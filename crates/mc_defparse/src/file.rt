@@ -1,5 +1,6 @@
 // Whole files, token by token.
 ghost use Rattle.mc_defparse.specs.Files.{FileTookIs, CompletesAt, CompletesFile, FirstRuleEnds, RulesEnd, BraceEnds, BodyEnds, ThisGoesOn, BlockEnds, ItemsEnd, ItemEnds};
+ghost use Rattle.mc_ast.specs.Names.{name_of};
 ghost use Rattle.mc_defparse.specs.Blocks.{CompletesBlock};
 ghost use Rattle.mc_defparse.specs.Grammar.{MoreDefs};
 ghost use Rattle.mc_defparse.specs.Heads.{CompletesHead};
@@ -14,18 +15,18 @@ use crate::item::ItemReader;
 use crate::step::{Step, Took};
 use crate::symbols::{Symbol, classify};
 use crate::tree::{Block, DefText, Head, Item, RuleText};
-use mc_ast::{Name, name_at};
+use mc_ast::Name;
 use mc_base::Items;
 use mc_text::{Place, Text, Token, TokenKind};
 use std::alloc::{AllocError, Global};
 use std::mem;
 
 /// Where a reader stands.
-pub enum At {
+pub enum At<'t> {
     /// Before a definition or the end.
     Outside,
     /// Behind `def`.
-    Head(HeadReader),
+    Head(HeadReader<'t>),
     /// Behind the head of a definition.
     FirstRule,
     /// Behind a rule.
@@ -35,42 +36,47 @@ pub enum At {
     /// Behind the `{` of a rule.
     Start,
     /// Behind the name `this` there.
-    This(Name),
+    This(&'t Token),
     /// Behind `this ->`.
-    Block(BlockReader),
+    Block(BlockReader<'t>),
     /// Behind a block or an item.
     Items,
     /// Within an item.
-    Item(ItemReader),
+    Item(ItemReader<'t>),
 }
 
 /// Lets go of what has been read. What replaces a place calls this.
-impl Drop for At {
+impl Drop for At<'_> {
     fn drop(self) {
         match self {
-            At::Outside | At::FirstRule | At::Rules | At::Brace | At::Start | At::Items => {}
+            At::Outside
+            | At::FirstRule
+            | At::Rules
+            | At::Brace
+            | At::Start
+            | At::This(_)
+            | At::Items => {}
             At::Head(reader) => drop(reader),
-            At::This(name) => drop(name),
             At::Block(reader) => drop(reader),
             At::Item(reader) => drop(reader),
         }
     }
 }
 
-impl At {
+impl<'t> At<'t> {
     // Takes the next token, where a file is read up to here.
     fn step(
         self,
         alloc: Global,
-        file: &mut FileReader,
-        token: &Token,
+        file: &mut FileReader<'t>,
+        token: &'t Token,
         symbol: Symbol,
-    ) -> Result<FileTook, AllocError>
+    ) -> Result<Took, AllocError>
         requires { symbol ≡ symbol_of token.now }
-        ensures { IfOk result (λ took. FileTookIs (CompletesAt self file.old.done file.old.head file.old.rules file.old.block file.old.items) (CompletesFile file.new) token.now took) }
+        ensures { IfOk result (λ took. FileTookIs (CompletesAt self.entry file.old.done file.old.head file.old.rules file.old.block file.old.items) file.new token.now took) }
     {
         match self {
-            At::Outside => Ok(file.outside(alloc, token, symbol)),
+            At::Outside => Ok(file.outside(token, symbol)),
             At::Head(reader) => file.within_head(alloc, reader, token, symbol),
             At::FirstRule => Ok(file.before_rule(alloc, token, symbol)),
             At::Rules => file.behind_rule(alloc, token, symbol),
@@ -87,16 +93,14 @@ impl At {
 /// What has been read of a file: whole definitions, and the head, the whole rules, the block and the whole items of the
 /// one that is open.
 #[derive(Drop)]
-pub struct FileReader {
+pub struct FileReader<'t> {
     pub done: Items<DefText>,
     pub head: Head,
     pub rules: Items<RuleText>,
     pub block: Option<Block>,
     pub items: Items<Item>,
-    pub at: At,
+    pub at: At<'t>,
 }
-
-pub type FileTook = Took<Items<DefText>>;
 
 fn no_head(alloc: Global) -> Head {
     let name = Name {
@@ -109,9 +113,9 @@ fn no_head(alloc: Global) -> Head {
     }
 }
 
-impl FileReader {
+impl<'t> FileReader<'t> {
     /// A reader before the first token.
-    pub fn new(alloc: Global) -> FileReader
+    pub fn new(alloc: Global) -> FileReader<'t>
         ensures at { result.at ≡ At.Outside }
         ensures done { result.done ≡ [] }
     {
@@ -126,28 +130,28 @@ impl FileReader {
     }
 
     /// Takes the next token.
-    pub fn step(&mut self, alloc: Global, token: &Token) -> Result<FileTook, AllocError>
-        ensures { IfOk result (λ took. FileTookIs (CompletesFile self.old) (CompletesFile self.new) token.now took) }
+    pub fn step(&mut self, alloc: Global, token: &'t Token) -> Result<Took, AllocError>
+        ensures { IfOk result (λ took. FileTookIs (CompletesFile self.old) self.new token.now took) }
     {
         let symbol = classify(token);
         let at = mem::replace(&mut self.at, At::Items);
         at.step(alloc, self, token, symbol)
     }
 
-    fn outside(&mut self, alloc: Global, token: &Token, symbol: Symbol) -> FileTook
+    fn outside(&mut self, token: &'t Token, symbol: Symbol) -> Took
         requires { symbol ≡ symbol_of token.now }
-        ensures { FileTookIs (MoreDefs self.old.done) (CompletesFile self.new) token.now result }
+        ensures { FileTookIs (MoreDefs self.old.done) self.new token.now result }
     {
         match token.kind {
-            TokenKind::End => Took::Closed(mem::replace(&mut self.done, Items::new(alloc))),
+            TokenKind::End => Took::Closed,
             _ => self.begin_def(token, symbol),
         }
     }
 
-    fn begin_def(&mut self, token: &Token, symbol: Symbol) -> FileTook
+    fn begin_def(&mut self, token: &'t Token, symbol: Symbol) -> Took
         requires now { symbol ≡ symbol_of token.now }
         requires no_end { token.now.kind ≡ TokenKind.End → ⊥ }
-        ensures { FileTookIs (MoreDefs self.old.done) (CompletesFile self.new) token.now result }
+        ensures { FileTookIs (MoreDefs self.old.done) self.new token.now result }
     {
         if is_word(token, symbol, b"def") {
             self.at = At::Head(HeadReader::Name);
@@ -160,12 +164,12 @@ impl FileReader {
     fn within_head(
         &mut self,
         alloc: Global,
-        reader: HeadReader,
-        token: &Token,
+        reader: HeadReader<'t>,
+        token: &'t Token,
         symbol: Symbol,
-    ) -> Result<FileTook, AllocError>
+    ) -> Result<Took, AllocError>
         requires { symbol ≡ symbol_of token.now }
-        ensures { IfOk result (λ took. FileTookIs (Then (CompletesHead reader) (FirstRuleEnds self.old.done)) (CompletesFile self.new) token.now took) }
+        ensures { IfOk result (λ took. FileTookIs (Then (CompletesHead reader.entry) (FirstRuleEnds self.old.done)) self.new token.now took) }
     {
         match reader.step(alloc, token, symbol)? {
             Step::Taken(reader) => {
@@ -173,7 +177,7 @@ impl FileReader {
                 Ok(Took::Taken)
             }
             Step::Closed(head) => {
-                self.head = head;
+                self.head = head.head(alloc)?;
                 self.at = At::FirstRule;
                 Ok(Took::Taken)
             }
@@ -181,9 +185,9 @@ impl FileReader {
         }
     }
 
-    fn before_rule(&mut self, alloc: Global, token: &Token, symbol: Symbol) -> FileTook
+    fn before_rule(&mut self, alloc: Global, token: &'t Token, symbol: Symbol) -> Took
         requires { symbol ≡ symbol_of token.now }
-        ensures { FileTookIs (FirstRuleEnds self.old.done self.old.head) (CompletesFile self.new) token.now result }
+        ensures { FileTookIs (FirstRuleEnds self.old.done self.old.head) self.new token.now result }
     {
         if !is_word(token, symbol, b"rule") {
             return Took::Stuck;
@@ -196,11 +200,11 @@ impl FileReader {
     fn behind_rule(
         &mut self,
         alloc: Global,
-        token: &Token,
+        token: &'t Token,
         symbol: Symbol,
-    ) -> Result<FileTook, AllocError>
+    ) -> Result<Took, AllocError>
         requires { symbol ≡ symbol_of token.now }
-        ensures { IfOk result (λ took. FileTookIs (RulesEnd self.old.done self.old.head self.old.rules) (CompletesFile self.new) token.now took) }
+        ensures { IfOk result (λ took. FileTookIs (RulesEnd self.old.done self.old.head self.old.rules) self.new token.now took) }
     {
         match symbol {
             Symbol::CloseBrace => {
@@ -211,10 +215,10 @@ impl FileReader {
         }
     }
 
-    fn next_rule(&mut self, token: &Token, symbol: Symbol) -> FileTook
+    fn next_rule(&mut self, token: &'t Token, symbol: Symbol) -> Took
         requires now { symbol ≡ symbol_of token.now }
         requires no_brace { symbol ≡ Symbol.CloseBrace → ⊥ }
-        ensures { FileTookIs (RulesEnd self.old.done self.old.head self.old.rules) (CompletesFile self.new) token.now result }
+        ensures { FileTookIs (RulesEnd self.old.done self.old.head self.old.rules) self.new token.now result }
     {
         if is_word(token, symbol, b"rule") {
             self.at = At::Brace;
@@ -236,9 +240,9 @@ impl FileReader {
         Ok(())
     }
 
-    fn before_brace(&mut self, token: &Token, symbol: Symbol) -> FileTook
+    fn before_brace(&mut self, token: &'t Token, symbol: Symbol) -> Took
         requires { symbol ≡ symbol_of token.now }
-        ensures { FileTookIs (BraceEnds self.old.done self.old.head self.old.rules) (CompletesFile self.new) token.now result }
+        ensures { FileTookIs (BraceEnds self.old.done self.old.head self.old.rules) self.new token.now result }
     {
         let _now = token;
         match symbol {
@@ -253,14 +257,14 @@ impl FileReader {
     fn at_start(
         &mut self,
         alloc: Global,
-        token: &Token,
+        token: &'t Token,
         symbol: Symbol,
-    ) -> Result<FileTook, AllocError>
+    ) -> Result<Took, AllocError>
         requires { symbol ≡ symbol_of token.now }
-        ensures { IfOk result (λ took. FileTookIs (BodyEnds self.old.done self.old.head self.old.rules) (CompletesFile self.new) token.now took) }
+        ensures { IfOk result (λ took. FileTookIs (BodyEnds self.old.done self.old.head self.old.rules) self.new token.now took) }
     {
         if is_word(token, symbol, b"this") {
-            self.at = At::This(name_at(alloc, token)?);
+            self.at = At::This(token);
             Ok(Took::Taken)
         } else {
             self.block = None;
@@ -272,12 +276,12 @@ impl FileReader {
     fn behind_this(
         &mut self,
         alloc: Global,
-        this: Name,
-        token: &Token,
+        this: &'t Token,
+        token: &'t Token,
         symbol: Symbol,
-    ) -> Result<FileTook, AllocError>
+    ) -> Result<Took, AllocError>
         requires { symbol ≡ symbol_of token.now }
-        ensures { IfOk result (λ took. FileTookIs (ThisGoesOn self.old.done self.old.head self.old.rules this) (CompletesFile self.new) token.now took) }
+        ensures { IfOk result (λ took. FileTookIs (ThisGoesOn self.old.done self.old.head self.old.rules (name_of this.now)) self.new token.now took) }
     {
         match symbol {
             Symbol::Arrow => {
@@ -295,12 +299,12 @@ impl FileReader {
     fn within_block(
         &mut self,
         alloc: Global,
-        reader: BlockReader,
-        token: &Token,
+        reader: BlockReader<'t>,
+        token: &'t Token,
         symbol: Symbol,
-    ) -> Result<FileTook, AllocError>
+    ) -> Result<Took, AllocError>
         requires { symbol ≡ symbol_of token.now }
-        ensures { IfOk result (λ took. FileTookIs (Then (CompletesBlock reader) (BlockEnds self.old.done self.old.head self.old.rules)) (CompletesFile self.new) token.now took) }
+        ensures { IfOk result (λ took. FileTookIs (Then (CompletesBlock reader.entry) (BlockEnds self.old.done self.old.head self.old.rules)) self.new token.now took) }
     {
         match reader.step(alloc, token, symbol)? {
             Step::Taken(reader) => {
@@ -308,7 +312,7 @@ impl FileReader {
                 Ok(Took::Taken)
             }
             Step::Closed(block) => {
-                self.block = Some(block);
+                self.block = Some(block.block(alloc)?);
                 self.items = Items::new(alloc);
                 self.at = At::Items;
                 Ok(Took::Taken)
@@ -320,11 +324,11 @@ impl FileReader {
     fn behind_item(
         &mut self,
         alloc: Global,
-        token: &Token,
+        token: &'t Token,
         symbol: Symbol,
-    ) -> Result<FileTook, AllocError>
+    ) -> Result<Took, AllocError>
         requires { symbol ≡ symbol_of token.now }
-        ensures { IfOk result (λ took. FileTookIs (ItemsEnd self.old.done self.old.head self.old.rules self.old.block self.old.items) (CompletesFile self.new) token.now took) }
+        ensures { IfOk result (λ took. FileTookIs (ItemsEnd self.old.done self.old.head self.old.rules self.old.block self.old.items) self.new token.now took) }
     {
         match symbol {
             Symbol::CloseBrace => {
@@ -352,12 +356,12 @@ impl FileReader {
     fn within_item(
         &mut self,
         alloc: Global,
-        reader: ItemReader,
-        token: &Token,
+        reader: ItemReader<'t>,
+        token: &'t Token,
         symbol: Symbol,
-    ) -> Result<FileTook, AllocError>
+    ) -> Result<Took, AllocError>
         requires { symbol ≡ symbol_of token.now }
-        ensures { IfOk result (λ took. FileTookIs (Then (CompletesItem reader) (ItemEnds self.old.done self.old.head self.old.rules self.old.block self.old.items)) (CompletesFile self.new) token.now took) }
+        ensures { IfOk result (λ took. FileTookIs (Then (CompletesItem reader.entry) (ItemEnds self.old.done self.old.head self.old.rules self.old.block self.old.items)) self.new token.now took) }
     {
         match reader.step(alloc, token, symbol)? {
             Step::Taken(reader) => {
@@ -365,7 +369,7 @@ impl FileReader {
                 Ok(Took::Taken)
             }
             Step::Closed(item) => {
-                self.items.push(item)?;
+                self.items.push(item.item(alloc)?)?;
                 self.at = At::Items;
                 Ok(Took::Taken)
             }

@@ -1,5 +1,5 @@
 // The heads of definitions, behind `def` up to the `{`.
-ghost use Rattle.mc_defparse.specs.Heads.{HeadStepIs};
+ghost use Rattle.mc_defparse.specs.Heads.{HeadStepIs, head_of};
 ghost use Rattle.mc_defparse.specs.Grammar.{IsWord};
 ghost use Rattle.mc_defparse.specs.Symbols.{symbol_of};
 ghost use Rattle.std.specs.Prelude.{◌≡◌, ◌↔◌, IfOk, IsTrue};
@@ -7,56 +7,77 @@ ghost use Rattle.std.specs.Prelude.{◌≡◌, ◌↔◌, IfOk, IsTrue};
 use crate::step::Step;
 use crate::symbols::Symbol;
 use crate::tree::{Head, Parameter};
-use mc_ast::{Name, name_at};
+use mc_ast::name_at;
 use mc_base::{Items, Kind};
 use mc_text::Token;
 use std::alloc::{AllocError, Global};
 
-/// What has been read of the head of a definition.
-pub enum HeadReader {
+/// A head, by the token of its name.
+#[derive(Drop)]
+pub struct WholeHead<'t> {
+    pub name: &'t Token,
+    pub params: Items<Parameter>,
+}
+
+impl<'t> WholeHead<'t> {
+    /// The head.
+    pub fn head(self, alloc: Global) -> Result<Head, AllocError>
+        ensures { IfOk result (λ head. head ≡ head_of self.entry) }
+    {
+        let WholeHead { name, params } = self;
+        Ok(Head {
+            name: name_at(alloc, name)?,
+            params,
+        })
+    }
+}
+
+/// What has been read of the head of a definition, by the token of its name.
+pub enum HeadReader<'t> {
     /// Before the name.
     Name,
     /// Behind the name.
-    Opening(Name),
+    Opening(&'t Token),
     /// Before `this`.
-    This(Name),
+    This(&'t Token),
     /// Behind a parameter.
-    Parameters(Name, Items<Parameter>),
+    Parameters(&'t Token, Items<Parameter>),
     /// Before a parameter.
-    Kind(Name, Items<Parameter>),
+    Kind(&'t Token, Items<Parameter>),
     /// Behind the kind of a parameter.
-    Parameter(Name, Items<Parameter>, Kind),
+    Parameter(&'t Token, Items<Parameter>, Kind),
     /// Before the `{`.
-    Brace(Head),
+    Brace(WholeHead<'t>),
 }
 
 /// Lets go of what has been read.
-impl Drop for HeadReader {
+impl Drop for HeadReader<'_> {
     fn drop(self) {
         match self {
-            HeadReader::Name => {}
-            HeadReader::Opening(name) | HeadReader::This(name) => drop(name),
-            HeadReader::Parameters(name, params)
-            | HeadReader::Kind(name, params)
-            | HeadReader::Parameter(name, params, _) => {
-                drop(name);
-                drop(params);
-            }
+            HeadReader::Name | HeadReader::Opening(_) | HeadReader::This(_) => {}
+            HeadReader::Parameters(_, params)
+            | HeadReader::Kind(_, params)
+            | HeadReader::Parameter(_, params, _) => drop(params),
             HeadReader::Brace(head) => drop(head),
         }
     }
 }
 
-pub type HeadStep = Step<HeadReader, Head>;
+pub type HeadStep<'t> = Step<HeadReader<'t>, WholeHead<'t>>;
 
-impl HeadReader {
+impl<'t> HeadReader<'t> {
     /// Takes the next token.
-    pub fn step(self, alloc: Global, token: &Token, symbol: Symbol) -> Result<HeadStep, AllocError>
+    pub fn step(
+        self,
+        alloc: Global,
+        token: &'t Token,
+        symbol: Symbol,
+    ) -> Result<HeadStep<'t>, AllocError>
         requires { symbol ≡ symbol_of token.now }
-        ensures { IfOk result (λ step. HeadStepIs self token.now step) }
+        ensures { IfOk result (λ step. HeadStepIs self.entry token.now step) }
     {
         match self {
-            HeadReader::Name => before_name(alloc, token, symbol),
+            HeadReader::Name => Ok(before_name(token, symbol)),
             HeadReader::Opening(name) => Ok(behind_name(name, token, symbol)),
             HeadReader::This(name) => Ok(before_this(alloc, name, token, symbol)),
             HeadReader::Parameters(name, params) => {
@@ -79,19 +100,19 @@ pub fn is_word(token: &Token, symbol: Symbol, word: &[u8]) -> bool
     symbol == Symbol::Name && token.text.as_slice() == word
 }
 
-fn before_name(alloc: Global, token: &Token, symbol: Symbol) -> Result<HeadStep, AllocError>
+fn before_name<'t>(token: &'t Token, symbol: Symbol) -> HeadStep<'t>
     requires { symbol ≡ symbol_of token.now }
-    ensures { IfOk result (λ step. HeadStepIs HeadReader.Name token.now step) }
+    ensures { HeadStepIs HeadReader.Name token.now result }
 {
     match symbol {
-        Symbol::Name => Ok(Step::Taken(HeadReader::Opening(name_at(alloc, token)?))),
-        _ => Ok(Step::Stuck),
+        Symbol::Name => Step::Taken(HeadReader::Opening(token)),
+        _ => Step::Stuck,
     }
 }
 
-fn behind_name(name: Name, token: &Token, symbol: Symbol) -> HeadStep
+fn behind_name<'t>(name: &'t Token, token: &Token, symbol: Symbol) -> HeadStep<'t>
     requires { symbol ≡ symbol_of token.now }
-    ensures { HeadStepIs (HeadReader.Opening name) token.now result }
+    ensures { HeadStepIs (HeadReader.Opening name.entry) token.now result }
 {
     let _now = token;
     match symbol {
@@ -100,9 +121,9 @@ fn behind_name(name: Name, token: &Token, symbol: Symbol) -> HeadStep
     }
 }
 
-fn before_this(alloc: Global, name: Name, token: &Token, symbol: Symbol) -> HeadStep
+fn before_this<'t>(alloc: Global, name: &'t Token, token: &Token, symbol: Symbol) -> HeadStep<'t>
     requires { symbol ≡ symbol_of token.now }
-    ensures { HeadStepIs (HeadReader.This name) token.now result }
+    ensures { HeadStepIs (HeadReader.This name.entry) token.now result }
 {
     if is_word(token, symbol, b"this") {
         Step::Taken(HeadReader::Parameters(name, Items::new(alloc)))
@@ -111,21 +132,31 @@ fn before_this(alloc: Global, name: Name, token: &Token, symbol: Symbol) -> Head
     }
 }
 
-fn behind_parameter(name: Name, params: Items<Parameter>, token: &Token, symbol: Symbol) -> HeadStep
+fn behind_parameter<'t>(
+    name: &'t Token,
+    params: Items<Parameter>,
+    token: &Token,
+    symbol: Symbol,
+) -> HeadStep<'t>
     requires { symbol ≡ symbol_of token.now }
-    ensures { HeadStepIs (HeadReader.Parameters name params) token.now result }
+    ensures { HeadStepIs (HeadReader.Parameters name.entry params) token.now result }
 {
     let _now = token;
     match symbol {
         Symbol::Comma => Step::Taken(HeadReader::Kind(name, params)),
-        Symbol::Close => Step::Taken(HeadReader::Brace(Head { name, params })),
+        Symbol::Close => Step::Taken(HeadReader::Brace(WholeHead { name, params })),
         _ => Step::Stuck,
     }
 }
 
-fn before_kind(name: Name, params: Items<Parameter>, token: &Token, symbol: Symbol) -> HeadStep
+fn before_kind<'t>(
+    name: &'t Token,
+    params: Items<Parameter>,
+    token: &Token,
+    symbol: Symbol,
+) -> HeadStep<'t>
     requires { symbol ≡ symbol_of token.now }
-    ensures { HeadStepIs (HeadReader.Kind name params) token.now result }
+    ensures { HeadStepIs (HeadReader.Kind name.entry params) token.now result }
 {
     if symbol == Symbol::Int {
         Step::Taken(HeadReader::Parameter(name, params, Kind::Int))
@@ -136,16 +167,16 @@ fn before_kind(name: Name, params: Items<Parameter>, token: &Token, symbol: Symb
     }
 }
 
-fn behind_kind(
+fn behind_kind<'t>(
     alloc: Global,
-    name: Name,
+    name: &'t Token,
     mut params: Items<Parameter>,
     kind: Kind,
     token: &Token,
     symbol: Symbol,
-) -> Result<HeadStep, AllocError>
+) -> Result<HeadStep<'t>, AllocError>
     requires { symbol ≡ symbol_of token.now }
-    ensures { IfOk result (λ step. HeadStepIs (HeadReader.Parameter name params kind) token.now step) }
+    ensures { IfOk result (λ step. HeadStepIs (HeadReader.Parameter name.entry params kind) token.now step) }
 {
     match symbol {
         Symbol::Name => {
@@ -157,9 +188,9 @@ fn behind_kind(
     }
 }
 
-fn before_brace(head: Head, token: &Token, symbol: Symbol) -> HeadStep
+fn before_brace<'t>(head: WholeHead<'t>, token: &Token, symbol: Symbol) -> HeadStep<'t>
     requires { symbol ≡ symbol_of token.now }
-    ensures { HeadStepIs (HeadReader.Brace head) token.now result }
+    ensures { HeadStepIs (HeadReader.Brace head.entry) token.now result }
 {
     let _now = token;
     match symbol {

@@ -1,5 +1,5 @@
 // The items of a rule, each up to its `;`.
-ghost use Rattle.mc_defparse.specs.Readers.{ItemStepIs, CompletesItem};
+ghost use Rattle.mc_defparse.specs.Readers.{ItemStepIs, CompletesItem, item_of};
 ghost use Rattle.mc_defparse.specs.Symbols.{symbol_of};
 ghost use Rattle.std.specs.Prelude.{◌≡◌, IfOk};
 
@@ -11,75 +11,128 @@ use mc_base::{Items, Kind};
 use mc_text::{Place, Token};
 use std::alloc::{AllocError, Global};
 
-/// What has been read of an item.
-pub enum ItemReader {
+/// An item, by the tokens of its names.
+pub enum WholeItem<'t> {
+    Call(&'t Token, Items<Name>),
+    /// A name and a number.
+    Number(&'t Token, Relation, Number),
+    /// Two names.
+    Name(&'t Token, Relation, &'t Token),
+    /// Two names, and what is added to the second.
+    Moved(&'t Token, Relation, &'t Token, Number),
+    Bound(&'t Token, Bound, Number),
+}
+
+/// Lets go of what has been read.
+impl Drop for WholeItem<'_> {
+    fn drop(self) {
+        match self {
+            WholeItem::Call(_, args) => drop(args),
+            WholeItem::Number(_, _, _)
+            | WholeItem::Name(_, _, _)
+            | WholeItem::Moved(_, _, _, _)
+            | WholeItem::Bound(_, _, _) => {}
+        }
+    }
+}
+
+impl<'t> WholeItem<'t> {
+    /// The item.
+    pub fn item(self, alloc: Global) -> Result<Item, AllocError>
+        ensures { IfOk result (λ item. item ≡ item_of self.entry) }
+    {
+        match self {
+            WholeItem::Call(pred, args) => Ok(Item::Call(name_at(alloc, pred)?, args)),
+            WholeItem::Number(name, relation, number) => {
+                let name = name_at(alloc, name)?;
+                Ok(Item::Relates(name, relation, Sum::Number(number)))
+            }
+            WholeItem::Name(name, relation, base) => {
+                let name = name_at(alloc, name)?;
+                Ok(Item::Relates(name, relation, Sum::Name(name_at(alloc, base)?)))
+            }
+            WholeItem::Moved(name, relation, base, offset) => {
+                let name = name_at(alloc, name)?;
+                let base = name_at(alloc, base)?;
+                Ok(Item::Relates(name, relation, Sum::Moved(base, offset)))
+            }
+            WholeItem::Bound(name, bound, limit) => {
+                Ok(Item::Bounds(name_at(alloc, name)?, bound, limit))
+            }
+        }
+    }
+}
+
+/// What has been read of an item, by the tokens of its names.
+pub enum ItemReader<'t> {
     Start,
     /// Behind `int`.
     Int,
     /// Behind a first name, which is a kind where it is `ptr` and a name follows.
-    Name(Name),
+    Name(&'t Token),
     /// Behind a kind and a name.
-    Fixed(Kind, Name),
+    Fixed(Kind, &'t Token),
     /// Before an argument.
-    Argument(Name, Items<Name>),
+    Argument(&'t Token, Items<Name>),
     /// Behind an argument.
-    Arguments(Name, Items<Name>),
+    Arguments(&'t Token, Items<Name>),
     /// Before a sum.
-    Sum(Name, Relation),
+    Sum(&'t Token, Relation),
     /// Behind the `-` of a number.
-    Negative(Name, Relation, Place),
+    Negative(&'t Token, Relation, Place),
     /// Behind the name of a sum.
-    Base(Name, Relation, Name),
+    Base(&'t Token, Relation, &'t Token),
     /// Behind the `+` or `-` of a sum; true is `-`.
-    Offset(Name, Relation, Name, bool),
+    Offset(&'t Token, Relation, &'t Token, bool),
     /// Before a bound.
-    Bound(Name, Bound),
+    Bound(&'t Token, Bound),
     /// Behind the `-` of a bound.
-    NegativeBound(Name, Bound, Place),
+    NegativeBound(&'t Token, Bound, Place),
     /// Before the `;`.
-    Whole(Item),
+    Whole(WholeItem<'t>),
 }
 
 /// Lets go of what has been read.
-impl Drop for ItemReader {
+impl Drop for ItemReader<'_> {
     fn drop(self) {
         match self {
-            ItemReader::Start | ItemReader::Int => {}
-            ItemReader::Name(name)
-            | ItemReader::Fixed(_, name)
-            | ItemReader::Sum(name, _)
-            | ItemReader::Negative(name, _, _)
-            | ItemReader::Bound(name, _)
-            | ItemReader::NegativeBound(name, _, _) => drop(name),
-            ItemReader::Argument(pred, args) | ItemReader::Arguments(pred, args) => {
-                drop(pred);
-                drop(args);
-            }
-            ItemReader::Base(name, _, base) | ItemReader::Offset(name, _, base, _) => {
-                drop(name);
-                drop(base);
-            }
+            ItemReader::Start
+            | ItemReader::Int
+            | ItemReader::Name(_)
+            | ItemReader::Fixed(_, _)
+            | ItemReader::Sum(_, _)
+            | ItemReader::Negative(_, _, _)
+            | ItemReader::Base(_, _, _)
+            | ItemReader::Offset(_, _, _, _)
+            | ItemReader::Bound(_, _)
+            | ItemReader::NegativeBound(_, _, _) => {}
+            ItemReader::Argument(_, args) | ItemReader::Arguments(_, args) => drop(args),
             ItemReader::Whole(item) => drop(item),
         }
     }
 }
 
-pub type ItemStep = Step<ItemReader, Item>;
+pub type ItemStep<'t> = Step<ItemReader<'t>, WholeItem<'t>>;
 
-impl ItemReader {
+impl<'t> ItemReader<'t> {
     /// Takes the next token.
-    pub fn step(self, alloc: Global, token: &Token, symbol: Symbol) -> Result<ItemStep, AllocError>
+    pub fn step(
+        self,
+        alloc: Global,
+        token: &'t Token,
+        symbol: Symbol,
+    ) -> Result<ItemStep<'t>, AllocError>
         requires { symbol ≡ symbol_of token.now }
-        ensures { IfOk result (λ step. ItemStepIs self token.now step) }
+        ensures { IfOk result (λ step. ItemStepIs self.entry token.now step) }
     {
         match self {
-            ItemReader::Start => at_start(alloc, token, symbol),
-            ItemReader::Int => behind_int(alloc, token, symbol),
-            ItemReader::Name(name) => behind_name(alloc, name, token, symbol),
+            ItemReader::Start => Ok(at_start(token, symbol)),
+            ItemReader::Int => Ok(behind_int(token, symbol)),
+            ItemReader::Name(name) => Ok(behind_name(alloc, name, token, symbol)),
             ItemReader::Fixed(kind, name) => Ok(behind_fixed(kind, name, token, symbol)),
             ItemReader::Argument(pred, args) => before_argument(alloc, pred, args, token, symbol),
             ItemReader::Arguments(pred, args) => Ok(behind_argument(pred, args, token, symbol)),
-            ItemReader::Sum(name, relation) => before_sum(alloc, name, relation, token, symbol),
+            ItemReader::Sum(name, relation) => Ok(before_sum(name, relation, token, symbol)),
             ItemReader::Negative(name, relation, place) => {
                 Ok(behind_minus(name, relation, place, token))
             }
@@ -98,62 +151,57 @@ impl ItemReader {
     }
 }
 
-fn at_start(alloc: Global, token: &Token, symbol: Symbol) -> Result<ItemStep, AllocError>
+fn at_start<'t>(token: &'t Token, symbol: Symbol) -> ItemStep<'t>
     requires { symbol ≡ symbol_of token.now }
-    ensures { IfOk result (λ step. ItemStepIs ItemReader.Start token.now step) }
+    ensures { ItemStepIs ItemReader.Start token.now result }
 {
     match symbol {
-        Symbol::Int => Ok(Step::Taken(ItemReader::Int)),
-        Symbol::Name => Ok(Step::Taken(ItemReader::Name(name_at(alloc, token)?))),
-        _ => Ok(Step::Stuck),
+        Symbol::Int => Step::Taken(ItemReader::Int),
+        Symbol::Name => Step::Taken(ItemReader::Name(token)),
+        _ => Step::Stuck,
     }
 }
 
-fn behind_int(alloc: Global, token: &Token, symbol: Symbol) -> Result<ItemStep, AllocError>
+fn behind_int<'t>(token: &'t Token, symbol: Symbol) -> ItemStep<'t>
     requires { symbol ≡ symbol_of token.now }
-    ensures { IfOk result (λ step. ItemStepIs ItemReader.Int token.now step) }
+    ensures { ItemStepIs ItemReader.Int token.now result }
 {
     match symbol {
-        Symbol::Name => Ok(Step::Taken(ItemReader::Fixed(Kind::Int, name_at(alloc, token)?))),
-        _ => Ok(Step::Stuck),
+        Symbol::Name => Step::Taken(ItemReader::Fixed(Kind::Int, token)),
+        _ => Step::Stuck,
     }
 }
 
-fn behind_name(
-    alloc: Global,
-    name: Name,
-    token: &Token,
-    symbol: Symbol,
-) -> Result<ItemStep, AllocError>
+fn behind_name<'t>(alloc: Global, name: &'t Token, token: &'t Token, symbol: Symbol) -> ItemStep<'t>
     requires { symbol ≡ symbol_of token.now }
-    ensures { IfOk result (λ step. ItemStepIs (ItemReader.Name name) token.now step) }
+    ensures { ItemStepIs (ItemReader.Name name.entry) token.now result }
 {
     match symbol {
-        Symbol::Open => Ok(Step::Taken(ItemReader::Argument(name, Items::new(alloc)))),
-        Symbol::Equal => Ok(Step::Taken(ItemReader::Sum(name, Relation::Equals))),
-        Symbol::Unequal => Ok(Step::Taken(ItemReader::Sum(name, Relation::Differs))),
-        Symbol::AtMost => Ok(Step::Taken(ItemReader::Bound(name, Bound::AtMost))),
-        Symbol::AtLeast => Ok(Step::Taken(ItemReader::Bound(name, Bound::AtLeast))),
-        Symbol::Name => behind_pointer(alloc, name, token),
-        _ => Ok(Step::Stuck),
+        Symbol::Open => Step::Taken(ItemReader::Argument(name, Items::new(alloc))),
+        Symbol::Equal => Step::Taken(ItemReader::Sum(name, Relation::Equals)),
+        Symbol::Unequal => Step::Taken(ItemReader::Sum(name, Relation::Differs)),
+        Symbol::AtMost => Step::Taken(ItemReader::Bound(name, Bound::AtMost)),
+        Symbol::AtLeast => Step::Taken(ItemReader::Bound(name, Bound::AtLeast)),
+        Symbol::Name => behind_pointer(name, token),
+        _ => Step::Stuck,
     }
 }
 
 // A name behind a name: the first one is the kind `ptr`.
-fn behind_pointer(alloc: Global, name: Name, token: &Token) -> Result<ItemStep, AllocError>
+fn behind_pointer<'t>(name: &'t Token, token: &'t Token) -> ItemStep<'t>
     requires { symbol_of token.now ≡ Symbol.Name }
-    ensures { IfOk result (λ step. ItemStepIs (ItemReader.Name name) token.now step) }
+    ensures { ItemStepIs (ItemReader.Name name.entry) token.now result }
 {
     if name.text.as_slice() == b"ptr".as_slice() {
-        Ok(Step::Taken(ItemReader::Fixed(Kind::Ptr, name_at(alloc, token)?)))
+        Step::Taken(ItemReader::Fixed(Kind::Ptr, token))
     } else {
-        Ok(Step::Stuck)
+        Step::Stuck
     }
 }
 
-fn behind_fixed(kind: Kind, name: Name, token: &Token, symbol: Symbol) -> ItemStep
+fn behind_fixed<'t>(kind: Kind, name: &'t Token, token: &Token, symbol: Symbol) -> ItemStep<'t>
     requires { symbol ≡ symbol_of token.now }
-    ensures { ItemStepIs (ItemReader.Fixed kind name) token.now result }
+    ensures { ItemStepIs (ItemReader.Fixed kind name.entry) token.now result }
 {
     let _now = token;
     match symbol {
@@ -162,15 +210,15 @@ fn behind_fixed(kind: Kind, name: Name, token: &Token, symbol: Symbol) -> ItemSt
     }
 }
 
-fn before_argument(
+fn before_argument<'t>(
     alloc: Global,
-    pred: Name,
+    pred: &'t Token,
     mut args: Items<Name>,
     token: &Token,
     symbol: Symbol,
-) -> Result<ItemStep, AllocError>
+) -> Result<ItemStep<'t>, AllocError>
     requires { symbol ≡ symbol_of token.now }
-    ensures { IfOk result (λ step. ItemStepIs (ItemReader.Argument pred args) token.now step) }
+    ensures { IfOk result (λ step. ItemStepIs (ItemReader.Argument pred.entry args) token.now step) }
 {
     match symbol {
         Symbol::Name => {
@@ -181,95 +229,107 @@ fn before_argument(
     }
 }
 
-fn behind_argument(pred: Name, args: Items<Name>, token: &Token, symbol: Symbol) -> ItemStep
+fn behind_argument<'t>(
+    pred: &'t Token,
+    args: Items<Name>,
+    token: &Token,
+    symbol: Symbol,
+) -> ItemStep<'t>
     requires { symbol ≡ symbol_of token.now }
-    ensures { ItemStepIs (ItemReader.Arguments pred args) token.now result }
+    ensures { ItemStepIs (ItemReader.Arguments pred.entry args) token.now result }
 {
     let _now = token;
     match symbol {
         Symbol::Comma => Step::Taken(ItemReader::Argument(pred, args)),
-        Symbol::Close => Step::Taken(ItemReader::Whole(Item::Call(pred, args))),
+        Symbol::Close => Step::Taken(ItemReader::Whole(WholeItem::Call(pred, args))),
         _ => Step::Stuck,
     }
 }
 
-fn before_sum(
-    alloc: Global,
-    name: Name,
+fn before_sum<'t>(
+    name: &'t Token,
     relation: Relation,
-    token: &Token,
+    token: &'t Token,
     symbol: Symbol,
-) -> Result<ItemStep, AllocError>
+) -> ItemStep<'t>
     requires { symbol ≡ symbol_of token.now }
-    ensures { IfOk result (λ step. ItemStepIs (ItemReader.Sum name relation) token.now step) }
+    ensures { ItemStepIs (ItemReader.Sum name.entry relation) token.now result }
 {
     match symbol {
-        Symbol::Minus => Ok(Step::Taken(ItemReader::Negative(name, relation, token.place))),
-        Symbol::Name => {
-            let base = name_at(alloc, token)?;
-            Ok(Step::Taken(ItemReader::Base(name, relation, base)))
-        }
-        _ => Ok(unsigned(name, relation, token, symbol)),
+        Symbol::Minus => Step::Taken(ItemReader::Negative(name, relation, token.place)),
+        Symbol::Name => Step::Taken(ItemReader::Base(name, relation, token)),
+        _ => unsigned(name, relation, token, symbol),
     }
 }
 
-fn unsigned(name: Name, relation: Relation, token: &Token, symbol: Symbol) -> ItemStep
+fn unsigned<'t>(name: &'t Token, relation: Relation, token: &Token, symbol: Symbol) -> ItemStep<'t>
     requires now { symbol ≡ symbol_of token.now }
     requires no_minus { symbol ≡ Symbol.Minus → ⊥ }
     requires no_name { symbol ≡ Symbol.Name → ⊥ }
-    ensures { ItemStepIs (ItemReader.Sum name relation) token.now result }
+    ensures { ItemStepIs (ItemReader.Sum name.entry relation) token.now result }
 {
     let _known = symbol;
     match number(token) {
         Some(value) => {
-            let sum = Sum::Number(Number {
+            let number = Number {
                 minus: false,
                 value,
                 place: token.place,
-            });
-            Step::Taken(ItemReader::Whole(Item::Relates(name, relation, sum)))
+            };
+            Step::Taken(ItemReader::Whole(WholeItem::Number(name, relation, number)))
         }
         None => Step::Stuck,
     }
 }
 
-fn behind_minus(name: Name, relation: Relation, place: Place, token: &Token) -> ItemStep
-    ensures { ItemStepIs (ItemReader.Negative name relation place) token.now result }
+fn behind_minus<'t>(
+    name: &'t Token,
+    relation: Relation,
+    place: Place,
+    token: &Token,
+) -> ItemStep<'t>
+    ensures { ItemStepIs (ItemReader.Negative name.entry relation place) token.now result }
 {
     match number(token) {
         Some(value) => {
-            let sum = Sum::Number(Number {
+            let number = Number {
                 minus: true,
                 value,
                 place,
-            });
-            Step::Taken(ItemReader::Whole(Item::Relates(name, relation, sum)))
+            };
+            Step::Taken(ItemReader::Whole(WholeItem::Number(name, relation, number)))
         }
         None => Step::Stuck,
     }
 }
 
-fn behind_base(
-    name: Name,
+fn behind_base<'t>(
+    name: &'t Token,
     relation: Relation,
-    base: Name,
+    base: &'t Token,
     token: &Token,
     symbol: Symbol,
-) -> ItemStep
+) -> ItemStep<'t>
     requires { symbol ≡ symbol_of token.now }
-    ensures { ItemStepIs (ItemReader.Base name relation base) token.now result }
+    ensures { ItemStepIs (ItemReader.Base name.entry relation base.entry) token.now result }
 {
     let _now = token;
     match symbol {
         Symbol::Plus => Step::Taken(ItemReader::Offset(name, relation, base, false)),
         Symbol::Minus => Step::Taken(ItemReader::Offset(name, relation, base, true)),
-        Symbol::Semicolon => Step::Closed(Item::Relates(name, relation, Sum::Name(base))),
+        Symbol::Semicolon => Step::Closed(WholeItem::Name(name, relation, base)),
         _ => Step::Stuck,
     }
 }
 
-fn before_offset(name: Name, relation: Relation, base: Name, minus: bool, token: &Token) -> ItemStep
-    ensures { ItemStepIs (ItemReader.Offset name relation base minus) token.now result }
+fn before_offset<'t>(
+    name: &'t Token,
+    relation: Relation,
+    base: &'t Token,
+    minus: bool,
+    token: &Token,
+) -> ItemStep<'t>
+    ensures { ItemStepIs (ItemReader.Offset name.entry relation base.entry minus) token.now result }
 {
     match number(token) {
         Some(value) => {
@@ -278,16 +338,15 @@ fn before_offset(name: Name, relation: Relation, base: Name, minus: bool, token:
                 value,
                 place: token.place,
             };
-            let sum = Sum::Moved(base, offset);
-            Step::Taken(ItemReader::Whole(Item::Relates(name, relation, sum)))
+            Step::Taken(ItemReader::Whole(WholeItem::Moved(name, relation, base, offset)))
         }
         None => Step::Stuck,
     }
 }
 
-fn before_bound(name: Name, bound: Bound, token: &Token, symbol: Symbol) -> ItemStep
+fn before_bound<'t>(name: &'t Token, bound: Bound, token: &Token, symbol: Symbol) -> ItemStep<'t>
     requires { symbol ≡ symbol_of token.now }
-    ensures { ItemStepIs (ItemReader.Bound name bound) token.now result }
+    ensures { ItemStepIs (ItemReader.Bound name.entry bound) token.now result }
 {
     match symbol {
         Symbol::Minus => Step::Taken(ItemReader::NegativeBound(name, bound, token.place)),
@@ -295,10 +354,10 @@ fn before_bound(name: Name, bound: Bound, token: &Token, symbol: Symbol) -> Item
     }
 }
 
-fn unsigned_bound(name: Name, bound: Bound, token: &Token, symbol: Symbol) -> ItemStep
+fn unsigned_bound<'t>(name: &'t Token, bound: Bound, token: &Token, symbol: Symbol) -> ItemStep<'t>
     requires now { symbol ≡ symbol_of token.now }
     requires no_minus { symbol ≡ Symbol.Minus → ⊥ }
-    ensures { ItemStepIs (ItemReader.Bound name bound) token.now result }
+    ensures { ItemStepIs (ItemReader.Bound name.entry bound) token.now result }
 {
     let _known = symbol;
     match number(token) {
@@ -308,14 +367,19 @@ fn unsigned_bound(name: Name, bound: Bound, token: &Token, symbol: Symbol) -> It
                 value,
                 place: token.place,
             };
-            Step::Taken(ItemReader::Whole(Item::Bounds(name, bound, limit)))
+            Step::Taken(ItemReader::Whole(WholeItem::Bound(name, bound, limit)))
         }
         None => Step::Stuck,
     }
 }
 
-fn behind_bound_minus(name: Name, bound: Bound, place: Place, token: &Token) -> ItemStep
-    ensures { ItemStepIs (ItemReader.NegativeBound name bound place) token.now result }
+fn behind_bound_minus<'t>(
+    name: &'t Token,
+    bound: Bound,
+    place: Place,
+    token: &Token,
+) -> ItemStep<'t>
+    ensures { ItemStepIs (ItemReader.NegativeBound name.entry bound place) token.now result }
 {
     match number(token) {
         Some(value) => {
@@ -324,15 +388,15 @@ fn behind_bound_minus(name: Name, bound: Bound, place: Place, token: &Token) -> 
                 value,
                 place,
             };
-            Step::Taken(ItemReader::Whole(Item::Bounds(name, bound, limit)))
+            Step::Taken(ItemReader::Whole(WholeItem::Bound(name, bound, limit)))
         }
         None => Step::Stuck,
     }
 }
 
-fn before_stop(item: Item, token: &Token, symbol: Symbol) -> ItemStep
+fn before_stop<'t>(item: WholeItem<'t>, token: &Token, symbol: Symbol) -> ItemStep<'t>
     requires { symbol ≡ symbol_of token.now }
-    ensures { ItemStepIs (ItemReader.Whole item) token.now result }
+    ensures { ItemStepIs (ItemReader.Whole item.entry) token.now result }
 {
     let _now = token;
     match symbol {

@@ -12,11 +12,11 @@ mod step;
 mod symbols;
 mod tree;
 
-pub use block::{BlockReader, BlockStep};
+pub use block::{BlockReader, BlockStep, WholeBlock};
 pub use fault::{Cause, DefFault, Refusal};
-pub use file::{At, FileReader, FileTook};
-pub use front::{HeadReader, HeadStep};
-pub use item::{ItemReader, ItemStep};
+pub use file::{At, FileReader};
+pub use front::{HeadReader, HeadStep, WholeHead};
+pub use item::{ItemReader, ItemStep, WholeItem};
 pub use parser::parse;
 pub use step::{Step, Took};
 pub use symbols::{Symbol, classify, number};

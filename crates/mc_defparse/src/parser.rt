@@ -21,7 +21,10 @@ pub fn parse(alloc: Global, tokens: &[Token]) -> Result<Items<DefText>, DefFault
     for token in tokens {
         match reader.step(alloc, token)? {
             Took::Taken => {}
-            Took::Closed(file) => return Ok(file),
+            Took::Closed => {
+                let FileReader { done, .. } = reader;
+                return Ok(done);
+            }
             Took::Stuck => {
                 return Err(DefFault::Refused(Refusal {
                     cause: Cause::Syntax,

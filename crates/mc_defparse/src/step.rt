@@ -9,9 +9,9 @@ pub enum Step<R, X> {
 }
 
 /// The same of a reader that steps in place.
-#[derive(Drop)]
-pub enum Took<X> {
+#[derive(Clone, Copy, Debug, PartialEq, Eq)]
+pub enum Took {
     Taken,
-    Closed(X),
+    Closed,
     Stuck,
 }

@@ -50,6 +50,11 @@ pub position_none : {X : Type 0} (p : X → Bool) (xs ys : List X) → position 
 position_none p [] ys e f = f
 position_none p (x ∷ xs) ys e f = rw (position-cons p x (xs ++ ys)) (none_step (p x) (position p xs) (position p (xs ++ ys)) (λ none. position_none p xs ys none f) (rw (position-cons p x xs) at e))
 
+-- a place in a list whose elements are seen otherwise
+pub position_map : {X Y : Type 0} (p : Y → Bool) (f : X → Y) (xs : List X) → position p (map f xs) ≡ position (λ x. p (f x)) xs
+position_map p f [] = refl
+position_map p f (x ∷ xs) = rw (position-cons p (f x) (map f xs), position-cons (λ y. p (f y)) x xs) (ap (λ o. cond (p (f x)) (Some 0) (option_map (λ i. suc i) o)) (position_map p f xs))
+
 -- what stands at a place stands there with more behind
 pub get_front : {X : Type 0} (xs ys : List X) (i : ℕ) (x : X) → slice_get xs i ≡ Some x → slice_get (xs ++ ys) i ≡ Some x
 get_front [] ys i x e = absurd (cc)

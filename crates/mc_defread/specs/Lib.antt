@@ -1,3 +1,5 @@
 pub mod Judging
 pub mod Scopes
 pub mod Readings
+pub mod Words
+pub mod Fields

@@ -139,7 +139,7 @@ impl<'a, 'b> Body<'a, 'b> {
         }
     }
 
-    fn fix(&mut self, kind: Kind, name: &'a Name, sum: &Sum) -> Result<(), DefFault>
+    fn fix(&mut self, alloc: Global, kind: Kind, name: &'a Name, sum: &Sum) -> Result<(), DefFault>
         ensures { (context : Context) (guarded : Bool) → Finds (item context guarded (body_of self.old) (Item.Relates name.now (Relation.Fixes kind) sum.now)) (λ done. body_of self.new) result }
     {
         let left = self.scope.kinds.len() as u64;
@@ -147,7 +147,7 @@ impl<'a, 'b> Body<'a, 'b> {
             return Err(DefFault::Refused(at(Cause::Twice, name)));
         }
         let added = self.scope.sum(kind, sum)?;
-        self.scope.push(kind, &name.text)?;
+        self.scope.push(alloc, kind, &name.text)?;
         self.atoms.push(DefAtom::Eq {
             left,
             base: added.base,
@@ -184,11 +184,17 @@ impl<'a, 'b> Body<'a, 'b> {
         Ok(())
     }
 
-    fn relate(&mut self, name: &'a Name, relation: Relation, sum: &Sum) -> Result<(), DefFault>
+    fn relate(
+        &mut self,
+        alloc: Global,
+        name: &'a Name,
+        relation: Relation,
+        sum: &Sum,
+    ) -> Result<(), DefFault>
         ensures { (context : Context) (guarded : Bool) → Finds (item context guarded (body_of self.old) (Item.Relates name.now relation sum.now)) (λ done. body_of self.new) result }
     {
         match relation {
-            Relation::Fixes(kind) => self.fix(kind, name, sum),
+            Relation::Fixes(kind) => self.fix(alloc, kind, name, sum),
             Relation::Equals => self.equal(name, sum),
             Relation::Differs => self.differ(name, sum),
         }
@@ -231,7 +237,7 @@ impl<'a, 'b> Body<'a, 'b> {
     {
         match one {
             Item::Call(name, args) => self.call(alloc, setting, guarded, name, args.as_slice()),
-            Item::Relates(name, relation, sum) => self.relate(name, *relation, sum),
+            Item::Relates(name, relation, sum) => self.relate(alloc, name, *relation, sum),
             Item::Bounds(name, bound, number) => self.bound(name, *bound, *number),
         }
     }

@@ -8,6 +8,7 @@ use crate::body::{Body, Setting};
 use crate::held::names_of;
 use crate::kept::Scope;
 use crate::scope::at;
+use crate::words::Words;
 use mc_base::{Items, Kind, StructId};
 use mc_defparse::{Block, Cause, DefFault, DefText, Item, Parameter, RuleText};
 use mc_defs::{Def, Rule, StructInfo};
@@ -34,7 +35,7 @@ fn inner<'a, 'b>(alloc: Global, front: &'b Scope<'a, '_>) -> Result<Scope<'a, 'b
 {
     Ok(Scope {
         front: &front.own,
-        own: Names::new(alloc),
+        own: Words::new(alloc),
         kinds: Vec::from_slice(alloc, front.kinds.as_slice())?,
     })
 }
@@ -148,14 +149,14 @@ impl<'a, 's> Setting<'a, 's> {
         requires { self.now.this.now ≡ codes "this" }
         ensures { Finds (definition_of (setting_of self.now) def.now) (λ def. def) result }
     {
-        let none = Names::new(alloc);
+        let none = Words::new(alloc);
         let mut front = Scope {
             front: &none,
-            own: Names::new(alloc),
+            own: Words::new(alloc),
             kinds: Vec::new(alloc),
         };
-        front.push(Kind::Ptr, self.this)?;
-        front.parameters(def.head.params.as_slice())?;
+        front.push(alloc, Kind::Ptr, self.this)?;
+        front.parameters(alloc, def.head.params.as_slice())?;
         let rules = self.rules(alloc, &front, def.rules.as_slice())?;
         Ok(Def {
             name: bytes_of(alloc, &def.head.name.text)?,
@@ -187,12 +188,12 @@ impl<'a, 's> Setting<'a, 's> {
 }
 
 impl<'a, 'b> Scope<'a, 'b> {
-    fn parameters(&mut self, list: &'a [Parameter]) -> Result<(), DefFault>
+    fn parameters(&mut self, alloc: Global, list: &'a [Parameter]) -> Result<(), DefFault>
         ensures same { self.new.front.now ≡ self.old.front.now }
         ensures found { Finds (parameters (scope_of self.old) list.now) (λ done. scope_of self.new) result }
     {
         for param in list {
-            self.introduce(param.kind, &param.name)?;
+            self.introduce(alloc, param.kind, &param.name)?;
         }
         Ok(())
     }

@@ -7,6 +7,7 @@ mod judged;
 mod kept;
 mod reading;
 mod scope;
+mod words;
 
 pub use mc_defparse::{Cause, DefFault, Refusal};
 pub use reading::{read_defs, texts_are_read_once};

@@ -8,7 +8,7 @@ use mc_ast::Name;
 use mc_base::Kind;
 use mc_defparse::{Cause, DefFault, Number, Refusal, Sum};
 use mc_text::Text;
-use std::alloc::AllocError;
+use std::alloc::{AllocError, Global};
 
 /// A name that is introduced: its number and its kind.
 #[derive(Clone, Copy, Debug, PartialEq, Eq)]
@@ -170,13 +170,13 @@ impl<'a, 'b> Scope<'a, 'b> {
     }
 
     /// Adds a name. Without memory nothing changes.
-    pub fn push(&mut self, kind: Kind, name: &'a Text) -> Result<(), AllocError>
+    pub fn push(&mut self, alloc: Global, kind: Kind, name: &'a Text) -> Result<(), AllocError>
         ensures ok { OnOk result (scope_of self.new ≡ with_name (scope_of self.old) kind name.now) }
         ensures err { OnErr result (scope_of self.new ≡ scope_of self.old) }
         ensures front { self.new.front.now ≡ self.old.front.now }
     {
         self.kinds.push(kind)?;
-        if let Err(fault) = self.own.push(name) {
+        if let Err(fault) = self.own.push(alloc, name) {
             self.kinds.pop();
             return Err(fault);
         }
@@ -184,14 +184,14 @@ impl<'a, 'b> Scope<'a, 'b> {
     }
 
     /// Introduces a name.
-    pub fn introduce(&mut self, kind: Kind, name: &'a Name) -> Result<(), DefFault>
+    pub fn introduce(&mut self, alloc: Global, kind: Kind, name: &'a Name) -> Result<(), DefFault>
         ensures found { Finds (introduced (scope_of self.old) kind name.now) (λ done. scope_of self.new) result }
         ensures front { self.new.front.now ≡ self.old.front.now }
     {
         if self.place(&name.text).is_some() {
             return Err(DefFault::Refused(at(Cause::Twice, name)));
         }
-        self.push(kind, &name.text)?;
+        self.push(alloc, kind, &name.text)?;
         Ok(())
     }
 }

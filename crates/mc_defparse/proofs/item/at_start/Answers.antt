@@ -5,5 +5,5 @@ use Rattle.mc_defparse.proofs.item.at_start.Goals as goal
 pub returns-in-Int : goal.returns-in-Int
 returns-in-Int c = start_int (sym c.requires ∙ c.in-Int.is)
 
-pub returns-in_ok-name_at-in-Name : goal.returns-in_ok-name_at-in-Name
-returns-in_ok-name_at-in-Name c = rw c.in_ok-name_at-in-Name.ensures (start_name (sym c.requires ∙ c.in-Name.is))
+pub returns-in-Name : goal.returns-in-Name
+returns-in-Name c = start_name (sym c.requires ∙ c.in-Name.is)

@@ -5,5 +5,5 @@ use Rattle.mc_defparse.proofs.item.before_sum.Goals as goal
 pub returns-in-Minus : goal.returns-in-Minus
 returns-in-Minus c = sum_minus _ _ (sym c.requires ∙ c.in-Minus.is)
 
-pub returns-in_ok-base-in-Name : goal.returns-in_ok-base-in-Name
-returns-in_ok-base-in-Name c = rw c.in_ok-base-in-Name.ensures (sum_base _ _ (sym c.requires ∙ c.in-Name.is))
+pub returns-in-Name : goal.returns-in-Name
+returns-in-Name c = sum_base _ _ (sym c.requires ∙ c.in-Name.is)

@@ -5,8 +5,8 @@ use Rattle.mc_defparse.specs.Files.{BodyEnds, ItemsEnd}
 use Rattle.mc_defparse.proofs.FileLemmas.{body_this, body_items, same_result}
 use Rattle.mc_defparse.proofs.file.FileReader.at_start.Goals as goal
 
-pub returns-in_ok-name_at : goal.returns-in_ok-name_at
-returns-in_ok-name_at c = rw c.in_ok-name_at.ensures (body_this _ _ _ (search rules))
+pub returns-then-is_word : goal.returns-then-is_word
+returns-then-is_word c = body_this _ _ _ (search rules)
 
 pub returns-else-is_word : goal.returns-else-is_word
 returns-else-is_word c = same_result (BodyEnds c.args.self.now.done c.args.self.now.head c.args.self.now.rules) (ItemsEnd c.args.self.now.done c.args.self.now.head c.args.self.now.rules None []) _ c.args.token.now (body_items _ _ _ c.args.token.now (λ w. grind (arith, common_steps))) c.behind_item.result (rw c.new.ensures at c.behind_item.ensures)

@@ -1,5 +1,6 @@
 use Rattle.std.proofs.Common.{◌∙◌, sym, []}
 use Rattle.std.specs.Prelude.{None}
+use Rattle.mc_ast.specs.Names.{name_of}
 use Rattle.mc_defparse.specs.Files.{ThisGoesOn, ItemEnds}
 use Rattle.mc_defparse.specs.Readers.{NameStops}
 use Rattle.mc_defparse.specs.Steps.{Then}
@@ -10,4 +11,4 @@ pub returns-in-Arrow : goal.returns-in-Arrow
 returns-in-Arrow c = this_arrow _ _ _ _ (sym c.requires ∙ c.in-Arrow.is)
 
 pub returns-in_default : goal.returns-in_default
-returns-in_default c = same_result (ThisGoesOn c.args.self.now.done c.args.self.now.head c.args.self.now.rules c.args.this) (Then (NameStops c.args.this) (ItemEnds c.args.self.now.done c.args.self.now.head c.args.self.now.rules None [])) _ c.args.token.now (this_item _ _ _ _ c.args.token.now (λ e. c.in_default.not-Arrow (c.requires ∙ e))) c.within_item.result (rw c.new.ensures at c.within_item.ensures)
+returns-in_default c = same_result (ThisGoesOn c.args.self.now.done c.args.self.now.head c.args.self.now.rules (name_of c.args.this.now)) (Then (NameStops (name_of c.args.this.now)) (ItemEnds c.args.self.now.done c.args.self.now.head c.args.self.now.rules None [])) _ c.args.token.now (this_item _ _ _ _ c.args.token.now (λ e. c.in_default.not-Arrow (c.requires ∙ e))) c.within_item.result (rw c.new.ensures at c.within_item.ensures)

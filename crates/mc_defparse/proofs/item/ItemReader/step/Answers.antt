@@ -20,3 +20,6 @@ returns-in-NegativeBound c = rw c.in-NegativeBound.is c.behind_bound_minus.ensur
 
 pub returns-in-Whole : goal.returns-in-Whole
 returns-in-Whole c = rw c.in-Whole.is c.before_stop.ensures
+
+pub returns-in-Sum : goal.returns-in-Sum
+returns-in-Sum c = rw c.in-Sum.is c.before_sum.ensures
