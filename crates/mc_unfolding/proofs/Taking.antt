@@ -3,7 +3,6 @@ use Rattle.std.proofs.Common.{◌≡◌, ℕ, zero, suc, Some, List, [], ◌∷�
 use Rattle.std.specs.List.{AllByRecursion}
 use Rattle.std.proofs.Math.ListN.{take-append-drop}
 use Rattle.mc_back.specs.Unfolded.{new_nodes}
-use Rattle.mc_base.specs.declared.ids.EdgeId.{EdgeId}
 use Rattle.mc_base.specs.declared.ids.NodeId.{NodeId}
 use Rattle.mc_base.specs.declared.ids.PredId.{PredId}
 use Rattle.mc_base.specs.declared.plain.Kind.{Kind}
@@ -11,14 +10,11 @@ use Rattle.mc_base.specs.declared.plain.Kind.TheVariants.{Ptr}
 use Rattle.mc_defs.specs.declared.rules.Call.{Call}
 use Rattle.mc_defs.specs.declared.rules.Def.{Def}
 use Rattle.mc_defs.specs.declared.rules.Rule.{Rule}
-use Rattle.mc_defs.specs.declared.shapes.StructInfo.{StructInfo}
-use Rattle.mc_defs.specs.Conditions.{DefsFit}
 use Rattle.mc_defs.specs.Instances.{node_of}
 use Rattle.mc_graph.specs.declared.edge.Edge.TheVariants.{Ind, Seg}
-use Rattle.mc_graph.specs.Graph.{edge_with}
 use Rattle.mc_pure.specs.Pure.{Kinds, HasKind, IsNode, IsWellFormed}
 use Rattle.mc_rule.specs.Made.{IsMadeFor}
-use Rattle.mc_state.specs.Fits.{AreNodes, HaveKinds, ArgsFit, EdgeFitsDefs, IsBounded}
+use Rattle.mc_state.specs.Fits.{AreNodes, HaveKinds, ArgsFit, EdgeFitsDefs}
 use Rattle.mc_state.specs.Bodies.{call_edge}
 use Rattle.mc_state.specs.Laws.{NewNodesHaveKinds, NewNodesAreThere}
 use Rattle.mc_state.specs.State.{State, numbered_nodes, with_nodes}

@@ -18,8 +18,8 @@ ghost use Rattle.mc_unfolding.specs.Taking.{TakesRuleBack, parts};
 use crate::forward::rules_of;
 use crate::laws::edges_take_rules;
 use crate::opening::{
-    Segment, add_atoms, add_block, add_calls, args_of, assume_equal, calls_behind, emptied, node_of, nodes_of_names,
-    opened,
+    Segment, add_atoms, add_block, add_calls, args_of, assume_equal, calls_behind, emptied,
+    node_of, nodes_of_names, opened,
 };
 use crate::positions::is_reached_back;
 use mc_base::{EdgeId, NoMemory, NodeId};
@@ -68,7 +68,12 @@ fn front_segment(alloc: Global, nodes: &[NodeId], seg: &Segment<'_>) -> Result<E
 }
 
 /// Adds such a segment. Without memory the state is lost.
-fn add_front(alloc: Global, s: &mut State, nodes: &[NodeId], seg: &Segment<'_>) -> Result<(), NoMemory>
+fn add_front(
+    alloc: Global,
+    s: &mut State,
+    nodes: &[NodeId],
+    seg: &Segment<'_>,
+) -> Result<(), NoMemory>
     requires nodes { AreNodes s.old.kinds nodes.now }
     requires start { AreNodes s.old.kinds (seg.now.at ∷ seg.now.args.now) }
     ensures { OnOk result (s.new ≡ with_edges s.old (Seg seg.now.at seg.now.args.now seg.now.pred (node_of nodes.now 0) (take (length seg.now.args.now) (drop 1 nodes.now)) ∷ [])) }
@@ -278,7 +283,16 @@ pub fn unfold_back(
     if s.is_false() {
         return Err(LogicFault::Premise(2));
     }
-    let Some(Edge::Seg { at, args, pred, end, end_args }) = s.edge(edge) else {
+    let Some(
+        Edge::Seg {
+            at,
+            args,
+            pred,
+            end,
+            end_args,
+        },
+    ) = s.edge(edge)
+    else {
         return Err(LogicFault::Premise(3));
     };
     let seg = Segment {

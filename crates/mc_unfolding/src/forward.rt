@@ -73,7 +73,15 @@ fn unfolded_at(
 {
     let mut nodes = Vec::new(alloc);
     let mut next = opened_at(alloc, s, edge, seg.at, seg.args, rule, &mut nodes)?;
-    add_body_to(alloc, &mut next, nodes.as_slice(), seg.stop, seg.ends, place, rule)?;
+    add_body_to(
+        alloc,
+        &mut next,
+        nodes.as_slice(),
+        seg.stop,
+        seg.ends,
+        place,
+        rule,
+    )?;
     add_atoms(alloc, &mut next, nodes.as_slice(), rule)?;
     Ok(next)
 }
@@ -219,7 +227,16 @@ pub fn unfold_seg(
     if s.is_false() {
         return Err(LogicFault::Premise(2));
     }
-    let Some(Edge::Seg { at, args, pred, end, end_args }) = s.edge(edge) else {
+    let Some(
+        Edge::Seg {
+            at,
+            args,
+            pred,
+            end,
+            end_args,
+        },
+    ) = s.edge(edge)
+    else {
         return Err(LogicFault::Premise(3));
     };
     if !may_unfold(s, access, *at) {

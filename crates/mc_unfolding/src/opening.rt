@@ -52,7 +52,11 @@ pub fn args_of(alloc: Global, nodes: &[NodeId]) -> Result<Args<NodeId>, NoMemory
 }
 
 /// The nodes of names.
-pub fn nodes_of_names(alloc: Global, nodes: &[NodeId], names: &[u64]) -> Result<Args<NodeId>, NoMemory>
+pub fn nodes_of_names(
+    alloc: Global,
+    nodes: &[NodeId],
+    names: &[u64],
+) -> Result<Args<NodeId>, NoMemory>
     ensures { IfOk result (λ args. args ≡ map (node_of nodes.now) names.now) }
 {
     let mut args = Args::new(alloc);
@@ -96,7 +100,12 @@ fn call_segment(
 }
 
 /// A block with the nodes of a rule's contents.
-fn block_edge(alloc: Global, nodes: &[NodeId], shape: StructId, rule: &Rule) -> Result<Edge, NoMemory>
+fn block_edge(
+    alloc: Global,
+    nodes: &[NodeId],
+    shape: StructId,
+    rule: &Rule,
+) -> Result<Edge, NoMemory>
     ensures { IfOk result (λ e. e ≡ Block (node_of nodes.now 0) shape (map (λ name. Some (node_of nodes.now name)) rule.now.contents)) }
 {
     let mut fields = Items::new(alloc);
@@ -111,7 +120,12 @@ fn block_edge(alloc: Global, nodes: &[NodeId], shape: StructId, rule: &Rule) -> 
 }
 
 /// Adds a rule's block, where it has one. Without memory the state is lost.
-pub fn add_block(alloc: Global, s: &mut State, nodes: &[NodeId], rule: &Rule) -> Result<(), NoMemory>
+pub fn add_block(
+    alloc: Global,
+    s: &mut State,
+    nodes: &[NodeId],
+    rule: &Rule,
+) -> Result<(), NoMemory>
     requires { AreNodes s.old.kinds nodes.now }
     ensures { OnOk result (s.new ≡ with_edges s.old (block_edges nodes.now rule.now.block rule.now.contents)) }
 {
@@ -126,7 +140,12 @@ pub fn add_block(alloc: Global, s: &mut State, nodes: &[NodeId], rule: &Rule) ->
 
 /// Adds calls as edges. Without memory the state is lost.
 #[tactic(auto, using(crate::proofs::After::after_edge))]
-pub fn add_calls(alloc: Global, s: &mut State, nodes: &[NodeId], calls: &[Call]) -> Result<(), NoMemory>
+pub fn add_calls(
+    alloc: Global,
+    s: &mut State,
+    nodes: &[NodeId],
+    calls: &[Call],
+) -> Result<(), NoMemory>
     requires { AreNodes s.old.kinds nodes.now }
     ensures { OnOk result (s.new ≡ with_edges s.old (map (call_edge nodes.now) calls.now)) }
 {
@@ -215,7 +234,12 @@ pub fn add_body_to(
 }
 
 /// Writes the atoms of a rule. Without memory the state is lost.
-pub fn add_atoms(alloc: Global, s: &mut State, nodes: &[NodeId], rule: &Rule) -> Result<(), NoMemory>
+pub fn add_atoms(
+    alloc: Global,
+    s: &mut State,
+    nodes: &[NodeId],
+    rule: &Rule,
+) -> Result<(), NoMemory>
     requires { AllByRecursion (IsWellFormed s.old.kinds) (map (atom_of nodes.now) rule.now.atoms) }
     ensures { OnOk result (s.new ≡ with_atoms s.old (map (atom_of nodes.now) rule.now.atoms)) }
 {
@@ -273,7 +297,12 @@ pub fn new_kinds<'a>(args: &[NodeId], rule: &'a Rule) -> &'a [Kind]
 }
 
 /// A node is equal to the one at a place of a list, if there is one, put behind other atoms.
-fn put_equal_at(a: NodeId, right: &[NodeId], place: usize, atoms: &mut Vec<Atom>) -> Result<(), NoMemory>
+fn put_equal_at(
+    a: NodeId,
+    right: &[NodeId],
+    place: usize,
+    atoms: &mut Vec<Atom>,
+) -> Result<(), NoMemory>
     ensures { OnOk result (atoms.new.items ≡ atoms.old.items ++ equal_atoms (a ∷ []) (drop place right.now)) }
 {
     match right.get(place) {

@@ -14,6 +14,7 @@ loop-atom-preserved c =
     let s = c.loop-atom.s in
     let atoms = c.args.atoms.now in
     let i = c.loop-atom.atom-index in
-    let made = c.in_ok-assume.ensures.ok in
-    (ap (λ t. with_atoms t (drop (i + 1) atoms)) made ∙ after_atom s _ (drop (i + 1) atoms) ∙ ap (with_atoms s) (sym (drop_more atoms i _ c.loop-atom-test.true)) ∙ c.loop-atom.invariant.0,
-    subst (λ t. AllByRecursion (IsWellFormed t.kinds) (drop (i + 1) atoms)) (sym made) (all_more (IsWellFormed s.kinds) atoms i (In null (pos 0) (pos 0)) c.loop-atom-test.true c.loop-atom.invariant.1).1)
+    let made = c.in_ok-assume.ensures.ok in (
+      ap (λ t. with_atoms t (drop (i + 1) atoms)) made ∙ after_atom s _ (drop (i + 1) atoms) ∙ ap (with_atoms s) (sym (drop_more atoms i _ c.loop-atom-test.true)) ∙ c.loop-atom.invariant.0,
+      subst (λ t. AllByRecursion (IsWellFormed t.kinds) (drop (i + 1) atoms)) (sym made) (all_more (IsWellFormed s.kinds) atoms i (In null (pos 0) (pos 0)) c.loop-atom-test.true c.loop-atom.invariant.1).1,
+    )

@@ -1,4 +1,4 @@
-use Rattle.std.proofs.Common.{◌≡◌, ◌∙◌, ◌++◌, ◌∷◌, ap, map, subst, sym}
+use Rattle.std.proofs.Common.{◌∙◌, ◌++◌, ◌∷◌, ap, map, subst, sym}
 use Rattle.std.specs.List.{AllByRecursion}
 use Rattle.mc_back.specs.Unfolded.{body_behind, call_is_end}
 use Rattle.mc_defs.specs.Instances.{node_of, atom_of}

@@ -1,4 +1,4 @@
-use Rattle.std.proofs.Common.{rules, ◌≡◌, ◌∙◌, ◌∷◌, ap, map, sym}
+use Rattle.std.proofs.Common.{rules, ◌≡◌, ◌∙◌, ◌∷◌, ap, map}
 use Rattle.std.specs.List.{AllByRecursion}
 use Rattle.mc_back.specs.Unfolded.{new_nodes, body_behind, atoms_behind}
 use Rattle.mc_defs.specs.Instances.{node_of, atom_of}

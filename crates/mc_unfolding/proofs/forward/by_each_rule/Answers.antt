@@ -1,4 +1,3 @@
-use Rattle.std.proofs.Common.{◌∙◌}
 use Rattle.mc_unfold.specs.Unfolded.{unfolded}
 use Rattle.mc_unfolding.specs.Taking.{TakesRule}
 use Rattle.mc_unfolding.proofs.Items.{all_here, image_put}

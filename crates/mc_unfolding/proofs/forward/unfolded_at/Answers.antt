@@ -1,7 +1,5 @@
-use Rattle.std.proofs.Common.{rules, ◌≡◌, ◌∙◌, ◌++◌, List, ap, sym}
-use Rattle.mc_base.specs.declared.ids.NodeId.{NodeId}
+use Rattle.std.proofs.Common.{rules, ◌≡◌, ◌∙◌, ap}
 use Rattle.mc_graph.specs.Graph.{without}
-use Rattle.mc_pure.specs.Pure.{Kinds}
 use Rattle.mc_state.specs.Bodies.{body_to}
 use Rattle.mc_state.specs.State.{State, with_atoms, with_edges, with_nodes, with_only_edges}
 use Rattle.mc_defs.specs.Instances.{atom_of}
