@@ -32,8 +32,8 @@ abbrev tasks_in : Option (Values × Tasks) → Tasks
 tasks_in None = done
 tasks_in (Some p) = p.1
 
-pub one_end : (values later other : Values) (tasks ready same : Tasks) → Arrives values tasks later ready → Arrives values tasks other same → (later, ready) ≡ (other, same)
-one_end values later other tasks ready same (here r) (here s) = refl
+pub one_end : (values later other : Values) (tasks ready same : Tasks) → Arrives values tasks later ready → Arrives values tasks other same → (later ≡ other) × (ready ≡ same)
+one_end values later other tasks ready same (here r) (here s) = (refl, refl)
 one_end values later other tasks ready same (here r) (there m b) = absurd (let e : None ≡ Some _ = sym r ∙ m in cc)
 one_end values later other tasks ready same (there m a) (here s) = absurd (let e : None ≡ Some _ = sym s ∙ m in cc)
 one_end values later other tasks ready same (there {later = v} {next = t} m a) (there {later = w} {next = u} n b) =

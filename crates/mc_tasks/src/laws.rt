@@ -8,5 +8,5 @@ pub fn moves_end()
     ensures ends { (values : Values) (tasks : Tasks)
         → (later : Values) × (ready : Tasks) × Arrives values tasks later ready }
     ensures once { (values later other : Values) (tasks ready same : Tasks)
-        → Arrives values tasks later ready → Arrives values tasks other same → (later, ready) ≡ (other, same) }
+        → Arrives values tasks later ready → Arrives values tasks other same → (later ≡ other) × (ready ≡ same) }
 {}
