@@ -27,7 +27,6 @@ use Rattle.mc_lowering.specs.Graphs.{Graph, Owner, Role, local, result, plain, S
 use Rattle.mc_lowering.specs.Values.{Puts, puts_variable, puts_field}
 use Rattle.mc_lowering.specs.Lowering.{Around, in_body, Receives, receives_none, receives, Awaits, awaits_none, awaits, Calls, calls, LowersAll}
 use Rattle.mc_lowering.specs.Runs.{FlowStep}
-use Rattle.mc_lowering.specs.Scopes.{IsScoped, AreScoped, IsNoticed, AreNoticed}
 use Rattle.mc_lowering.proofs.Simulating.{Goes, one, more, both_go, both_end, both_wait, flow_goes, source_goes}
 use Rattle.mc_lowering.proofs.Stepping.{Vars, at, step_at}
 use Rattle.mc_lowering.proofs.Evaluating.{AreTemporaries, no_temporaries, not_temporary, nothing_new, OnlyNew, goal_of, Leads, set_here, set_elsewhere}
@@ -46,10 +45,10 @@ use Rattle.mc_lowering.proofs.Acting.{Sets, may_set, changes_held}
 pub point_of : {g : Graph} {role : Role} {place : Place} {code : PointId → Instr} {s u : Stage} → Appends g role place code s u → IsPoint g (goal_of s) role place (code (point (goal_of u)))
 point_of (appends is) = is
 
-given_weight : (target : Target) (w : Option ℤ) (rest : Tasks) → weight (given target w rest) ≤ weight rest
-given_weight source.nowhere w rest = omega arith
-given_weight (stored l place) w rest = omega arith
-given_weight (returned place) w rest = omega arith
+given_weight : (g : Graph) (target : Target) (w : Option ℤ) (rest : Tasks) → weight g (given target w rest) ≤ weight g rest
+given_weight g source.nowhere w rest = omega arith
+given_weight g (stored l place) w rest = omega arith
+given_weight g (returned place) w rest = omega arith
 
 -- ---- the end of a call
 none_there : {g : Graph} {f : Function} {inner : ℕ} {ret : Option VarId} (vars : Vars) → IsResult g f inner ret
@@ -81,7 +80,7 @@ end_call_pair {g} {c} {scope} {own} {late} {callers} {k} {n = n} {m = m} {inner 
     (source_moved (task (end_call saved target) rest) (given target None rest) values saved choices refl
     (given_match None saved (flow_without vars us) heap wanted res inside (stays_there frame None vars made late_there res (none_there vars res h.all.0.quiet)) low within later
     (left g frame fs m us vars made (ending g frame fs m vars late_there h)))
-    (let less : weight (given target None rest) ≤ weight rest = given_weight target None rest in omega (arith, less)))
+    (let less : weight g (given target None rest) ≤ weight g rest = given_weight g target None rest in omega (arith, less)))
 
 -- ---- `return`
 pub out_pair : {g : Graph} {f : Function} {out a : ℕ} {late : List Limit} {callers : List Frame} {rest : Tasks} (e : Config) (mine : Frame) (w : Option ℤ) (vars now : Vars) (heap after : Heap) (choices others : List Choice)
@@ -115,11 +114,11 @@ out_pair {g} {f} {out} {late} e mine w vars now heap after choices others same a
 
 -- the frame of the function that returns
 pub nothing_pair : {g : Graph} {scope : List ℕ} {late : List Limit} {callers : List Frame} {k : ℕ} {rest tasks : Tasks} (c : Around) (values : Values) (vars : Vars) (heap : Heap) (choices : List Choice)
-    → ToOut g c.function c.out late callers rest → Step g.program (config tasks values heap) choices (gone_back heap rest None choices) → weight tasks ≡ suc (weight rest)
+    → ToOut g c.function c.out late callers rest → Step g.program (config tasks values heap) choices (gone_back heap rest None choices) → weight g tasks ≡ suc (weight g rest)
     → Held g (frame_of c scope late k values ∷ callers) vars → PairOf g (config tasks values heap) c.out vars heap choices
 nothing_pair {g} {rest = rest} c values vars heap choices (out_of_run ends is) step heavy h =
     source_goes step (subst (λ z. Match g (config z.1 z.0 heap) (at c.out vars heap)) (sym (ends None)) (match_end is))
-    (let e : weight (returning rest None).1 ≡ 0 = ap (λ z. weight z.1) (ends None) in omega (arith, e, heavy))
+    (let e : weight g (returning rest None).1 ≡ 0 = ap (λ z. weight g z.1) (ends None) in omega (arith, e, heavy))
 nothing_pair {g} {scope} {late} {k = k} c values vars heap choices (out_of_call {d = d} {scope = outer} {outer_late = outer_late} {callers = callers} {k = i} {m = m} {place = place} {us = us} {saved = saved} {target = target} {s = s} ends late_there is made res inside wanted low within follows) step heavy h =
     let frame : Frame = frame_of c scope late k values in
     let there : IsLate g c.out values (limit m (below (length c.function.locals))) = late_there values h.all.0.late.1 in

@@ -19,7 +19,7 @@ use Rattle.mc_lowering.proofs.Stepping.{Vars}
 use Rattle.mc_lowering.proofs.Evaluating.{goal_of}
 use Rattle.mc_lowering.proofs.Holding.{Limit, Frame, Held, AreTheirs, AreUndone, undone_held, in_left}
 use Rattle.mc_lowering.proofs.Growing.{points_of, variables_of, undefined}
-use Rattle.mc_lowering.proofs.Following.{Skips, no_skip, one_skip, skip_ahead, Asks, asks, asks_nothing, IsLoop, is_loop, Exits, exits, IsWithin, within_less, frame_of, around_loop, outer_limits, loop_tasks, Follows, performs, skips, raises, agains, ends_turn, ends_loop, leads, match, match_test, match_always, weight, perhaps_weight, limited, no_late}
+use Rattle.mc_lowering.proofs.Following.{Skips, no_skip, one_skip, skip_ahead, Asks, asks, asks_nothing, IsLoop, is_loop, Exits, exits, IsWithin, within_less, frame_of, around_loop, outer_limits, loop_tasks, Follows, performs, skips, raises, agains, ends_turn, ends_loop, leads, match, match_test, match_always, weight, start_weight, calls_at, perhaps_weight, limited, no_late}
 use Rattle.mc_lowering.proofs.Entering.{theirs}
 use Rattle.mc_lowering.proofs.Walking.{ToTurn, to_turn}
 use Rattle.mc_lowering.proofs.Pairing.{config, PairOf, source_moved, skips_pair, undefines_pair, exits_pair}
@@ -160,7 +160,7 @@ starts_follow {u = u} f (source.declares place items) (starts_declaring declares
 starts_follow {u = u} f (source.performs x) (starts_performing does) scoped bound within later =
     performs {a = simple x} (simples does) scoped bound within (omega arith) (later (variables_of u))
 
-pub started_weight : (start : Start) (rest : Tasks) → weight (started start rest) ≤ 1 + weight rest
-started_weight source.nothing rest = omega arith
-started_weight (source.declares place items) rest = omega arith
-started_weight (source.performs x) rest = omega arith
+pub started_weight : (g : Graph) (start : Start) (rest : Tasks) → weight g (started start rest) ≡ start_weight (calls_at g rest) start + weight g rest
+started_weight g source.nothing rest = omega arith
+started_weight g (source.declares place items) rest = omega arith
+started_weight g (source.performs x) rest = omega arith

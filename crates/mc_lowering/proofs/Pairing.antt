@@ -32,7 +32,7 @@ config tasks values heap = record { tasks = tasks; values = values; heap = heap 
 
 -- the source in this configuration beside the flow graph at this point
 abbrev pub PairOf : Graph → Config → ℕ → Vars → Heap → List Choice → Type 0
-PairOf g c a vars heap choices = Paired (Step g.program) (FlowStep g) (Match g) (λ d. weight d.tasks) c choices (at a vars heap)
+PairOf g c a vars heap choices = Paired (Step g.program) (FlowStep g) (Match g) (λ d. weight g d.tasks) c choices (at a vars heap)
 
 -- ---- steps of the source
 abbrev pub here_of : Values → Heap → Here
@@ -67,7 +67,7 @@ behind_move {w = w} {us = us} later after some (there {later = later'} {next = a
 
 -- the source moves to what matches
 pub source_moved : {g : Graph} {a : ℕ} {vars : Vars} {heap : Heap} (tasks after : Tasks) (values later : Values) (choices : List Choice) → moved values tasks ≡ Some (later, after)
-    → Match g (config after later heap) (at a vars heap) → weight after < weight tasks → PairOf g (config tasks values heap) a vars heap choices
+    → Match g (config after later heap) (at a vars heap) → weight g after < weight g tasks → PairOf g (config tasks values heap) a vars heap choices
 source_moved {g} {a} {vars} {heap} tasks after values later choices some match_there less =
     source_moves (λ r s. (s.0, s.1, behind_move later after some s.2, s.3)) (λ r s. (s.0, s.1, there some s.2, s.3)) match_there less
 
@@ -99,7 +99,7 @@ undefines_pair {g} {place = place} vars heap choices (undefines {v = v} {vs = vs
 
 -- the exit of a loop, which the source has passed
 pub exits_pair : {g : Graph} {c : Around} {scope xs : List ℕ} {late : List Limit} {callers : List Frame} {e r first : ℕ} {rest : Tasks} (k : ℕ) (tasks : Tasks) (values now : Values) (vars : Vars) (heap : Heap) (choices : List Choice)
-    → Exits g c xs e r first → Follows g c scope late callers first rest r → moved values tasks ≡ Some (without xs now, rest) → weight rest < weight tasks
+    → Exits g c xs e r first → Follows g c scope late callers first rest r → moved values tasks ≡ Some (without xs now, rest) → weight g rest < weight g tasks
     → Held g (frame_of (around_loop c) (xs ++ scope) (outer_limits c xs first late) k now ∷ callers) vars → PairOf g (config tasks values heap) e vars heap choices
 exits_pair {g} {c} {scope} {xs} {late} {callers} {rest = rest} k tasks values now vars heap choices (exits {e = e} {w = w} {n = n} {first = first} {place = place} is (leaves {vs = vs} made undone)) follows some less h =
     let f : Frame = frame_of (around_loop c) (xs ++ scope) (outer_limits c xs first late) k now in

@@ -13,7 +13,7 @@ use Rattle.mc_resolved.specs.Steps.{passed}
 use Rattle.mc_lowering.specs.Graphs.{Graph, plain, Stage, stage, nowhere, IsPoint, Appends, appends, creates}
 use Rattle.mc_lowering.specs.Lowering.{in_body, LowersAll, Answers, answers_none, answers, Falls, falls_in_main, falls, Makes, makes, IsLowering}
 use Rattle.mc_lowering.specs.Runs.{ComesTo, FlowStep, RunsMatch}
-use Rattle.mc_lowering.specs.Scopes.{IsScoped, AreScoped, AreNoticed}
+use Rattle.mc_lowering.specs.Scopes.{IsScoped, AreScoped}
 use Rattle.mc_lowering.proofs.Simulating.{alike, longer, left_of_one}
 use Rattle.mc_lowering.proofs.SourceOnce.{source_once}
 use Rattle.mc_lowering.proofs.FlowOnce.{flow_once}
@@ -81,19 +81,19 @@ body_match : {g : Graph} {entry : Function} {out k : ℕ} {m n : Stage} → leng
 body_match {g} {entry} {out} {n = n} same scoped body fall ends =
     match (follows_in_a_row entry.body 0 body scoped.body (falls_bound fall) tt (omega arith) (over fall refl ends)) (begins_held g entry out 0 scoped.own same)
 
-made_match : {g : Graph} {entry : Function} {out count : ℕ} → length g.flow.vars ≡ length g.owners → Rattle.mc_lowering.proofs.Holding.AreOnce g → AreScoped g.program → AreNoticed g.program → IsScoped entry → Makes g entry out count → RunsMatch g entry
-made_match {g} {entry} same once all_scoped all_noticed scoped (makes {out = out} (appends {b = b} begin) result body fall ends) choices final =
+made_match : {g : Graph} {entry : Function} {out count : ℕ} → length g.flow.vars ≡ length g.owners → Rattle.mc_lowering.proofs.Holding.AreOnce g → AreScoped g.program → IsScoped entry → Makes g entry out count → RunsMatch g entry
+made_match {g} {entry} same once all_scoped scoped (makes {out = out} (appends {b = b} begin) result body fall ends) choices final =
     let start : flow.Config = at b (replicate (length g.flow.vars) None) Rattle.std.specs.FinMap.empty in
     let step : FlowStep g (flow.start g.flow) choices (next start choices) = skip_step g 0 b plain nowhere (replicate (length g.flow.vars) None) Rattle.std.specs.FinMap.empty choices begin tt in
     let there : Match g (resolved.start entry) start =
     subst (λ z. Match g (resolved.start entry) (at z (replicate (length g.flow.vars) None) Rattle.std.specs.FinMap.empty)) (sym (answers_goal result)) (body_match same scoped body fall ends) in
     let both : ComesTo (resolved.Step g.program) (resolved.start entry) choices final ↔ ComesTo (FlowStep g) start choices final =
-    alike (resolved.Step g.program) (FlowStep g) (Match g) (λ c. weight c.tasks) (source_once g.program) (flow_once g) (pairs g once all_scoped all_noticed) (resolved.start entry) start choices final there in (
+    alike (resolved.Step g.program) (FlowStep g) (Match g) (λ c. weight g c.tasks) (source_once g.program) (flow_once g) (pairs g once all_scoped) (resolved.start entry) start choices final there in (
       λ run. longer (FlowStep g) final step (both.0 run),
       λ run.
           let left : (m : ℕ) × (m < run.0) × Reaches (FlowStep g) m start choices final = left_of_one (FlowStep g) (flow_once g) (flow.start g.flow) choices (next start choices) run.0 final step run.1 in
           both.1 (left.0, left.2),
     )
 
-pub runs_match : (g : Graph) (entry : Function) (out count : ℕ) → IsLowering g entry out count → AreScoped g.program → AreNoticed g.program → RunsMatch g entry
-runs_match g entry out count l all_scoped all_noticed = made_match (l.variables ∙ sym l.owners) l.once all_scoped all_noticed (all_scoped g.program.entry entry l.there) l.made
+pub runs_match : (g : Graph) (entry : Function) (out count : ℕ) → IsLowering g entry out count → AreScoped g.program → RunsMatch g entry
+runs_match g entry out count l all_scoped = made_match (l.variables ∙ sym l.owners) l.once all_scoped (all_scoped g.program.entry entry l.there) l.made

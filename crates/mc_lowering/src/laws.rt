@@ -6,7 +6,7 @@ ghost use Rattle.mc_flow.specs.Steps.{IsSafeFlow};
 ghost use Rattle.mc_lowering.specs.Graphs.{Graph};
 ghost use Rattle.mc_lowering.specs.Lowering.{IsLowering, Makes};
 ghost use Rattle.mc_lowering.specs.Runs.{RunsMatch};
-ghost use Rattle.mc_lowering.specs.Scopes.{AreNoticed, AreScoped};
+ghost use Rattle.mc_lowering.specs.Scopes.{AreScoped};
 ghost use Rattle.std.specs.Prelude.{ℕ};
 ghost use Rattle.mc_resolved.specs.Programs.{Function};
 ghost use Rattle.mc_resolved.specs.Steps.{IsSafeProgram};
@@ -33,10 +33,10 @@ pub fn safe_flow_graphs_mean_safe_programs()
 {}
 
 /// A program and its flow graph: the one comes to a fault, an end or a stop exactly where the other does, if what is written
-/// is in scope, and each function has a parameter or a result.
+/// is in scope.
 pub fn runs_match()
     ensures {
         (g : Graph) (entry : Function) (out count : ℕ) → IsLowering g entry out count → AreScoped g.program
-        → AreNoticed g.program → RunsMatch g entry
+        → RunsMatch g entry
     }
 {}
