@@ -1,7 +1,7 @@
 -- A call begins: its arguments are passed, and its body stands before the end of the call.
-use Rattle.std.proofs.Common.{◌<◌, ◌≤◌, ◌+◌, ◌≡◌, ◌⊎◌, inl, inr, ℕ, zero, suc, ℤ, List, [], ◌∷◌, Option, Some, None, length, refl, sym, ap, ◌∙◌, subst, arith}
-use Rattle.std.specs.Prelude.{slice_get, slice_index_or, map, Contains}
-use Rattle.std.proofs.lemmas.Option.{slice_get_within, same_Some}
+use Rattle.std.proofs.Common.{◌<◌, ◌≤◌, ◌+◌, ◌≡◌, ◌⊎◌, inl, inr, ℕ, suc, ℤ, List, [], ◌∷◌, Option, Some, None, length, refl, sym, ap, ◌∙◌, subst, arith}
+use Rattle.std.specs.Prelude.{slice_get, slice_index_or, map}
+use Rattle.std.proofs.lemmas.Option.{slice_get_within}
 use Rattle.std.proofs.lemmas.List.{get_or-set_other}
 use Rattle.std.proofs.Math.Decide.{dec_lt}
 use Rattle.mc_base.specs.declared.ids.PointId.{PointId}
@@ -18,26 +18,26 @@ use Rattle.mc_flow.specs.declared.instr.Instr.TheVariants.{Copy, Undef}
 use Rattle.mc_flow.specs.declared.instr.Operand.{Operand}
 use Rattle.mc_flow.specs.declared.instr.Operand.TheVariants.{Var}
 use Rattle.mc_flow.specs.Steps as flow
-use Rattle.mc_meaning.specs.Steps.{Arguments, no_arguments, arguments}
+use Rattle.mc_meaning.specs.Steps.{no_arguments, arguments}
 use Rattle.mc_resolved.specs.Configs.{Values, Target, returned, held, end_call, take_result, Tasks, task, Result}
 use Rattle.mc_resolved.specs.Moves.{in_a_row}
 use Rattle.mc_resolved.specs.Programs.{Call, Function}
 use Rattle.mc_resolved.specs.Steps.{Step, Passes as SourcePasses, AfterArguments, begun, EvaluateAll, gone_back, passed}
-use Rattle.mc_lowering.specs.Graphs.{Graph, Role, local, result, plain, Stage, stage, point, IsPoint, Appends, appends, Undefines, undefines_none, undefines, creates, IsMade, is_made}
+use Rattle.mc_lowering.specs.Graphs.{Graph, Role, local, result, plain, Stage, point, Appends, appends, Undefines, undefines_none, undefines, creates, IsMade, is_made}
 use Rattle.mc_lowering.specs.Values.{EvaluatesAll, evaluates_none, evaluates_next}
 use Rattle.mc_lowering.specs.Lowering.{Around, in_body, Receives, receives_none, receives, Passes, passes_none, Awaits, awaits_none, awaits, Calls, calls}
 use Rattle.mc_lowering.specs.Runs.{FlowStep}
 use Rattle.mc_lowering.specs.Scopes.{IsScoped, AreScoped}
 use Rattle.mc_lowering.proofs.Simulating.{Goes, one, more, both_go, source_goes, both_end, both_wait}
 use Rattle.mc_lowering.proofs.Stepping.{Vars, at, step_at}
-use Rattle.mc_lowering.proofs.Evaluating.{AreTemporaries, no_temporaries, OnlyNew, goal_of, Leads, set_here, set_elsewhere}
+use Rattle.mc_lowering.proofs.Evaluating.{AreTemporaries, no_temporaries, goal_of, set_here}
 use Rattle.mc_lowering.proofs.Changing.{IsClean, length_set, undefines_goes}
-use Rattle.mc_lowering.proofs.Holding.{AreOnce, Limit, limit, IsLate, Frame, AllHeld, Held, IsInside, AreNested, IsNone, inside_none, same_out, no_temporary}
-use Rattle.mc_lowering.proofs.Growing.{IsGrown, points_of, variables_of, received, all_lowered, on, passed as passed_grown, undefined, awaited as awaited_grown, all_evaluated}
+use Rattle.mc_lowering.proofs.Holding.{AreOnce, Limit, limit, Frame, AllHeld, Held, IsInside, AreNested, IsNone, inside_none, same_out, no_temporary}
+use Rattle.mc_lowering.proofs.Growing.{IsGrown, points_of, variables_of, all_lowered, on, passed as passed_grown, undefined, awaited as awaited_grown, all_evaluated}
 use Rattle.mc_lowering.proofs.Following.{below, frame_of, IsResult, no_result, a_result, Wants, IsWithin, Follows, ends_call, match, follows_in_a_row, no_late, weight}
-use Rattle.mc_lowering.proofs.Leaving.{Ending, ending, ending_set, ending_other, frames_result, result_no_local, result_no_temporary, another_result}
+use Rattle.mc_lowering.proofs.Leaving.{ending, ending_set, ending_other, frames_result, result_no_local, result_no_temporary, another_result}
 use Rattle.mc_lowering.proofs.Passing.{AllEnded, all_waits, all_faults, all_gives, evaluating_all, all_temporaries, outer_operands, AreOwned, received_owned, Copied, copied_none, copied_all, copied_same, copying, put_all, put_elsewhere, length_put_all, frames_put, put_cleaned, passed_beyond, passed_length, received_agree, received_low}
-use Rattle.mc_lowering.proofs.Walking.{ToOut, to_out}
+use Rattle.mc_lowering.proofs.Walking.{to_out}
 use Rattle.mc_lowering.proofs.Pairing.{config, PairOf, here_of, does_step, goes_further}
 use Rattle.mc_lowering.proofs.Calling.{point_of, out_pair, one_undone}
 
@@ -91,10 +91,16 @@ begun_held {g} {f} {inner} {top} fs zs vars once scoped receives_at low inside n
         | yes less ↦ absurd (absent (scoped.parameters x less))
         | no past ↦ passed_beyond f.parameters f.locals zs x (omega (arith, past))
       ];
-      late = (no_late g inner (passed f.parameters f.locals zs) 0, (λ x v is_in owned from. elim (dec_lt x f.parameters) [
-        | yes less ↦ absurd (omega (arith, from, low, received_low once receives_at x v (subst (λ n. slice_get g.owners v ≡ Some (local inner n)) (same_number_of x) owned) less))
-        | no past ↦ passed_beyond f.parameters f.locals zs x (omega (arith, past))
-      ], tt));
+      late = (
+        no_late g inner (passed f.parameters f.locals zs) 0,
+        (
+          λ x v is_in owned from. elim (dec_lt x f.parameters) [
+            | yes less ↦ absurd (omega (arith, from, low, received_low once receives_at x v (subst (λ n. slice_get g.owners v ≡ Some (local inner n)) (same_number_of x) owned) less))
+            | no past ↦ passed_beyond f.parameters f.locals zs x (omega (arith, past))
+          ],
+          tt,
+        ),
+      );
       quiet = quiet;
     },
     b.all,
@@ -178,9 +184,12 @@ call_of {g} {scope} {late} {callers} {k} {inner = inner} {top = top} {n_goal = n
 
     given_all : (o : Option (List ℤ)) → all_there (map (operand_value later) os) ≡ o → (res : Result) → res ≡ begun (here_of values heap) f target place rest left o → Step g.program (config tasks values heap) choices res
     given_all o e res k_is =
-        into res (arguments ws left, comes,
-        subst (λ z. AfterArguments (here_of values heap) z target place rest (arguments ws left) res) (sym is)
-        (k_is ∙ ap (begun (here_of values heap) f target place rest left) (sym (sym (ap all_there gave) ∙ e))))
+        into res (
+          arguments ws left,
+          comes,
+          subst (λ z. AfterArguments (here_of values heap) z target place rest (arguments ws left) res) (sym is)
+              (k_is ∙ ap (begun (here_of values heap) f target place rest left) (sym (sym (ap all_there gave) ∙ e))),
+        )
 
     begun_vars : (zs : List ℤ) → Begun g inner (passed f.parameters f.locals zs) fs (put_all vs zs vars)
     begun_vars zs = parameters_begun fs zs vars once receives_at scoped.counted (inside_none inner fs inside_all) h

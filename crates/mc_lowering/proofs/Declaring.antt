@@ -1,5 +1,5 @@
 -- Simple statements and declarators, with calls or without, go on together with their points.
-use Rattle.std.proofs.Common.{◌<◌, ◌≤◌, ◌+◌, ◌≡◌, ℕ, suc, List, [], ◌∷◌, Option, Some, None, length, refl, sym, subst, arith}
+use Rattle.std.proofs.Common.{◌≤◌, ◌+◌, ◌≡◌, ℕ, suc, List, [], ◌∷◌, Some, None, length, refl, sym, subst, arith}
 use Rattle.mc_base.specs.declared.ids.VarId.{VarId}
 use Rattle.mc_base.specs.Runs.{next}
 use Rattle.mc_text.specs.declared.place.Place.{Place}
@@ -79,4 +79,3 @@ declare_pair {g} {c} {scope} {late} {callers} {k} {place} {rest = rest} {u = u} 
 
     more_variables : {owner : Rattle.mc_lowering.specs.Graphs.Owner} {info : Rattle.mc_base.specs.declared.plain.VarInfo.VarInfo} {i j : Stage} {v : VarId} → Creates g owner info i v j → variables_of i ≤ variables_of j
     more_variables (creates owned info) = omega arith
-

@@ -1,6 +1,6 @@
 -- When a configuration of a resolved program and one of its flow graph match.
-use Rattle.std.proofs.Common.{◌<◌, ◌≤◌, ◌+◌, ◌-◌, ◌≡◌, ◌⊎◌, ◌++◌, inl, inr, ℕ, zero, suc, ℤ, List, [], ◌∷◌, Option, Some, None, length, refl, sym, ap, ◌∙◌, subst, arith}
-use Rattle.std.specs.Prelude.{slice_get, Contains}
+use Rattle.std.proofs.Common.{◌<◌, ◌≤◌, ◌+◌, ◌-◌, ◌≡◌, ◌++◌, ℕ, zero, suc, ℤ, List, [], ◌∷◌, Option, Some, None, length, refl, ap, subst, arith}
+use Rattle.std.specs.Prelude.{slice_get}
 use Rattle.std.proofs.lemmas.Option.{slice_get_within}
 use Rattle.mc_base.specs.declared.ids.VarId.{VarId}
 use Rattle.mc_base.specs.declared.plain.Kind.{Kind}
@@ -13,14 +13,14 @@ use Rattle.mc_flow.specs.Steps as flow
 use Rattle.mc_resolved.specs.Programs.{Cond, plain as plain_cond, compare, negation, both, either, Action, assign, add, subtract, call, Simple, Start, nothing, declares, performs as begins, Function, Stmt, declaration, block, empty, simple, free, assert, assume, assume_shape, assert_shape, assert_empty, if_only, if_else, while_loop, do_loop, for_loop, break_loop, continue_loop, returns, Stmts, no_more, then}
 use Rattle.mc_resolved.specs.Configs as source
 use Rattle.mc_resolved.specs.Configs.{Values, held, without, Target, stored, returned, perform, again, test, always, end_block, end_loop, end_turn, end_call, take_result, Task, Tasks, done, task, Branch, go_on, fails, stops, Config}
-use Rattle.mc_resolved.specs.Moves.{in_a_row, finished, behind_loop, at_turn}
+use Rattle.mc_resolved.specs.Moves.{in_a_row, finished}
 use Rattle.mc_lowering.specs.Graphs.{Graph, result, Role, plain, head, merge, stop, Stage, stage, point, nowhere, IsPoint, Appends, appends, IsMade, AreMade, Undefines, Leaves}
 use Rattle.mc_lowering.specs.Values.{Tests, Puts}
-use Rattle.mc_lowering.specs.Lowering.{Loop, Around, in_block, in_loop, in_body, Lowers, LowersAll, lowers_none, lowers_next, Finishes, Falls}
+use Rattle.mc_lowering.specs.Lowering.{Around, in_block, in_loop, in_body, Lowers, LowersAll, lowers_none, lowers_next, Finishes, Falls}
 use Rattle.mc_lowering.specs.Scopes.{IsIn, IsScopedIn, AreScopedIn, FinishesIn}
 use Rattle.mc_lowering.proofs.Stepping.{Vars, at}
 use Rattle.mc_lowering.proofs.Evaluating.{goal_of}
-use Rattle.mc_lowering.proofs.Holding.{Limit, limit, AreLate, IsLate, Frame, FrameHeld, Held, with_values, AreUndone, both_undone, without_undone, rescoped, among, IsUnder}
+use Rattle.mc_lowering.proofs.Holding.{Limit, limit, AreLate, IsLate, Frame, Held, with_values, rescoped}
 use Rattle.mc_lowering.proofs.Growing.{points_of, variables_of, lowered}
 
 -- ---- parts of loops
@@ -120,7 +120,6 @@ pub data Follows (g : Graph) : Around → List ℕ → List Limit → List Frame
   ends_loop : {c : Around} {scope xs : List ℕ} {late : List Limit} {callers : List Frame} {rest : Tasks} {e r first k : ℕ}
       → Exits g c xs e r first → Follows g c scope late callers first rest r
       → Follows g (around_loop c) (xs ++ scope) (outer_limits c xs first late) callers k (task (end_loop xs) rest) e
-
   ends_call : {c : Around} {scope own : List ℕ} {late : List Limit} {callers : List Frame} {k j n m b inner : ℕ} {f : Function} {place : Place} {us : List VarId} {saved : Values} {target : Target} {rest : Tasks} {ret : Option VarId} {s : Stage}
       → IsPoint g inner plain place (Undef us (point (goal_of s))) → AreMade g inner (λ x. x < length f.locals) (stage inner inner m) us → IsResult g f inner ret → inner < c.out
       → Wants g c scope target ret s j b → k ≤ j → IsWithin j late → Follows g c scope late callers j rest b

@@ -1,5 +1,5 @@
 -- Each form of statement and of task goes on together with its points.
-use Rattle.std.proofs.Common.{◌<◌, ◌≤◌, ◌+◌, ◌≡◌, ◌++◌, ℕ, zero, suc, ℤ, List, [], ◌∷◌, Option, Some, None, length, refl, sym, ap, ◌∙◌, subst, arith}
+use Rattle.std.proofs.Common.{◌<◌, ◌≤◌, ◌≡◌, ◌++◌, ℕ, ℤ, List, [], ◌∷◌, Option, Some, None, length, refl, sym, ap, ◌∙◌, subst, arith}
 use Rattle.std.specs.Prelude.{slice_get, slice_index_or}
 use Rattle.std.proofs.lemmas.Option.{slice_get_within}
 use Rattle.mc_base.specs.declared.ids.VarId.{VarId}
@@ -8,17 +8,17 @@ use Rattle.mc_text.specs.declared.place.Place.{Place}
 use Rattle.mc_heap.specs.Heap.{Heap}
 use Rattle.mc_heap.specs.Choices.{Choice}
 use Rattle.mc_flow.specs.Values.{with_value}
-use Rattle.mc_flow.specs.declared.instr.Instr.TheVariants.{Skip, Copy, End}
+use Rattle.mc_flow.specs.declared.instr.Instr.TheVariants.{Copy, End}
 use Rattle.mc_meaning.specs.Values.{fault_of, value_of}
 use Rattle.mc_resolved.specs.Programs.{Cond, Expr, Right, expression, result_of, allocation, Stmt, block, empty, simple, free, assert, assume, if_only, if_else, while_loop, do_loop, for_loop, returns, Stmts}
 use Rattle.mc_resolved.specs.Configs.{Values, with_variable, perform, again, test, end_block, end_loop, end_turn, Tasks, done, task, go_on, fails, stops, Result}
 use Rattle.mc_resolved.specs.Moves.{in_a_row, started}
 use Rattle.mc_resolved.specs.Steps.{Step, Returns, gone_back}
-use Rattle.mc_lowering.specs.Graphs.{Graph, Owner, local, result, plain, head, merge, Stage, stage, point, nowhere, IsPoint, Appends, appends, IsMade, is_made, Leaves, leaves, undefines_none}
-use Rattle.mc_lowering.specs.Lowering.{Around, in_body, in_block, in_loop, SetsTo, sets_operand, sets_computed, sets_allocated, Lowers, declarations, blocks, empties, simples, frees, asserts, assumes, shapes_assumed, shapes_asserted, emptiness_asserted, ifs, ifs_else, whiles, dos, fors, breaks, continues, returns_nothing, returns_value, returns_result}
+use Rattle.mc_lowering.specs.Graphs.{Graph, Owner, result, plain, Stage, stage, point, nowhere, IsPoint, appends, IsMade, is_made}
+use Rattle.mc_lowering.specs.Lowering.{Around, SetsTo, sets_allocated, Lowers, declarations, blocks, empties, simples, frees, asserts, assumes, shapes_assumed, shapes_asserted, emptiness_asserted, ifs, ifs_else, whiles, dos, fors, breaks, continues, returns_nothing, returns_value, returns_result}
 use Rattle.mc_lowering.specs.Lowering.{Falls, falls_in_main, falls, finishes_none}
 use Rattle.mc_lowering.specs.Runs.{FlowStep}
-use Rattle.mc_lowering.specs.Scopes.{IsScopedIn, AreNew, AreScoped}
+use Rattle.mc_lowering.specs.Scopes.{IsScopedIn, AreScoped}
 use Rattle.mc_lowering.proofs.Simulating.{Goes, one, more, both_end, both_wait}
 use Rattle.mc_lowering.proofs.Stepping.{Vars, at, step_at}
 use Rattle.mc_lowering.proofs.Evaluating.{not_temporary, goal_of, set_here}
@@ -28,7 +28,7 @@ use Rattle.mc_lowering.proofs.Freeing.{freeing}
 use Rattle.mc_lowering.proofs.Performing.{one_set}
 use Rattle.mc_lowering.proofs.Holding.{AreOnce, Limit, Frame, Held}
 use Rattle.mc_lowering.proofs.Growing.{points_of, variables_of, appended, undefined, left, on, tested, tested_perhaps, all_lowered, lowered, started as start_grown, finished as last_grown}
-use Rattle.mc_lowering.proofs.Following.{GoesOn, Skips, no_skip, one_skip, skip_ahead, asks, IsLoop, is_loop, Exits, exits, IsWithin, within_less, frame_of, around_loop, outer_limits, loop_tasks, Follows, over, performs, skips, raises, ends_block, agains, ends_turn, ends_loop, ends_call, takes_stored, takes_returned, wants, Leads, leads, leads_to_fault, leads_to_stop, Match, match, match_test, match_always, match_taking, match_end, weight, weight_in_a_row, follows_in_a_row, held_raised}
+use Rattle.mc_lowering.proofs.Following.{no_skip, skip_ahead, asks, IsLoop, is_loop, IsWithin, within_less, frame_of, outer_limits, loop_tasks, Follows, over, performs, skips, raises, ends_block, agains, ends_turn, ends_loop, ends_call, takes_stored, takes_returned, wants, leads, leads_to_fault, leads_to_stop, Match, match, match_test, match_always, match_taking, match_end, weight, weight_in_a_row, follows_in_a_row, held_raised}
 use Rattle.mc_lowering.proofs.Entering.{block_entered, loop_entered}
 use Rattle.mc_lowering.proofs.Walking.{ToOut, to_out}
 use Rattle.mc_lowering.proofs.Pairing.{config, PairOf, here_of, does_step, step_does, source_moved, skips_pair, exits_pair, block_pair, test_pair, always_pair}
@@ -37,7 +37,7 @@ use Rattle.mc_lowering.proofs.Leaving.{ending, ending_set}
 use Rattle.mc_lowering.proofs.Calling.{end_call_pair, out_pair, nothing_pair, stored_pair}
 use Rattle.mc_lowering.proofs.Beginning.{call_pair, returned_pair}
 use Rattle.mc_lowering.proofs.Declaring.{simple_pair, declare_pair}
-use Rattle.mc_lowering.proofs.Looping.{relimited, again_pair, turn_pair, break_pair, continue_pair, nothing_made, perhaps_asks, exits_of, exits_nothing, starts_follow, started_weight}
+use Rattle.mc_lowering.proofs.Looping.{relimited, again_pair, turn_pair, break_pair, continue_pair, perhaps_asks, exits_of, exits_nothing, starts_follow, started_weight}
 
 -- ---- `return` with a value
 -- the variable for the result of a function that runs
@@ -252,7 +252,6 @@ tasks_pair values vars heap choices once all_scoped (ends_block leave low later)
 tasks_pair values vars heap choices once all_scoped (agains loops way_out within later) h = again_pair values vars heap choices loops way_out within later h
 tasks_pair values vars heap choices once all_scoped (ends_turn loops way_out within later) h = turn_pair values vars heap choices loops way_out within later h
 tasks_pair {k = k} values vars heap choices once all_scoped (ends_loop {xs = xs} {rest = rest} way_out later) h = exits_pair k (task (end_loop xs) rest) values values vars heap choices way_out later refl (omega arith) h
-
 tasks_pair values vars heap choices once all_scoped (ends_call is made res inside wanted low within later) h = end_call_pair values vars heap choices is made res inside wanted low within later h
 
 pub pairs : (g : Graph) → AreOnce g → AreScoped g.program → (c : Rattle.mc_resolved.specs.Configs.Config) (d : Rattle.mc_flow.specs.Steps.Config) (choices : List Choice) → Match g c d

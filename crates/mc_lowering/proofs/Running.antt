@@ -1,16 +1,13 @@
 -- Runs of a program and of its flow graph match.
-use Rattle.std.proofs.Common.{◌<◌, ◌≤◌, ◌≡◌, ℕ, zero, suc, ℤ, List, [], ◌∷◌, Option, Some, None, length, refl, sym, ap, ◌∙◌, subst, arith}
+use Rattle.std.proofs.Common.{◌<◌, ◌≤◌, ◌≡◌, ℕ, zero, suc, List, [], ◌∷◌, Option, None, length, refl, sym, ap, ◌∙◌, subst, arith}
 use Rattle.std.specs.Prelude.{◌↔◌, slice_index_or, replicate}
 use Rattle.mc_base.specs.Runs.{next, Reaches}
-use Rattle.mc_heap.specs.Choices.{Choice}
-use Rattle.mc_base.specs.Runs.{Final}
 use Rattle.mc_flow.specs.Steps as flow
-use Rattle.mc_resolved.specs.Configs.{Values, held, done}
+use Rattle.mc_resolved.specs.Configs.{held}
 use Rattle.mc_resolved.specs.Programs.{Function, Local}
-use Rattle.mc_resolved.specs.Moves.{in_a_row}
 use Rattle.mc_resolved.specs.Steps as resolved
 use Rattle.mc_resolved.specs.Steps.{passed}
-use Rattle.mc_lowering.specs.Graphs.{Graph, plain, Stage, stage, nowhere, IsPoint, Appends, appends, creates}
+use Rattle.mc_lowering.specs.Graphs.{Graph, plain, Stage, stage, nowhere, IsPoint, appends, creates}
 use Rattle.mc_lowering.specs.Lowering.{in_body, LowersAll, Answers, answers_none, answers, Falls, falls_in_main, falls, Makes, makes, IsLowering}
 use Rattle.mc_lowering.specs.Runs.{ComesTo, FlowStep, RunsMatch}
 use Rattle.mc_lowering.specs.Scopes.{IsScoped, AreScoped}
@@ -20,8 +17,8 @@ use Rattle.mc_lowering.proofs.FlowOnce.{flow_once}
 use Rattle.mc_lowering.proofs.Stepping.{Vars, at}
 use Rattle.mc_lowering.proofs.Evaluating.{goal_of}
 use Rattle.mc_lowering.proofs.Holding.{Held}
-use Rattle.mc_lowering.proofs.Growing.{points_of, variables_of, appended}
-use Rattle.mc_lowering.proofs.Following.{Match, match, Follows, over, frame_of, follows_in_a_row, no_late, weight}
+use Rattle.mc_lowering.proofs.Growing.{points_of, appended}
+use Rattle.mc_lowering.proofs.Following.{Match, match, over, frame_of, follows_in_a_row, no_late, weight}
 use Rattle.mc_lowering.proofs.Pairing.{skip_step}
 use Rattle.mc_lowering.proofs.Forms.{pairs}
 
@@ -97,3 +94,7 @@ made_match {g} {entry} same once all_scoped scoped (makes {out = out} (appends {
 
 pub runs_match : (g : Graph) (entry : Function) (out count : ℕ) → IsLowering g entry out count → AreScoped g.program → RunsMatch g entry
 runs_match g entry out count l all_scoped = made_match (l.variables ∙ sym l.owners) l.once all_scoped (all_scoped g.program.entry entry l.there) l.made
+
+-- a safe flow graph means a safe program
+pub lowered_safe : (g : Graph) (entry : Function) (out count : ℕ) → IsLowering g entry out count → AreScoped g.program → flow.IsSafeFlow g.flow g.program.defs → resolved.IsSafeProgram g.program entry
+lowered_safe g entry out count l all_scoped safe = Rattle.mc_lowering.proofs.Safe.safe_program g entry (runs_match g entry out count l all_scoped) safe

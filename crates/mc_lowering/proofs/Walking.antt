@@ -1,12 +1,12 @@
 -- From within a loop to the end of its turn, and from within a function to its end.
-use Rattle.std.proofs.Common.{◌<◌, ◌≤◌, ◌+◌, ◌≡◌, ◌++◌, ℕ, ℤ, List, [], ◌∷◌, Option, Some, None, length, refl, sym, ap, ◌∙◌, subst, arith}
+use Rattle.std.proofs.Common.{◌<◌, ◌≤◌, ◌≡◌, ◌++◌, ℕ, ℤ, List, [], ◌∷◌, Option, Some, None, length, refl, ◌∙◌, arith}
 use Rattle.std.specs.Prelude.{Contains}
 use Rattle.mc_flow.specs.declared.instr.Instr.TheVariants.{Undef, End}
-use Rattle.mc_resolved.specs.Programs.{Cond, Simple, Stmt, simple, Function}
+use Rattle.mc_resolved.specs.Programs.{Cond, Simple, Stmt, Function}
 use Rattle.mc_base.specs.declared.ids.VarId.{VarId}
 use Rattle.mc_text.specs.declared.place.Place.{Place}
 use Rattle.mc_lowering.proofs.Evaluating.{goal_of}
-use Rattle.mc_resolved.specs.Configs.{Values, Target, held, without, perform, again, end_block, end_loop, end_turn, Tasks, done, task}
+use Rattle.mc_resolved.specs.Configs.{Values, Target, held, without, perform, end_block, end_loop, end_turn, Tasks, done, task}
 use Rattle.mc_resolved.specs.Moves.{finished, behind_loop, at_turn, given}
 use Rattle.mc_resolved.specs.Steps.{returning}
 use Rattle.mc_lowering.specs.Graphs.{Graph, plain, nowhere, Stage, stage, point, IsPoint, AreMade}
