@@ -1,10 +1,10 @@
 -- Simple statements, declarators and shape commands go on together with their points.
-use Rattle.std.proofs.Common.{◌<◌, ◌≤◌, ◌≡◌, ◌⊎◌, ◌++◌, inl, inr, ℕ, suc, ℤ, ◌+ℤ◌, ◌-ℤ◌, List, [], ◌∷◌, Option, Some, None, length, refl, sym, ap, ◌∙◌, subst, arith}
+use Rattle.std.proofs.Common.{◌<◌, ◌≤◌, ◌≡◌, inl, inr, ℕ, ℤ, ◌+ℤ◌, ◌-ℤ◌, List, [], ◌∷◌, Option, Some, None, length, refl, sym, subst, arith}
 use Rattle.std.specs.Prelude.{slice_get, map}
 use Rattle.mc_base.specs.declared.ids.PredId.{PredId}
 use Rattle.mc_base.specs.declared.ids.VarId.{VarId}
 use Rattle.mc_base.specs.declared.plain.FaultKind.{FaultKind}
-use Rattle.mc_base.specs.declared.plain.FaultKind.TheVariants.{Uninit, Shape, NotEmpty}
+use Rattle.mc_base.specs.declared.plain.FaultKind.TheVariants.{Shape, NotEmpty}
 use Rattle.mc_base.specs.Runs.{next, last as finished_run, fault}
 use Rattle.mc_text.specs.declared.place.Place.{Place}
 use Rattle.mc_heap.specs.Heap.{Heap, region_of}
@@ -14,19 +14,18 @@ use Rattle.mc_heap.specs.Choices.{Choice, input as choose_input, malloc as choos
 use Rattle.mc_defs.specs.Meaning.{HoldsSomewhere}
 use Rattle.mc_flow.specs.Values.{value_of as operand_value, values_of, with_value, all_there}
 use Rattle.mc_flow.specs.declared.instr.Operand.{Operand}
-use Rattle.mc_flow.specs.declared.instr.Instr.TheVariants.{Undef, AssumeShape, AssertShape, AssertEmpty}
+use Rattle.mc_flow.specs.declared.instr.Instr.TheVariants.{AssumeShape, AssertShape, AssertEmpty}
 use Rattle.mc_flow.specs.Steps as flow
 use Rattle.mc_resolved.specs.Programs.{Left, Expr, Call, Right, expression, result_of, allocation, Argument, assume_shape, assert_shape, assert_empty}
 use Rattle.mc_resolved.specs.Configs.{Values, with_variable, perform, Tasks, task, Result}
-use Rattle.mc_resolved.specs.Moves.{moved}
 use Rattle.mc_resolved.specs.Steps.{Here, Step, Assigns as SourceAssigns, Combines, AddsShape, Assumes, Demands, Asserts, argument_value}
-use Rattle.mc_lowering.specs.Graphs.{Graph, local, plain, Stage, stage, point, var, IsPoint, Appends, appends, Creates, creates, IsMade, is_made}
+use Rattle.mc_lowering.specs.Graphs.{Graph, local, plain, Stage, point, IsPoint, IsMade, is_made}
 use Rattle.mc_lowering.specs.Lowering.{Around, Assigns, assigns_variable, Changes as Combined, changes_variable, changes_field, IsArgument, AreArguments}
 use Rattle.mc_lowering.specs.Values.{a_sum, a_difference}
 use Rattle.mc_lowering.specs.Runs.{FlowStep}
 use Rattle.mc_lowering.specs.Scopes.{IsIn}
-use Rattle.mc_lowering.proofs.Simulating.{Goes, one, Alike, alike_next, alike_last, Paired, both_go, both_end, both_wait, both_choose}
-use Rattle.mc_lowering.proofs.Stepping.{Vars, at, Never, never_from, step_at, step_from}
+use Rattle.mc_lowering.proofs.Simulating.{one, Alike, alike_next, alike_last, both_go, both_end, both_wait, both_choose}
+use Rattle.mc_lowering.proofs.Stepping.{Vars, at, never_from, step_at, step_from}
 use Rattle.mc_lowering.proofs.Evaluating.{Agree, goal_of}
 use Rattle.mc_lowering.proofs.Changing.{IsClean}
 use Rattle.mc_lowering.proofs.Performing.{Settable, Changes, nothing_set, one_set, IsPerformed, performed_waits, performed_faults, performed, assigning}

@@ -1,7 +1,7 @@
 -- A call begins: its arguments are passed, and its body stands before the end of the call.
-use Rattle.std.proofs.Common.{◌<◌, ◌≤◌, ◌+◌, ◌≡◌, ◌⊎◌, inl, inr, ℕ, zero, suc, ℤ, List, [], ◌∷◌, Option, Some, None, length, refl, sym, ap, ◌∙◌, subst, arith}
-use Rattle.std.specs.Prelude.{slice_get, slice_index_or, map, Contains}
-use Rattle.std.proofs.lemmas.Option.{slice_get_within, same_Some}
+use Rattle.std.proofs.Common.{◌<◌, ◌≤◌, ◌+◌, ◌≡◌, ◌⊎◌, inl, inr, ℕ, suc, ℤ, List, [], ◌∷◌, Option, Some, None, length, refl, sym, ap, ◌∙◌, subst, arith}
+use Rattle.std.specs.Prelude.{slice_get, slice_index_or, map}
+use Rattle.std.proofs.lemmas.Option.{slice_get_within}
 use Rattle.std.proofs.lemmas.List.{get_or-set_other}
 use Rattle.std.proofs.Math.Decide.{dec_lt}
 use Rattle.mc_base.specs.declared.ids.PointId.{PointId}
@@ -18,25 +18,26 @@ use Rattle.mc_flow.specs.declared.instr.Instr.TheVariants.{Copy, Undef}
 use Rattle.mc_flow.specs.declared.instr.Operand.{Operand}
 use Rattle.mc_flow.specs.declared.instr.Operand.TheVariants.{Var}
 use Rattle.mc_flow.specs.Steps as flow
-use Rattle.mc_meaning.specs.Steps.{Arguments, no_arguments, arguments}
+use Rattle.mc_meaning.specs.Steps.{no_arguments, arguments}
 use Rattle.mc_resolved.specs.Configs.{Values, Target, returned, held, end_call, take_result, Tasks, task, Result}
 use Rattle.mc_resolved.specs.Moves.{in_a_row}
 use Rattle.mc_resolved.specs.Programs.{Call, Function}
 use Rattle.mc_resolved.specs.Steps.{Step, Passes as SourcePasses, AfterArguments, begun, EvaluateAll, gone_back, passed}
-use Rattle.mc_lowering.specs.Graphs.{Graph, Role, local, result, plain, Stage, stage, point, IsPoint, Appends, appends, Undefines, undefines_none, undefines, creates, IsMade, is_made}
-use Rattle.mc_lowering.specs.Lowering.{Around, in_body, Receives, receives_none, receives, Awaits, awaits_none, awaits, Calls, calls}
+use Rattle.mc_lowering.specs.Graphs.{Graph, Role, local, result, plain, Stage, point, Appends, appends, Undefines, undefines_none, undefines, creates, IsMade, is_made}
+use Rattle.mc_lowering.specs.Values.{EvaluatesAll, evaluates_none, evaluates_next}
+use Rattle.mc_lowering.specs.Lowering.{Around, in_body, Receives, receives_none, receives, Passes, passes_none, Awaits, awaits_none, awaits, Calls, calls}
 use Rattle.mc_lowering.specs.Runs.{FlowStep}
-use Rattle.mc_lowering.specs.Scopes.{IsScoped, AreScoped, IsNoticed, AreNoticed}
-use Rattle.mc_lowering.proofs.Simulating.{Goes, one, more, both_go, both_end, both_wait}
+use Rattle.mc_lowering.specs.Scopes.{IsScoped, AreScoped}
+use Rattle.mc_lowering.proofs.Simulating.{Goes, one, more, both_go, source_goes, both_end, both_wait}
 use Rattle.mc_lowering.proofs.Stepping.{Vars, at, step_at}
-use Rattle.mc_lowering.proofs.Evaluating.{AreTemporaries, no_temporaries, OnlyNew, goal_of, Leads, set_here, set_elsewhere}
+use Rattle.mc_lowering.proofs.Evaluating.{AreTemporaries, no_temporaries, goal_of, set_here}
 use Rattle.mc_lowering.proofs.Changing.{IsClean, length_set, undefines_goes}
-use Rattle.mc_lowering.proofs.Holding.{AreOnce, Limit, limit, IsLate, Frame, AllHeld, Held, IsInside, AreNested, IsNone, inside_none, same_out, no_temporary}
-use Rattle.mc_lowering.proofs.Growing.{IsGrown, points_of, variables_of, received, all_lowered, on, passed as passed_grown, undefined, awaited as awaited_grown, all_evaluated}
-use Rattle.mc_lowering.proofs.Following.{below, frame_of, IsResult, no_result, a_result, Wants, IsWithin, Follows, ends_call, match, follows_in_a_row, no_late}
-use Rattle.mc_lowering.proofs.Leaving.{Ending, ending, ending_set, ending_other, frames_result, result_no_local, result_no_temporary, another_result}
+use Rattle.mc_lowering.proofs.Holding.{AreOnce, Limit, limit, Frame, AllHeld, Held, IsInside, AreNested, IsNone, inside_none, same_out, no_temporary}
+use Rattle.mc_lowering.proofs.Growing.{IsGrown, points_of, variables_of, all_lowered, on, passed as passed_grown, undefined, awaited as awaited_grown, all_evaluated}
+use Rattle.mc_lowering.proofs.Following.{below, frame_of, IsResult, no_result, a_result, Wants, IsWithin, Follows, ends_call, match, follows_in_a_row, no_late, weight}
+use Rattle.mc_lowering.proofs.Leaving.{ending, ending_set, ending_other, frames_result, result_no_local, result_no_temporary, another_result}
 use Rattle.mc_lowering.proofs.Passing.{AllEnded, all_waits, all_faults, all_gives, evaluating_all, all_temporaries, outer_operands, AreOwned, received_owned, Copied, copied_none, copied_all, copied_same, copying, put_all, put_elsewhere, length_put_all, frames_put, put_cleaned, passed_beyond, passed_length, received_agree, received_low}
-use Rattle.mc_lowering.proofs.Walking.{ToOut, to_out}
+use Rattle.mc_lowering.proofs.Walking.{to_out}
 use Rattle.mc_lowering.proofs.Pairing.{config, PairOf, here_of, does_step, goes_further}
 use Rattle.mc_lowering.proofs.Calling.{point_of, out_pair, one_undone}
 
@@ -90,10 +91,16 @@ begun_held {g} {f} {inner} {top} fs zs vars once scoped receives_at low inside n
         | yes less ↦ absurd (absent (scoped.parameters x less))
         | no past ↦ passed_beyond f.parameters f.locals zs x (omega (arith, past))
       ];
-      late = (no_late g inner (passed f.parameters f.locals zs) 0, (λ x v is_in owned from. elim (dec_lt x f.parameters) [
-        | yes less ↦ absurd (omega (arith, from, low, received_low once receives_at x v (subst (λ n. slice_get g.owners v ≡ Some (local inner n)) (same_number_of x) owned) less))
-        | no past ↦ passed_beyond f.parameters f.locals zs x (omega (arith, past))
-      ], tt));
+      late = (
+        no_late g inner (passed f.parameters f.locals zs) 0,
+        (
+          λ x v is_in owned from. elim (dec_lt x f.parameters) [
+            | yes less ↦ absurd (omega (arith, from, low, received_low once receives_at x v (subst (λ n. slice_get g.owners v ≡ Some (local inner n)) (same_number_of x) owned) less))
+            | no past ↦ passed_beyond f.parameters f.locals zs x (omega (arith, past))
+          ],
+          tt,
+        ),
+      );
       quiet = quiet;
     },
     b.all,
@@ -147,6 +154,10 @@ more_points : {g : Graph} {role : Role} {place : Place} {code : PointId → Inst
 more_points (appends is) = omega arith
 
 -- ---- the whole call
+-- there is a parameter or a result
+abbrev IsNoticed : Function → Type 0
+IsNoticed f = (0 < f.parameters) ⊎ ((kind : Kind) × (f.result ≡ Some kind))
+
 call_of : {g : Graph} {scope : List ℕ} {late : List Limit} {callers : List Frame} {k inner top n_goal : ℕ} {place : Place} {f : Function} {vs ts : List VarId} {os : List Operand} {ret : Option VarId} {s m i q r : Stage}
     (c : Around) (d : Call) (target : Target) (rest tasks : Tasks) (values : Values) (vars : Vars) (heap : Heap) (choices : List Choice)
     → AreOnce g → (scoped : IsScoped f) → IsNoticed f → slice_get g.program.functions d.function ≡ Some f → Receives g f inner 0 f.parameters s vs m → AreTemporaries g ts → Undefines g place ts i q
@@ -173,9 +184,12 @@ call_of {g} {scope} {late} {callers} {k} {inner = inner} {top = top} {n_goal = n
 
     given_all : (o : Option (List ℤ)) → all_there (map (operand_value later) os) ≡ o → (res : Result) → res ≡ begun (here_of values heap) f target place rest left o → Step g.program (config tasks values heap) choices res
     given_all o e res k_is =
-        into res (arguments ws left, comes,
-        subst (λ z. AfterArguments (here_of values heap) z target place rest (arguments ws left) res) (sym is)
-        (k_is ∙ ap (begun (here_of values heap) f target place rest left) (sym (sym (ap all_there gave) ∙ e))))
+        into res (
+          arguments ws left,
+          comes,
+          subst (λ z. AfterArguments (here_of values heap) z target place rest (arguments ws left) res) (sym is)
+              (k_is ∙ ap (begun (here_of values heap) f target place rest left) (sym (sym (ap all_there gave) ∙ e))),
+        )
 
     begun_vars : (zs : List ℤ) → Begun g inner (passed f.parameters f.locals zs) fs (put_all vs zs vars)
     begun_vars zs = parameters_begun fs zs vars once receives_at scoped.counted (inside_none inner fs inside_all) h
@@ -235,23 +249,85 @@ call_of {g} {scope} {late} {callers} {k} {inner = inner} {top = top} {n_goal = n
           | inr a_kind ↦ no_kind a_kind.0 none a_kind.1
         ]
 
+-- without a parameter and a result the call has no point before those of the body
+record HasNone (s r : Stage) (es : List Rattle.mc_resolved.specs.Programs.Expr) (vs : List VarId) (ret : Option VarId) : Type 0 where
+  goal : goal_of s ≡ goal_of r
+  values : es ≡ []
+  result_none : ret ≡ None
+
+has_none : {g : Graph} {f : Function} {out inner p : ℕ} {place : Place} {es : List Rattle.mc_resolved.specs.Programs.Expr} {res : Option Kind} {vs ts : List VarId} {os : List Operand} {ret : Option VarId} {s m n i q r : Stage}
+    → Receives g f inner 0 p s vs m → EvaluatesAll g out place es [] m os ts n → Passes g place vs os n i → Undefines g place ts i q → Awaits g inner place res q ret r → p ≡ 0 → res ≡ None → HasNone s r es vs ret
+has_none receives_none evaluates_none passes_none undefines_none awaits_none e k = record { goal = refl; values = refl; result_none = refl }
+has_none receives_none (evaluates_next first others) copies undone waiting e k = elim copies [ ]
+has_none (receives is makes_it rest) values_at copies undone waiting e k = absurd (omega (arith, e))
+has_none receives_none evaluates_none passes_none undefines_none (awaits makes_it is) e k = absurd (cc)
+
+abbrev IsThere : Function → Type 0
+IsThere f = IsNoticed f ⊎ ((f.parameters ≡ 0) × (f.result ≡ None))
+
+result_or_none : (o : Option Kind) → ((kind : Kind) × (o ≡ Some kind)) ⊎ (o ≡ None)
+result_or_none None = inr refl
+result_or_none (Some kind) = inl (kind, refl)
+
+is_noticed : (f : Function) → IsThere f
+is_noticed f = elim (result_or_none f.result) [
+  | inl some ↦ inl (inr some)
+  | inr none ↦ elim (dec_lt 0 f.parameters) [
+    | yes less ↦ inl (inl less)
+    | no past ↦ inr (omega (arith, past), none)
+  ]
+]
+
+no_puts_at : (vs : List VarId) (vars : Vars) → put_all vs [] vars ≡ vars
+no_puts_at [] vars = refl
+no_puts_at (v ∷ vs) vars = refl
+
+silent_call : {g : Graph} {scope : List ℕ} {late : List Limit} {callers : List Frame} {k inner top : ℕ} {place : Place} {f : Function} {vs : List VarId} {ret : Option VarId} {s m r : Stage}
+    (c : Around) (d : Call) (target : Target) (rest tasks : Tasks) (values : Values) (vars : Vars) (heap : Heap) (choices : List Choice)
+    → AreOnce g → (scoped : IsScoped f) → slice_get g.program.functions d.function ≡ Some f → Receives g f inner 0 f.parameters s vs m → variables_of m ≤ top → inner < c.out → f.result ≡ None → HasNone s r d.arguments vs ret
+    → (IsResult g f inner ret → Follows g (in_body f inner) scoped.own (limit top (below (length f.locals)) ∷ []) (frame_of c scope late k values ∷ callers) 0 (in_a_row f.body (task (end_call values target) rest)) (goal_of r))
+    → ((r : Result) → SourcePasses g.program (here_of values heap) d target place rest choices r → Step g.program (config tasks values heap) choices r)
+    → weight g (in_a_row f.body (task (end_call values target) rest)) < weight g tasks
+    → Held g (frame_of c scope late k values ∷ callers) vars → PairOf g (config tasks values heap) (goal_of s) vars heap choices
+silent_call {g} {scope} {late} {callers} {k} {inner} {top} {place} {f} {vs} {ret} {s} {m} {r} c d target rest tasks values vars heap choices once scoped is receives_at low inside none has follows into light h =
+    let fs : List Frame = frame_of c scope late k values ∷ callers in
+    let inside_all : IsInside inner fs = (inside, inside_less inner c.out callers inside h.nested.0) in
+    let body : Result = next (config (in_a_row f.body (task (end_call values target) rest)) (passed f.parameters f.locals []) heap) choices in
+    let evaluates : EvaluateAll (here_of values heap) d.arguments choices (arguments [] choices) = subst (λ es. EvaluateAll (here_of values heap) es choices (arguments [] choices)) (sym has.values) refl in
+    let begun_now : Begun g inner (passed f.parameters f.locals []) fs vars =
+    subst (λ z. Begun g inner (passed f.parameters f.locals []) fs z) (no_puts_at vs vars) (parameters_begun fs [] vars once receives_at scoped.counted (inside_none inner fs inside_all) h) in
+    subst (λ z. PairOf g (config tasks values heap) z vars heap choices) (sym has.goal)
+    (source_goes (into body (arguments [] choices, evaluates, subst (λ z. AfterArguments (here_of values heap) z target place rest (arguments [] choices) body) (sym is) refl))
+    (match (follows (subst (λ z. IsResult g f inner z) (sym has.result_none) no_result))
+    (begun_held fs [] vars once scoped receives_at low inside_all h.nested begun_now (λ kind is_kind u owns. absurd (never kind is_kind)))) light)
+  where
+    never : (kind : Kind) → f.result ≡ Some kind → ⊥
+    never kind is_kind = let both : None ≡ Some kind = sym none ∙ is_kind in absurd (cc)
+
 pub call_pair : {g : Graph} {c : Around} {scope : List ℕ} {late : List Limit} {callers : List Frame} {k j b : ℕ} {place : Place} {d : Call} {ret : Option VarId} {target : Target} {rest : Tasks} {s u : Stage} (tasks : Tasks) (values : Values) (vars : Vars) (heap : Heap) (choices : List Choice)
-    → AreOnce g → AreScoped g.program → AreNoticed g.program → Calls g c.out place d s ret u
+    → AreOnce g → AreScoped g.program → (ret ≡ None → (f : Function) → slice_get g.program.functions d.function ≡ Some f → weight g (in_a_row f.body (task (end_call values target) rest)) < weight g tasks) → Calls g c.out place d s ret u
     → ((r : Result) → SourcePasses g.program (here_of values heap) d target place rest choices r → Step g.program (config tasks values heap) choices r)
     → ((r : Result) → Step g.program (config tasks values heap) choices r → SourcePasses g.program (here_of values heap) d target place rest choices r)
     → Wants g c scope target ret u j b → points_of u ≤ c.out → k ≤ j → IsWithin j late → Follows g c scope late callers j rest b
     → Held g (frame_of c scope late k values ∷ callers) vars → PairOf g (config tasks values heap) (goal_of s) vars heap choices
-call_pair {g} {c} {scope} {late} {callers} {k} {place = place} {d = d} {target = target} {rest = rest} tasks values vars heap choices once all_scoped all_noticed
-    (calls {f = f} {vs = vs} {ts = ts} {os = os} {inner = inner} {k = top} {m = m} {n = n} {i = i} {j = q} {r = r} is receives_at values_at copies undone waiting body made ends) into out wanted bound low within later h =
+call_pair {g} {c} {scope} {late} {callers} {k} {place = place} {d = d} {target = target} {rest = rest} tasks values vars heap choices once all_scoped light
+    (calls {f = f} {vs = vs} {ts = ts} {os = os} {inner = inner} {k = top} {s = s} {m = m} {n = n} {i = i} {j = q} {r = r} is receives_at values_at copies undone waiting body made ends) into out wanted bound low within later h =
     let scoped : IsScoped f = all_scoped d.function f is in
     let inside : inner < c.out = omega (arith, bound, more_points ends) in
     let apart : c.out ≡ inner → ⊥ = λ e. omega (arith, e, inside) in
     let grew : IsGrown (points_of m) (variables_of m) inner top = on (all_evaluated values_at) (on (passed_grown copies) (on (undefined undone) (on (awaited_grown waiting) (all_lowered body)))) in
-    subst (λ z. PairOf g (config tasks values heap) z vars heap choices) (sym (received_goal receives_at))
-    (call_of c d target rest tasks values vars heap choices once scoped (all_noticed d.function f is) is receives_at (all_temporaries values_at (no_temporaries g)) undone waiting grew.variables inside
-    (λ zs res. follows_in_a_row f.body 0 body scoped.body (omega arith) (omega arith, tt) (omega arith) (ends_call (point_of ends) made res inside wanted low within later))
-    into out h (λ now left. copying inner now heap left copies (received_owned receives_at) (outer_operands inner apart values_at))
-    (evaluating_all (here_of values heap) vars choices values_at (no_temporaries g) h.long h.all.0.agree))
+    elim (is_noticed f) [
+      | inl noticed ↦ subst (λ z. PairOf g (config tasks values heap) z vars heap choices) (sym (received_goal receives_at))
+          (call_of c d target rest tasks values vars heap choices once scoped noticed is receives_at (all_temporaries values_at (no_temporaries g)) undone waiting grew.variables inside
+          (λ zs res. follows_in_a_row f.body 0 body scoped.body (omega arith) (omega arith, tt) (omega arith) (ends_call (point_of ends) made res inside wanted low within later))
+          into out h (λ now left. copying inner now heap left copies (received_owned receives_at) (outer_operands inner apart values_at))
+          (evaluating_all (here_of values heap) vars choices values_at (no_temporaries g) h.long h.all.0.agree))
+      | inr silent ↦
+          let has = has_none receives_at values_at copies undone waiting silent.0 silent.1 in
+          silent_call c d target rest tasks values vars heap choices once scoped is receives_at grew.variables inside silent.1 has
+          (λ res. follows_in_a_row f.body 0 body scoped.body (omega arith) (omega arith, tt) (omega arith) (ends_call (point_of ends) made res inside wanted low within later))
+          into (light has.result_none f is) h
+    ]
 
 -- ---- a result that is returned on
 pub returned_pair : {g : Graph} {c : Around} {scope : List ℕ} {late : List Limit} {callers : List Frame} {k j b inner : ℕ} {place : Place} {v ret : VarId} {rest : Tasks} {s m u : Stage} (w : Option ℤ) (values : Values) (vars : Vars) (heap : Heap) (choices : List Choice)

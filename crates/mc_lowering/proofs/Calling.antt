@@ -1,6 +1,6 @@
 -- Calls begin, end, and their results are taken.
-use Rattle.std.proofs.Common.{◌<◌, ◌≤◌, ◌≡◌, ◌⊎◌, inl, inr, ℕ, zero, suc, ℤ, List, [], ◌∷◌, Option, Some, None, length, refl, sym, ap, ◌∙◌, subst, arith}
-use Rattle.std.specs.Prelude.{slice_get, slice_index_or, map, Contains}
+use Rattle.std.proofs.Common.{◌<◌, ◌≤◌, ◌≡◌, ℕ, suc, ℤ, List, [], ◌∷◌, Option, Some, None, length, refl, sym, ap, ◌∙◌, subst, arith}
+use Rattle.std.specs.Prelude.{slice_get, slice_index_or, Contains}
 use Rattle.std.proofs.lemmas.Option.{slice_get_within}
 use Rattle.mc_base.specs.declared.ids.PointId.{PointId}
 use Rattle.mc_base.specs.declared.ids.VarId.{VarId}
@@ -10,46 +10,41 @@ use Rattle.mc_base.specs.Runs.{next, last as finished_run, fault}
 use Rattle.mc_text.specs.declared.place.Place.{Place}
 use Rattle.mc_heap.specs.Heap.{Heap}
 use Rattle.mc_heap.specs.Choices.{Choice}
-use Rattle.mc_flow.specs.Values.{value_in, value_of as operand_value, with_value, without as flow_without, all_there}
+use Rattle.mc_flow.specs.Values.{value_in, with_value, without as flow_without}
 use Rattle.mc_flow.specs.declared.instr.Instr.{Instr}
 use Rattle.mc_flow.specs.declared.instr.Instr.TheVariants.{Copy, Undef}
-use Rattle.mc_flow.specs.declared.instr.Operand.{Operand}
 use Rattle.mc_flow.specs.declared.instr.Operand.TheVariants.{Var}
 use Rattle.mc_flow.specs.Steps as flow
-use Rattle.mc_meaning.specs.Steps.{no_arguments, arguments}
 use Rattle.mc_resolved.specs.Configs.{Values, Target, stored, returned, held, with_variable, perform, end_call, take_result, Tasks, task, Config, Result}
 use Rattle.mc_resolved.specs.Configs as source
-use Rattle.mc_resolved.specs.Moves.{given, in_a_row, moved}
-use Rattle.mc_resolved.specs.Programs.{FieldAt, Left, Call, Function}
-use Rattle.mc_resolved.specs.Steps.{Step, Passes as SourcePasses, AfterArguments, begun, EvaluateAll, after, gone_back, returning, passed}
+use Rattle.mc_resolved.specs.Moves.{given}
+use Rattle.mc_resolved.specs.Programs.{Left, Function}
+use Rattle.mc_resolved.specs.Steps.{Step, after, gone_back, returning}
 use Rattle.mc_resolved.specs.Values.{assigned}
-use Rattle.mc_lowering.specs.Graphs.{Graph, Owner, Role, local, result, plain, Stage, stage, point, nowhere, IsPoint, Appends, appends, AreMade, Undefines, undefines_none, undefines, Creates, creates, IsMade, is_made}
+use Rattle.mc_lowering.specs.Graphs.{Graph, Role, result, plain, Stage, stage, point, IsPoint, Appends, appends, AreMade, Undefines, undefines_none, undefines, is_made}
 use Rattle.mc_lowering.specs.Values.{Puts, puts_variable, puts_field}
-use Rattle.mc_lowering.specs.Lowering.{Around, in_body, Receives, receives_none, receives, Awaits, awaits_none, awaits, Calls, calls, LowersAll}
+use Rattle.mc_lowering.specs.Lowering.{Around, in_body}
 use Rattle.mc_lowering.specs.Runs.{FlowStep}
-use Rattle.mc_lowering.specs.Scopes.{IsScoped, AreScoped, IsNoticed, AreNoticed}
-use Rattle.mc_lowering.proofs.Simulating.{Goes, one, more, both_go, both_end, both_wait, flow_goes, source_goes}
+use Rattle.mc_lowering.proofs.Simulating.{Goes, one, both_go, both_end, flow_goes, source_goes}
 use Rattle.mc_lowering.proofs.Stepping.{Vars, at, step_at}
 use Rattle.mc_lowering.proofs.Evaluating.{AreTemporaries, no_temporaries, not_temporary, nothing_new, OnlyNew, goal_of, Leads, set_here, set_elsewhere}
-use Rattle.mc_lowering.proofs.Changing.{IsClean, length_set}
 use Rattle.mc_lowering.proofs.Storing.{IsPut, put_faults, put_gives, putting}
 use Rattle.mc_lowering.proofs.Performing.{one_set}
-use Rattle.mc_lowering.proofs.Holding.{AreOnce, Limit, limit, IsLate, AreLate, Frame, Held, IsInside, IsNone, inside_none, same_out, same_local, no_result, no_temporary}
-use Rattle.mc_lowering.proofs.Growing.{points_of, variables_of, received, all_lowered, on}
-use Rattle.mc_lowering.proofs.Following.{below, frame_of, IsResult, no_result as without_result, a_result, TakesResult, takes_stored, takes_returned, Wants, wants_nothing, wants, IsWithin, Follows, ends_call, Match, match, match_end, weight, follows_in_a_row, no_late, held_raised}
-use Rattle.mc_lowering.proofs.Leaving.{Ending, ending, ending_set, ending_other, left, result_stays, result_set, given_match, in_below}
-use Rattle.mc_lowering.proofs.Passing.{AllEnded, all_waits, all_faults, all_gives, evaluating_all, all_temporaries, outer_operands, AreOwned, received_owned, Copied, copied_none, copied_all, copied_same, copying, put_all, put_elsewhere, length_put_all, frames_put, put_cleaned, passed_beyond, passed_length, received_agree, received_low}
+use Rattle.mc_lowering.proofs.Holding.{AreOnce, Limit, limit, IsLate, AreLate, Frame, Held, IsInside, IsNone}
+use Rattle.mc_lowering.proofs.Growing.{variables_of}
+use Rattle.mc_lowering.proofs.Following.{below, frame_of, IsResult, no_result as without_result, a_result, Wants, IsWithin, Follows, Match, match, match_end, weight, held_raised}
+use Rattle.mc_lowering.proofs.Leaving.{Ending, ending, left, result_stays, result_set, given_match}
 use Rattle.mc_lowering.proofs.Walking.{ToOut, out_of_run, out_of_call}
-use Rattle.mc_lowering.proofs.Pairing.{config, PairOf, here_of, does_step, step_does, source_moved, goes_further}
-use Rattle.mc_lowering.proofs.Acting.{Sets, may_set, changes_held}
+use Rattle.mc_lowering.proofs.Pairing.{config, PairOf, does_step, source_moved, goes_further}
+use Rattle.mc_lowering.proofs.Acting.{may_set, changes_held}
 
 pub point_of : {g : Graph} {role : Role} {place : Place} {code : PointId → Instr} {s u : Stage} → Appends g role place code s u → IsPoint g (goal_of s) role place (code (point (goal_of u)))
 point_of (appends is) = is
 
-given_weight : (target : Target) (w : Option ℤ) (rest : Tasks) → weight (given target w rest) ≤ weight rest
-given_weight source.nowhere w rest = omega arith
-given_weight (stored l place) w rest = omega arith
-given_weight (returned place) w rest = omega arith
+given_weight : (g : Graph) (target : Target) (w : Option ℤ) (rest : Tasks) → weight g (given target w rest) ≤ weight g rest
+given_weight g source.nowhere w rest = omega arith
+given_weight g (stored l place) w rest = omega arith
+given_weight g (returned place) w rest = omega arith
 
 -- ---- the end of a call
 none_there : {g : Graph} {f : Function} {inner : ℕ} {ret : Option VarId} (vars : Vars) → IsResult g f inner ret
@@ -81,7 +76,7 @@ end_call_pair {g} {c} {scope} {own} {late} {callers} {k} {n = n} {m = m} {inner 
     (source_moved (task (end_call saved target) rest) (given target None rest) values saved choices refl
     (given_match None saved (flow_without vars us) heap wanted res inside (stays_there frame None vars made late_there res (none_there vars res h.all.0.quiet)) low within later
     (left g frame fs m us vars made (ending g frame fs m vars late_there h)))
-    (let less : weight (given target None rest) ≤ weight rest = given_weight target None rest in omega (arith, less)))
+    (let less : weight g (given target None rest) ≤ weight g rest = given_weight g target None rest in omega (arith, less)))
 
 -- ---- `return`
 pub out_pair : {g : Graph} {f : Function} {out a : ℕ} {late : List Limit} {callers : List Frame} {rest : Tasks} (e : Config) (mine : Frame) (w : Option ℤ) (vars now : Vars) (heap after : Heap) (choices others : List Choice)
@@ -115,11 +110,11 @@ out_pair {g} {f} {out} {late} e mine w vars now heap after choices others same a
 
 -- the frame of the function that returns
 pub nothing_pair : {g : Graph} {scope : List ℕ} {late : List Limit} {callers : List Frame} {k : ℕ} {rest tasks : Tasks} (c : Around) (values : Values) (vars : Vars) (heap : Heap) (choices : List Choice)
-    → ToOut g c.function c.out late callers rest → Step g.program (config tasks values heap) choices (gone_back heap rest None choices) → weight tasks ≡ suc (weight rest)
+    → ToOut g c.function c.out late callers rest → Step g.program (config tasks values heap) choices (gone_back heap rest None choices) → weight g tasks ≡ suc (weight g rest)
     → Held g (frame_of c scope late k values ∷ callers) vars → PairOf g (config tasks values heap) c.out vars heap choices
 nothing_pair {g} {rest = rest} c values vars heap choices (out_of_run ends is) step heavy h =
     source_goes step (subst (λ z. Match g (config z.1 z.0 heap) (at c.out vars heap)) (sym (ends None)) (match_end is))
-    (let e : weight (returning rest None).1 ≡ 0 = ap (λ z. weight z.1) (ends None) in omega (arith, e, heavy))
+    (let e : weight g (returning rest None).1 ≡ 0 = ap (λ z. weight g z.1) (ends None) in omega (arith, e, heavy))
 nothing_pair {g} {scope} {late} {k = k} c values vars heap choices (out_of_call {d = d} {scope = outer} {outer_late = outer_late} {callers = callers} {k = i} {m = m} {place = place} {us = us} {saved = saved} {target = target} {s = s} ends late_there is made res inside wanted low within follows) step heavy h =
     let frame : Frame = frame_of c scope late k values in
     let there : IsLate g c.out values (limit m (below (length c.function.locals))) = late_there values h.all.0.late.1 in

@@ -1,6 +1,5 @@
 -- `+=` and `-=` of a field, from their values on.
 use Rattle.std.proofs.Common.{◌≡◌, ℕ, ℤ, ◌+ℤ◌, ◌-ℤ◌, List, [], ◌∷◌, Option, length, refl, sym, ap, ◌∙◌}
-use Rattle.std.specs.Prelude.{slice_get}
 use Rattle.mc_base.specs.declared.ids.VarId.{VarId}
 use Rattle.mc_base.specs.declared.plain.Kind.{Kind}
 use Rattle.mc_base.specs.declared.plain.Kind.TheVariants.{Int}
@@ -16,7 +15,7 @@ use Rattle.mc_resolved.specs.Programs.{FieldAt, Left, Expr}
 use Rattle.mc_resolved.specs.Steps.{Here, after, Combines}
 use Rattle.mc_resolved.specs.Values.{combined, Evaluates as Source}
 use Rattle.mc_lowering.specs.Graphs.{Graph, local, Stage, plain, Appends, Undefines, IsMade, is_made}
-use Rattle.mc_lowering.specs.Values.{struct_at, Operation, a_field, a_sum, a_difference, Walks, Takes, Evaluates}
+use Rattle.mc_lowering.specs.Values.{struct_at, a_field, a_sum, a_difference, Walks, Takes, Evaluates}
 use Rattle.mc_lowering.proofs.Stepping.{Vars}
 use Rattle.mc_lowering.proofs.Evaluating.{AreTemporaries, no_temporaries, OnlyNew, Agree, agree_later, goal_of, Leads, Ended, ended_waits, ended_faults, ended_gives, evaluating, temporaries, kept}
 use Rattle.mc_lowering.proofs.Changing.{IsClean}

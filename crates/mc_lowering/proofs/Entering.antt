@@ -2,7 +2,7 @@
 use Rattle.std.proofs.Common.{◌<◌, ◌≤◌, ◌≡◌, ◌⊎◌, ◌++◌, inl, inr, ℕ, List, [], ◌∷◌, Option, Some, None, length, refl, arith}
 use Rattle.std.specs.Prelude.{Contains, slice_get}
 use Rattle.mc_resolved.specs.Configs.{Values, held}
-use Rattle.mc_lowering.specs.Graphs.{Graph, local, AreMade, Leaves, leaves, Stage, stage, IsMade, is_made}
+use Rattle.mc_lowering.specs.Graphs.{Graph, local, AreMade, Stage, stage, IsMade, is_made}
 use Rattle.mc_base.specs.declared.ids.VarId.{VarId}
 use Rattle.mc_lowering.specs.Lowering.{Around, in_block}
 use Rattle.mc_lowering.specs.Scopes.{AreNew}
@@ -42,9 +42,10 @@ block_left g c scope xs late callers k j values vars less none h =
 pub loop_entered : (g : Graph) (c : Around) (scope xs : List ℕ) (late : List Limit) (callers : List Rattle.mc_lowering.proofs.Holding.Frame) (k j first : ℕ) (values : Values) (vars : Vars) → AreNew xs scope → k ≤ first
     → Held g (frame_of c scope late k values ∷ callers) vars → Held g (frame_of (around_loop c) (xs ++ scope) (outer_limits c xs first late) j values ∷ callers) vars
 loop_entered g c scope xs late callers k j first values vars new less h =
-    rescoped g (frame_of c scope late k values) callers vars (xs ++ scope) (limit j [] ∷ outer_limits c xs first late) (λ x absent. h.all.0.scoped x (λ is. absent (in_right xs scope x is)))
-    (no_late g c.out values j,
-    (late_raised g c.out values k first (xs ++ c.blocks) less (entered_late g c.out scope c.blocks xs k values new h.all.0.scoped h.all.0.late.0), h.all.0.late.1)) h
+    rescoped g (frame_of c scope late k values) callers vars (xs ++ scope) (limit j [] ∷ outer_limits c xs first late) (λ x absent. h.all.0.scoped x (λ is. absent (in_right xs scope x is))) (
+      no_late g c.out values j,
+      (late_raised g c.out values k first (xs ++ c.blocks) less (entered_late g c.out scope c.blocks xs k values new h.all.0.scoped h.all.0.late.0), h.all.0.late.1),
+    ) h
 
 pub loop_left : (g : Graph) (c : Around) (scope xs : List ℕ) (late : List Limit) (callers : List Rattle.mc_lowering.proofs.Holding.Frame) (k first : ℕ) (values : Values) (vars : Vars)
     → ((x : ℕ) → Contains xs x → held values x ≡ None)

@@ -1,6 +1,7 @@
 -- When a configuration of a resolved program and one of its flow graph match.
-use Rattle.std.proofs.Common.{◌<◌, ◌≤◌, ◌+◌, ◌≡◌, ◌⊎◌, ◌++◌, inl, inr, ℕ, zero, suc, ℤ, List, [], ◌∷◌, Option, Some, None, length, refl, sym, ap, ◌∙◌, subst, arith}
-use Rattle.std.specs.Prelude.{slice_get, Contains}
+use Rattle.std.proofs.Common.{◌<◌, ◌≤◌, ◌+◌, ◌-◌, ◌≡◌, ◌++◌, ℕ, zero, suc, ℤ, List, [], ◌∷◌, Option, Some, None, length, refl, ap, subst, arith}
+use Rattle.std.specs.Prelude.{slice_get}
+use Rattle.std.proofs.lemmas.Option.{slice_get_within}
 use Rattle.mc_base.specs.declared.ids.VarId.{VarId}
 use Rattle.mc_base.specs.declared.plain.Kind.{Kind}
 use Rattle.mc_flow.specs.Values.{value_in}
@@ -9,17 +10,17 @@ use Rattle.mc_text.specs.declared.place.Place.{Place}
 use Rattle.mc_heap.specs.Heap.{Heap}
 use Rattle.mc_flow.specs.declared.instr.Instr.TheVariants.{Skip, Copy, Undef, End, Fail}
 use Rattle.mc_flow.specs.Steps as flow
-use Rattle.mc_resolved.specs.Programs.{Cond, plain as plain_cond, compare, negation, both, either, Simple, Start, nothing, declares, performs as begins, Function, Stmt, declaration, block, empty, simple, free, assert, assume, assume_shape, assert_shape, assert_empty, if_only, if_else, while_loop, do_loop, for_loop, break_loop, continue_loop, returns, Stmts, no_more, then}
+use Rattle.mc_resolved.specs.Programs.{Cond, plain as plain_cond, compare, negation, both, either, Action, assign, add, subtract, call, Simple, Start, nothing, declares, performs as begins, Function, Stmt, declaration, block, empty, simple, free, assert, assume, assume_shape, assert_shape, assert_empty, if_only, if_else, while_loop, do_loop, for_loop, break_loop, continue_loop, returns, Stmts, no_more, then}
 use Rattle.mc_resolved.specs.Configs as source
 use Rattle.mc_resolved.specs.Configs.{Values, held, without, Target, stored, returned, perform, again, test, always, end_block, end_loop, end_turn, end_call, take_result, Task, Tasks, done, task, Branch, go_on, fails, stops, Config}
-use Rattle.mc_resolved.specs.Moves.{in_a_row, finished, behind_loop, at_turn}
+use Rattle.mc_resolved.specs.Moves.{in_a_row, finished}
 use Rattle.mc_lowering.specs.Graphs.{Graph, result, Role, plain, head, merge, stop, Stage, stage, point, nowhere, IsPoint, Appends, appends, IsMade, AreMade, Undefines, Leaves}
 use Rattle.mc_lowering.specs.Values.{Tests, Puts}
-use Rattle.mc_lowering.specs.Lowering.{Loop, Around, in_block, in_loop, in_body, Lowers, LowersAll, lowers_none, lowers_next, Finishes, Falls}
+use Rattle.mc_lowering.specs.Lowering.{Around, in_block, in_loop, in_body, Lowers, LowersAll, lowers_none, lowers_next, Finishes, Falls}
 use Rattle.mc_lowering.specs.Scopes.{IsIn, IsScopedIn, AreScopedIn, FinishesIn}
 use Rattle.mc_lowering.proofs.Stepping.{Vars, at}
 use Rattle.mc_lowering.proofs.Evaluating.{goal_of}
-use Rattle.mc_lowering.proofs.Holding.{Limit, limit, AreLate, IsLate, Frame, FrameHeld, Held, with_values, AreUndone, both_undone, without_undone, rescoped, among, IsUnder}
+use Rattle.mc_lowering.proofs.Holding.{Limit, limit, AreLate, IsLate, Frame, Held, with_values, rescoped}
 use Rattle.mc_lowering.proofs.Growing.{points_of, variables_of, lowered}
 
 -- ---- parts of loops
@@ -119,7 +120,6 @@ pub data Follows (g : Graph) : Around → List ℕ → List Limit → List Frame
   ends_loop : {c : Around} {scope xs : List ℕ} {late : List Limit} {callers : List Frame} {rest : Tasks} {e r first k : ℕ}
       → Exits g c xs e r first → Follows g c scope late callers first rest r
       → Follows g (around_loop c) (xs ++ scope) (outer_limits c xs first late) callers k (task (end_loop xs) rest) e
-
   ends_call : {c : Around} {scope own : List ℕ} {late : List Limit} {callers : List Frame} {k j n m b inner : ℕ} {f : Function} {place : Place} {us : List VarId} {saved : Values} {target : Target} {rest : Tasks} {ret : Option VarId} {s : Stage}
       → IsPoint g inner plain place (Undef us (point (goal_of s))) → AreMade g inner (λ x. x < length f.locals) (stage inner inner m) us → IsResult g f inner ret → inner < c.out
       → Wants g c scope target ret s j b → k ≤ j → IsWithin j late → Follows g c scope late callers j rest b
@@ -168,49 +168,122 @@ abbrev pub perhaps_weight : Option Cond → ℕ
 perhaps_weight None = 1
 perhaps_weight (Some c) = 1 + condition_weight c
 
+-- a call may have no point before those of the body: what a call of each function comes to is known
+abbrev pub action_weight : (ℕ → ℕ) → Action → ℕ
+action_weight w (assign l right) = 1
+action_weight w (add l e) = 1
+action_weight w (subtract l e) = 1
+action_weight w (call c) = w c.function
+
+abbrev pub start_weight : (ℕ → ℕ) → Start → ℕ
+start_weight w nothing = 0
+start_weight w (declares place items) = 1 + length items
+start_weight w (begins x) = action_weight w x.action
+
 abbrev mutual
-  pub statement_weight : Stmt → ℕ
-  statement_weight (declaration place items) = 1
-  statement_weight (block xs ss) = 2 + statements_weight ss
-  statement_weight empty = 1
-  statement_weight (simple x) = 1
-  statement_weight (free place e) = 1
-  statement_weight (assert place c) = 1 + condition_weight c
-  statement_weight (assume place c) = 1 + condition_weight c
-  statement_weight (assume_shape place predicate x args) = 1
-  statement_weight (assert_shape place predicate a args) = 1
-  statement_weight (assert_empty place) = 1
-  statement_weight (if_only place c a) = 1 + condition_weight c
-  statement_weight (if_else place c a b) = 1 + condition_weight c
-  statement_weight (while_loop place c a) = 3 + condition_weight c
-  statement_weight (do_loop place a c) = 4 + (statement_weight a + condition_weight c)
-  statement_weight (for_loop h a) = 3 + perhaps_weight h.condition
-  statement_weight (break_loop place) = 1
-  statement_weight (continue_loop place) = 1
-  statement_weight (returns place right) = 1
+  pub statement_weight : (ℕ → ℕ) → Stmt → ℕ
+  statement_weight w (declaration place items) = 1 + length items
+  statement_weight w (block xs ss) = 2 + statements_weight w ss
+  statement_weight w empty = 1
+  statement_weight w (simple x) = action_weight w x.action
+  statement_weight w (free place e) = 1
+  statement_weight w (assert place c) = 1 + condition_weight c
+  statement_weight w (assume place c) = 1 + condition_weight c
+  statement_weight w (assume_shape place predicate x args) = 1
+  statement_weight w (assert_shape place predicate a args) = 1
+  statement_weight w (assert_empty place) = 1
+  statement_weight w (if_only place c a) = 1 + condition_weight c
+  statement_weight w (if_else place c a b) = 1 + condition_weight c
+  statement_weight w (while_loop place c a) = 3 + condition_weight c
+  statement_weight w (do_loop place a c) = 4 + (statement_weight w a + condition_weight c)
+  statement_weight w (for_loop h a) = 3 + (start_weight w h.start + perhaps_weight h.condition)
+  statement_weight w (break_loop place) = 1
+  statement_weight w (continue_loop place) = 1
+  statement_weight w (returns place right) = 1
 
-  pub statements_weight : Stmts → ℕ
-  statements_weight no_more = 0
-  statements_weight (then a more) = statement_weight a + statements_weight more
+  pub statements_weight : (ℕ → ℕ) → Stmts → ℕ
+  statements_weight w no_more = 0
+  statements_weight w (then a more) = statement_weight w a + statements_weight w more
 
-abbrev pub task_weight : Task → ℕ
-task_weight (perform a) = statement_weight a
-task_weight (again c a last) = perhaps_weight c
-task_weight (test c x y) = condition_weight c
-task_weight (always go) = 0
-task_weight (end_block xs) = 1
-task_weight (end_loop xs) = 1
-task_weight end_turn = 1
-task_weight (end_call saved target) = 1
-task_weight (take_result target v) = 0
+abbrev pub body_weight : (ℕ → ℕ) → Option Function → ℕ
+body_weight w None = 0
+body_weight w (Some f) = statements_weight w f.body
 
-abbrev pub weight : Tasks → ℕ
-weight done = 0
-weight (task t rest) = task_weight t + weight rest
+-- where so many calls may be open within
+abbrev pub call_weights : List Function → (deep : ℕ) → ℕ → ℕ
+call_weights fs zero n = 1
+call_weights fs (suc deep) n = 2 + body_weight (call_weights fs deep) (slice_get fs n)
 
-pub weight_in_a_row : (ss : Stmts) (rest : Tasks) → weight (in_a_row ss rest) ≡ statements_weight ss + weight rest
-weight_in_a_row no_more rest = omega arith
-weight_in_a_row (then a more) rest = omega (arith, weight_in_a_row more rest)
+-- how many calls are open
+abbrev pub depth : Tasks → ℕ
+depth done = 0
+depth (task (perform a) rest) = depth rest
+depth (task (again c a last) rest) = depth rest
+depth (task (test c x y) rest) = depth rest
+depth (task (always go) rest) = depth rest
+depth (task (end_block xs) rest) = depth rest
+depth (task (end_loop xs) rest) = depth rest
+depth (task end_turn rest) = depth rest
+depth (task (end_call saved target) rest) = suc (depth rest)
+depth (task (take_result target v) rest) = depth rest
+
+abbrev pub calls_at : Graph → Tasks → ℕ → ℕ
+calls_at g rest = call_weights g.program.functions (length g.flow.points - depth rest)
+
+abbrev pub task_weight : (ℕ → ℕ) → Task → ℕ
+task_weight w (perform a) = statement_weight w a
+task_weight w (again c a last) = perhaps_weight c
+task_weight w (test c x y) = condition_weight c
+task_weight w (always go) = 0
+task_weight w (end_block xs) = 1
+task_weight w (end_loop xs) = 1
+task_weight w end_turn = 1
+task_weight w (end_call saved target) = 1
+task_weight w (take_result target v) = 0
+
+abbrev pub weight : Graph → Tasks → ℕ
+weight g done = 0
+weight g (task t rest) = task_weight (calls_at g rest) t + weight g rest
+
+depth_in_a_row : (ss : Stmts) (rest : Tasks) → depth (in_a_row ss rest) ≡ depth rest
+depth_in_a_row no_more rest = refl
+depth_in_a_row (then a more) rest = depth_in_a_row more rest
+
+pub weight_in_a_row : (g : Graph) (ss : Stmts) (rest : Tasks) → weight g (in_a_row ss rest) ≡ statements_weight (calls_at g rest) ss + weight g rest
+weight_in_a_row g no_more rest = omega arith
+weight_in_a_row g (then a more) rest =
+    let same : statement_weight (calls_at g (in_a_row more rest)) a ≡ statement_weight (calls_at g rest) a =
+    ap (λ d. statement_weight (call_weights g.program.functions (length g.flow.points - d)) a) (depth_in_a_row more rest) in
+    omega (arith, same, weight_in_a_row g more rest)
+
+depth_finished : (last : Option Simple) (rest : Tasks) → depth (finished last rest) ≡ depth rest
+depth_finished None rest = refl
+depth_finished (Some x) rest = refl
+
+-- calls within one another have fewer and fewer points
+pub deep : {g : Graph} {c : Around} {scope : List ℕ} {late : List Limit} {callers : List Frame} {k a : ℕ} {tasks : Tasks} → Follows g c scope late callers k tasks a → c.out + depth tasks < length g.flow.points
+deep {g} (over {out = out} fall same is) = let within : out < length g.flow.points = slice_get_within g.flow.points out _ is.there in omega (arith, within)
+deep (performs is scoped bound within low later) = deep later
+deep (skips is later) = deep later
+deep (raises low later) = deep later
+deep (ends_block leave low later) = deep later
+deep (agains loops way_out within later) = deep later
+deep (ends_turn {xs = xs} {condition = condition} {a = a} {last = last} {rest = rest} loops way_out within later) =
+    let there = deep later in omega (arith, there, depth_finished last (loop_tasks condition a last xs rest))
+deep (ends_loop way_out later) = deep later
+deep (ends_call is made res inside wanted low within later) = let there = deep later in omega (arith, there, inside)
+
+-- a call comes to more than its body
+pub call_heavy : (g : Graph) (f : Function) (n : ℕ) (saved : Values) (target : Target) (rest : Tasks) → slice_get g.program.functions n ≡ Some f → depth rest < length g.flow.points
+    → weight g (in_a_row f.body (task (end_call saved target) rest)) < calls_at g rest n + weight g rest
+call_heavy g f n saved target rest is less =
+    let further : length g.flow.points - depth rest ≡ suc (length g.flow.points - suc (depth rest)) = omega (arith, less) in
+    let same : calls_at g rest n ≡ 2 + body_weight (call_weights g.program.functions (length g.flow.points - suc (depth rest))) (slice_get g.program.functions n) =
+    ap (λ d. call_weights g.program.functions d n) further in
+    let body : body_weight (call_weights g.program.functions (length g.flow.points - suc (depth rest))) (slice_get g.program.functions n)
+    ≡ statements_weight (call_weights g.program.functions (length g.flow.points - suc (depth rest))) f.body =
+    ap (body_weight (call_weights g.program.functions (length g.flow.points - suc (depth rest)))) is in
+    omega (arith, same, body, weight_in_a_row g f.body (task (end_call saved target) rest))
 
 -- ---- statements in a row
 pub within_less : (n m : ℕ) (ls : List Limit) → n ≤ m → IsWithin m ls → IsWithin n ls

@@ -1,5 +1,5 @@
 -- What is made has no fewer points and variables than what was there before.
-use Rattle.std.proofs.Common.{◌<◌, ◌≤◌, ◌≡◌, ℕ, suc, List, Option, arith}
+use Rattle.std.proofs.Common.{◌≤◌, ℕ, List, Option, arith}
 use Rattle.mc_base.specs.declared.ids.VarId.{VarId}
 use Rattle.mc_base.specs.declared.plain.Kind.{Kind}
 use Rattle.mc_base.specs.declared.plain.VarInfo.{VarInfo}

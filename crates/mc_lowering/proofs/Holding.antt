@@ -5,7 +5,7 @@ use Rattle.std.proofs.lemmas.List.{get_or-set_same, get_or-set_other}
 use Rattle.std.proofs.lemmas.Option.{same_Some, slice_get_within}
 use Rattle.mc_base.specs.declared.ids.VarId.{VarId}
 use Rattle.mc_base.specs.declared.plain.Kind.{Kind}
-use Rattle.mc_flow.specs.Values.{value_in, with_value, without as flow_without}
+use Rattle.mc_flow.specs.Values.{with_value, without as flow_without}
 use Rattle.mc_resolved.specs.Configs.{Values, held, with_variable, without}
 use Rattle.mc_resolved.specs.Programs.{Function}
 use Rattle.mc_lowering.specs.Graphs.{Graph, Owner, local, result, temporary}
@@ -164,11 +164,12 @@ IsUnder v (l ∷ ls) = (v < l.first) × IsUnder v ls
 late_set : (g : Graph) (out : ℕ) (values : Values) (x v : ℕ) (w : Option ℤ) (ls : List Limit) → AreOnce g → slice_get g.owners v ≡ Some (local out x) → IsUnder v ls
     → AreLate g out values ls → AreLate g out (with_variable values x w) ls
 late_set g out values x v w [] once owned under late = tt
-late_set g out values x v w (l ∷ ls) once owned under late =
-    (λ y u there owns from. set_other values x y w (λ e.
-    let same : u ≡ v = once (local out x) u v (subst (λ z. slice_get g.owners u ≡ Some (local out z)) e owns) owned in
-    omega (arith, same, from, under.0)) ∙ late.0 y u there owns from,
-    late_set g out values x v w ls once owned under.1 late.1)
+late_set g out values x v w (l ∷ ls) once owned under late = (
+  λ y u there owns from. set_other values x y w (λ e.
+      let same : u ≡ v = once (local out x) u v (subst (λ z. slice_get g.owners u ≡ Some (local out z)) e owns) owned in
+      omega (arith, same, from, under.0)) ∙ late.0 y u there owns from,
+  late_set g out values x v w ls once owned under.1 late.1,
+)
 
 agree_set : (g : Graph) (out : ℕ) (values : Values) (vars : Vars) (x v : ℕ) (w : Option ℤ) → AreOnce g → slice_get g.owners v ≡ Some (local out x) → x < length values → v < length vars
     → Agree g out values vars → Agree g out (with_variable values x w) (slice_set vars v w)

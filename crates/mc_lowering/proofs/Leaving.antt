@@ -7,15 +7,15 @@ use Rattle.mc_base.specs.declared.ids.VarId.{VarId}
 use Rattle.mc_base.specs.declared.plain.Kind.{Kind}
 use Rattle.mc_heap.specs.Heap.{Heap}
 use Rattle.mc_flow.specs.Values.{value_in, with_value, without as flow_without}
-use Rattle.mc_resolved.specs.Configs.{Values, Target, held, Tasks, Config}
+use Rattle.mc_resolved.specs.Configs.{Values, Target, held, Tasks}
 use Rattle.mc_resolved.specs.Moves.{given}
 use Rattle.mc_resolved.specs.Programs.{Function}
-use Rattle.mc_lowering.specs.Graphs.{Graph, Owner, local, result, temporary, Stage, stage, AreMade, IsMade, is_made}
+use Rattle.mc_lowering.specs.Graphs.{Graph, local, result, temporary, Stage, stage, AreMade, IsMade, is_made}
 use Rattle.mc_lowering.specs.Lowering.{Around}
 use Rattle.mc_lowering.proofs.Stepping.{Vars, at}
 use Rattle.mc_lowering.proofs.Evaluating.{Agree, goal_of}
 use Rattle.mc_lowering.proofs.Changing.{IsClean, length_set, length_without, in_or_not, without_in, without_out, same_number, past_none}
-use Rattle.mc_lowering.proofs.Holding.{Limit, limit, IsLate, Frame, FrameHeld, AllHeld, IsInside, AreNested, IsNone, Held, inside_none, AreTheirs, frames_kept, kept_apart, same_out, same_local, no_result, no_temporary, one_owner, out_of, sort_of, var_at}
+use Rattle.mc_lowering.proofs.Holding.{Limit, limit, IsLate, Frame, FrameHeld, AllHeld, IsInside, AreNested, IsNone, Held, inside_none, AreTheirs, frames_kept, kept_apart, same_out, no_result, no_temporary, one_owner, out_of, sort_of, var_at}
 use Rattle.mc_lowering.proofs.Following.{below, frame_of, IsResult, TakesResult, takes_stored, takes_returned, Wants, wants_nothing, wants, IsWithin, Follows, Match, match, match_taking, held_raised}
 
 -- ---- the numbers below another one

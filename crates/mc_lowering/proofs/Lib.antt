@@ -32,3 +32,4 @@ pub mod Leaving
 pub mod Calling
 pub mod Beginning
 pub mod Declaring
+pub mod Scoped

@@ -1,5 +1,5 @@
 -- Loops: they are begun, turned, left by `break`, and continued.
-use Rattle.std.proofs.Common.{◌<◌, ◌≤◌, ◌+◌, ◌≡◌, ◌++◌, ℕ, zero, suc, ℤ, List, [], ◌∷◌, Option, Some, None, length, refl, sym, ap, ◌∙◌, subst, arith}
+use Rattle.std.proofs.Common.{◌≤◌, ◌+◌, ◌≡◌, ◌++◌, ℕ, List, [], ◌∷◌, Option, Some, None, length, refl, sym, ap, ◌∙◌, subst, arith}
 use Rattle.std.specs.Prelude.{Contains}
 use Rattle.mc_base.specs.declared.ids.VarId.{VarId}
 use Rattle.mc_text.specs.declared.place.Place.{Place}
@@ -9,19 +9,19 @@ use Rattle.mc_flow.specs.Values.{without as flow_without}
 use Rattle.mc_flow.specs.declared.instr.Instr.TheVariants.{Skip}
 use Rattle.mc_resolved.specs.Programs.{Cond, Simple, Start, Stmt, simple, declaration, while_loop, do_loop, for_loop, break_loop, continue_loop, Head}
 use Rattle.mc_resolved.specs.Programs as source
-use Rattle.mc_resolved.specs.Configs.{Values, held, without, perform, again, test, always, end_loop, end_turn, Tasks, done, task, go_on}
+use Rattle.mc_resolved.specs.Configs.{Values, perform, test, always, end_loop, end_turn, Tasks, done, task, go_on}
 use Rattle.mc_resolved.specs.Moves.{finished, started}
-use Rattle.mc_lowering.specs.Graphs.{Graph, plain, head, Stage, stage, point, nowhere, IsPoint, Appends, appends, AreMade, Undefines, undefines_none, undefines, Leaves, leaves}
-use Rattle.mc_lowering.specs.Values.{Tests, TestsPerhaps, tests_always, tests_once}
-use Rattle.mc_lowering.specs.Lowering.{Loop, Around, in_loop, in_body, Lowers, declarations, simples, Starts, starts_nothing, starts_declaring, starts_performing, Finishes, finishes_none, finishes}
-use Rattle.mc_lowering.specs.Scopes.{IsScopedIn, StartsIn, FinishesIn, AreNew}
+use Rattle.mc_lowering.specs.Graphs.{Graph, plain, head, Stage, stage, nowhere, Appends, appends, AreMade, undefines_none, undefines, Leaves, leaves}
+use Rattle.mc_lowering.specs.Values.{TestsPerhaps, tests_always, tests_once}
+use Rattle.mc_lowering.specs.Lowering.{Loop, Around, in_loop, Lowers, declarations, simples, Starts, starts_nothing, starts_declaring, starts_performing, Finishes, finishes_none, finishes}
+use Rattle.mc_lowering.specs.Scopes.{IsScopedIn, StartsIn, FinishesIn}
 use Rattle.mc_lowering.proofs.Stepping.{Vars}
 use Rattle.mc_lowering.proofs.Evaluating.{goal_of}
-use Rattle.mc_lowering.proofs.Holding.{Limit, Frame, Held, AreTheirs, AreUndone, undone_held, in_left}
-use Rattle.mc_lowering.proofs.Growing.{points_of, variables_of, undefined}
-use Rattle.mc_lowering.proofs.Following.{Skips, no_skip, one_skip, skip_ahead, Asks, asks, asks_nothing, IsLoop, is_loop, Exits, exits, IsWithin, within_less, frame_of, around_loop, outer_limits, loop_tasks, Follows, performs, skips, raises, agains, ends_turn, ends_loop, leads, match, match_test, match_always, weight, perhaps_weight, limited, no_late}
+use Rattle.mc_lowering.proofs.Holding.{Limit, Frame, Held, AreTheirs, AreUndone, undone_held}
+use Rattle.mc_lowering.proofs.Growing.{points_of, variables_of}
+use Rattle.mc_lowering.proofs.Following.{Skips, skip_ahead, Asks, asks, asks_nothing, IsLoop, is_loop, Exits, exits, IsWithin, within_less, frame_of, around_loop, outer_limits, loop_tasks, Follows, performs, skips, agains, ends_turn, ends_loop, leads, match, match_test, match_always, weight, start_weight, calls_at, limited, no_late}
 use Rattle.mc_lowering.proofs.Entering.{theirs}
-use Rattle.mc_lowering.proofs.Walking.{ToTurn, to_turn}
+use Rattle.mc_lowering.proofs.Walking.{to_turn}
 use Rattle.mc_lowering.proofs.Pairing.{config, PairOf, source_moved, skips_pair, undefines_pair, exits_pair}
 
 -- ---- into the body, and behind it
@@ -160,7 +160,7 @@ starts_follow {u = u} f (source.declares place items) (starts_declaring declares
 starts_follow {u = u} f (source.performs x) (starts_performing does) scoped bound within later =
     performs {a = simple x} (simples does) scoped bound within (omega arith) (later (variables_of u))
 
-pub started_weight : (start : Start) (rest : Tasks) → weight (started start rest) ≤ 1 + weight rest
-started_weight source.nothing rest = omega arith
-started_weight (source.declares place items) rest = omega arith
-started_weight (source.performs x) rest = omega arith
+pub started_weight : (g : Graph) (start : Start) (rest : Tasks) → weight g (started start rest) ≡ start_weight (calls_at g rest) start + weight g rest
+started_weight g source.nothing rest = omega arith
+started_weight g (source.declares place items) rest = omega arith
+started_weight g (source.performs x) rest = omega arith

@@ -1,30 +1,29 @@
 -- How a resolved program and its flow graph go on together: moves, Skips, what is left, and conditions.
-use Rattle.std.proofs.Common.{◌<◌, ◌≤◌, ◌≡◌, ◌⊎◌, ◌++◌, inl, inr, ℕ, ℤ, List, [], ◌∷◌, Option, Some, None, length, refl, sym, ap, ◌∙◌, subst, arith}
-use Rattle.std.specs.Prelude.{Contains, slice_get}
+use Rattle.std.proofs.Common.{◌<◌, ◌≤◌, ◌≡◌, ◌++◌, ℕ, List, ◌∷◌, Option, Some, None, refl, sym, ap, ◌∙◌, subst, arith}
 use Rattle.mc_base.specs.declared.ids.VarId.{VarId}
-use Rattle.mc_base.specs.Runs.{Final, next, last as finished_run, ended, stopped, fault, Reaches}
+use Rattle.mc_base.specs.Runs.{next, last as finished_run, ended, stopped, fault}
 use Rattle.mc_text.specs.declared.place.Place.{Place}
 use Rattle.mc_heap.specs.Heap.{Heap}
 use Rattle.mc_heap.specs.Choices.{Choice}
 use Rattle.mc_flow.specs.Values.{without as flow_without}
 use Rattle.mc_flow.specs.declared.instr.Instr.TheVariants.{Skip, Undef, End, Fail}
 use Rattle.mc_flow.specs.Steps as flow
-use Rattle.mc_resolved.specs.Programs.{Cond, plain as plain_cond, compare, negation, both, either, Simple, Stmt, simple}
-use Rattle.mc_resolved.specs.Configs.{Values, held, without, perform, again, test, always, end_block, end_loop, end_turn, Tasks, done, task, Branch, go_on, fails, stops, Config, Result}
-use Rattle.mc_resolved.specs.Moves.{Arrives, here, there, moved, finished}
+use Rattle.mc_resolved.specs.Programs.{Cond, negation, both, either}
+use Rattle.mc_resolved.specs.Configs.{Values, without, test, always, end_block, Tasks, done, task, Branch, go_on, fails, stops, Config, Result}
+use Rattle.mc_resolved.specs.Moves.{Arrives, here, there, moved}
 use Rattle.mc_resolved.specs.Steps.{Here, Does, Step, led, Tests as Tries}
-use Rattle.mc_lowering.specs.Graphs.{Graph, local, Role, plain, head, merge, stop, Stage, stage, point, nowhere, IsPoint, appends, AreMade, Undefines, undefines_none, undefines, Leaves, leaves}
+use Rattle.mc_lowering.specs.Graphs.{Graph, Role, plain, head, merge, stop, Stage, stage, point, nowhere, IsPoint, appends, Undefines, undefines_none, undefines, Leaves, leaves}
 use Rattle.mc_lowering.specs.Values.{Tests, tests_plain, tests_compare, tests_negation, tests_both, tests_either}
-use Rattle.mc_lowering.specs.Lowering.{Around, in_block, in_loop, Finishes, finishes_none, finishes, simples}
+use Rattle.mc_lowering.specs.Lowering.{Around, in_block}
 use Rattle.mc_lowering.specs.Runs.{FlowStep, told}
 use Rattle.mc_lowering.proofs.Simulating.{Goes, one, more, Paired, both_go, source_moves, flow_goes, both_end, both_wait}
 use Rattle.mc_lowering.proofs.SourceOnce.{one_arrival}
 use Rattle.mc_lowering.proofs.Stepping.{Vars, at, step_at}
 use Rattle.mc_lowering.proofs.Evaluating.{goal_of}
 use Rattle.mc_lowering.proofs.Deciding.{IsDecided, decided_waits, decided_faults, decided_true, decided_false, decides_plain, decides_compare}
-use Rattle.mc_lowering.proofs.Holding.{Limit, Frame, Held, with_values, AreUndone, AreTheirs, undone_held, without_undone, in_left}
+use Rattle.mc_lowering.proofs.Holding.{Limit, Frame, Held, with_values, AreTheirs, undone_held, without_undone, in_left}
 use Rattle.mc_lowering.proofs.Growing.{variables_of}
-use Rattle.mc_lowering.proofs.Following.{GoesOn, Skips, no_skip, one_skip, Exits, exits, frame_of, around_loop, outer_limits, Follows, Leads, leads, leads_to_test, leads_to_fault, leads_to_stop, Match, match, match_test, match_always, match_end, weight, condition_weight}
+use Rattle.mc_lowering.proofs.Following.{GoesOn, Skips, no_skip, one_skip, Exits, exits, frame_of, around_loop, outer_limits, Follows, Leads, leads, leads_to_test, leads_to_fault, leads_to_stop, Match, match, match_test, weight}
 use Rattle.mc_lowering.proofs.Entering.{block_left, loop_left, theirs}
 
 abbrev pub config : Tasks → Values → Heap → Config
@@ -32,7 +31,7 @@ config tasks values heap = record { tasks = tasks; values = values; heap = heap 
 
 -- the source in this configuration beside the flow graph at this point
 abbrev pub PairOf : Graph → Config → ℕ → Vars → Heap → List Choice → Type 0
-PairOf g c a vars heap choices = Paired (Step g.program) (FlowStep g) (Match g) (λ d. weight d.tasks) c choices (at a vars heap)
+PairOf g c a vars heap choices = Paired (Step g.program) (FlowStep g) (Match g) (λ d. weight g d.tasks) c choices (at a vars heap)
 
 -- ---- steps of the source
 abbrev pub here_of : Values → Heap → Here
@@ -67,7 +66,7 @@ behind_move {w = w} {us = us} later after some (there {later = later'} {next = a
 
 -- the source moves to what matches
 pub source_moved : {g : Graph} {a : ℕ} {vars : Vars} {heap : Heap} (tasks after : Tasks) (values later : Values) (choices : List Choice) → moved values tasks ≡ Some (later, after)
-    → Match g (config after later heap) (at a vars heap) → weight after < weight tasks → PairOf g (config tasks values heap) a vars heap choices
+    → Match g (config after later heap) (at a vars heap) → weight g after < weight g tasks → PairOf g (config tasks values heap) a vars heap choices
 source_moved {g} {a} {vars} {heap} tasks after values later choices some match_there less =
     source_moves (λ r s. (s.0, s.1, behind_move later after some s.2, s.3)) (λ r s. (s.0, s.1, there some s.2, s.3)) match_there less
 
@@ -75,12 +74,16 @@ source_moved {g} {a} {vars} {heap} tasks after values later choices some match_t
 pub skip_step : (g : Graph) (a b : ℕ) (role : Role) (place : Place) (vars : Vars) (heap : Heap) (choices : List Choice) → IsPoint g a role place (Skip (point b)) → GoesOn role
     → FlowStep g (at a vars heap) choices (next (at b vars heap) choices)
 skip_step g a b plain place vars heap choices is goes = step_at g a place (Skip (point b)) vars heap choices (next (at b vars heap) choices) is refl
-skip_step g a b head place vars heap choices is goes =
-    (next (at b vars heap) choices, subst (λ o. flow.StepAt g.flow.structs g.program.defs o (at a vars heap) choices (next (at b vars heap) choices)) (sym is.there) refl,
-    sym (ap (λ o. told o (next (at b vars heap) choices)) is.is))
-skip_step g a b merge place vars heap choices is goes =
-    (next (at b vars heap) choices, subst (λ o. flow.StepAt g.flow.structs g.program.defs o (at a vars heap) choices (next (at b vars heap) choices)) (sym is.there) refl,
-    sym (ap (λ o. told o (next (at b vars heap) choices)) is.is))
+skip_step g a b head place vars heap choices is goes = (
+  next (at b vars heap) choices,
+  subst (λ o. flow.StepAt g.flow.structs g.program.defs o (at a vars heap) choices (next (at b vars heap) choices)) (sym is.there) refl,
+  sym (ap (λ o. told o (next (at b vars heap) choices)) is.is),
+)
+skip_step g a b merge place vars heap choices is goes = (
+  next (at b vars heap) choices,
+  subst (λ o. flow.StepAt g.flow.structs g.program.defs o (at a vars heap) choices (next (at b vars heap) choices)) (sym is.there) refl,
+  sym (ap (λ o. told o (next (at b vars heap) choices)) is.is),
+)
 skip_step g a b stop place vars heap choices is goes = absurd goes
 
 pub stop_step : (g : Graph) (a : ℕ) (place : Place) (vars : Vars) (heap : Heap) (choices : List Choice) → IsPoint g a stop place End → FlowStep g (at a vars heap) choices (finished_run stopped)
@@ -99,7 +102,7 @@ undefines_pair {g} {place = place} vars heap choices (undefines {v = v} {vs = vs
 
 -- the exit of a loop, which the source has passed
 pub exits_pair : {g : Graph} {c : Around} {scope xs : List ℕ} {late : List Limit} {callers : List Frame} {e r first : ℕ} {rest : Tasks} (k : ℕ) (tasks : Tasks) (values now : Values) (vars : Vars) (heap : Heap) (choices : List Choice)
-    → Exits g c xs e r first → Follows g c scope late callers first rest r → moved values tasks ≡ Some (without xs now, rest) → weight rest < weight tasks
+    → Exits g c xs e r first → Follows g c scope late callers first rest r → moved values tasks ≡ Some (without xs now, rest) → weight g rest < weight g tasks
     → Held g (frame_of (around_loop c) (xs ++ scope) (outer_limits c xs first late) k now ∷ callers) vars → PairOf g (config tasks values heap) e vars heap choices
 exits_pair {g} {c} {scope} {xs} {late} {callers} {rest = rest} k tasks values now vars heap choices (exits {e = e} {w = w} {n = n} {first = first} {place = place} is (leaves {vs = vs} made undone)) follows some less h =
     let f : Frame = frame_of (around_loop c) (xs ++ scope) (outer_limits c xs first late) k now in

@@ -1,5 +1,5 @@
 -- Arguments are evaluated and copied to the parameters.
-use Rattle.std.proofs.Common.{◌<◌, ◌≤◌, ◌+◌, ◌≡◌, ◌⊎◌, inl, inr, ℕ, zero, suc, ℤ, List, [], ◌∷◌, Option, Some, None, length, refl, sym, ap, ◌∙◌, subst, arith}
+use Rattle.std.proofs.Common.{◌<◌, ◌≤◌, ◌+◌, ◌≡◌, inl, inr, ℕ, zero, suc, ℤ, List, [], ◌∷◌, Option, Some, None, length, refl, sym, ap, ◌∙◌, subst, arith}
 use Rattle.std.specs.Prelude.{slice_get, slice_index_or, Contains, map, option_map}
 use Rattle.std.proofs.lemmas.Option.{slice_get_within}
 use Rattle.mc_base.specs.declared.ids.VarId.{VarId}
@@ -15,13 +15,13 @@ use Rattle.mc_flow.specs.declared.instr.Operand.{Operand}
 use Rattle.mc_flow.specs.declared.instr.Operand.TheVariants.{Var, Const}
 use Rattle.mc_flow.specs.declared.instr.Instr.TheVariants.{Copy}
 use Rattle.mc_flow.specs.Steps as flow
-use Rattle.mc_meaning.specs.Values.{Evaluated, fault_of, value_of}
+use Rattle.mc_meaning.specs.Values.{fault_of, value_of}
 use Rattle.mc_meaning.specs.Steps.{Arguments, no_arguments, arguments, AfterFirst}
-use Rattle.mc_resolved.specs.Configs.{Values, held}
+use Rattle.mc_resolved.specs.Configs.{held}
 use Rattle.mc_resolved.specs.Programs.{Expr, Local, Function}
 use Rattle.mc_resolved.specs.Steps.{Here, EvaluateAll, passed}
 use Rattle.mc_resolved.specs.Values.{Evaluates as Source}
-use Rattle.mc_lowering.specs.Graphs.{Graph, Owner, local, temporary, plain, Stage, stage, point, IsPoint, appends, Creates, creates, is_made}
+use Rattle.mc_lowering.specs.Graphs.{Graph, local, temporary, plain, Stage, point, IsPoint, appends, creates, is_made}
 use Rattle.mc_lowering.specs.Values.{Evaluates, of_number, of_variable, of_operation, takes, EvaluatesAll, evaluates_none, evaluates_next}
 use Rattle.mc_lowering.specs.Lowering.{Receives, receives_none, receives, Passes, passes_none, passes}
 use Rattle.mc_lowering.specs.Runs.{FlowStep}

@@ -1,6 +1,5 @@
 -- Simple statements without calls go on together with their points.
 use Rattle.std.proofs.Common.{◌<◌, ◌≡◌, ℕ, ℤ, List, [], ◌∷◌, Option, Some, None, length, refl, sym, ap, ◌∙◌, arith}
-use Rattle.std.specs.Prelude.{slice_get}
 use Rattle.std.proofs.lemmas.Option.{slice_get_within}
 use Rattle.mc_base.specs.declared.ids.VarId.{VarId}
 use Rattle.mc_base.specs.declared.plain.FaultKind.{FaultKind}

@@ -1,27 +1,24 @@
 -- Runs of a program and of its flow graph match.
-use Rattle.std.proofs.Common.{◌<◌, ◌≤◌, ◌≡◌, ℕ, zero, suc, ℤ, List, [], ◌∷◌, Option, Some, None, length, refl, sym, ap, ◌∙◌, subst, arith}
+use Rattle.std.proofs.Common.{◌<◌, ◌≤◌, ◌≡◌, ℕ, zero, suc, List, [], ◌∷◌, Option, None, length, refl, sym, ap, ◌∙◌, subst, arith}
 use Rattle.std.specs.Prelude.{◌↔◌, slice_index_or, replicate}
 use Rattle.mc_base.specs.Runs.{next, Reaches}
-use Rattle.mc_heap.specs.Choices.{Choice}
-use Rattle.mc_base.specs.Runs.{Final}
 use Rattle.mc_flow.specs.Steps as flow
-use Rattle.mc_resolved.specs.Configs.{Values, held, done}
+use Rattle.mc_resolved.specs.Configs.{held}
 use Rattle.mc_resolved.specs.Programs.{Function, Local}
-use Rattle.mc_resolved.specs.Moves.{in_a_row}
 use Rattle.mc_resolved.specs.Steps as resolved
 use Rattle.mc_resolved.specs.Steps.{passed}
-use Rattle.mc_lowering.specs.Graphs.{Graph, plain, Stage, stage, nowhere, IsPoint, Appends, appends, creates}
+use Rattle.mc_lowering.specs.Graphs.{Graph, plain, Stage, stage, nowhere, IsPoint, appends, creates}
 use Rattle.mc_lowering.specs.Lowering.{in_body, LowersAll, Answers, answers_none, answers, Falls, falls_in_main, falls, Makes, makes, IsLowering}
 use Rattle.mc_lowering.specs.Runs.{ComesTo, FlowStep, RunsMatch}
-use Rattle.mc_lowering.specs.Scopes.{IsScoped, AreScoped, AreNoticed}
+use Rattle.mc_lowering.specs.Scopes.{IsScoped, AreScoped}
 use Rattle.mc_lowering.proofs.Simulating.{alike, longer, left_of_one}
 use Rattle.mc_lowering.proofs.SourceOnce.{source_once}
 use Rattle.mc_lowering.proofs.FlowOnce.{flow_once}
 use Rattle.mc_lowering.proofs.Stepping.{Vars, at}
 use Rattle.mc_lowering.proofs.Evaluating.{goal_of}
 use Rattle.mc_lowering.proofs.Holding.{Held}
-use Rattle.mc_lowering.proofs.Growing.{points_of, variables_of, appended}
-use Rattle.mc_lowering.proofs.Following.{Match, match, Follows, over, frame_of, follows_in_a_row, no_late, weight}
+use Rattle.mc_lowering.proofs.Growing.{points_of, appended}
+use Rattle.mc_lowering.proofs.Following.{Match, match, over, frame_of, follows_in_a_row, no_late, weight}
 use Rattle.mc_lowering.proofs.Pairing.{skip_step}
 use Rattle.mc_lowering.proofs.Forms.{pairs}
 
@@ -81,19 +78,23 @@ body_match : {g : Graph} {entry : Function} {out k : ℕ} {m n : Stage} → leng
 body_match {g} {entry} {out} {n = n} same scoped body fall ends =
     match (follows_in_a_row entry.body 0 body scoped.body (falls_bound fall) tt (omega arith) (over fall refl ends)) (begins_held g entry out 0 scoped.own same)
 
-made_match : {g : Graph} {entry : Function} {out count : ℕ} → length g.flow.vars ≡ length g.owners → Rattle.mc_lowering.proofs.Holding.AreOnce g → AreScoped g.program → AreNoticed g.program → IsScoped entry → Makes g entry out count → RunsMatch g entry
-made_match {g} {entry} same once all_scoped all_noticed scoped (makes {out = out} (appends {b = b} begin) result body fall ends) choices final =
+made_match : {g : Graph} {entry : Function} {out count : ℕ} → length g.flow.vars ≡ length g.owners → Rattle.mc_lowering.proofs.Holding.AreOnce g → AreScoped g.program → IsScoped entry → Makes g entry out count → RunsMatch g entry
+made_match {g} {entry} same once all_scoped scoped (makes {out = out} (appends {b = b} begin) result body fall ends) choices final =
     let start : flow.Config = at b (replicate (length g.flow.vars) None) Rattle.std.specs.FinMap.empty in
     let step : FlowStep g (flow.start g.flow) choices (next start choices) = skip_step g 0 b plain nowhere (replicate (length g.flow.vars) None) Rattle.std.specs.FinMap.empty choices begin tt in
     let there : Match g (resolved.start entry) start =
     subst (λ z. Match g (resolved.start entry) (at z (replicate (length g.flow.vars) None) Rattle.std.specs.FinMap.empty)) (sym (answers_goal result)) (body_match same scoped body fall ends) in
     let both : ComesTo (resolved.Step g.program) (resolved.start entry) choices final ↔ ComesTo (FlowStep g) start choices final =
-    alike (resolved.Step g.program) (FlowStep g) (Match g) (λ c. weight c.tasks) (source_once g.program) (flow_once g) (pairs g once all_scoped all_noticed) (resolved.start entry) start choices final there in (
+    alike (resolved.Step g.program) (FlowStep g) (Match g) (λ c. weight g c.tasks) (source_once g.program) (flow_once g) (pairs g once all_scoped) (resolved.start entry) start choices final there in (
       λ run. longer (FlowStep g) final step (both.0 run),
       λ run.
           let left : (m : ℕ) × (m < run.0) × Reaches (FlowStep g) m start choices final = left_of_one (FlowStep g) (flow_once g) (flow.start g.flow) choices (next start choices) run.0 final step run.1 in
           both.1 (left.0, left.2),
     )
 
-pub runs_match : (g : Graph) (entry : Function) (out count : ℕ) → IsLowering g entry out count → AreScoped g.program → AreNoticed g.program → RunsMatch g entry
-runs_match g entry out count l all_scoped all_noticed = made_match (l.variables ∙ sym l.owners) l.once all_scoped all_noticed (all_scoped g.program.entry entry l.there) l.made
+pub runs_match : (g : Graph) (entry : Function) (out count : ℕ) → IsLowering g entry out count → AreScoped g.program → RunsMatch g entry
+runs_match g entry out count l all_scoped = made_match (l.variables ∙ sym l.owners) l.once all_scoped (all_scoped g.program.entry entry l.there) l.made
+
+-- a safe flow graph means a safe program
+pub lowered_safe : (g : Graph) (entry : Function) (out count : ℕ) → IsLowering g entry out count → AreScoped g.program → flow.IsSafeFlow g.flow g.program.defs → resolved.IsSafeProgram g.program entry
+lowered_safe g entry out count l all_scoped safe = Rattle.mc_lowering.proofs.Safe.safe_program g entry (runs_match g entry out count l all_scoped) safe

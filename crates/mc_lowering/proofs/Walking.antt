@@ -1,12 +1,12 @@
 -- From within a loop to the end of its turn, and from within a function to its end.
-use Rattle.std.proofs.Common.{◌<◌, ◌≤◌, ◌+◌, ◌≡◌, ◌++◌, ℕ, ℤ, List, [], ◌∷◌, Option, Some, None, length, refl, sym, ap, ◌∙◌, subst, arith}
+use Rattle.std.proofs.Common.{◌<◌, ◌≤◌, ◌≡◌, ◌++◌, ℕ, ℤ, List, [], ◌∷◌, Option, Some, None, length, refl, ◌∙◌, arith}
 use Rattle.std.specs.Prelude.{Contains}
 use Rattle.mc_flow.specs.declared.instr.Instr.TheVariants.{Undef, End}
-use Rattle.mc_resolved.specs.Programs.{Cond, Simple, Stmt, simple, Function}
+use Rattle.mc_resolved.specs.Programs.{Cond, Simple, Stmt, Function}
 use Rattle.mc_base.specs.declared.ids.VarId.{VarId}
 use Rattle.mc_text.specs.declared.place.Place.{Place}
 use Rattle.mc_lowering.proofs.Evaluating.{goal_of}
-use Rattle.mc_resolved.specs.Configs.{Values, Target, held, without, perform, again, end_block, end_loop, end_turn, Tasks, done, task}
+use Rattle.mc_resolved.specs.Configs.{Values, Target, held, without, perform, end_block, end_loop, end_turn, Tasks, done, task}
 use Rattle.mc_resolved.specs.Moves.{finished, behind_loop, at_turn, given}
 use Rattle.mc_resolved.specs.Steps.{returning}
 use Rattle.mc_lowering.specs.Graphs.{Graph, plain, nowhere, Stage, stage, point, IsPoint, AreMade}
@@ -43,12 +43,12 @@ pub record ToTurn (g : Graph) (c : Around) (scope : List ℕ) (late : List Limit
   pub leaves : (values : Values) → behind_loop values tasks ≡ Some (without own (later values), rest)
   pub lands : (values : Values) (vars : Vars) → ((x : ℕ) → Contains c.blocks x → held values x ≡ None) → Held g (frame_of c scope late k values ∷ callers) vars
       → Held g (frame_of (around_loop outside) (own ++ outer) (outer_limits outside own first outer_late) 0 values ∷ callers) vars
-  pub less : weight (finished last (loop_tasks condition body last own rest)) < weight tasks
-  pub less_rest : weight rest < weight tasks
+  pub less : weight g (finished last (loop_tasks condition body last own rest)) < weight g tasks
+  pub less_rest : weight g rest < weight g tasks
 
 -- the same from a task before it that declares nothing to undo
 turn_before : {g : Graph} {c : Around} {scope : List ℕ} {late : List Limit} {callers : List Frame} {k j : ℕ} {tasks : Tasks} (more : Tasks) → k ≤ j
-    → ((values : Values) → at_turn values more ≡ at_turn values tasks) → ((values : Values) → behind_loop values more ≡ behind_loop values tasks) → weight tasks ≤ weight more
+    → ((values : Values) → at_turn values more ≡ at_turn values tasks) → ((values : Values) → behind_loop values more ≡ behind_loop values tasks) → weight g tasks ≤ weight g more
     → ToTurn g c scope late callers j tasks → ToTurn g c scope late callers k more
 turn_before {g} {c} {scope} {late} {callers} {k} {j} {tasks} more low turns leaves heavy t = record {
   outside = t.outside;
@@ -83,9 +83,9 @@ passes_last : (last : Option Simple) (condition : Option Cond) (a : Stmt) (xs : 
 passes_last None condition a xs rest values = refl
 passes_last (Some x) condition a xs rest values = refl
 
-lighter_rest : (last : Option Simple) (condition : Option Cond) (a : Stmt) (xs : List ℕ) (rest : Tasks) → weight rest ≤ weight (finished last (loop_tasks condition a last xs rest))
-lighter_rest None condition a xs rest = omega arith
-lighter_rest (Some x) condition a xs rest = omega arith
+lighter_rest : (g : Graph) (last : Option Simple) (condition : Option Cond) (a : Stmt) (xs : List ℕ) (rest : Tasks) → weight g rest ≤ weight g (finished last (loop_tasks condition a last xs rest))
+lighter_rest g None condition a xs rest = omega arith
+lighter_rest g (Some x) condition a xs rest = omega arith
 
 none_undone : (values : Values) → AreUndone [] values values
 none_undone values = record { none = λ x there. absurd (omega (arith, there.1)); same = λ x absent. refl; long = refl }
@@ -157,7 +157,7 @@ to_turn {g} {k = k} l e (ends_turn {c = c} {scope = scope} {xs = xs} {late = lat
           limited g (Rattle.mc_lowering.specs.Lowering.in_loop c exit turn) (around_loop c) (xs ++ scope) (outer_limits c xs first late) callers k 0 values vars refl refl
           (λ ls. no_late g c.out values 0) held_there;
       less = omega arith;
-      less_rest = omega (arith, lighter_rest last condition a xs rest);
+      less_rest = omega (arith, lighter_rest g last condition a xs rest);
     }
 to_turn l e (ends_loop way_out more) = absurd (cc)
 to_turn l e (ends_call is made res inside wanted low within more) = absurd (cc)

@@ -1,6 +1,5 @@
 -- Programs whose variables are in scope where they are written.
-use Rattle.std.specs.Prelude.{◌≡◌, ◌<◌, ◌≤◌, ◌⊎◌, ◌++◌, ℕ, List, [], ◌∷◌, Option, Some, None, Contains, length, slice_get}
-use Rattle.mc_base.specs.declared.plain.Kind.{Kind}
+use Rattle.std.specs.Prelude.{◌≡◌, ◌<◌, ◌≤◌, ◌++◌, ℕ, List, [], ◌∷◌, Option, Some, None, Contains, length, slice_get}
 use Rattle.mc_resolved.specs.Programs.{Action, assign, add, subtract, call, Simple, Initial, Start, nothing, declares}
 use Rattle.mc_resolved.specs.Programs.{performs, Stmt, declaration, block, empty, simple, free, assert, assume}
 use Rattle.mc_resolved.specs.Programs.{assume_shape, assert_shape, assert_empty, if_only, if_else, while_loop, do_loop}
@@ -72,11 +71,3 @@ pub record IsScoped (f : Function) : Type 0 where
 
 abbrev pub AreScoped : Program → Type 0
 AreScoped p = (n : ℕ) (f : Function) → slice_get p.functions n ≡ Some f → IsScoped f
-
--- ---- calls
--- a call of the function has a point before those of its body: there is a parameter or a result
-abbrev pub IsNoticed : Function → Type 0
-IsNoticed f = (0 < f.parameters) ⊎ ((kind : Kind) × (f.result ≡ Some kind))
-
-abbrev pub AreNoticed : Program → Type 0
-AreNoticed p = (n : ℕ) (f : Function) → slice_get p.functions n ≡ Some f → IsNoticed f

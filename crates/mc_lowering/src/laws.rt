@@ -6,7 +6,7 @@ ghost use Rattle.mc_flow.specs.Steps.{IsSafeFlow};
 ghost use Rattle.mc_lowering.specs.Graphs.{Graph};
 ghost use Rattle.mc_lowering.specs.Lowering.{IsLowering, Makes};
 ghost use Rattle.mc_lowering.specs.Runs.{RunsMatch};
-ghost use Rattle.mc_lowering.specs.Scopes.{AreNoticed, AreScoped};
+ghost use Rattle.mc_lowering.specs.Scopes.{AreScoped};
 ghost use Rattle.std.specs.Prelude.{ℕ};
 ghost use Rattle.mc_resolved.specs.Programs.{Function};
 ghost use Rattle.mc_resolved.specs.Steps.{IsSafeProgram};
@@ -27,16 +27,22 @@ pub fn small_programs_are_lowered()
     ensures whole { IsLowering whole_graph do_main 11 2 }
 {}
 
-/// Where the runs of a program and of its flow graph match, a safe flow graph means a safe program.
-pub fn safe_flow_graphs_mean_safe_programs()
-    ensures { (g : Graph) (entry : Function) → RunsMatch g entry → IsSafeFlow g.flow g.program.defs → IsSafeProgram g.program entry }
+/// In two of them, a `while` with blocks and a `for` whose body declares a variable of the block around, what is written is in
+/// scope.
+pub fn small_programs_are_scoped()
+    ensures while_loops { AreScoped while_graph.program }
+    ensures for_loops { AreScoped for_graph.program }
 {}
 
 /// A program and its flow graph: the one comes to a fault, an end or a stop exactly where the other does, if what is written
-/// is in scope, and each function has a parameter or a result.
+/// is in scope.
 pub fn runs_match()
-    ensures {
-        (g : Graph) (entry : Function) (out count : ℕ) → IsLowering g entry out count → AreScoped g.program
-        → AreNoticed g.program → RunsMatch g entry
-    }
+    ensures { (g : Graph) (entry : Function) (out count : ℕ) → IsLowering g entry out count → AreScoped g.program
+        → RunsMatch g entry }
+{}
+
+/// A safe flow graph means a safe program, if what is written is in scope.
+pub fn safe_flow_graphs_mean_safe_programs()
+    ensures { (g : Graph) (entry : Function) (out count : ℕ) → IsLowering g entry out count → AreScoped g.program
+        → IsSafeFlow g.flow g.program.defs → IsSafeProgram g.program entry }
 {}

@@ -1,5 +1,5 @@
-use Rattle.mc_lowering.proofs.Safe.{safe_program}
+use Rattle.mc_lowering.proofs.Running.{lowered_safe}
 use Rattle.mc_lowering.proofs.laws.safe_flow_graphs_mean_safe_programs.Goals as goal
 
 pub returns : goal.returns
-returns c = safe_program
+returns c = lowered_safe
