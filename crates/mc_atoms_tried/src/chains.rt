@@ -10,7 +10,7 @@ const NONE: Atom = In(NULL, 0, 0);
 
 /// What is known, an atom that follows by three rules, and one that is a number off and does not.
 struct Chain {
-    known: [Atom; 4],
+    known: &'static [Atom],
     derived: Atom,
     not_derived: Atom,
 }
@@ -18,49 +18,49 @@ struct Chain {
 static CHAINS: [Chain; 8] = [
     // one equality behind another, three times
     Chain {
-        known: [Eq(A, B, 1), Eq(B, C, 2), Eq(C, D, 3), NONE],
+        known: &[Eq(A, B, 1), Eq(B, C, 2), Eq(C, D, 3)],
         derived: Eq(A, D, 6),
         not_derived: Eq(A, D, 5),
     },
     // an equality turned round, chained, a range moved along it
     Chain {
-        known: [Eq(B, A, 2), Eq(B, C, 5), In(C, 0, 4), NONE],
+        known: &[Eq(B, A, 2), Eq(B, C, 5), In(C, 0, 4)],
         derived: In(A, 3, 7),
         not_derived: In(A, 3, 6),
     },
     // two ranges met, two single numbers, one equality behind another
     Chain {
-        known: [In(A, 0, 5), In(A, 5, 9), In(B, 7, 7), Eq(B, C, 1)],
+        known: &[In(A, 0, 5), In(A, 5, 9), In(B, 7, 7), Eq(B, C, 1)],
         derived: Eq(A, C, -1),
         not_derived: Eq(A, C, 0),
     },
     // an end raised twice, two ranges met
     Chain {
-        known: [In(A, 0, 5), Ne(A, NULL, 1), Ne(A, NULL, 0), In(A, 0, 2)],
+        known: &[In(A, 0, 5), Ne(A, NULL, 1), Ne(A, NULL, 0), In(A, 0, 2)],
         derived: In(A, 2, 2),
         not_derived: In(A, 0, 1),
     },
     // an end lowered, two ranges met, a single number
     Chain {
-        known: [In(A, 3, 6), Ne(A, NULL, 6), In(A, 5, 9), NONE],
+        known: &[In(A, 3, 6), Ne(A, NULL, 6), In(A, 5, 9)],
         derived: Eq(A, NULL, 5),
         not_derived: Eq(A, NULL, 6),
     },
     // a disequality turned round, moved along an equality, turned round
     Chain {
-        known: [Ne(A, B, 2), Eq(A, C, 3), NONE, NONE],
+        known: &[Ne(A, B, 2), Eq(A, C, 3)],
         derived: Ne(C, B, -1),
         not_derived: Ne(C, B, 1),
     },
     // a range moved, ranges that do not meet, a disequality moved along an equality
     Chain {
-        known: [Eq(A, B, 10), In(B, 0, 3), In(C, 0, 9), Eq(C, D, 1)],
+        known: &[Eq(A, B, 10), In(B, 0, 3), In(C, 0, 9), Eq(C, D, 1)],
         derived: Ne(A, D, 1),
         not_derived: Ne(A, D, 2),
     },
     // an end raised, a range moved, a range that holds another
     Chain {
-        known: [In(A, 4, 4), Ne(B, A, 0), In(B, 4, 9), Eq(B, C, 1)],
+        known: &[In(A, 4, 4), Ne(B, A, 0), In(B, 4, 9), Eq(B, C, 1)],
         derived: In(C, 3, 8),
         not_derived: In(C, 5, 8),
     },
@@ -75,7 +75,7 @@ static FALSE: [[Atom; 4]; 3] = [
 
 /// Whether the one atom is derived and the other is not.
 fn is_right(alloc: Global, chain: &Chain) -> Result<bool, NoMemory> {
-    let pure = state(alloc, &chain.known, &[])?;
+    let pure = state(alloc, chain.known, &[])?;
     Ok(derives(&pure, &chain.derived) && !derives(&pure, &chain.not_derived))
 }
 

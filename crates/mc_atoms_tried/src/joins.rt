@@ -9,7 +9,7 @@ use std::test::Fail;
 
 const PAIRS: [(NodeId, NodeId); 5] = [(NULL, NULL), (A, B), (B, A), (P, Q), (C, C)];
 
-/// Null stands first on both sides.
+/// Node 0 does not come first.
 const WITHOUT_NULL: [(NodeId, NodeId); 1] = [(A, B)];
 
 const OF_TWO_KINDS: [(NodeId, NodeId); 2] = [(NULL, NULL), (A, Q)];
@@ -180,11 +180,17 @@ static DIFFERENCES: [Case; 6] = [
 ];
 
 /// The join of the two sides, where they may be joined.
-fn joined(alloc: Global, left: &Pure, right: &Pure, round: u64) -> Result<Option<Pure>, NoMemory> {
-    if left.is_false() || right.is_false() || !are_joinable(left, right, &PAIRS) {
+fn joined(
+    alloc: Global,
+    left: &Pure,
+    right: &Pure,
+    pairs: &[(NodeId, NodeId)],
+    round: u64,
+) -> Result<Option<Pure>, NoMemory> {
+    if left.is_false() || right.is_false() || !are_joinable(left, right, pairs) {
         return Ok(None);
     }
-    let joint = join(alloc, left, right, &PAIRS, round, &THRESHOLDS)?;
+    let joint = join(alloc, left, right, pairs, round, &THRESHOLDS)?;
     Ok(Some(joint))
 }
 
@@ -203,7 +209,7 @@ fn all_are(pure: &Pure, atoms: &[Atom], derived: bool) -> bool {
 fn is_right(alloc: Global, case: &Case) -> Result<bool, NoMemory> {
     let left = state(alloc, case.left, &[])?;
     let right = state(alloc, case.right, &[])?;
-    match joined(alloc, &left, &right, case.round)? {
+    match joined(alloc, &left, &right, &PAIRS, case.round)? {
         Some(joint) => {
             Ok(all_are(&joint, case.derived, true) && all_are(&joint, case.not_derived, false))
         }
@@ -253,7 +259,7 @@ fn disequalities_of_both_sides(rt: HostRuntime) -> Result<(), Fail> {
 fn blocks_are_left_out(rt: HostRuntime) -> Result<(), Fail> {
     let left = state(rt.alloc(), &[], &[P])?;
     let right = state(rt.alloc(), &[], &[Q])?;
-    let joint = joined(rt.alloc(), &left, &right, 1)?;
+    let joint = joined(rt.alloc(), &left, &right, &PAIRS, 1)?;
     assert!(rt; joint.is_some_and(|pure| pure.starts().is_empty()));
     Ok(())
 }
