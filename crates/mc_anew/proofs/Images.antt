@@ -1,5 +1,5 @@
 -- The images of a state's nodes are their new numbers.
-use Rattle.std.proofs.Common.{◌≡◌, ◌≢◌, ◌⊎◌, inl, inr, ℕ, zero, suc, ◌<◌, ◌≤◌, ◌+◌, List, [], ◌∷◌, ◌++◌, Option, Some, None, Bool, true, false, nat_eq, get_or, length, map, option_map, refl, sym, ◌∙◌, ap, subst, arith}
+use Rattle.std.proofs.Common.{◌≡◌, inl, inr, ℕ, suc, ◌<◌, ◌≤◌, ◌+◌, List, [], ◌∷◌, ◌++◌, Option, Some, None, Bool, true, false, nat_eq, length, map, option_map, refl, sym, ◌∙◌, ap, subst, arith}
 use Rattle.std.specs.Prelude.{if◌then◌else◌}
 use Rattle.std.specs.List.{AllByRecursion}
 use Rattle.mc_base.specs.declared.ids.EdgeId.{EdgeId}
@@ -16,12 +16,12 @@ use Rattle.mc_graph.specs.Graph.{Graph, Edges, no_edges, with_new, numbered, mov
 use Rattle.mc_pure.specs.Pure.{Kinds, HasKind, IsNode, IsWellFormed, kind_of}
 use Rattle.mc_pure.specs.Nodes.{RiseFrom}
 use Rattle.mc_renaming.specs.Images.{Images, image_of, image_or, image}
-use Rattle.mc_state.specs.State.{State, unknown, with_atoms, with_edges}
+use Rattle.mc_state.specs.State.{State, with_atoms, with_edges}
 use Rattle.mc_state.specs.Fits.{AreNodes, IsBounded}
 use Rattle.mc_state.specs.Laws.{moved_kinds}
-use Rattle.mc_same.specs.Same.{place_from, place_in, anew, numbered_graph}
-use Rattle.mc_anew.specs.Numbers.{AreNumbers, number_of, numbered_nodes}
-use Rattle.mc_anew.proofs.Lists.{same_node, number, yes, no, decide, all_over, long_map}
+use Rattle.mc_same.specs.Same.{place_from, anew, numbered_graph}
+use Rattle.mc_anew.specs.Numbers.{AreNumbers, numbered_nodes}
+use Rattle.mc_anew.proofs.Lists.{same_node, yes, no, all_over, long_map}
 use Rattle.mc_anew.proofs.Numbering.{below_none}
 use Rattle.mc_anew.proofs.Filling.{graph_of}
 

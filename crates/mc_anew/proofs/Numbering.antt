@@ -1,5 +1,5 @@
 -- Nodes that are numbered in order.
-use Rattle.std.proofs.Common.{◌≡◌, ◌≢◌, ◌↔◌, ◌⊎◌, inl, inr, ℕ, zero, suc, ◌<◌, ◌≤◌, ◌+◌, ◌-◌, List, [], ◌∷◌, ◌++◌, Option, Some, None, Bool, true, false, nat_eq, get_or, length, map, take, option_map, refl, sym, ◌∙◌, ap, subst, arith}
+use Rattle.std.proofs.Common.{◌≡◌, ◌↔◌, inl, inr, ℕ, zero, suc, ◌<◌, ◌≤◌, ◌+◌, ◌-◌, List, [], ◌∷◌, ◌++◌, Option, Some, None, Bool, true, false, nat_eq, get_or, length, map, take, option_map, refl, sym, ◌∙◌, ap, subst, arith}
 use Rattle.std.specs.Prelude.{if◌then◌else◌}
 use Rattle.std.specs.List.{AllByRecursion}
 use Rattle.mc_base.specs.declared.ids.NodeId.{NodeId}
@@ -13,7 +13,7 @@ use Rattle.mc_state.specs.State.{State, unknown, with_nodes, next_node}
 use Rattle.mc_state.specs.Laws.{moved_kinds}
 use Rattle.mc_same.specs.Same.{place_from}
 use Rattle.mc_anew.specs.Numbers.{AreNumbers, number_of, numbered_nodes, first_kinds}
-use Rattle.mc_anew.proofs.Lists.{same_node, number, yes, no, decide, take_all, long_map}
+use Rattle.mc_anew.proofs.Lists.{yes, no, decide, take_all, long_map}
 
 some_none : {X : Type 0} {x : X} → Some x ≡ None → ⊥
 some_none e = cc

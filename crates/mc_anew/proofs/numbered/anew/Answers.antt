@@ -1,4 +1,4 @@
-use Rattle.std.proofs.Common.{sym, subst, ap, ◌∙◌}
+use Rattle.std.proofs.Common.{subst, ap, ◌∙◌}
 use Rattle.mc_pure.specs.Nodes.{RiseFrom}
 use Rattle.mc_state.specs.State.{State}
 use Rattle.mc_anew.proofs.Putting.{vars_long, vars_fit, atoms_fit, edges_fit, all_put}
