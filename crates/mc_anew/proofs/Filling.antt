@@ -51,6 +51,9 @@ long_push : (xs : List Edge) (e : Edge) → length (xs ++ e ∷ []) ≡ suc (len
 long_push [] e = refl
 long_push (x ∷ xs) e = ap suc (long_push xs e)
 
+abbrev pub graph_of : Edges → ℕ → Graph
+graph_of es n = record { edges = es; next = n }
+
 graph_push : (g : Graph) (xs : List Edge) (e : Edge) → with_new (with_new g xs) (e ∷ []) ≡ with_new g (xs ++ e ∷ [])
 graph_push g xs e =
     let es : (g.edges ++ numbered g.next xs) ++ (record { 0 = g.next + length xs }, e) ∷ [] ≡ g.edges ++ numbered g.next (xs ++ e ∷ []) =
@@ -59,21 +62,21 @@ graph_push g xs e =
     let next : (g.next + length xs) + 1 ≡ g.next + length (xs ++ e ∷ []) = omega arith in
     made es next
   where
-    made : {es fs : Edges} {m n : ℕ} → es ≡ fs → m ≡ n → record { edges = es; next = m } ≡ record { edges = fs; next = n }
+    made : {es fs : Edges} {m n : ℕ} → es ≡ fs → m ≡ n → graph_of es m ≡ graph_of fs n
     made p q = rw (p, q) refl
 
 map_push : {X Y : Type 0} (m : X → Y) (xs : List X) (x : X) → map m (xs ++ x ∷ []) ≡ map m xs ++ m x ∷ []
 map_push m [] x = refl
 map_push {Y = Y} m (y ∷ xs) x = ap (λ (z : List Y). m y ∷ z) (map_push m xs x)
 
-pub edges_next : (m : EdgeId × Edge → Edge) (begin fresh new : State) (es : Edges) (i : ℕ) (d : EdgeId × Edge) (edge : Edge) → i < length es → fresh ≡ with_edges begin (map m (take i es)) → edge ≡ m (get_or es i d)
+pub edges_next : (m : EdgeId × Edge → Edge) (begin fresh new : State) (es : Edges) (i : ℕ) (x : EdgeId × Edge) (edge : Edge) → i < length es → fresh ≡ with_edges begin (map m (take i es)) → edge ≡ m x → x ≡ get_or es i x
     → new ≡ with_edges fresh (edge ∷ []) → new ≡ with_edges begin (map m (take (i + 1) es))
-edges_next m begin fresh new es i d edge l h e is =
+edges_next m begin fresh new es i x edge l h e item is =
     is
     ∙ (ap (λ (z : State). with_edges z (edge ∷ [])) h
     ∙ (ap (λ (z : Graph). record begin { graph = z }) (graph_push begin.graph (map m (take i es)) edge)
     ∙ (ap (λ (z : Edge). with_edges begin (map m (take i es) ++ z ∷ [])) e
-    ∙ ap (λ (z : List Edge). with_edges begin z) (sym (map_push m (take i es) (get_or es i d)) ∙ ap (λ (z : Edges). map m z) (sym (take_more es i d l))))))
+    ∙ ap (λ (z : List Edge). with_edges begin z) (sym (map_push m (take i es) x) ∙ ap (λ (z : Edges). map m z) (ap (λ (z : EdgeId × Edge). take i es ++ z ∷ []) item ∙ sym (take_more es i x l))))))
 
 -- ---- the flag
 

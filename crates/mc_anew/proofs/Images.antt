@@ -1,5 +1,5 @@
 -- The images of a state's nodes are their new numbers.
-use Rattle.std.proofs.Common.{◌≡◌, ◌≢◌, ◌⊎◌, inl, inr, ℕ, zero, suc, ◌<◌, ◌≤◌, ◌+◌, List, [], ◌∷◌, ◌++◌, Option, Some, None, Bool, true, false, nat_eq, get_or, length, map, option_map, refl, sym, ◌∙◌, ap, subst, arith}
+use Rattle.std.proofs.Common.{◌≡◌, inl, inr, ℕ, suc, ◌<◌, ◌≤◌, ◌+◌, List, [], ◌∷◌, ◌++◌, Option, Some, None, Bool, true, false, nat_eq, length, map, option_map, refl, sym, ◌∙◌, ap, subst, arith}
 use Rattle.std.specs.Prelude.{if◌then◌else◌}
 use Rattle.std.specs.List.{AllByRecursion}
 use Rattle.mc_base.specs.declared.ids.EdgeId.{EdgeId}
@@ -16,13 +16,14 @@ use Rattle.mc_graph.specs.Graph.{Graph, Edges, no_edges, with_new, numbered, mov
 use Rattle.mc_pure.specs.Pure.{Kinds, HasKind, IsNode, IsWellFormed, kind_of}
 use Rattle.mc_pure.specs.Nodes.{RiseFrom}
 use Rattle.mc_renaming.specs.Images.{Images, image_of, image_or, image}
-use Rattle.mc_state.specs.State.{State, unknown, with_atoms, with_edges}
+use Rattle.mc_state.specs.State.{State, with_atoms, with_edges}
 use Rattle.mc_state.specs.Fits.{AreNodes, IsBounded}
 use Rattle.mc_state.specs.Laws.{moved_kinds}
-use Rattle.mc_same.specs.Same.{place_from, place_in, anew, numbered_graph}
-use Rattle.mc_anew.specs.Numbers.{AreNumbers, number_of, numbered_nodes}
-use Rattle.mc_anew.proofs.Lists.{same_node, number, yes, no, decide, all_over, long_map}
+use Rattle.mc_same.specs.Same.{place_from, anew, numbered_graph}
+use Rattle.mc_anew.specs.Numbers.{AreNumbers, numbered_nodes}
+use Rattle.mc_anew.proofs.Lists.{same_node, yes, no, all_over, long_map}
 use Rattle.mc_anew.proofs.Numbering.{below_none}
+use Rattle.mc_anew.proofs.Filling.{graph_of}
 
 -- ---- places
 
@@ -76,6 +77,16 @@ counted_at f place low (k ∷ kinds) r e =
     later : (n : ℕ) → suc k.0.0 ≤ n → place_from place (k ∷ kinds) n ≡ place_from (suc place) kinds n
     later n l = rw (no k.0.0 n (omega arith)) refl
 
+-- an edge, its image, and its image with its id
+abbrev edge_in : EdgeId × Edge → Edge
+edge_in e = e.1
+
+abbrev edge_by : (ℕ → ℕ) → EdgeId × Edge → Edge
+edge_by h e = moved_edge h e.1
+
+abbrev entry_by : (ℕ → ℕ) → EdgeId × Edge → EdgeId × Edge
+entry_by h e = (e.0, moved_edge h e.1)
+
 -- ---- images
 
 module _ (kinds : Kinds) (rise : RiseFrom 1 kinds) (images : Images) (numbers : AreNumbers kinds images) where
@@ -117,9 +128,9 @@ module _ (kinds : Kinds) (rise : RiseFrom 1 kinds) (images : Images) (numbers : 
   all_there (n ∷ ns) h = (there n h.0, all_there ns h.1)
 
   well : (a : Atom) → IsWellFormed kinds a → IsWellFormed (moved_kinds g kinds) (moved_atom f a)
-  well (Eq a b c) w = ((w.0.0, (has w.0.0 a w.0.1, has w.0.0 b w.0.2)), w.1)
-  well (Ne a b c) w = ((w.0.0, (has w.0.0 a w.0.1, has w.0.0 b w.0.2)), w.1)
-  well (In a lo hi) w = (there a w.0, w.1)
+  well (Eq a b c) w = ((w.0.0, has w.0.0 a w.0.1, has w.0.0 b w.0.2), w.1)
+  well (Ne a b c) w = ((w.0.0, has w.0.0 a w.0.1, has w.0.0 b w.0.2), w.1)
+  well (In a lo hi) w = (there a w.0, w.1, w.2)
 
   pub atoms_well : (atoms : List Atom) → AllByRecursion (IsWellFormed kinds) atoms → AllByRecursion (λ a. IsWellFormed (moved_kinds g kinds) (moved_atom f a)) atoms
   atoms_well atoms w = all_over (IsWellFormed kinds) (λ (a : Atom). IsWellFormed (moved_kinds g kinds) (moved_atom f a)) atoms well w
@@ -143,7 +154,7 @@ module _ (kinds : Kinds) (rise : RiseFrom 1 kinds) (images : Images) (numbers : 
   nodes_moved (Seg at args pred «end» ends) = ap (λ (z : List NodeId). moved f at ∷ z) (sym (append_moved args («end» ∷ ends)))
 
   edge_there : (e : EdgeId × Edge) → AreNodes kinds (nodes_of e.1) → AreNodes (moved_kinds g kinds) (nodes_of (moved_edge f e.1))
-  edge_there e h = rw (nodes_moved e.1) (all_there (nodes_of e.1) h)
+  edge_there e h = subst (λ (z : List NodeId). AreNodes (moved_kinds g kinds) z) (sym (nodes_moved e.1)) (all_there (nodes_of e.1) h)
 
   pub edges_there : (es : Edges) → AllByRecursion (λ e. AreNodes kinds (nodes_of e.1)) es → AllByRecursion (λ e. AreNodes (moved_kinds g kinds) (nodes_of (moved_edge f e.1))) es
   edges_there es h = all_over (λ (e : EdgeId × Edge). AreNodes kinds (nodes_of e.1)) (λ (e : EdgeId × Edge). AreNodes (moved_kinds g kinds) (nodes_of (moved_edge f e.1))) es edge_there h
@@ -179,29 +190,32 @@ module _ (kinds : Kinds) (rise : RiseFrom 1 kinds) (images : Images) (numbers : 
       let k = first_there args («end» ∷ ends) h.1 in
       rw (moves at h.0, nodes_same args k.0, moves «end» k.1.0, nodes_same ends k.1.1) refl
 
-  edges_same : (es : Edges) → AllByRecursion (λ e. AreNodes kinds (nodes_of e.1)) es → map (λ e. moved_edge f e.1) es ≡ map (λ e. e.1) (map (λ e. (e.0, moved_edge g e.1)) es)
+  edges_same : (es : Edges) → AllByRecursion (λ e. AreNodes kinds (nodes_of e.1)) es → map (edge_by f) es ≡ map edge_in (map (entry_by g) es)
   edges_same [] h = refl
   edges_same (e ∷ es) h = rw (edge_same e.1 h.0, edges_same es h.1) refl
 
-  graph_same : (graph : Graph) → AllByRecursion (λ e. AreNodes kinds (nodes_of e.1)) graph.edges → with_new no_edges (map (λ e. moved_edge f e.1) graph.edges) ≡ numbered_graph (moved_graph g graph)
+  graph_same : (graph : Graph) → AllByRecursion (λ e. AreNodes kinds (nodes_of e.1)) graph.edges → with_new no_edges (map (edge_by f) graph.edges) ≡ numbered_graph (moved_graph g graph)
   graph_same graph h =
       let es = edges_same graph.edges h in
-      let long : 0 + length (map (λ e. moved_edge f e.1) graph.edges) ≡ length (map (λ e. (e.0, moved_edge g e.1)) graph.edges) =
-      let a = long_map (λ (e : EdgeId × Edge). moved_edge f e.1) graph.edges in
-      let b = long_map (λ (e : EdgeId × Edge). let x : EdgeId × Edge = (e.0, moved_edge g e.1) in x) graph.edges in
+      let long : 0 + length (map (edge_by f) graph.edges) ≡ length (map (entry_by g) graph.edges) =
+      let a = long_map (edge_by f) graph.edges in
+      let b = long_map (entry_by g) graph.edges in
       omega arith in
       made (ap (λ (z : List Edge). numbered 0 z) es) long
     where
-      made : {es fs : Edges} {m n : ℕ} → es ≡ fs → m ≡ n → record { edges = es; next = m } ≡ record { edges = fs; next = n }
+      made : {es fs : Edges} {m n : ℕ} → es ≡ fs → m ≡ n → graph_of es m ≡ graph_of fs n
       made p q = rw (p, q) refl
 
 -- ---- the state numbered anew
+
+abbrev with_parts : State → List (Option NodeId) → Graph → List Atom → State
+with_parts s vars g atoms = record { env = vars; kinds = moved_kinds (place_from 1 s.kinds) s.kinds; graph = g; atoms = atoms; next = suc (length s.kinds); whole = s.whole }
 
 pub all_anew : (s : State) (images : Images) (fresh vars atoms edges whole : State) → RiseFrom 1 s.kinds → IsBounded s → AreNumbers s.kinds images
     → fresh ≡ numbered_nodes (length s.env) s.kinds
     → vars ≡ record fresh { env = map (option_map (moved (image images))) s.env }
     → atoms ≡ with_atoms vars (map (moved_atom (image images)) s.atoms)
-    → edges ≡ with_edges atoms (map (λ e. moved_edge (image images) e.1) s.graph.edges)
+    → edges ≡ with_edges atoms (map (edge_by (image images)) s.graph.edges)
     → whole ≡ record edges { whole = s.whole }
     → whole ≡ anew s
 all_anew s images fresh vars atoms edges whole rise bounded numbers a b c d e =
@@ -210,11 +224,8 @@ all_anew s images fresh vars atoms edges whole rise bounded numbers a b c d e =
     let graph = graph_same s.kinds rise images numbers s.graph bounded.edges in
     let first = b ∙ ap (λ (z : State). record z { env = map (option_map (moved (image images))) s.env }) a in
     let second = c ∙ ap (λ (z : State). with_atoms z (map (moved_atom (image images)) s.atoms)) first in
-    let third = d ∙ ap (λ (z : State). with_edges z (map (λ e. moved_edge (image images) e.1) s.graph.edges)) second in
+    let third = d ∙ ap (λ (z : State). with_edges z (map (edge_by (image images)) s.graph.edges)) second in
     e ∙ (ap (λ (z : State). record z { whole = s.whole }) third ∙ made env graph facts)
   where
-    abbrev with_parts : List (Option NodeId) → Graph → List Atom → State
-    with_parts vars g atoms = record { env = vars; kinds = moved_kinds (place_from 1 s.kinds) s.kinds; graph = g; atoms = atoms; next = suc (length s.kinds); whole = s.whole }
-
-    made : {u v : List (Option NodeId)} {g h : Graph} {x y : List Atom} → u ≡ v → g ≡ h → x ≡ y → with_parts u g x ≡ with_parts v h y
+    made : {u v : List (Option NodeId)} {g h : Graph} {x y : List Atom} → u ≡ v → g ≡ h → x ≡ y → with_parts s u g x ≡ with_parts s v h y
     made p q r = rw (p, q, r) refl

@@ -1,5 +1,5 @@
 pub mod Lists
 pub mod Numbering
-pub mod Images
 pub mod Filling
+pub mod Images
 pub mod Putting

@@ -1,5 +1,5 @@
 -- Nodes that are numbered in order.
-use Rattle.std.proofs.Common.{◌≡◌, ◌≢◌, ◌↔◌, ◌⊎◌, inl, inr, ℕ, zero, suc, ◌<◌, ◌≤◌, ◌+◌, ◌-◌, List, [], ◌∷◌, ◌++◌, Option, Some, None, Bool, true, false, nat_eq, get_or, length, map, take, option_map, refl, sym, ◌∙◌, ap, subst, arith}
+use Rattle.std.proofs.Common.{◌≡◌, ◌↔◌, inl, inr, ℕ, zero, suc, ◌<◌, ◌≤◌, ◌+◌, ◌-◌, List, [], ◌∷◌, ◌++◌, Option, Some, None, Bool, true, false, nat_eq, get_or, length, map, take, option_map, refl, sym, ◌∙◌, ap, subst, arith}
 use Rattle.std.specs.Prelude.{if◌then◌else◌}
 use Rattle.std.specs.List.{AllByRecursion}
 use Rattle.mc_base.specs.declared.ids.NodeId.{NodeId}
@@ -13,7 +13,7 @@ use Rattle.mc_state.specs.State.{State, unknown, with_nodes, next_node}
 use Rattle.mc_state.specs.Laws.{moved_kinds}
 use Rattle.mc_same.specs.Same.{place_from}
 use Rattle.mc_anew.specs.Numbers.{AreNumbers, number_of, numbered_nodes, first_kinds}
-use Rattle.mc_anew.proofs.Lists.{same_node, number, yes, no, decide, take_all, long_map}
+use Rattle.mc_anew.proofs.Lists.{yes, no, decide, take_all, long_map}
 
 some_none : {X : Type 0} {x : X} → Some x ≡ None → ⊥
 some_none e = cc
@@ -104,19 +104,22 @@ add_yes false old new m to y o none = let h = o.0 refl in absurd (some_none (sym
 
 -- ---- the loop
 
+-- a state of nodes alone
+abbrev nodes_of_kinds : ℕ → Kinds → ℕ → State
+nodes_of_kinds vars ks n = record (unknown vars) { kinds = ks; next = n }
+
 module _ (vars : ℕ) (kinds : Kinds) where
+  -- the state with some nodes
+  abbrev first_at : Kinds → State
+  first_at first = record (unknown vars) { kinds = moved_kinds (place_from 1 kinds) first; next = suc (length first) }
+
   -- the state with the first nodes
   abbrev pub partial : ℕ → State
-  partial i = record (unknown vars) { kinds = moved_kinds (place_from 1 kinds) (first_kinds i kinds); next = suc (length (first_kinds i kinds)) }
+  partial i = first_at (first_kinds i kinds)
 
   pub record Numbering (i : ℕ) (fresh : State) (renaming : Images) : Type 0 where
     pub nodes : fresh ≡ partial i
     pub numbers : AreNumbers (first_kinds i kinds) renaming
-
-  pub numbering_none : (fresh : State) (renaming : Images) → fresh ≡ unknown vars → renaming ≡ [] → Numbering 0 fresh renaming
-  numbering_none fresh renaming e r =
-      let none : 0 - 1 ≡ 0 = omega arith in
-      record { nodes = rw none e; numbers = λ n. rw (none, r) refl }
 
   module _ (rise : RiseFrom 1 kinds) (ns : List NodeId) (all : ns ≡ nodes_of kinds) where
     abbrev one : ℕ → NodeId → NodeId
@@ -150,7 +153,7 @@ module _ (vars : ℕ) (kinds : Kinds) where
     numbering_skip zero d fresh renaming l e h =
         let none : 0 - 1 ≡ (0 + 1) - 1 = omega arith in
         record {
-          nodes = h.nodes ∙ ap (λ (z : ℕ). record (unknown vars) { kinds = moved_kinds (place_from 1 kinds) (take z kinds); next = suc (length (take z kinds)) }) none;
+          nodes = h.nodes ∙ ap (λ (z : ℕ). first_at (take z kinds)) none;
           numbers = subst (λ (z : ℕ). AreNumbers (take z kinds) renaming) none h.numbers;
         }
     numbering_skip (suc j) d fresh renaming l e h = let t = taken j d l in absurd (some_none (sym t.has ∙ e))
@@ -189,13 +192,13 @@ module _ (vars : ℕ) (kinds : Kinds) where
         one_more : (k : ℕ) → suc k ≡ 1 + k
         one_more k = omega arith
 
-        made : {ks ls : Kinds} {a b : ℕ} → ks ≡ ls → a ≡ b → record (unknown vars) { kinds = ks; next = a } ≡ record (unknown vars) { kinds = ls; next = b }
+        made : {ks ls : Kinds} {a b : ℕ} → ks ≡ ls → a ≡ b → nodes_of_kinds vars ks a ≡ nodes_of_kinds vars ls b
         made p q = rw (p, q) refl
 
     pub numbering_all : (i : ℕ) (fresh : State) (renaming : Images) → length ns ≤ i → Numbering i fresh renaming → (fresh ≡ numbered_nodes vars kinds) × AreNumbers kinds renaming
     numbering_all i fresh renaming l h =
         let size : length ns ≡ suc (length kinds) = ap (λ (z : List NodeId). length z) all ∙ ap suc (long_map (λ (k : NodeId × Kind). k.0) kinds) in
         let whole : first_kinds i kinds ≡ kinds = take_all kinds (i - 1) (omega arith) in (
-          h.nodes ∙ ap (λ (z : Kinds). record (unknown vars) { kinds = moved_kinds (place_from 1 kinds) z; next = suc (length z) }) whole,
+          h.nodes ∙ ap first_at whole,
           subst (λ (z : Kinds). AreNumbers z renaming) whole h.numbers,
         )

@@ -19,13 +19,13 @@ use Rattle.mc_same.specs.Same.{place_from, anew}
 use Rattle.mc_anew.specs.Numbers.{AreNumbers, numbered_nodes}
 use Rattle.mc_anew.proofs.Images.{vars_there, atoms_well, edges_there, all_anew}
 
-long_none : (n : ℕ) → length (replicate n (None {A = NodeId})) ≡ n
-long_none zero = refl
-long_none (suc n) = ap suc (long_none n)
+long_none : (o : Option NodeId) (n : ℕ) → length (replicate n o) ≡ n
+long_none o zero = refl
+long_none o (suc n) = ap suc (long_none o n)
 
 -- as many variables
 pub vars_long : (s fresh : State) (env : List (Option NodeId)) → fresh ≡ numbered_nodes (length s.env) s.kinds → env ≡ s.env → length fresh.env ≡ length env
-vars_long s fresh env e p = ap (λ (z : State). length z.env) e ∙ (long_none (length s.env) ∙ ap (λ (z : List (Option NodeId)). length z) (sym p))
+vars_long s fresh env e p = ap (λ (z : State). length z.env) e ∙ (long_none None (length s.env) ∙ ap (λ (z : List (Option NodeId)). length z) (sym p))
 
 module _ (s : State) (rise : RiseFrom 1 s.kinds) (images : Images) (numbers : AreNumbers s.kinds images) where
   abbrev f : ℕ → ℕ
@@ -56,12 +56,12 @@ module _ (s : State) (rise : RiseFrom 1 s.kinds) (images : Images) (numbers : Ar
       → fresh ≡ numbered_nodes (length s.env) s.kinds
       → vars ≡ record fresh { env = map (option_map (moved f)) env }
       → atoms ≡ with_atoms vars (map (moved_atom f) facts)
-      → edges ≡ with_edges atoms (map (λ e. moved_edge f e.1) es)
+      → edges ≡ with_edges atoms (map (λ (x : EdgeId × Edge). moved_edge f x.1) es)
       → whole ≡ record edges { whole = flag }
       → whole ≡ anew s
   all_put fresh vars atoms edges whole env facts es flag bounded p q r t a b c d e =
       all_anew s images fresh vars atoms edges whole rise bounded numbers a
       (b ∙ ap (λ (z : List (Option NodeId)). record fresh { env = map (option_map (moved f)) z }) p)
       (c ∙ ap (λ (z : List Atom). with_atoms vars (map (moved_atom f) z)) q)
-      (d ∙ ap (λ (z : Edges). with_edges atoms (map (λ e. moved_edge f e.1) z)) r)
+      (d ∙ ap (λ (z : Edges). with_edges atoms (map (λ (x : EdgeId × Edge). moved_edge f x.1) z)) r)
       (e ∙ ap (λ (z : Bool). record edges { whole = z }) t)

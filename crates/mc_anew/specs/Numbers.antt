@@ -1,5 +1,5 @@
 -- The numbers that nodes get anew.
-use Rattle.std.specs.Prelude.{◌≡◌, ◌-◌, ℕ, suc, List, Option, map, option_map, length, take}
+use Rattle.std.specs.Prelude.{◌≡◌, ◌-◌, ℕ, suc, Option, option_map, length, take}
 use Rattle.mc_base.specs.declared.ids.NodeId.{NodeId}
 use Rattle.mc_base.specs.Nodes.{moved}
 use Rattle.mc_pure.specs.Pure.{Kinds, kind_of}

@@ -1,4 +1,4 @@
-use Rattle.std.proofs.Common.{length, sym, subst, ap, ◌∙◌}
+use Rattle.std.proofs.Common.{length, sym, subst, ◌∙◌}
 use Rattle.mc_pure.specs.Nodes.{RiseFrom}
 use Rattle.mc_anew.proofs.Numbering.{numbering_skip, numbering_more}
 use Rattle.mc_anew.proofs.numbered.nodes_anew.Goals as goal

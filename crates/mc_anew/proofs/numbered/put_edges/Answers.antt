@@ -8,4 +8,4 @@ use Rattle.mc_anew.proofs.numbered.put_edges.Goals as goal
 pub loop-entry-preserved : goal.loop-entry-preserved
 loop-entry-preserved c =
     edges_next (λ (e : EdgeId × Edge). moved_edge (image c.args.renaming.now) e.1) c.args.fresh.now c.loop-entry.fresh c.add_edge.new.self c.args.edges.now
-    c.loop-entry.entry-index _ c.in_ok-edge.edge c.loop-entry-test.true c.loop-entry.invariant c.in_ok-edge.ensures c.in_ok-add_edge.ensures.ok
+    c.loop-entry.entry-index c.entry-item.result c.in_ok-edge.edge c.loop-entry-test.true c.loop-entry.invariant c.in_ok-edge.ensures c.entry-item.is c.in_ok-add_edge.ensures.ok

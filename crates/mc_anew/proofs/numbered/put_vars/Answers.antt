@@ -1,5 +1,4 @@
 use Rattle.std.proofs.Common.{option_map, sym, subst, ap, ◌∙◌}
-use Rattle.mc_base.specs.declared.ids.NodeId.{NodeId}
 use Rattle.mc_base.specs.Nodes.{moved}
 use Rattle.mc_pure.specs.Pure.{Kinds, IsNode}
 use Rattle.mc_renaming.specs.Images.{image}
