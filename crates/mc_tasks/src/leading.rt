@@ -1,5 +1,5 @@
 // Where the answer of a condition leads.
-ghost use Rattle.std.specs.Prelude.{◌≡◌, IfOk};
+ghost use Rattle.std.specs.Prelude.{IfOk};
 ghost use Rattle.mc_tasks.specs.Left.{asked, awaited, left};
 ghost use Rattle.mc_tasks.specs.Leading.{Leads};
 

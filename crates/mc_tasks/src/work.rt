@@ -29,8 +29,8 @@ impl<'a> Work<'a> {
     ghost use Rattle.std.specs.Prelude.{Some, None, if◌then◌else◌};
     ghost use Rattle.mc_resolved.specs.Configs.{perform, test};
     ghost use Rattle.mc_resolved.specs.Moves.{at_turn, behind_loop};
-    ghost use Rattle.mc_resolved.specs.Programs.{declaration, for_loop};
-    ghost use Rattle.mc_resolved.specs.Views.{condition_of, head_of, initial_of, statement_of};
+    ghost use Rattle.mc_resolved.specs.Programs.{declaration};
+    ghost use Rattle.mc_resolved.specs.Views.{condition_of, initial_of, statement_of};
     ghost use Rattle.mc_tasks.specs.Left.{target_of};
     ghost use Rattle.mc_tasks.specs.Leading.{chosen, led_to};
     ghost use Rattle.mc_tasks.specs.Going.{Advances, Comes, branches_of, tasks_of, values_of};
