@@ -30,10 +30,12 @@ pub trait LogicRule {
         access: Option<NodeId>,
     ) -> Result<Vec<State>, LogicFault>
         requires { IsMadeFor defs.now state.now }
-        ensures { (know : Test) → Tells know state.now → AnswersBy (λ next. next.items) (judged self.now know defs.now access state.now) result };
+        ensures { (know : Test) → Tells know state.now → AnswersBy (λ next. next.items)
+            (judged self.now know defs.now access state.now) result };
 
     /// Whatever stands for a state stands for one of the successors that the rule gives. The law is what this function
     /// ensures, and it does nothing.
     fn is_sound(&self)
-        ensures { (know : Test) (defs : List Def) (access : Option Node) (s : Symbolic) (next : List Symbolic) → IsMadeFor defs s → Tells know s → judged self.now know defs access s ≡ Ok next → IsSound defs s next };
+        ensures { (know : Test) (defs : List Def) (access : Option Node) (s : Symbolic) (next : List Symbolic)
+            → IsMadeFor defs s → Tells know s → judged self.now know defs access s ≡ Ok next → IsSound defs s next };
 }

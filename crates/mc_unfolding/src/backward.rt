@@ -53,7 +53,8 @@ fn first_of(nodes: &[NodeId], count: usize) -> &[NodeId]
 
 /// A segment from where one begins to the start of a rule's body and its parameters.
 fn front_segment(alloc: Global, nodes: &[NodeId], seg: &Segment<'_>) -> Result<Edge, NoMemory>
-    ensures { IfOk result (λ e. e ≡ Seg seg.now.at seg.now.args.now seg.now.pred (node_of nodes.now 0) (take (length seg.now.args.now) (drop 1 nodes.now))) }
+    ensures { IfOk result (λ e. e ≡ Seg seg.now.at seg.now.args.now seg.now.pred (node_of nodes.now 0)
+        (take (length seg.now.args.now) (drop 1 nodes.now))) }
 {
     let args = args_of(alloc, seg.args)?;
     let params = first_of(behind_first(nodes), seg.args.len());
@@ -76,7 +77,8 @@ fn add_front(
 ) -> Result<(), NoMemory>
     requires nodes { AreNodes s.old.kinds nodes.now }
     requires start { AreNodes s.old.kinds (seg.now.at ∷ seg.now.args.now) }
-    ensures { OnOk result (s.new ≡ with_edges s.old (Seg seg.now.at seg.now.args.now seg.now.pred (node_of nodes.now 0) (take (length seg.now.args.now) (drop 1 nodes.now)) ∷ [])) }
+    ensures { OnOk result (s.new ≡ with_edges s.old (Seg seg.now.at seg.now.args.now seg.now.pred
+        (node_of nodes.now 0) (take (length seg.now.args.now) (drop 1 nodes.now)) ∷ [])) }
 {
     rules_stand_at_nodes();
     let edge = front_segment(alloc, nodes, seg)?;
@@ -114,7 +116,8 @@ fn add_body_behind(
     requires nodes { AreNodes s.old.kinds nodes.now }
     requires start { AreNodes s.old.kinds (seg.now.at ∷ seg.now.args.now) }
     requires inside { place < length rule.now.calls }
-    ensures { OnOk result (s.new ≡ with_edges s.old (body_behind seg.now.at seg.now.args.now seg.now.pred nodes.now rule.now place)) }
+    ensures { OnOk result (s.new ≡ with_edges s.old (body_behind seg.now.at seg.now.args.now seg.now.pred nodes.now
+        rule.now place)) }
 {
     add_front(alloc, s, nodes, seg)?;
     add_block(alloc, s, nodes, rule)?;
@@ -130,8 +133,10 @@ fn assume_call_is_end(
     seg: &Segment<'_>,
     call: &Call,
 ) -> Result<(), NoMemory>
-    requires { AllByRecursion (IsWellFormed s.old.kinds) (equal_atoms (node_of nodes.now call.now.at ∷ map (node_of nodes.now) call.now.args) (seg.now.stop ∷ seg.now.ends.now)) }
-    ensures { OnOk result (s.new ≡ with_atoms s.old (equal_atoms (node_of nodes.now call.now.at ∷ map (node_of nodes.now) call.now.args) (seg.now.stop ∷ seg.now.ends.now))) }
+    requires { AllByRecursion (IsWellFormed s.old.kinds) (equal_atoms (node_of nodes.now call.now.at ∷ map
+        (node_of nodes.now) call.now.args) (seg.now.stop ∷ seg.now.ends.now)) }
+    ensures { OnOk result (s.new ≡ with_atoms s.old (equal_atoms (node_of nodes.now call.now.at ∷ map
+        (node_of nodes.now) call.now.args) (seg.now.stop ∷ seg.now.ends.now))) }
 {
     let args = nodes_of_names(alloc, nodes, call.args.as_slice())?;
     let start = node_of(nodes, call.at);
@@ -153,10 +158,13 @@ fn add_behind(
     requires nodes { AreNodes s.old.kinds nodes.now }
     requires start { AreNodes s.old.kinds (seg.now.at ∷ seg.now.args.now) }
     requires atoms { AllByRecursion (IsWellFormed s.old.kinds) (map (atom_of nodes.now) rule.now.atoms) }
-    requires ends { AllByRecursion (IsWellFormed s.old.kinds) (equal_atoms (node_of nodes.now call.now.at ∷ map (node_of nodes.now) call.now.args) (seg.now.stop ∷ seg.now.ends.now)) }
+    requires ends { AllByRecursion (IsWellFormed s.old.kinds) (equal_atoms
+        (node_of nodes.now call.now.at ∷ map (node_of nodes.now) call.now.args) (seg.now.stop ∷ seg.now.ends.now)) }
     requires call { slice_get rule.now.calls place ≡ Some call.now }
     requires inside { place < length rule.now.calls }
-    ensures { OnOk result (s.new ≡ with_atoms (with_edges s.old (body_behind seg.now.at seg.now.args.now seg.now.pred nodes.now rule.now place)) (atoms_behind nodes.now seg.now.stop seg.now.ends.now rule.now place)) }
+    ensures { OnOk result (s.new ≡ with_atoms (with_edges s.old (body_behind seg.now.at seg.now.args.now
+        seg.now.pred nodes.now rule.now place)) (atoms_behind nodes.now seg.now.stop seg.now.ends.now rule.now
+        place)) }
 {
     add_body_behind(alloc, s, nodes, seg, rule, place)?;
     add_atoms(alloc, s, nodes, rule)?;
@@ -174,11 +182,13 @@ fn unfolded_back(
     place: usize,
     call: &Call,
 ) -> Result<State, NoMemory>
-    requires rule { TakesRuleBack s.now (parts seg.now.at seg.now.args.now seg.now.pred seg.now.stop seg.now.ends.now) rule.now }
+    requires rule { TakesRuleBack s.now (parts seg.now.at seg.now.args.now seg.now.pred seg.now.stop
+        seg.now.ends.now) rule.now }
     requires call { slice_get rule.now.calls place ≡ Some call.now }
     requires inside { place < length rule.now.calls }
     requires own { call.now.pred.0 ≡ seg.now.pred.0 }
-    ensures { IfOk result (λ t. t ≡ unfolded_back s.now edge seg.now.at seg.now.args.now seg.now.pred seg.now.stop seg.now.ends.now rule.now place) }
+    ensures { IfOk result (λ t. t ≡ unfolded_back s.now edge seg.now.at seg.now.args.now seg.now.pred seg.now.stop
+        seg.now.ends.now rule.now place) }
 {
     let mut nodes = Vec::new(alloc);
     let mut next = opened(alloc, s, edge, rule.names.as_slice(), &mut nodes)?;
@@ -197,10 +207,13 @@ fn put_call(
     call: &Call,
     next: &mut Vec<State>,
 ) -> Result<(), NoMemory>
-    requires rule { TakesRuleBack s.now (parts seg.now.at seg.now.args.now seg.now.pred seg.now.stop seg.now.ends.now) rule.now }
+    requires rule { TakesRuleBack s.now (parts seg.now.at seg.now.args.now seg.now.pred seg.now.stop
+        seg.now.ends.now) rule.now }
     requires call { slice_get rule.now.calls place ≡ Some call.now }
     requires inside { place < length rule.now.calls }
-    ensures { OnOk result (next.new.items ≡ next.old.items ++ map (unfolded_back s.now edge seg.now.at seg.now.args.now seg.now.pred seg.now.stop seg.now.ends.now rule.now) (own_places seg.now.pred place (call.now ∷ []))) }
+    ensures { OnOk result (next.new.items ≡ next.old.items ++ map (unfolded_back s.now edge seg.now.at
+        seg.now.args.now seg.now.pred seg.now.stop seg.now.ends.now rule.now)
+        (own_places seg.now.pred place (call.now ∷ []))) }
 {
     if call.pred.0 == seg.pred.0 {
         let state = unfolded_back(alloc, s, edge, seg, rule, place, call)?;
@@ -221,9 +234,11 @@ fn put_calls(
     calls: &[Call],
     next: &mut Vec<State>,
 ) -> Result<(), NoMemory>
-    requires rule { TakesRuleBack s.now (parts seg.now.at seg.now.args.now seg.now.pred seg.now.stop seg.now.ends.now) rule.now }
+    requires rule { TakesRuleBack s.now (parts seg.now.at seg.now.args.now seg.now.pred seg.now.stop
+        seg.now.ends.now) rule.now }
     requires calls { rule.now.calls ≡ calls.now }
-    ensures { OnOk result (next.new.items ≡ next.old.items ++ map (unfolded_back s.now edge seg.now.at seg.now.args.now seg.now.pred seg.now.stop seg.now.ends.now rule.now) (own_places seg.now.pred 0 calls.now)) }
+    ensures { OnOk result (next.new.items ≡ next.old.items ++ map (unfolded_back s.now edge seg.now.at
+        seg.now.args.now seg.now.pred seg.now.stop seg.now.ends.now rule.now) (own_places seg.now.pred 0 calls.now)) }
 {
     for (place, call) in calls.iter().enumerate() {
         put_call(alloc, s, edge, seg, rule, place, call, next)?;
@@ -240,8 +255,11 @@ fn put_each_call(
     rule: &Rule,
     next: &mut Vec<State>,
 ) -> Result<(), NoMemory>
-    requires { TakesRuleBack s.now (parts seg.now.at seg.now.args.now seg.now.pred seg.now.stop seg.now.ends.now) rule.now }
-    ensures { OnOk result (next.new.items ≡ next.old.items ++ map (unfolded_back s.now edge seg.now.at seg.now.args.now seg.now.pred seg.now.stop seg.now.ends.now rule.now) (own_places seg.now.pred 0 rule.now.calls)) }
+    requires { TakesRuleBack s.now (parts seg.now.at seg.now.args.now seg.now.pred seg.now.stop seg.now.ends.now)
+        rule.now }
+    ensures { OnOk result (next.new.items ≡ next.old.items ++ map (unfolded_back s.now edge seg.now.at
+        seg.now.args.now seg.now.pred seg.now.stop seg.now.ends.now rule.now)
+        (own_places seg.now.pred 0 rule.now.calls)) }
 {
     put_calls(alloc, s, edge, seg, rule, rule.calls.as_slice(), next)?;
     Ok(())
@@ -255,9 +273,12 @@ fn by_each_call(
     seg: &Segment<'_>,
     rules: &[Rule],
 ) -> Result<Vec<State>, NoMemory>
-    requires rules { AllByRecursion (TakesRuleBack s.now (parts seg.now.at seg.now.args.now seg.now.pred seg.now.stop seg.now.ends.now)) rules.now }
-    requires equal { AllByRecursion (IsWellFormed s.now.kinds) (equal_atoms (seg.now.at ∷ seg.now.args.now) (seg.now.stop ∷ seg.now.ends.now)) }
-    ensures { IfOk result (λ next. next.items ≡ back_successors s.now edge seg.now.at seg.now.args.now seg.now.pred seg.now.stop seg.now.ends.now rules.now) }
+    requires rules { AllByRecursion (TakesRuleBack s.now (parts seg.now.at seg.now.args.now seg.now.pred
+        seg.now.stop seg.now.ends.now)) rules.now }
+    requires equal { AllByRecursion (IsWellFormed s.now.kinds) (equal_atoms (seg.now.at ∷ seg.now.args.now)
+        (seg.now.stop ∷ seg.now.ends.now)) }
+    ensures { IfOk result (λ next. next.items ≡ back_successors s.now edge seg.now.at seg.now.args.now seg.now.pred
+        seg.now.stop seg.now.ends.now rules.now) }
 {
     let mut next = Vec::new(alloc);
     next.push(emptied(alloc, s, edge, seg)?)?;
@@ -277,7 +298,8 @@ pub fn unfold_back(
     edge: EdgeId,
 ) -> Result<Vec<State>, LogicFault>
     requires { IsMadeFor defs.now s.now }
-    ensures { (know : Test) → Tells know s.now → AnswersBy (λ v. v.items) (unfolding_back know defs.now access edge s.now) result }
+    ensures { (know : Test) → Tells know s.now → AnswersBy (λ v. v.items)
+        (unfolding_back know defs.now access edge s.now) result }
 {
     edges_take_rules();
     if s.is_false() {

@@ -69,7 +69,8 @@ fn unfolded_at(
     place: usize,
 ) -> Result<State, NoMemory>
     requires { TakesRuleTo s.now seg.now.at seg.now.args.now seg.now.stop seg.now.ends.now rule.now }
-    ensures { IfOk result (λ t. t ≡ unfolded_at s.now edge seg.now.at seg.now.args.now seg.now.stop seg.now.ends.now rule.now place) }
+    ensures { IfOk result (λ t. t ≡ unfolded_at s.now edge seg.now.at seg.now.args.now seg.now.stop seg.now.ends.now
+        rule.now place) }
 {
     let mut nodes = Vec::new(alloc);
     let mut next = opened_at(alloc, s, edge, seg.at, seg.args, rule, &mut nodes)?;
@@ -117,7 +118,8 @@ fn put_call(
     next: &mut Vec<State>,
 ) -> Result<(), NoMemory>
     requires { TakesRuleTo s.now seg.now.at seg.now.args.now seg.now.stop seg.now.ends.now rule.now }
-    ensures { OnOk result (next.new.items ≡ next.old.items ++ map (unfolded_at s.now edge seg.now.at seg.now.args.now seg.now.stop seg.now.ends.now rule.now) (own_places seg.now.pred place (call.now ∷ []))) }
+    ensures { OnOk result (next.new.items ≡ next.old.items ++ map (unfolded_at s.now edge seg.now.at
+        seg.now.args.now seg.now.stop seg.now.ends.now rule.now) (own_places seg.now.pred place (call.now ∷ []))) }
 {
     if call.pred.0 == seg.pred.0 {
         let state = unfolded_at(alloc, s, edge, seg, rule, place)?;
@@ -139,7 +141,8 @@ fn put_calls(
     next: &mut Vec<State>,
 ) -> Result<(), NoMemory>
     requires { TakesRuleTo s.now seg.now.at seg.now.args.now seg.now.stop seg.now.ends.now rule.now }
-    ensures { OnOk result (next.new.items ≡ next.old.items ++ map (unfolded_at s.now edge seg.now.at seg.now.args.now seg.now.stop seg.now.ends.now rule.now) (own_places seg.now.pred 0 calls.now)) }
+    ensures { OnOk result (next.new.items ≡ next.old.items ++ map (unfolded_at s.now edge seg.now.at
+        seg.now.args.now seg.now.stop seg.now.ends.now rule.now) (own_places seg.now.pred 0 calls.now)) }
 {
     for (place, call) in calls.iter().enumerate() {
         put_call(alloc, s, edge, seg, rule, place, call, next)?;
@@ -157,7 +160,8 @@ fn put_each_call(
     next: &mut Vec<State>,
 ) -> Result<(), NoMemory>
     requires { TakesRuleTo s.now seg.now.at seg.now.args.now seg.now.stop seg.now.ends.now rule.now }
-    ensures { OnOk result (next.new.items ≡ next.old.items ++ map (unfolded_at s.now edge seg.now.at seg.now.args.now seg.now.stop seg.now.ends.now rule.now) (own_places seg.now.pred 0 rule.now.calls)) }
+    ensures { OnOk result (next.new.items ≡ next.old.items ++ map (unfolded_at s.now edge seg.now.at
+        seg.now.args.now seg.now.stop seg.now.ends.now rule.now) (own_places seg.now.pred 0 rule.now.calls)) }
 {
     put_calls(alloc, s, edge, seg, rule, rule.calls.as_slice(), next)?;
     Ok(())
@@ -171,9 +175,12 @@ fn by_each_call(
     seg: &Segment<'_>,
     rules: &[Rule],
 ) -> Result<Vec<State>, NoMemory>
-    requires rules { AllByRecursion (TakesRuleTo s.now seg.now.at seg.now.args.now seg.now.stop seg.now.ends.now) rules.now }
-    requires equal { AllByRecursion (IsWellFormed s.now.kinds) (equal_atoms (seg.now.at ∷ seg.now.args.now) (seg.now.stop ∷ seg.now.ends.now)) }
-    ensures { IfOk result (λ next. next.items ≡ seg_successors s.now edge (parts seg.now.at seg.now.args.now seg.now.pred seg.now.stop seg.now.ends.now) rules.now) }
+    requires rules { AllByRecursion (TakesRuleTo s.now seg.now.at seg.now.args.now seg.now.stop seg.now.ends.now)
+        rules.now }
+    requires equal { AllByRecursion (IsWellFormed s.now.kinds) (equal_atoms (seg.now.at ∷ seg.now.args.now)
+        (seg.now.stop ∷ seg.now.ends.now)) }
+    ensures { IfOk result (λ next. next.items ≡ seg_successors s.now edge
+        (parts seg.now.at seg.now.args.now seg.now.pred seg.now.stop seg.now.ends.now) rules.now) }
 {
     let mut next = Vec::new(alloc);
     next.push(emptied(alloc, s, edge, seg)?)?;
@@ -192,7 +199,8 @@ pub fn unfold_ind(
     edge: EdgeId,
 ) -> Result<Vec<State>, LogicFault>
     requires { IsMadeFor defs.now s.now }
-    ensures { (know : Test) → Tells know s.now → AnswersBy (λ v. v.items) (unfolding_ind know defs.now access edge s.now) result }
+    ensures { (know : Test) → Tells know s.now → AnswersBy (λ v. v.items)
+        (unfolding_ind know defs.now access edge s.now) result }
 {
     edges_take_rules();
     if s.is_false() {
@@ -221,7 +229,8 @@ pub fn unfold_seg(
     edge: EdgeId,
 ) -> Result<Vec<State>, LogicFault>
     requires { IsMadeFor defs.now s.now }
-    ensures { (know : Test) → Tells know s.now → AnswersBy (λ v. v.items) (unfolding_seg know defs.now access edge s.now) result }
+    ensures { (know : Test) → Tells know s.now → AnswersBy (λ v. v.items)
+        (unfolding_seg know defs.now access edge s.now) result }
 {
     edges_take_rules();
     if s.is_false() {

@@ -106,7 +106,8 @@ fn block_edge(
     shape: StructId,
     rule: &Rule,
 ) -> Result<Edge, NoMemory>
-    ensures { IfOk result (λ e. e ≡ Block (node_of nodes.now 0) shape (map (λ name. Some (node_of nodes.now name)) rule.now.contents)) }
+    ensures { IfOk result (λ e. e ≡ Block (node_of nodes.now 0) shape (map
+        (λ name. Some (node_of nodes.now name)) rule.now.contents)) }
 {
     let mut fields = Items::new(alloc);
     for name in rule.contents.as_slice() {
@@ -206,7 +207,8 @@ fn add_calls_to(
 #[tactic(auto, using(crate::proofs::After::after_edges))]
 pub fn add_body(alloc: Global, s: &mut State, nodes: &[NodeId], rule: &Rule) -> Result<(), NoMemory>
     requires { AreNodes s.old.kinds nodes.now }
-    ensures { OnOk result (s.new ≡ with_edges s.old (body_edges nodes.now rule.now.block rule.now.contents rule.now.calls)) }
+    ensures { OnOk result (s.new ≡ with_edges s.old (body_edges nodes.now rule.now.block rule.now.contents
+        rule.now.calls)) }
 {
     add_block(alloc, s, nodes, rule)?;
     add_calls(alloc, s, nodes, rule.calls.as_slice())?;
@@ -226,7 +228,8 @@ pub fn add_body_to(
 ) -> Result<(), NoMemory>
     requires nodes { AreNodes s.old.kinds nodes.now }
     requires ends { AreNodes s.old.kinds (end ∷ ends.now) }
-    ensures { OnOk result (s.new ≡ with_edges s.old (body_to nodes.now end ends.now place rule.now.block rule.now.contents rule.now.calls)) }
+    ensures { OnOk result (s.new ≡ with_edges s.old (body_to nodes.now end ends.now place rule.now.block
+        rule.now.contents rule.now.calls)) }
 {
     add_block(alloc, s, nodes, rule)?;
     add_calls_to(alloc, s, nodes, end, ends, place, rule.calls.as_slice())?;
@@ -257,7 +260,8 @@ pub fn opened(
     kinds: &[Kind],
     nodes: &mut Vec<NodeId>,
 ) -> Result<State, NoMemory>
-    ensures state { IfOk result (λ t. t ≡ with_only_edges (with_nodes s.now kinds.now) (without s.now.graph.edges edge)) }
+    ensures state { IfOk result (λ t. t ≡ with_only_edges (with_nodes s.now kinds.now)
+        (without s.now.graph.edges edge)) }
     ensures nodes { OnOk result (nodes.new.items ≡ nodes.old.items ++ numbered_nodes s.now.next (length kinds.now)) }
 {
     let mut next = s.copy(alloc)?;
@@ -277,7 +281,8 @@ pub fn opened_at(
     rule: &Rule,
     nodes: &mut Vec<NodeId>,
 ) -> Result<State, NoMemory>
-    ensures state { IfOk result (λ t. t ≡ with_only_edges (with_nodes s.now (new_kinds args.now rule.now)) (without s.now.graph.edges edge)) }
+    ensures state { IfOk result (λ t. t ≡ with_only_edges (with_nodes s.now (new_kinds args.now rule.now))
+        (without s.now.graph.edges edge)) }
     ensures nodes { OnOk result (nodes.new.items ≡ nodes.old.items ++ rule_nodes s.now at args.now rule.now) }
 {
     nodes.push(at)?;
@@ -369,7 +374,8 @@ fn without_edge(alloc: Global, s: &State, edge: EdgeId) -> Result<State, NoMemor
 
 /// A copy of a state in which a Seg is empty: it ends where it begins.
 pub fn emptied(alloc: Global, s: &State, edge: EdgeId, seg: &Segment<'_>) -> Result<State, NoMemory>
-    requires { AllByRecursion (IsWellFormed s.now.kinds) (equal_atoms (seg.now.at ∷ seg.now.args.now) (seg.now.stop ∷ seg.now.ends.now)) }
+    requires { AllByRecursion (IsWellFormed s.now.kinds) (equal_atoms (seg.now.at ∷ seg.now.args.now)
+        (seg.now.stop ∷ seg.now.ends.now)) }
     ensures { IfOk result (λ t. t ≡ emptied s.now edge seg.now.at seg.now.args.now seg.now.stop seg.now.ends.now) }
 {
     let mut next = without_edge(alloc, s, edge)?;

@@ -88,7 +88,8 @@ fn ends_back(s: &State, defs: &[Def], pred: PredId, node: NodeId, ends: &[NodeId
 
 /// Whether there is an accessed node, and an end argument that is equal to it stands at a back position.
 pub fn is_reached_back(s: &State, defs: &[Def], access: Option<NodeId>, seg: &Segment<'_>) -> bool
-    ensures { (know : Test) → Tells know s.now → result ≡ is_reached_back know defs.now access (parts seg.now.at seg.now.args.now seg.now.pred seg.now.stop seg.now.ends.now) }
+    ensures { (know : Test) → Tells know s.now → result ≡ is_reached_back know defs.now access
+        (parts seg.now.at seg.now.args.now seg.now.pred seg.now.stop seg.now.ends.now) }
 {
     match access {
         Some(node) => ends_back(s, defs, seg.pred, node, seg.ends),
