@@ -8,10 +8,3 @@ pub use examples::{example_of_back, first_unmet, wrong_back};
 pub use laws::{
     back_is_determined, back_is_judged, back_is_sound, back_is_well_made, segments_end_with_bodies,
 };
-use mc_base::EdgeId;
-
-/// L15: takes a Seg to be empty, or to end with the body of a rule of which one call is its end.
-#[derive(Clone, Copy, Debug, PartialEq, Eq)]
-pub struct UnfoldBack {
-    pub edge: EdgeId,
-}

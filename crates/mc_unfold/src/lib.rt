@@ -9,16 +9,3 @@ pub use laws::{
     own_places_are_calls, rules_are_made, rules_stand_at_nodes, states_stay_well_made,
     unfolding_is_determined, unfolding_is_judged, unfolding_is_sound, unfolding_is_well_made,
 };
-use mc_base::EdgeId;
-
-/// L1: takes an Ind for the body of one of its rules.
-#[derive(Clone, Copy, Debug, PartialEq, Eq)]
-pub struct UnfoldInd {
-    pub edge: EdgeId,
-}
-
-/// L2: takes a Seg to be empty, or for the body of a rule of which one call goes on as the segment.
-#[derive(Clone, Copy, Debug, PartialEq, Eq)]
-pub struct UnfoldSeg {
-    pub edge: EdgeId,
-}
