@@ -35,8 +35,7 @@ while_body = record {
   counted = omega arith;
   body = (
     ((omega arith, (0, omega arith, refl)), tt),
-    (new_in_block, ((omega arith, (1, omega arith, refl)), tt), tt, ((omega arith, (0, omega arith, refl)), tt), tt, tt),
-    tt,
+    ((new_in_block, (((omega arith, (1, omega arith, refl)), tt), (tt, (((omega arith, (0, omega arith, refl)), tt), (tt, tt))))), tt),
   );
 }
 
@@ -50,8 +49,7 @@ for_body = record {
   counted = omega arith;
   body = (
     (new_in_head, ((omega arith, (0, omega arith, refl)), tt), (omega arith, (0, omega arith, refl)), (tt, ((omega arith, (1, omega arith, refl)), tt))),
-    (nothing_new, tt, tt, tt),
-    tt,
+    ((nothing_new, tt, tt, tt), tt),
   );
 }
 
