@@ -1,6 +1,6 @@
 -- What is written in the worked programs is in scope.
-use Rattle.std.proofs.Common.{◌<◌, ◌≤◌, ◌≡◌, ℕ, zero, suc, List, [], ◌∷◌, Option, Some, None, length, refl, subst, arith}
-use Rattle.std.specs.Prelude.{slice_get, Contains}
+use Rattle.std.proofs.Common.{◌≡◌, ℕ, zero, suc, [], ◌∷◌, Some, refl, subst, arith}
+use Rattle.std.specs.Prelude.{slice_get}
 use Rattle.std.proofs.lemmas.Option.{same_Some}
 use Rattle.mc_resolved.specs.Programs.{Function}
 use Rattle.mc_lowering.specs.Examples.{while_main, while_graph, for_main, for_graph}
