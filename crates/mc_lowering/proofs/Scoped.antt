@@ -1,6 +1,6 @@
 -- What is written in the worked programs is in scope.
-use Rattle.std.proofs.Common.{◌<◌, ◌≤◌, ◌≡◌, ℕ, zero, suc, List, [], ◌∷◌, Option, Some, None, length, refl, subst, arith}
-use Rattle.std.specs.Prelude.{slice_get, Contains}
+use Rattle.std.proofs.Common.{◌≡◌, ℕ, zero, suc, [], ◌∷◌, Some, refl, subst, arith}
+use Rattle.std.specs.Prelude.{slice_get}
 use Rattle.std.proofs.lemmas.Option.{same_Some}
 use Rattle.mc_resolved.specs.Programs.{Function}
 use Rattle.mc_lowering.specs.Examples.{while_main, while_graph, for_main, for_graph}
@@ -35,8 +35,7 @@ while_body = record {
   counted = omega arith;
   body = (
     ((omega arith, (0, omega arith, refl)), tt),
-    (new_in_block, ((omega arith, (1, omega arith, refl)), tt), tt, ((omega arith, (0, omega arith, refl)), tt), tt, tt),
-    tt,
+    ((new_in_block, (((omega arith, (1, omega arith, refl)), tt), (tt, (((omega arith, (0, omega arith, refl)), tt), (tt, tt))))), tt),
   );
 }
 
@@ -50,8 +49,7 @@ for_body = record {
   counted = omega arith;
   body = (
     (new_in_head, ((omega arith, (0, omega arith, refl)), tt), (omega arith, (0, omega arith, refl)), (tt, ((omega arith, (1, omega arith, refl)), tt))),
-    (nothing_new, tt, tt, tt),
-    tt,
+    ((nothing_new, tt, tt, tt), tt),
   );
 }
 
