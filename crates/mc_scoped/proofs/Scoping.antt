@@ -40,7 +40,7 @@ grouped locals scope vs heads own new seen =
 pub owned_in : (locals : List Variable) (scope : List ℕ) (s : Scope) (vs : List Variable) → AreIn locals scope (visible s) → AreIn locals scope vs
     → AreIn locals scope (visible (with_own s vs))
 owned_in locals scope s vs seen new =
-    both_in locals scope (s.heads ++ vs ++ s.own) s.outer
+    both_in locals scope (s.heads ++ (vs ++ s.own)) s.outer
     (headed locals scope s.heads vs s.own (left_of locals scope (s.heads ++ s.own) s.outer seen) new)
     (right_of locals scope (s.heads ++ s.own) s.outer seen)
 
@@ -50,19 +50,19 @@ pub record AreDeclared (locals vs : List Variable) : Type 0 where
   pub apart : Apart (numbers_in locals vs)
   pub known : (x : ℕ) → Contains (numbers_in locals vs) x → x < length locals
 
-first_declared : (locals xs ys : List Variable) → AreDeclared locals (xs ++ ys) → AreDeclared locals xs
+pub first_declared : (locals xs ys : List Variable) → AreDeclared locals (xs ++ ys) → AreDeclared locals xs
 first_declared locals xs ys d = record {
   apart = apart_left (numbers_in locals xs) (numbers_in locals ys) (subst Apart (numbers_append locals xs ys) d.apart);
   known = λ x there. d.known x (number_left locals xs ys x there);
 }
 
-second_declared : (locals xs ys : List Variable) → AreDeclared locals (xs ++ ys) → AreDeclared locals ys
+pub second_declared : (locals xs ys : List Variable) → AreDeclared locals (xs ++ ys) → AreDeclared locals ys
 second_declared locals xs ys d = record {
   apart = apart_right (numbers_in locals xs) (numbers_in locals ys) (subst Apart (numbers_append locals xs ys) d.apart);
   known = λ x there. d.known x (number_right locals xs ys x there);
 }
 
-not_both : (locals xs ys : List Variable) (x : ℕ) → AreDeclared locals (xs ++ ys) → Contains (numbers_in locals xs) x → Contains (numbers_in locals ys) x → ⊥
+pub not_both : (locals xs ys : List Variable) (x : ℕ) → AreDeclared locals (xs ++ ys) → Contains (numbers_in locals xs) x → Contains (numbers_in locals ys) x → ⊥
 not_both locals xs ys x d first second =
     apart_both (numbers_in locals xs) (numbers_in locals ys) x (subst Apart (numbers_append locals xs ys) d.apart) first second
 
@@ -110,7 +110,7 @@ start_behind_in n scope s (tree.performs x) seen new = seen
 
 -- ---- a block, and the head of a `for`
 -- the variables that a part declares itself are in scope there
-own_in : (locals : List Variable) (scope : List ℕ) (vs declared : List Variable) → ((x : ℕ) → Contains (numbers_in locals vs) x → Contains (numbers_in locals declared) x)
+pub own_in : (locals : List Variable) (scope : List ℕ) (vs declared : List Variable) → ((x : ℕ) → Contains (numbers_in locals vs) x → Contains (numbers_in locals declared) x)
     → AreDeclared locals declared → AreIn locals (numbers_in locals vs ++ scope) vs
 own_in locals scope vs declared among d x there = (d.known x (among x there), Contains-append_left (numbers_in locals vs) scope x there)
 

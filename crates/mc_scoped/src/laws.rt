@@ -14,6 +14,9 @@ ghost use Rattle.mc_types.specs.Tables.{called_function, tables_of};
 ghost use Rattle.mc_types.specs.Typing.{IsWellTyped};
 ghost use Rattle.std.specs.Prelude.{◌≡◌, ℕ, List, Some};
 
+use mc_lowering::safe_flow_graphs_mean_safe_programs;
+use mc_resolved::resolved_programs_run_alike;
+
 /// In a resolved program what is written is in scope, if the program is well typed and declares its variables at different
 /// places.
 pub fn resolved_programs_are_scoped()
@@ -28,4 +31,9 @@ pub fn safe_flow_graphs_mean_safe_trees()
         → IsWellTyped unit entry → AreDistinct (declared_places unit) → called_function (tables_of unit) entry ≡ Some f
         → g.program ≡ resolved_program (tables_of unit) defs entry → IsLowering g start out count
         → IsSafeFlow g.flow defs → IsSafeProgram (program (tables_of unit) defs) f }
-{}
+{
+    // These laws are called for the proof alone.
+    resolved_programs_are_scoped();
+    safe_flow_graphs_mean_safe_programs();
+    resolved_programs_run_alike();
+}
