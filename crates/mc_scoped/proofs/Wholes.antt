@@ -101,7 +101,7 @@ function_places_are t f =
     (parameter_places_are t f.parameters) (body_places_are t f.body)
 
 -- ---- a function
-context_of : Tables → tree.FunctionTree → Context
+abbrev context_of : Tables → tree.FunctionTree → Context
 context_of t f = record { tables = t; result = returned_type t f.returned; in_loop = false }
 
 body_faultless : (t : Tables) (f : tree.FunctionTree) (body : Option tree.BodyTree) → body_faults t f body ≡ []
@@ -115,7 +115,7 @@ pub record IsFaultless (t : Tables) (f : tree.FunctionTree) : Type 0 where
   pub faultless : function_faults t f ≡ []
 
 -- what is in scope everywhere in a function: its parameters, and the variables that its body declares in no inner block
-own_numbers : Tables → tree.FunctionTree → List ℕ
+abbrev own_numbers : Tables → tree.FunctionTree → List ℕ
 own_numbers t f = numbers_in (function_variables t f) (loose_row t (body_statements f)) ++ numbers_in (function_variables t f) (parameters_of t f)
 
 all_apart : (t : Tables) (f : tree.FunctionTree) → Apart (function_places f) → Apart (map (λ v. v.place) (function_variables t f))
