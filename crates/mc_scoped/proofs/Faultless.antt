@@ -1,16 +1,15 @@
 -- What a program without faults has: what is written is visible.
-use Rattle.std.proofs.Common.{◌≡◌, ◌⊎◌, ⊎_elim, ℕ, Bool, true, false, cond, List, [], ◌∷◌, ◌++◌, Option, Some, None, length, IsTrue, is_some, option_map, find, refl, sym, subst, arith, Contains}
+use Rattle.std.proofs.Common.{◌≡◌, ℕ, Bool, true, false, cond, List, [], ◌∷◌, ◌++◌, Option, Some, length, is_some, option_map, find, refl, arith, Contains}
 use Rattle.std.specs.Option.{option_map_or}
 use Rattle.mc_text.specs.declared.place.Place.{Place}
 use Rattle.mc_ast.specs.declared.trees.Name.{Name}
 use Rattle.mc_ast.specs.Names.{is_same}
 use Rattle.mc_ast.specs.Trees as tree
 use Rattle.mc_types.specs.Tables.{Tables, Variable}
-use Rattle.mc_types.specs.Faults.{unless, variable_faults, left_faults, changed_faults, field_faults, right_faults, simple_faults, variable_type, left_type, no_int, expression_faults, call_faults}
+use Rattle.mc_types.specs.Faults.{unless, variable_faults, left_faults, changed_faults, field_faults, right_faults, simple_faults, variable_type, left_type, no_int, expression_faults}
 use Rattle.mc_types.specs.declared.faults.Fault.{Fault}
 use Rattle.mc_types.specs.declared.faults.FaultName.{FaultName}
 use Rattle.mc_types.specs.declared.types.ValueType.TheVariants.{Typed}
-use Rattle.mc_types.specs.declared.types.VariableType.{VariableType}
 use Rattle.mc_types.specs.Types.{is_int}
 use Rattle.mc_types.specs.declared.faults.FaultName.TheVariants.{Unknown, Mismatch}
 use Rattle.mc_lowering.specs.Scopes.{IsIn, WritesIn}

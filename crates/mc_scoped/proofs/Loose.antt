@@ -1,11 +1,11 @@
 -- The variables that a statement declares in the block around it, those of later declarators first.
-use Rattle.std.proofs.Common.{◌≡◌, ◌⊎◌, inl, inr, ⊎_elim, ℕ, List, [], ◌∷◌, ◌++◌, map, refl, ap, sym, subst, ◌∙◌, append_assoc, append-nil, arith, Contains}
+use Rattle.std.proofs.Common.{◌≡◌, ⊎_elim, ℕ, List, [], ◌∷◌, ◌++◌, map, refl, ap, sym, subst, ◌∙◌, append_assoc, append-nil, Contains}
 use Rattle.mc_ast.specs.declared.trees.Base.{Base}
 use Rattle.mc_ast.specs.Trees as tree
 use Rattle.mc_types.specs.Tables.{Tables, Variable, variable_of as declared_variable}
-use Rattle.mc_types.specs.Scopes.{Scope, visible, inside, declare, behind, behind_items, behind_declaration, behind_start}
+use Rattle.mc_types.specs.Scopes.{Scope, inside, declare, behind, behind_items, behind_start}
 use Rattle.mc_meaning.specs.Moves.{block_variables, head_variables}
-use Rattle.mc_resolved.specs.Resolving.{declaration_variables, start_variables, statement_variables, statements_variables, number_in, numbers_in}
+use Rattle.mc_resolved.specs.Resolving.{start_variables, statement_variables, statements_variables, number_in, numbers_in}
 use Rattle.mc_scoped.proofs.Lists.{contains_none, contains_head, contains_tail, contains_cases, number_left, number_right, number_cases}
 
 abbrev pub loose_items : Tables → Base → List tree.InitialTree → List Variable

@@ -40,9 +40,9 @@ known_at (v ∷ vs) p there = same_or_not (is_place v.place p)
     (λ hit. rw hit (omega arith))
     (λ miss.
     let more : Contains (map (λ v. v.place) vs) p = ⊎_elim
-        (λ e. let bad : true ≡ false = sym (place_self p) ∙ subst (λ z. is_place z p ≡ false) e miss in absurd (grind (arith, bad)))
-        (λ later. later)
-        (contains_cases v.place (map (λ v. v.place) vs) p there) in
+    (λ e. let bad : true ≡ false = sym (place_self p) ∙ subst (λ z. is_place z p ≡ false) e miss in absurd (grind (arith, bad)))
+    (λ later. later)
+    (contains_cases v.place (map (λ v. v.place) vs) p there) in
     rw miss (omega (arith, known_at vs p more)))
 
 pub known : (locals : List Variable) (v : Variable) → Contains locals v → number_in locals v.place < length locals
@@ -56,14 +56,15 @@ numbers_known locals vs among x there =
 -- ---- variables at different places have different numbers
 pub numbers_apart : (locals vs : List Variable) → ((v : Variable) → Contains vs v → Contains locals v) → Apart (map (λ v. v.place) vs) → Apart (numbers_in locals vs)
 numbers_apart locals [] among apart = tt
-numbers_apart locals (v ∷ vs) among apart =
-    (λ there.
-    let found = unmapped (λ w. number_in locals w.place) vs (number_in locals v.place) there in
-    let same : found.0.place ≡ v.place = one_place locals found.0.place v.place
-        (known locals found.0 (among found.0 (contains_tail v vs found.0 found.1)))
-        (known locals v (among v (contains_head v vs))) found.2 in
-    apart.0 (subst (λ z. Contains (map (λ w. w.place) vs) z) same (mapped (λ w. w.place) vs found.0 found.1)),
-    numbers_apart locals vs (λ w there. among w (contains_tail v vs w there)) apart.1)
+numbers_apart locals (v ∷ vs) among apart = (
+  λ there.
+      let found = unmapped (λ w. number_in locals w.place) vs (number_in locals v.place) there in
+      let same : found.0.place ≡ v.place = one_place locals found.0.place v.place
+      (known locals found.0 (among found.0 (contains_tail v vs found.0 found.1)))
+      (known locals v (among v (contains_head v vs))) found.2 in
+      apart.0 (subst (λ z. Contains (map (λ w. w.place) vs) z) same (mapped (λ w. w.place) vs found.0 found.1)),
+  numbers_apart locals vs (λ w there. among w (contains_tail v vs w there)) apart.1,
+)
 
 -- ---- a variable at a position has that number
 map_at : (vs : List Variable) (i : ℕ) (d : Variable) → i < length vs → get_or (map (λ v. v.place) vs) i d.place ≡ (get_or vs i d).place
@@ -89,7 +90,7 @@ number_at locals i d apart less =
     let low : number_in locals p < length locals = known locals (get_or locals i d) (in_at locals i d less) in
     let hit : (get_or locals (number_in locals p) d).place ≡ p = place_of _ p (passes_at_first (λ v. is_place v.place p) locals d low) in
     let places : get_or (map (λ v. v.place) locals) (number_in locals p) d.place ≡ get_or (map (λ v. v.place) locals) i d.place =
-        map_at locals (number_in locals p) d low ∙ hit ∙ sym (map_at locals i d less) in
+    map_at locals (number_in locals p) d low ∙ hit ∙ sym (map_at locals i d less) in
     apart_at (map (λ v. v.place) locals) (number_in locals p) i d.place apart
     (subst (λ n. number_in locals p < n) (sym (length_map locals)) low) (subst (λ n. i < n) (sym (length_map locals)) less) places
 

@@ -1,19 +1,19 @@
 -- Statements without faults write what is in scope.
-use Rattle.std.proofs.Common.{◌≡◌, ◌<◌, ◌⊎◌, inl, inr, ⊎_elim, ℕ, List, [], ◌∷◌, ◌++◌, Option, Some, None, map, flat_map, length, option_map, refl, sym, subst, arith, Contains}
+use Rattle.std.proofs.Common.{◌≡◌, ◌<◌, ⊎_elim, ℕ, List, [], ◌∷◌, ◌++◌, Option, Some, None, flat_map, length, option_map, sym, subst, Contains}
 use Rattle.std.proofs.lemmas.List.Elements.{Contains-append_left, Contains-append_right, Contains-append_cases}
 use Rattle.mc_ast.specs.declared.trees.Base.{Base}
 use Rattle.mc_ast.specs.Trees as tree
-use Rattle.mc_types.specs.Tables.{Tables, Variable, variable_of as declared_variable}
+use Rattle.mc_types.specs.Tables.{Variable, variable_of as declared_variable}
 use Rattle.mc_types.specs.Scopes.{Scope, visible, inside, declare, behind, behind_start, behind_declaration}
 use Rattle.mc_types.specs.Faults.{Context, looping, statement_faults, statements_faults, condition_faults, head_faults, start_faults, maybe_condition_faults, maybe_simple_faults, variable_faults, shape_argument_faults}
 use Rattle.mc_types.specs.declared.faults.Fault.{Fault}
-use Rattle.mc_meaning.specs.Moves.{block_variables, head_variables}
-use Rattle.mc_lowering.specs.Scopes.{IsIn, AreNew, WritesIn, DeclareIn, StartsIn, FinishesIn, IsScopedIn, AreScopedIn}
+use Rattle.mc_meaning.specs.Moves.{block_variables}
+use Rattle.mc_lowering.specs.Scopes.{AreNew, DeclareIn, StartsIn, FinishesIn, IsScopedIn, AreScopedIn}
 use Rattle.mc_resolved.specs.Resolving.{Naming, start_variables, statement_variables, statements_variables, number_in, numbers_in, resolved_items, resolved_start, resolved_simple, resolved_statement, resolved_statements}
 use Rattle.mc_resolved.specs.Running.{naming}
 use Rattle.mc_defs.specs.declared.rules.Def.{Def}
-use Rattle.mc_scoped.proofs.Lists.{Apart, apart_left, apart_right, apart_both, contains_none, contains_head, contains_tail, contains_cases, number_left, number_right, number_cases, numbers_append}
-use Rattle.mc_scoped.proofs.Loose.{loose_items, loose_start, loose, loose_row, with_own, behind_items_is, behind_is, start_own, inner_is, head_is, items_among, start_among, among, row_among}
+use Rattle.mc_scoped.proofs.Lists.{Apart, apart_left, apart_right, apart_both, contains_none, contains_head, number_left, number_right, number_cases, numbers_append}
+use Rattle.mc_scoped.proofs.Loose.{loose_items, loose_start, loose, loose_row, with_own, behind_is, inner_is, head_is, start_among, among, row_among}
 use Rattle.mc_scoped.proofs.Faultless.{none_left, none_right, AreIn, variable_in, action_in}
 
 -- ---- scopes of numbers
@@ -75,9 +75,10 @@ items_in : (n : Naming) (scope : List ℕ) (s : Scope) (base : Base) (items : Li
     → DeclareIn (length n.locals) scope (resolved_items n s base items)
 items_in n scope s base [] are = tt
 items_in n scope s base (item ∷ items) are =
-    let v : Variable = declared_variable n.tables base item.declarator in
-    (are (number_in n.locals v.place) (number_right n.locals (loose_items n.tables base items) (v ∷ []) (number_in n.locals v.place) (contains_head (number_in n.locals v.place) [])),
-    items_in n scope (declare s v) base items (left_of n.locals scope (loose_items n.tables base items) (v ∷ []) are))
+    let v : Variable = declared_variable n.tables base item.declarator in (
+      are (number_in n.locals v.place) (number_right n.locals (loose_items n.tables base items) (v ∷ []) (number_in n.locals v.place) (contains_head (number_in n.locals v.place) [])),
+      items_in n scope (declare s v) base items (left_of n.locals scope (loose_items n.tables base items) (v ∷ []) are),
+    )
 
 start_in : (n : Naming) (scope : List ℕ) (s : Scope) (start : tree.Start) → AreIn n.locals scope (visible s) → AreIn n.locals scope (loose_start n.tables start)
     → start_faults n.tables s start ≡ [] → StartsIn (length n.locals) scope (resolved_start n s start)
@@ -211,7 +212,7 @@ block_in : (n : Naming) (scope : List ℕ) (s : Scope) (ss : tree.Stmts) → Sta
     × AreScopedIn (length n.locals) (numbers_in n.locals (block_variables n.tables (inside s) ss) ++ scope) (resolved_statements n (inside s) ss)
 block_in n scope s ss st inner =
     let P : List Variable → Type 0 = λ vs.
-        AreNew (numbers_in n.locals vs) scope × AreScopedIn (length n.locals) (numbers_in n.locals vs ++ scope) (resolved_statements n (inside s) ss) in
+    AreNew (numbers_in n.locals vs) scope × AreScopedIn (length n.locals) (numbers_in n.locals vs ++ scope) (resolved_statements n (inside s) ss) in
     subst P (sym (inner_is n.tables s ss)) ((λ x there outer. contains_none x (st.fresh x (row_among n.locals n.tables ss x there) outer)), inner)
 
 for_in : (n : Naming) (scope : List ℕ) (s : Scope) (h : tree.Head) (a : tree.Stmt) → head_faults n.tables s h ≡ []
@@ -220,20 +221,21 @@ for_in : (n : Naming) (scope : List ℕ) (s : Scope) (h : tree.Head) (a : tree.S
     → IsScopedIn (length n.locals) scope (resolved_statement n s (tree.for_loop h a))
 for_in n scope s h a e st inner =
     let P : List Variable → Type 0 = λ vs.
-        AreNew (numbers_in n.locals vs) scope × StartsIn (length n.locals) (numbers_in n.locals vs ++ scope) (resolved_start n s h.start)
-        × FinishesIn (length n.locals) (numbers_in n.locals vs ++ scope) (option_map (resolved_simple n (visible (behind_start n.tables s h.start))) h.last)
-        × IsScopedIn (length n.locals) (numbers_in n.locals vs ++ scope) (resolved_statement n (behind_start n.tables s h.start) a) in
+    AreNew (numbers_in n.locals vs) scope × StartsIn (length n.locals) (numbers_in n.locals vs ++ scope) (resolved_start n s h.start)
+    × FinishesIn (length n.locals) (numbers_in n.locals vs ++ scope) (option_map (resolved_simple n (visible (behind_start n.tables s h.start))) h.last)
+    × IsScopedIn (length n.locals) (numbers_in n.locals vs ++ scope) (resolved_statement n (behind_start n.tables s h.start) a) in
     let starting : List Fault = start_faults n.tables s h.start in
     let testing : List Fault = maybe_condition_faults n.tables (visible (behind_start n.tables s h.start)) h.condition in
     let ending : List Fault = maybe_simple_faults n.tables (visible (behind_start n.tables s h.start)) h.last in
-    subst P (sym (head_is n.tables s h.start))
-    (for_new n scope h.start a st.differ st.fresh,
-    start_in n (numbers_in n.locals (loose_start n.tables h.start) ++ scope) s h.start
-    (wider n.locals (numbers_in n.locals (loose_start n.tables h.start)) scope (visible s) st.seen)
-    (head_made n scope s h.start a st) (none_left starting testing (none_left (starting ++ testing) ending e)),
-    last_in n (numbers_in n.locals (loose_start n.tables h.start) ++ scope) (visible (behind_start n.tables s h.start)) h.last
-    (for_stands n scope s h.start a st).seen (none_right (starting ++ testing) ending e),
-    inner)
+    subst P (sym (head_is n.tables s h.start)) (
+      for_new n scope h.start a st.differ st.fresh,
+      start_in n (numbers_in n.locals (loose_start n.tables h.start) ++ scope) s h.start
+          (wider n.locals (numbers_in n.locals (loose_start n.tables h.start)) scope (visible s) st.seen)
+          (head_made n scope s h.start a st) (none_left starting testing (none_left (starting ++ testing) ending e)),
+      last_in n (numbers_in n.locals (loose_start n.tables h.start) ++ scope) (visible (behind_start n.tables s h.start)) h.last
+          (for_stands n scope s h.start a st).seen (none_right (starting ++ testing) ending e),
+      inner,
+    )
 
 mutual
   pub statement_in : (c : Context) (defs : List Def) (locals : List Variable) (scope : List ℕ) (s : Scope) (a : tree.Stmt)
@@ -257,13 +259,14 @@ mutual
   statement_in c defs locals scope s (tree.if_else p d a b) st e =
       let testing : List Fault = condition_faults c.tables (visible s) d in
       let first : List Fault = statement_faults c s a in
-      let second : List Fault = statement_faults c (behind c.tables s a) b in
-      (statement_in c defs locals scope s a
-      (first_stands (naming c.tables defs locals) scope s (statement_variables c.tables a) (statement_variables c.tables b) (loose c.tables a) (loose c.tables b) (among locals c.tables b) st)
-      (none_right testing first (none_left (testing ++ first) second e)),
-      statement_in c defs locals scope (behind c.tables s a) b
-      (second_stands (naming c.tables defs locals) scope s a (statement_variables c.tables b) (loose c.tables b) st)
-      (none_right (testing ++ first) second e))
+      let second : List Fault = statement_faults c (behind c.tables s a) b in (
+        statement_in c defs locals scope s a
+            (first_stands (naming c.tables defs locals) scope s (statement_variables c.tables a) (statement_variables c.tables b) (loose c.tables a) (loose c.tables b) (among locals c.tables b) st)
+            (none_right testing first (none_left (testing ++ first) second e)),
+        statement_in c defs locals scope (behind c.tables s a) b
+            (second_stands (naming c.tables defs locals) scope s a (statement_variables c.tables b) (loose c.tables b) st)
+            (none_right (testing ++ first) second e),
+      )
   statement_in c defs locals scope s (tree.while_loop p d a) st e =
       statement_in (looping c) defs locals scope s a st (none_right (condition_faults c.tables (visible s) d) (statement_faults (looping c) s a) e)
   statement_in c defs locals scope s (tree.do_loop p a d) st e =
@@ -284,10 +287,11 @@ mutual
   statements_in c defs locals scope s tree.no_more st e = tt
   statements_in c defs locals scope s (tree.then a more) st e =
       let first : List Fault = statement_faults c s a in
-      let second : List Fault = statements_faults c (behind c.tables s a) more in
-      (statement_in c defs locals scope s a
-      (first_stands (naming c.tables defs locals) scope s (statement_variables c.tables a) (statements_variables c.tables more) (loose c.tables a) (loose_row c.tables more) (row_among locals c.tables more) st)
-      (none_left first second e),
-      statements_in c defs locals scope (behind c.tables s a) more
-      (second_stands (naming c.tables defs locals) scope s a (statements_variables c.tables more) (loose_row c.tables more) st)
-      (none_right first second e))
+      let second : List Fault = statements_faults c (behind c.tables s a) more in (
+        statement_in c defs locals scope s a
+            (first_stands (naming c.tables defs locals) scope s (statement_variables c.tables a) (statements_variables c.tables more) (loose c.tables a) (loose_row c.tables more) (row_among locals c.tables more) st)
+            (none_left first second e),
+        statements_in c defs locals scope (behind c.tables s a) more
+            (second_stands (naming c.tables defs locals) scope s a (statements_variables c.tables more) (loose_row c.tables more) st)
+            (none_right first second e),
+      )

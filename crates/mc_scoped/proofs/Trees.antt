@@ -32,9 +32,9 @@ pub safe_trees : ((unit : UnitTree) (defs : List Def) (entry : List ℕ) → IsW
 safe_trees scoped graphs alike unit defs entry f g start out count typed distinct called same lowering safe =
     let r : RunAlike (tables_of unit) defs entry f = alike (tables_of unit) defs entry f called in
     let begins : slice_get (resolved_program (tables_of unit) defs entry).functions (resolved_program (tables_of unit) defs entry).entry ≡ Some start =
-        subst (λ p. slice_get p.functions p.entry ≡ Some start) same lowering.there in
+    subst (λ p. slice_get p.functions p.entry ≡ Some start) same lowering.there in
     let one : start ≡ r.function = same_Some start r.function (sym begins ∙ r.there) in
     let flows : IsSafeFlow g.flow g.program.defs = subst (λ p. IsSafeFlow g.flow p.defs) (sym same) safe in
     let whole : IsSafeProgram g.program start =
-        graphs g start out count lowering (subst AreScoped (sym same) (scoped unit defs entry typed distinct)) flows in
+    graphs g start out count lowering (subst AreScoped (sym same) (scoped unit defs entry typed distinct)) flows in
     safe_alike (tables_of unit) defs entry f r (subst (λ h. IsSafeProgram (resolved_program (tables_of unit) defs entry) h) one (subst (λ p. IsSafeProgram p start) same whole))

@@ -1,16 +1,16 @@
 -- Programs without faults are scoped.
-use Rattle.std.proofs.Common.{◌≡◌, ◌<◌, ◌≤◌, ◌⊎◌, ⊎_elim, ℕ, zero, suc, Bool, true, false, cond, List, [], ◌∷◌, ◌++◌, Option, Some, None, map, reverse, flat_map, filter, length, slice_get, slice_index_or, refl, sym, ap, ap₂, subst, ◌∙◌, arith, Contains, append-nil}
+use Rattle.std.proofs.Common.{◌≡◌, ◌≤◌, ⊎_elim, ℕ, zero, suc, Bool, true, false, cond, List, [], ◌∷◌, ◌++◌, Option, Some, None, map, reverse, flat_map, filter, length, slice_get, slice_index_or, refl, sym, ap, ap₂, subst, ◌∙◌, arith, Contains, append-nil}
 use Rattle.std.specs.Option.{option_map_or}
 use Rattle.std.proofs.lemmas.List.{map-append}
-use Rattle.std.proofs.lemmas.List.Elements.{Contains-append_left, Contains-append_right, Contains-append_cases}
+use Rattle.std.proofs.lemmas.List.Elements.{Contains-append_right, Contains-append_cases}
 use Rattle.std.proofs.lemmas.Option.{same_Some}
 use Rattle.mc_text.specs.declared.place.Place.{Place}
 use Rattle.mc_ast.specs.declared.trees.Parameter.{Parameter}
 use Rattle.mc_ast.specs.Trees as tree
 use Rattle.mc_defs.specs.declared.rules.Def.{Def}
 use Rattle.mc_types.specs.Tables.{Tables, tables_of, Variable, parameters_of, listed_parameters, returned_type, is_defined, item_functions, variable_of as declared_variable}
-use Rattle.mc_types.specs.Scopes.{Scope, visible}
-use Rattle.mc_types.specs.Faults.{Context, statements_faults, body_faults, function_faults, item_tree_faults, plain_faults, table_faults, returned_faults, declarator_faults, repeated}
+use Rattle.mc_types.specs.Scopes.{visible}
+use Rattle.mc_types.specs.Faults.{Context, statements_faults, body_faults, function_faults, item_tree_faults, table_faults, returned_faults, declarator_faults, repeated}
 use Rattle.mc_types.specs.declared.faults.Fault.{Fault}
 use Rattle.mc_types.specs.Typing.{IsWellTyped}
 use Rattle.mc_places.specs.Places.{AreDistinct, declaration_places, start_places, statement_places, statements_places, parameters_places, body_places, function_places, item_places, declared_places}
@@ -18,8 +18,8 @@ use Rattle.mc_lowering.specs.Scopes.{AreScopedIn, IsScoped, AreScoped}
 use Rattle.mc_resolved.specs.Programs.{Function}
 use Rattle.mc_resolved.specs.Running.{naming}
 use Rattle.mc_resolved.specs.Resolving.{declaration_variables, start_variables, statement_variables, statements_variables, body_statements, function_variables, defined_functions, numbers_in, number_in, local_of, parameter_scope, resolved_statements, resolved_function, resolved_program}
-use Rattle.mc_scoped.proofs.Lists.{Apart, at_position, apart_left, apart_right, contains_none, contains_head, contains_tail, contains_cases, in_reverse, mapped, unmapped, number_left, number_right, number_cases, numbers_append, apart_both}
-use Rattle.mc_scoped.proofs.Places.{known, numbers_known, numbers_apart, first_numbers}
+use Rattle.mc_scoped.proofs.Lists.{Apart, apart_left, apart_right, in_reverse, mapped, unmapped}
+use Rattle.mc_scoped.proofs.Places.{numbers_known, numbers_apart, first_numbers}
 use Rattle.mc_scoped.proofs.Loose.{loose_row, row_among}
 use Rattle.mc_scoped.proofs.Faultless.{none_left, none_right, AreIn}
 use Rattle.mc_scoped.proofs.Scoping.{AreDeclared, AreFresh, Stands, first_declared, second_declared, not_both, own_in, statements_in}
@@ -33,9 +33,10 @@ suc_same i j e = omega (arith, e)
 
 pub apart_from_distinct : (places : List Place) → AreDistinct places → Apart places
 apart_from_distinct [] distinct = tt
-apart_from_distinct (p ∷ places) distinct =
-    (λ there. absurd (omega (arith, distinct 0 (suc there.0) p (omega arith) (omega (arith, there.1)) (first_again p places there))),
-    apart_from_distinct places (λ i j d less other e. suc_same i j (distinct (suc i) (suc j) d (omega (arith, less)) (omega (arith, other)) e)))
+apart_from_distinct (p ∷ places) distinct = (
+  λ there. absurd (omega (arith, distinct 0 (suc there.0) p (omega arith) (omega (arith, there.1)) (first_again p places there))),
+  apart_from_distinct places (λ i j d less other e. suc_same i j (distinct (suc i) (suc j) d (omega (arith, less)) (omega (arith, other)) e)),
+)
 
 -- ---- the places of the variables are those of the program
 all_items : (t : Tables) (d : tree.DeclarationTree) (items : List tree.InitialTree)
@@ -143,8 +144,10 @@ parameters_seen t f apart =
     let P : List Variable → Type 0 = λ vs. AreIn (function_variables t f) (own_numbers t f) vs in
     subst P (sym (append-nil (reverse (parameters_of t f))))
     (reversed_in (function_variables t f) (own_numbers t f) (parameters_of t f)
-    (λ x there. ((parameters_declared t f apart).known x there,
-    Contains-append_right (numbers_in (function_variables t f) (loose_row t (body_statements f))) (numbers_in (function_variables t f) (parameters_of t f)) x there)))
+    (λ x there. (
+      (parameters_declared t f apart).known x there,
+      Contains-append_right (numbers_in (function_variables t f) (loose_row t (body_statements f))) (numbers_in (function_variables t f) (parameters_of t f)) x there,
+    )))
 
 body_fresh : (t : Tables) (f : tree.FunctionTree) → Apart (function_places f)
     → AreFresh (function_variables t f) (own_numbers t f) (statements_variables t (body_statements f)) (loose_row t (body_statements f))
@@ -175,8 +178,8 @@ function_scoped : (t : Tables) (defs : List Def) (f : tree.FunctionTree) → IsF
 function_scoped t defs f good =
     let body : List Fault = body_faults t f f.body in
     let before : List Fault =
-        returned_faults t f f.returned ++ flat_map (λ p. declarator_faults t p.base p.declarator) (listed_parameters f.parameters)
-        ++ repeated [] (map (λ p. p.declarator.name) (listed_parameters f.parameters)) in
+    returned_faults t f f.returned ++ flat_map (λ p. declarator_faults t p.base p.declarator) (listed_parameters f.parameters)
+    ++ repeated [] (map (λ p. p.declarator.name) (listed_parameters f.parameters)) in
     let e = length_locals (function_variables t f) in
     record {
       own = own_numbers t f;
