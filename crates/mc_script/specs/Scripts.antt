@@ -1,5 +1,5 @@
 -- The choices that a script gives.
-use Rattle.std.specs.Prelude.{◌≡◌, ℕ, ℤ, pos, List, [], ◌∷◌, Option, Some, None, map, position, option_map, option_and_then, string_bytes}
+use Rattle.std.specs.Prelude.{◌≡◌, ◌⊎◌, ℕ, ℤ, pos, List, [], ◌∷◌, Option, Some, None, map, position, option_map, option_and_then, string_bytes}
 use Rattle.mc_heap.specs.Choices.{Choice, input, malloc, shape}
 use Rattle.mc_heap.specs.Heap.{Block}
 use Rattle.mc_defs.specs.declared.shapes.StructInfo.{StructInfo}
@@ -35,10 +35,14 @@ pub data Answered : Type 0 where
   unreadable : Answered
   chosen : Choice → Answered
 
+-- the bytes spell no line, or a line that means no choice
+abbrev pub IsNoChoice : List StructInfo → List ℕ → Type 0
+IsNoChoice structs bytes = ((line : ScriptLine) → SpellsLine bytes line → ⊥) ⊎ ((line : ScriptLine) × SpellsLine bytes line × (choice_in structs line ≡ None))
+
 -- what a line answers: its choice, or that it means none
 abbrev pub IsAnswer : List StructInfo → List ℕ → Answered → Type 0
 IsAnswer structs line missing = ⊥
-IsAnswer structs line unreadable = (c : Choice) → IsChoice structs line c → ⊥
+IsAnswer structs line unreadable = IsNoChoice structs line
 IsAnswer structs line (chosen c) = IsChoice structs line c
 
 -- what the first of these lines answers, and the lines behind it; without a line the choice is missing
