@@ -1,7 +1,8 @@
 -- The blocks of a line, made one by one.
-use Rattle.std.proofs.Common.{◌≡◌, ◌∙◌, ℕ, List, [], ◌∷◌, ◌++◌, map, Option, Some, None, refl, sym, ap, append_assoc}
-use Rattle.std.specs.Prelude.{option_map, option_and_then}
-use Rattle.std.proofs.lemmas.List.{map-append}
+use Rattle.std.proofs.Common.{◌≡◌, ◌∙◌, ℕ, ◌+◌, Bool, not, cond, List, [], ◌∷◌, ◌++◌, map, Option, Some, None, refl, sym, ap, ap₂, append_assoc}
+use Rattle.std.specs.Prelude.{position, nat_lt, option_map, option_and_then}
+use Rattle.std.specs.List.{prefix_len}
+use Rattle.std.proofs.lemmas.List.{length-map, map-append}
 use Rattle.mc_heap.specs.Heap.{Block}
 use Rattle.mc_defs.specs.declared.shapes.StructInfo.{StructInfo}
 use Rattle.mc_script.specs.declared.line.NamedBlock.{NamedBlock}
@@ -9,8 +10,13 @@ use Rattle.mc_script.specs.declared.script.NewBlock.{NewBlock}
 use Rattle.mc_script.specs.Models.{block, prefixed}
 use Rattle.mc_script.specs.Scripts.{block_in, blocks_in}
 
-none_behind : {T U : Type 0} (f : U → List T → List T) (first : Option U) (rest : Option (List T)) → first ≡ None → option_and_then (λ x. option_map (f x) rest) first ≡ None
-none_behind f first rest e = rw e refl
+prefix_mapped : {X Y : Type 0} (f : X → Y) (p : Y → Bool) (xs : List X) → prefix_len p (map f xs) ≡ prefix_len (λ x. p (f x)) xs
+prefix_mapped f p [] = refl
+prefix_mapped f p (x ∷ xs) = ap (λ n. cond (p (f x)) (1 + n) 0) (prefix_mapped f p xs)
+
+-- the place among what a list is mapped to
+pub position_mapped : {X Y : Type 0} (f : X → Y) (p : Y → Bool) (xs : List X) → position p (map f xs) ≡ position (λ x. p (f x)) xs
+position_mapped f p xs = ap₂ (λ (n k : ℕ). cond (nat_lt n k) (Some n) None) (prefix_mapped f (λ y. not (p y)) xs) (length-map xs f)
 
 prefixed_more : {T : Type 0} (front : List T) (x : T) (rest : Option (List T)) → prefixed front (option_map (λ xs. x ∷ xs) rest) ≡ prefixed (front ++ x ∷ []) rest
 prefixed_more front x None = refl

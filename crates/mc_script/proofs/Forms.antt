@@ -1,5 +1,5 @@
 -- Which line an array can be the line of, by its name and the number of its entries.
-use Rattle.std.proofs.Common.{◌≡◌, ◌≢◌, ◌∙◌, ℕ, ℤ, List, [], ◌∷◌, refl}
+use Rattle.std.proofs.Common.{◌≡◌, ◌≢◌, ◌∙◌, ℕ, ℤ, List, [], ◌∷◌, ◌≤◌, String, Global, length, lit≤, refl}
 use Rattle.std.specs.Prelude.{codes, string_bytes}
 use Rattle.std.specs.Str.{bytes_eq}
 use Rattle.serde_json.specs.Data.{Data}
@@ -29,11 +29,25 @@ own (Shape v blocks) = (v, blocks, refl, refl)
 pub line_form : (s : List ℕ) (ds : List Data) (l : ScriptLine) → named_data s ds ≡ line_data l → IsForm s ds l
 line_form s ds l e = form_of line_data IsForm own s ds l e
 
+-- one or two entries
+pub line_length : (s : List ℕ) (ds : List Data) (l : ScriptLine) → named_data s ds ≡ line_data l → (1 ≤ length ds) × (length ds ≤ 2)
+line_length s ds l e = within ds (line_form s ds l e)
+  where
+    within : (ds : List Data) → IsForm s ds l → (1 ≤ length ds) × (length ds ≤ 2)
+    within [] h = absurd h
+    within (a ∷ []) h = (lit≤ tt, lit≤ tt)
+    within (a ∷ b ∷ []) h = (lit≤ tt, lit≤ tt)
+    within (a ∷ b ∷ c ∷ more) h = absurd h
+
 -- each is an array that begins with a name
 pub no_line : (d : Data) → ((s : List ℕ) (ds : List Data) → d ≢ named_data s ds) → (l : ScriptLine) → d ≢ line_data l
 no_line d none (Input v) e = none (codes "input") (signed_data v ∷ []) e
 no_line d none (Malloc n) e = none (codes "malloc") (count_data n ∷ []) e
 no_line d none (Shape v blocks) e = none (codes "shape") (signed_data v ∷ list_data block_data blocks ∷ []) e
+
+-- the parts of a block
+abbrev pub block_parts : (ℕ × (String Global) × (List ℤ)) → List Data
+block_parts x = count_data x.0 ∷ word_data (string_bytes x.1) ∷ list_data signed_data x.2 ∷ []
 
 -- the entries of a block
 pub block_entries : (ds : List Data) (b : NamedBlock) → values_data ds ≡ block_data b → ds ≡ count_data b.address ∷ word_data (string_bytes b.shape) ∷ list_data signed_data b.fields ∷ []

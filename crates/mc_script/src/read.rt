@@ -10,18 +10,28 @@ use mc_cert::{Entry, LineFault, named, put, three, two, values_of};
 use serde_json::Value;
 use std::alloc::{AllocError, Global};
 
-fn block_of(alloc: Global, entries: &[Value]) -> Result<NamedBlock, LineFault>
-    ensures { Reads block_data BlockFits (values_data (map view entries.now)) result }
+// The block of three values.
+fn block_with(
+    alloc: Global,
+    address: &Value,
+    shape: &Value,
+    fields: &Value,
+) -> Result<NamedBlock, LineFault>
+    ensures { Reads block_data BlockFits (values_data (view address.now ∷ view shape.now ∷ view fields.now ∷ [])) result }
 {
-    match entries {
-        [address, shape, fields] => {
-            let (address, shape, fields) = three(alloc, address, shape, fields)?;
-            Ok(NamedBlock {
-                address,
-                shape,
-                fields,
-            })
-        }
+    let (address, shape, fields) = three(alloc, address, shape, fields)?;
+    Ok(NamedBlock {
+        address,
+        shape,
+        fields,
+    })
+}
+
+fn block_of(alloc: Global, values: &[Value]) -> Result<NamedBlock, LineFault>
+    ensures { Reads block_data BlockFits (values_data (map view values.now)) result }
+{
+    match values.len() {
+        3 => block_with(alloc, &values[0], &values[1], &values[2]),
         _ => Err(LineFault::Form),
     }
 }
