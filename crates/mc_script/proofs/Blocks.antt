@@ -1,5 +1,6 @@
 -- The blocks of a line, made one by one.
-use Rattle.std.proofs.Common.{◌≡◌, ◌∙◌, ℕ, ◌+◌, Bool, not, cond, List, [], ◌∷◌, ◌++◌, map, Option, Some, None, refl, sym, ap, ap₂, append_assoc}
+use Rattle.std.proofs.Common.{◌≡◌, ◌∙◌, ℕ, suc, ◌+◌, ◌<◌, Bool, not, cond, List, [], ◌∷◌, ◌++◌, length, get_or, drop, map, Option, Some, None, refl, sym, ap, ap₂, append_assoc, arith}
+use Rattle.std.proofs.Math.Seq.{drop-cons}
 use Rattle.std.specs.Prelude.{position, nat_lt, option_map, option_and_then}
 use Rattle.std.specs.List.{prefix_len}
 use Rattle.std.proofs.lemmas.List.{length-map, map-append}
@@ -22,10 +23,19 @@ prefixed_more : {T : Type 0} (front : List T) (x : T) (rest : Option (List T)) �
 prefixed_more front x None = refl
 prefixed_more front x (Some xs) = ap Some (sym (append_assoc front (x ∷ []) xs))
 
--- a block without its struct is no block of a line
-pub none_made : (structs : List StructInfo) (front : List (ℕ × Block)) (b : NamedBlock) (bs : List NamedBlock) → block_in structs b ≡ None → prefixed front (blocks_in structs (b ∷ bs)) ≡ None
-none_made structs front b bs e = rw e refl
+-- where one of the blocks has no struct, the line means nothing
+pub none_made : (structs : List StructInfo) (made : List NewBlock) (blocks : List NamedBlock) (k : ℕ) (b : NamedBlock) → k < length blocks → b ≡ get_or blocks k b → block_in structs b ≡ None → prefixed (map block made) (blocks_in structs (drop k blocks)) ≡ None
+none_made structs made blocks k b inside at e =
+    let none : block_in structs (get_or blocks k b) ≡ None = sym (ap (block_in structs) at) ∙ e in
+    rw (drop-cons blocks k b inside) (rw none refl)
 
 -- a further block stands behind those made before
-pub one_made : (structs : List StructInfo) (made : List NewBlock) (new : NewBlock) (b : NamedBlock) (bs : List NamedBlock) → block_in structs b ≡ Some (block new) → prefixed (map block made) (blocks_in structs (b ∷ bs)) ≡ prefixed (map block (made ++ new ∷ [])) (blocks_in structs bs)
-one_made structs made new b bs e = rw e (prefixed_more (map block made) (block new) (blocks_in structs bs) ∙ ap (λ front. prefixed front (blocks_in structs bs)) (sym (map-append block made (new ∷ []))))
+pub one_made : (structs : List StructInfo) (made : List NewBlock) (new : NewBlock) (blocks : List NamedBlock) (k : ℕ) (b : NamedBlock) → k < length blocks → b ≡ get_or blocks k b → block_in structs b ≡ Some (block new)
+    → prefixed (map block made) (blocks_in structs (drop k blocks)) ≡ prefixed (map block (made ++ new ∷ [])) (blocks_in structs (drop (k + 1) blocks))
+one_made structs made new blocks k b inside at e =
+    let some : block_in structs (get_or blocks k b) ≡ Some (block new) = sym (ap (block_in structs) at) ∙ e in
+    let next : suc k ≡ k + 1 = omega arith in
+    let rest = blocks_in structs (drop (suc k) blocks) in
+    rw (drop-cons blocks k b inside) (rw some
+    (prefixed_more (map block made) (block new) rest ∙ ap (λ front. prefixed front rest) (sym (map-append block made (new ∷ [])))
+    ∙ ap (λ n. prefixed (map block (made ++ new ∷ [])) (blocks_in structs (drop n blocks))) next))

@@ -67,6 +67,7 @@ fn new_block(
 }
 
 // The blocks of a line; None where the program lacks the struct of one.
+#[tactic(auto, using(crate::proofs::Blocks::none_made))]
 fn new_blocks(
     alloc: Global,
     structs: &NamedStructs,
@@ -75,13 +76,11 @@ fn new_blocks(
     ensures { IfOk result (λ made. option_map (map block) made ≡ blocks_in structs.now blocks.now) }
 {
     let mut made = Vec::with_capacity(alloc, blocks.len())?;
-    let mut left = blocks;
-    while let [named, rest @ ..] = left {
+    for named in blocks {
         let Some(block) = new_block(alloc, structs, named)? else {
             return Ok(None);
         };
         made.push(block)?;
-        left = rest;
     }
     Ok(Some(Items::of(made)))
 }

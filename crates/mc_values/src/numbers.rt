@@ -12,6 +12,7 @@ pub enum Operation {
 }
 
 // The last 32 bits of a number, in two's complement.
+#[tactic(auto, unfolding(std::specs::Int::int_wrap))]
 fn low(number: i64) -> i32
     ensures { result ≡ wrapped number }
 {
@@ -20,6 +21,7 @@ fn low(number: i64) -> i32
 }
 
 /// What an `int` holds of the result.
+#[tactic(auto, using(crate::proofs::Numbers::times_low, crate::proofs::Numbers::plus_low, crate::proofs::Numbers::difference_low))]
 pub fn operate(operation: Operation, a: i64, b: i64) -> i64
     ensures { result ≡ wrapped (operation_of operation a b) }
 {
