@@ -69,16 +69,40 @@ fn choices_are_read(rt: HostRuntime) -> Result<(), Fail> {
     assert!(rt; gives(alloc, b" [ \"input\" , 7 ] ", "input 7")?);
     assert!(rt; gives(alloc, b"[\"malloc\",0]\n", "malloc 0")?);
     assert!(rt; gives(alloc, b"[\"shape\",0,[]]", "shape 0")?);
-    assert!(rt; gives(alloc, b"[\"shape\",1,[[1,\"node\",[5,2]],[2,\"list\",[]]]]", "shape 1 at 1 struct 1: 5 2 at 2 struct 0:")?);
+    assert!(rt;
+        gives(
+            alloc,
+            b"[\"shape\",1,[[1,\"node\",[5,2]],[2,\"list\",[]]]]",
+            "shape 1 at 1 struct 1: 5 2 at 2 struct 0:"
+        )?
+    );
     Ok(())
 }
 
 #[test]
 fn numbers_have_64_bits(rt: HostRuntime) -> Result<(), Fail> {
     let alloc = rt.alloc();
-    assert!(rt; gives(alloc, b"[\"input\",-9223372036854775808]", "input -9223372036854775808")?);
-    assert!(rt; gives(alloc, b"[\"input\",9223372036854775807]", "input 9223372036854775807")?);
-    assert!(rt; gives(alloc, b"[\"malloc\",18446744073709551615]", "malloc 18446744073709551615")?);
+    assert!(rt;
+        gives(
+            alloc,
+            b"[\"input\",-9223372036854775808]",
+            "input -9223372036854775808"
+        )?
+    );
+    assert!(rt;
+        gives(
+            alloc,
+            b"[\"input\",9223372036854775807]",
+            "input 9223372036854775807"
+        )?
+    );
+    assert!(rt;
+        gives(
+            alloc,
+            b"[\"malloc\",18446744073709551615]",
+            "malloc 18446744073709551615"
+        )?
+    );
     assert!(rt; gives(alloc, b"[\"input\",9223372036854775808]", "unreadable")?);
     assert!(rt; gives(alloc, b"[\"input\",-9223372036854775809]", "unreadable")?);
     assert!(rt; gives(alloc, b"[\"malloc\",18446744073709551616]", "unreadable")?);
@@ -100,7 +124,13 @@ fn other_forms_are_unreadable(rt: HostRuntime) -> Result<(), Fail> {
     assert!(rt; gives(alloc, b"[\"malloc\",-1]", "unreadable")?);
     assert!(rt; gives(alloc, b"{\"input\":1}", "unreadable")?);
     assert!(rt; gives(alloc, b"[\"shape\",1,[[1,\"tree\",[5,2]]]]", "unreadable")?);
-    assert!(rt; gives(alloc, b"[\"shape\",1,[[1,\"node\",[5,null]]]]", "unreadable")?);
+    assert!(rt;
+        gives(
+            alloc,
+            b"[\"shape\",1,[[1,\"node\",[5,null]]]]",
+            "unreadable"
+        )?
+    );
     assert!(rt; gives(alloc, b"[\"shape\",1,[[1,\"node\"]]]", "unreadable")?);
     Ok(())
 }
