@@ -41,11 +41,7 @@ fn put(
 }
 
 // A variable gets a value.
-fn set(
-    values: &mut [Option<i64>],
-    variable: usize,
-    value: Option<i64>,
-) -> Result<(), FaultKind>
+fn set(values: &mut [Option<i64>], variable: usize, value: Option<i64>) -> Result<(), FaultKind>
     ensures change { (heap : HeapModel) → change_of result values.new heap ≡ set_variable values.old heap variable value }
     ensures kept { OnErr result (values.new ≡ values.old) }
 {

@@ -42,10 +42,7 @@ pub struct Here<'a> {
 }
 
 // A value at hand goes to what waits for it.
-fn resume<'a>(
-    stack: &mut Stack<Pending<'a>>,
-    value: Option<i64>,
-) -> Result<Turn<'a>, NoMemory>
+fn resume<'a>(stack: &mut Stack<Pending<'a>>, value: Option<i64>) -> Result<Turn<'a>, NoMemory>
     ensures turn { IfOk result (λ turn. (structs : List StructInfo) (values : List (Option ℤ)) (heap : HeapModel) (lines : List (List ℕ))
         → IsTurn structs values heap (hands.Value value) stack.old lines turn stack.new lines) }
     ensures falls { IfOk result (λ turn. Falls (hands.Value value) stack.old turn stack.new) }
