@@ -1,3 +1,3 @@
-pub mod Numbers
+pub mod LowBits
 pub mod Taking
-pub mod Turns
+pub mod Faulty

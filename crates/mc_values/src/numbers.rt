@@ -21,7 +21,7 @@ fn low(number: i64) -> i32
 }
 
 /// What an `int` holds of the result.
-#[tactic(auto, using(crate::proofs::Numbers::times_low, crate::proofs::Numbers::plus_low, crate::proofs::Numbers::difference_low))]
+#[tactic(auto, using(crate::proofs::LowBits::times_low, crate::proofs::LowBits::plus_low, crate::proofs::LowBits::difference_low))]
 pub fn operate(operation: Operation, a: i64, b: i64) -> i64
     ensures { result ≡ wrapped (operation_of operation a b) }
 {
