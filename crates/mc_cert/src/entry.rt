@@ -1,5 +1,5 @@
 // What stands in the entries of lines: numbers, ids and lists.
-ghost use Rattle.std.specs.Prelude.{◌≡◌, ◌≢◌, ◌↔◌, ◌∷◌, ◌++◌, [], ℕ, ℤ, List, All, IfOk, IsTrue, OnOk, MatchOption, map};
+ghost use Rattle.std.specs.Prelude.{◌≡◌, ◌≢◌, ◌↔◌, ◌∷◌, ◌++◌, [], ℕ, ℤ, List, All, IfOk, IsTrue, OnOk, MatchOption, map, string_bytes};
 ghost use Rattle.serde_json.specs.Data.{Data, string};
 ghost use Rattle.serde_json.specs.View.{view};
 ghost use Rattle.mc_cert.specs.Entries.{Fits, IsSigned, count_data, edge_id_data, form_data, kind_data, list_data};
@@ -200,6 +200,23 @@ pub fn is_word(value: &Value, word: &str) -> bool
     ensures { IsTrue result ↔ (view value.now ≡ word_data word.now) }
 {
     value.as_str() == Some(word)
+}
+
+impl Entry for String {
+    ghost spelled = { λ s. word_data (string_bytes s) };
+
+    ghost fits = { Fits };
+
+    fn read(alloc: Global, value: &Value) -> Result<String, LineFault> {
+        match value.as_str() {
+            None => Err(LineFault::Form),
+            Some(word) => Ok(String::from_str(alloc, word)?),
+        }
+    }
+
+    fn write(&self, alloc: Global) -> Result<Value, AllocError> {
+        Value::try_from_str(alloc, self.as_str())
+    }
 }
 
 impl Entry for Kind {

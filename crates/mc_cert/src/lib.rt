@@ -16,9 +16,11 @@ mod pieces;
 mod read;
 mod write;
 
+pub use entry::{Entry, put, three, two, values_of};
 pub use fault::LineFault;
 pub use line::Line;
 pub use mc_state::{Form, JoinStep, NodeKind, RawState, Side, Version};
+pub use parts::named;
 pub use pieces::first_line;
 pub use read::line_of;
 pub use write::bytes_of;

@@ -1,0 +1,4 @@
+pub mod Taking
+pub mod Asking
+pub mod Models
+pub mod Turns
