@@ -1,3 +1,0 @@
-pub mod LowBits
-pub mod Taking
-pub mod Faulty

@@ -1,4 +1,0 @@
-pub mod Taking
-pub mod Asking
-pub mod Models
-pub mod Turns
