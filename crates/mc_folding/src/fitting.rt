@@ -1,0 +1,54 @@
+// The numbers of names and edges that fit a rule, and the kinds of names.
+ghost use Rattle.std.specs.Prelude.{◌≡◌, ◌&&◌, ◌==◌, length, nat_lt};
+ghost use Rattle.mc_fold.specs.Judges.{block_fits};
+ghost use Rattle.mc_premises.specs.Known.{has_kind};
+ghost use Rattle.mc_premises.specs.Lists.{all_both};
+
+use mc_base::{EdgeId, Kind, NodeId, StructId};
+use mc_defs::{Def, Rule};
+use mc_symbolic::State;
+
+/// Whether a block is named exactly where the rule has one.
+fn block_fits(block: Option<EdgeId>, shape: Option<StructId>) -> bool
+    ensures { result ≡ block_fits block shape }
+{
+    match block {
+        Some(_) => shape.is_some(),
+        None => shape.is_none(),
+    }
+}
+
+/// Whether there is one node for each kind, of that kind.
+#[tactic(auto, using(mc_premises::proofs::ListLemmas::all_both_steps))]
+fn have_kinds(s: &State, kinds: &[Kind], nodes: &[NodeId]) -> bool
+    ensures { result ≡ all_both (has_kind s.now.kinds) kinds.now nodes.now }
+{
+    if kinds.len() != nodes.len() {
+        return false;
+    }
+    for (i, kind) in kinds.iter().enumerate() {
+        if !s.has_kind(*kind, nodes[i]) {
+            return false;
+        }
+    }
+    true
+}
+
+/// Whether there are more names than parameters, of the kinds of the rule's names, as many edges as calls, and a block
+/// exactly where the rule has one.
+pub fn fits_rule(
+    s: &State,
+    def: &Def,
+    by: &Rule,
+    calls: usize,
+    names: &[NodeId],
+    block: Option<EdgeId>,
+    ids: &[EdgeId],
+) -> bool
+    ensures { result ≡ (nat_lt (length def.now.params) (length names.now) && all_both (has_kind s.now.kinds) by.now.names names.now && calls == length ids.now && block_fits block by.now.block) }
+{
+    def.params.len() < names.len()
+        && have_kinds(s, by.names.as_slice(), names)
+        && calls == ids.len()
+        && block_fits(block, by.block)
+}
