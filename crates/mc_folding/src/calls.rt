@@ -68,7 +68,13 @@ pub fn are_calls(s: &State, names: &[NodeId], calls: &[Call], ids: &[EdgeId]) ->
 }
 
 /// Whether the edges with these ids are the calls but for the one at a place, one by one.
-pub fn are_other_calls(s: &State, names: &[NodeId], calls: &[Call], place: usize, ids: &[EdgeId]) -> bool
+pub fn are_other_calls(
+    s: &State,
+    names: &[NodeId],
+    calls: &[Call],
+    place: usize,
+    ids: &[EdgeId],
+) -> bool
     requires inside { place < length calls.now }
     ensures { (know : Test) → Tells know s.now → result ≡ all_both (is_call_at know s.now.graph.edges names.now) (remove calls.now place) ids.now }
 {

@@ -31,7 +31,11 @@ fn is_body(s: &State, names: &[NodeId], shape: StructId, contents: &[u64], edge:
     ensures { (know : Test) → Tells know s.now → result ≡ is_body know names.now shape contents.now edge.now }
 {
     match edge {
-        Edge::Block { at, shape: own, fields } => {
+        Edge::Block {
+            at,
+            shape: own,
+            fields,
+        } => {
             own.0 == shape.0
                 && is_named(s, names, 0, *at)
                 && are_fields(s, names, contents, fields.as_slice())

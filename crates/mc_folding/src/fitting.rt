@@ -1,9 +1,11 @@
 // The numbers of names and edges that fit a rule, and the kinds of names.
-ghost use Rattle.std.specs.Prelude.{◌≡◌, ◌&&◌, ◌==◌, length, nat_lt};
+ghost use Rattle.std.specs.Prelude.{◌≡◌, ◌&&◌, ◌==◌, ◌<◌, IsTrue, length, nat_lt};
 ghost use Rattle.mc_fold.specs.Judges.{block_fits};
 ghost use Rattle.mc_premises.specs.Known.{has_kind};
 ghost use Rattle.mc_premises.specs.Lists.{all_both};
+ghost use Rattle.mc_state.specs.Fits.{AreNodes};
 
+use crate::laws::kinds_are_there;
 use mc_base::{EdgeId, Kind, NodeId, StructId};
 use mc_defs::{Def, Rule};
 use mc_symbolic::State;
@@ -45,8 +47,12 @@ pub fn fits_rule(
     block: Option<EdgeId>,
     ids: &[EdgeId],
 ) -> bool
-    ensures { result ≡ (nat_lt (length def.now.params) (length names.now) && all_both (has_kind s.now.kinds) by.now.names names.now && calls == length ids.now && block_fits block by.now.block) }
+    ensures told { result ≡ (nat_lt (length def.now.params) (length names.now) && all_both (has_kind s.now.kinds) by.now.names names.now && calls == length ids.now && block_fits block by.now.block) }
+    ensures there { IsTrue result → AreNodes s.now.kinds names.now }
+    ensures more { IsTrue result → length def.now.params < length names.now }
 {
+    // This says what the proof needs.
+    kinds_are_there();
     def.params.len() < names.len()
         && have_kinds(s, by.names.as_slice(), names)
         && calls == ids.len()

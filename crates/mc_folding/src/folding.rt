@@ -7,12 +7,14 @@ ghost use Rattle.mc_graph.specs.declared.edge.Edge.TheVariants.{Ind, Seg};
 ghost use Rattle.mc_premises.specs.Known.{Test, Tells};
 ghost use Rattle.mc_premises.specs.Named.{named_ids, others};
 ghost use Rattle.mc_premises.specs.Premises.{AnswersBy, Changes};
+ghost use Rattle.mc_pure.specs.Pure.{Kinds};
 ghost use Rattle.mc_state.specs.Fits.{AreNodes};
 ghost use Rattle.mc_state.specs.State.{with_only_edges};
 
 use crate::calls::{are_calls, are_other_calls};
 use crate::contents::body_fits;
 use crate::fitting::fits_rule;
+use crate::laws::names_are_there;
 use crate::named::are_named;
 use crate::names::{knows_rule, node_of};
 use mc_base::{Args, EdgeId, Items, NoMemory, NodeId, PredId};
@@ -72,25 +74,48 @@ fn nodes_of_names(alloc: Global, nodes: &[NodeId], names: &[u64]) -> Result<Args
 /// The Ind at the rule's start and parameters.
 fn ind(alloc: Global, names: &[NodeId], count: usize, pred: &PredId) -> Result<Edge, NoMemory>
     requires { count < length names.now }
-    ensures { IfOk result (λ e. e ≡ Ind (node_of names.now 0) pred.now (take count (drop 1 names.now))) }
+    ensures edge { IfOk result (λ e. e ≡ Ind (node_of names.now 0) pred.now (take count (drop 1 names.now))) }
+    ensures there { (kinds : Kinds) → AreNodes kinds names.now → IfOk result (λ e. AreNodes kinds (nodes_of e)) }
 {
+    // This says what the proof needs.
+    names_are_there();
     let args = arguments(alloc, names, count)?;
-    Ok(Edge::Ind { at: node_of(names, 0), pred: *pred, args })
+    Ok(Edge::Ind {
+        at: node_of(names, 0),
+        pred: *pred,
+        args,
+    })
 }
 
 /// The Seg from the rule's start and parameters to a call.
-fn seg(alloc: Global, names: &[NodeId], count: usize, pred: &PredId, call: &Call) -> Result<Edge, NoMemory>
+fn seg(
+    alloc: Global,
+    names: &[NodeId],
+    count: usize,
+    pred: &PredId,
+    call: &Call,
+) -> Result<Edge, NoMemory>
     requires { count < length names.now }
-    ensures { IfOk result (λ e. e ≡ Seg (node_of names.now 0) (take count (drop 1 names.now)) pred.now (node_of names.now call.now.at) (map (node_of names.now) call.now.args)) }
+    ensures edge { IfOk result (λ e. e ≡ Seg (node_of names.now 0) (take count (drop 1 names.now)) pred.now (node_of names.now call.now.at) (map (node_of names.now) call.now.args)) }
+    ensures there { (kinds : Kinds) → AreNodes kinds names.now → IfOk result (λ e. AreNodes kinds (nodes_of e)) }
 {
+    // This says what the proof needs.
+    names_are_there();
     let args = arguments(alloc, names, count)?;
     let end_args = nodes_of_names(alloc, names, call.args.as_slice())?;
-    Ok(Edge::Seg { at: node_of(names, 0), args, pred: *pred, end: node_of(names, call.at), end_args })
+    Ok(Edge::Seg {
+        at: node_of(names, 0),
+        args,
+        pred: *pred,
+        end: node_of(names, call.at),
+        end_args,
+    })
 }
 
 /// The premises of L3, and the Ind.
 fn folded_ind(alloc: Global, s: &State, defs: &Defs, line: &FoldInd) -> Result<Edge, LogicFault>
-    ensures { (know : Test) → Tells know s.now → AnswersBy (λ e. with_fold s.now (named_ids line.now.block line.now.edges) e ∷ []) (folding_ind know defs.now line.now.pred line.now.rule line.now.names line.now.block line.now.edges s.now) result }
+    ensures told { (know : Test) → Tells know s.now → AnswersBy (λ e. with_fold s.now (named_ids line.now.block line.now.edges) e ∷ []) (folding_ind know defs.now line.now.pred line.now.rule line.now.names line.now.block line.now.edges s.now) result }
+    ensures nodes { IfOk result (λ e. AreNodes s.now.kinds (nodes_of e)) }
 {
     let names = line.names.as_slice();
     let ids = line.edges.as_slice();
@@ -126,7 +151,8 @@ fn folded_ind(alloc: Global, s: &State, defs: &Defs, line: &FoldInd) -> Result<E
 
 /// The premises of L4, and the Seg.
 fn folded_seg(alloc: Global, s: &State, defs: &Defs, line: &FoldSeg) -> Result<Edge, LogicFault>
-    ensures { (know : Test) → Tells know s.now → AnswersBy (λ e. with_fold s.now (named_ids (Some line.now.block) line.now.edges) e ∷ []) (folding_seg know defs.now line.now.pred line.now.rule line.now.names line.now.block line.now.edges line.now.call s.now) result }
+    ensures told { (know : Test) → Tells know s.now → AnswersBy (λ e. with_fold s.now (named_ids (Some line.now.block) line.now.edges) e ∷ []) (folding_seg know defs.now line.now.pred line.now.rule line.now.names line.now.block line.now.edges line.now.call s.now) result }
+    ensures nodes { IfOk result (λ e. AreNodes s.now.kinds (nodes_of e)) }
 {
     let names = line.names.as_slice();
     let ids = line.edges.as_slice();
@@ -186,11 +212,104 @@ fn take_named(s: &mut State, block: Option<EdgeId>, ids: &[EdgeId]) -> Result<()
 }
 
 /// Puts an edge in place of those that are named. Without memory the state is lost.
-fn put_folded(s: &mut State, block: Option<EdgeId>, ids: &[EdgeId], edge: Edge) -> Result<(), NoMemory>
+fn put_folded(
+    s: &mut State,
+    block: Option<EdgeId>,
+    ids: &[EdgeId],
+    edge: Edge,
+) -> Result<(), NoMemory>
     requires { AreNodes s.old.kinds (nodes_of edge) }
     ensures { OnOk result (s.new ≡ with_fold s.old (named_ids block ids.now) edge) }
 {
     take_named(s, block, ids)?;
     s.add_edge(edge)?;
     Ok(())
+}
+
+/// A copy of the state with an edge in place of those that are named.
+fn with_folded(
+    alloc: Global,
+    s: &State,
+    block: Option<EdgeId>,
+    ids: &[EdgeId],
+    edge: Edge,
+) -> Result<Vec<State>, NoMemory>
+    requires { AreNodes s.now.kinds (nodes_of edge) }
+    ensures { IfOk result (λ next. next.items ≡ with_fold s.now (named_ids block ids.now) edge ∷ []) }
+{
+    let mut state = s.copy(alloc)?;
+    put_folded(&mut state, block, ids, edge)?;
+    let mut next = Vec::new(alloc);
+    next.push(state)?;
+    Ok(next)
+}
+
+/// L3: puts an Ind in place of a rule's block and calls. Where a premise is unmet nothing changes; without
+/// memory the state is lost.
+pub fn fold_ind(alloc: Global, s: &mut State, defs: &Defs, line: &FoldInd) -> Result<(), LogicFault>
+    ensures { (know : Test) → Tells know s.old → Changes (folding_ind know defs.now line.now.pred line.now.rule line.now.names line.now.block line.now.edges s.old) (s.old ∷ []) (s.new ∷ []) result }
+{
+    let edge = folded_ind(alloc, s, defs, line)?;
+    match put_folded(s, line.block, line.edges.as_slice(), edge) {
+        Ok(()) => Ok(()),
+        Err(_) => Err(LogicFault::NoMemory),
+    }
+}
+
+impl LogicRule for FoldInd {
+    ghost judged = { λ rule know defs access s. folding_ind know defs rule.pred rule.rule rule.names rule.block rule.edges s };
+
+    fn successors(
+        &self,
+        alloc: Global,
+        state: &State,
+        defs: &Defs,
+        access: Option<NodeId>,
+    ) -> Result<Vec<State>, LogicFault> {
+        let edge = folded_ind(alloc, state, defs, self)?;
+        match with_folded(alloc, state, self.block, self.edges.as_slice(), edge) {
+            Ok(next) => Ok(next),
+            Err(_) => Err(LogicFault::NoMemory),
+        }
+    }
+
+    fn is_sound(&self) {
+        folding_is_judged();
+        folding_is_sound();
+    }
+}
+
+/// L4: puts a Seg in place of a rule's block and calls without one of the predicate. Where a premise is unmet nothing changes; without
+/// memory the state is lost.
+pub fn fold_seg(alloc: Global, s: &mut State, defs: &Defs, line: &FoldSeg) -> Result<(), LogicFault>
+    ensures { (know : Test) → Tells know s.old → Changes (folding_seg know defs.now line.now.pred line.now.rule line.now.names line.now.block line.now.edges line.now.call s.old) (s.old ∷ []) (s.new ∷ []) result }
+{
+    let edge = folded_seg(alloc, s, defs, line)?;
+    match put_folded(s, Some(line.block), line.edges.as_slice(), edge) {
+        Ok(()) => Ok(()),
+        Err(_) => Err(LogicFault::NoMemory),
+    }
+}
+
+impl LogicRule for FoldSeg {
+    ghost judged = { λ rule know defs access s. folding_seg know defs rule.pred rule.rule rule.names rule.block rule.edges rule.call s };
+
+    fn successors(
+        &self,
+        alloc: Global,
+        state: &State,
+        defs: &Defs,
+        access: Option<NodeId>,
+    ) -> Result<Vec<State>, LogicFault> {
+        let edge = folded_seg(alloc, state, defs, self)?;
+        match with_folded(alloc, state, Some(self.block), self.edges.as_slice(), edge) {
+            Ok(next) => Ok(next),
+            Err(_) => Err(LogicFault::NoMemory),
+        }
+    }
+
+    fn is_sound(&self) {
+        folding_is_judged();
+        folding_is_sound();
+    }
 }

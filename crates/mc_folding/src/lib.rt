@@ -6,7 +6,9 @@ mod calls;
 mod contents;
 mod fitting;
 mod folding;
+mod laws;
 mod named;
 mod names;
 
-pub use folding::{FoldInd, FoldSeg};
+pub use folding::{FoldInd, FoldSeg, fold_ind, fold_seg};
+pub use laws::{kinds_are_there, names_are_there};

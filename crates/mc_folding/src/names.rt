@@ -33,8 +33,17 @@ fn atom_of(names: &[NodeId], atom: &DefAtom) -> Atom
     ensures { result ≡ atom_of names.now atom.now }
 {
     match *atom {
-        DefAtom::Eq { left, base, add, .. } => Atom::Eq(node_of(names, left), base_node(names, base), add),
-        DefAtom::Ne { left, base, add } => Atom::Ne(node_of(names, left), base_node(names, base), add),
+        DefAtom::Eq {
+            left,
+            base,
+            add,
+            ..
+        } => Atom::Eq(node_of(names, left), base_node(names, base), add),
+        DefAtom::Ne { left, base, add } => Atom::Ne(
+            node_of(names, left),
+            base_node(names, base),
+            add,
+        ),
         DefAtom::In { left, lo, hi } => Atom::In(node_of(names, left), lo, hi),
     }
 }
