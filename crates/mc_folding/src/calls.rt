@@ -1,5 +1,5 @@
 // The calls of a rule.
-ghost use Rattle.std.specs.Prelude.{◌≡◌, ◌&&◌, ◌<◌, ◌+◌, drop, length, remove};
+ghost use Rattle.std.specs.Prelude.{◌≡◌, ◌&&◌, ◌<◌, ◌≤◌, ◌+◌, drop, length, remove};
 ghost use Rattle.mc_fold.specs.Judges.{is_call, is_call_at, is_named};
 ghost use Rattle.mc_premises.specs.Known.{Test, Tells};
 ghost use Rattle.mc_premises.specs.Lists.{all_both};
@@ -67,6 +67,22 @@ pub fn are_calls(s: &State, names: &[NodeId], calls: &[Call], ids: &[EdgeId]) ->
     true
 }
 
+/// The calls behind a place.
+fn behind(calls: &[Call], place: usize) -> &[Call]
+    requires { place < length calls.now }
+    ensures { result.now ≡ drop (place + 1) calls.now }
+{
+    &calls[place + 1..]
+}
+
+/// The ids from a place on.
+fn from(ids: &[EdgeId], place: usize) -> &[EdgeId]
+    requires { place ≤ length ids.now }
+    ensures { result.now ≡ drop place ids.now }
+{
+    &ids[place..]
+}
+
 /// Whether the edges with these ids are the calls but for the one at a place, one by one.
 pub fn are_other_calls(
     s: &State,
@@ -82,5 +98,5 @@ pub fn are_other_calls(
         return false;
     }
     are_calls(s, names, &calls[..place], &ids[..place])
-        && are_calls(s, names, &calls[place + 1..], &ids[place..])
+        && are_calls(s, names, behind(calls, place), from(ids, place))
 }
