@@ -1,12 +1,7 @@
--- Rules of which a premise takes memory to decide, and nodes that may be forgotten.
+-- Rules of which a premise takes memory to decide.
 use Rattle.std.specs.Prelude.{◌≡◌, Result, Ok, Err}
-use Rattle.mc_base.specs.declared.ids.NodeId.{NodeId}
-use Rattle.mc_base.specs.Nodes.{null}
-use Rattle.mc_pure.specs.Pure.{IsNode}
 use Rattle.mc_state.specs.declared.rule.LogicFault.{LogicFault}
 use Rattle.mc_state.specs.declared.rule.LogicFault.TheVariants.{Premise, NoMemory}
-use Rattle.mc_state.specs.Facts.{IsFalse, IsUnnamed}
-use Rattle.mc_state.specs.State.{State}
 use Rattle.mc_premises.specs.Premises.{Judged}
 
 -- a function answers what is judged, if there is memory to decide it
@@ -20,10 +15,3 @@ abbrev pub ChangesWithMemory : {A : Type 0} → Judged A → A → A → Result 
 ChangesWithMemory judged old new (Ok done) = judged ≡ Ok new
 ChangesWithMemory judged old new (Err (Premise k)) = (judged ≡ Err k) × (new ≡ old)
 ChangesWithMemory judged old new (Err NoMemory) = new ≡ old
-
--- the node may be forgotten
-pub record IsAllowed (node : NodeId) (s : State) : Type 0 where
-  pub consistent : IsFalse s → ⊥
-  pub there : IsNode s.kinds node
-  pub not_null : node ≡ null → ⊥
-  pub unnamed : IsUnnamed node s

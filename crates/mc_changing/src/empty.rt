@@ -58,12 +58,19 @@ fn kinds_are_there()
 
 /// Whether a node is a pointer and others are of the kinds of parameters.
 fn fit(s: &State, params: &[Kind], at: NodeId, args: &[NodeId]) -> bool
+    ensures { result ≡ (has_kind s.now.kinds Ptr at && all_both (has_kind s.now.kinds) params.now args.now) }
+{
+    s.has_kind(Kind::Ptr, at) && have_kinds(s, params, args)
+}
+
+/// The same, of nodes that are there then.
+fn fit_there(s: &State, params: &[Kind], at: NodeId, args: &[NodeId]) -> bool
     ensures told { result ≡ (has_kind s.now.kinds Ptr at && all_both (has_kind s.now.kinds) params.now args.now) }
     ensures there { IsTrue result → AreNodes s.now.kinds (at ∷ args.now) }
 {
     // This says what the proof needs.
     kinds_are_there();
-    s.has_kind(Kind::Ptr, at) && have_kinds(s, params, args)
+    fit(s, params, at, args)
 }
 
 /// The premises of L7, and the Seg.
@@ -77,10 +84,10 @@ fn made(alloc: Global, s: &State, defs: &Defs, rule: &EmptySeg) -> Result<Edge, 
     let Some(def) = defs.as_slice().get(rule.pred.0 as usize) else {
         return Err(LogicFault::Premise(3));
     };
-    if !fit(s, def.params.as_slice(), rule.at, rule.args.as_slice()) {
+    if !fit_there(s, def.params.as_slice(), rule.at, rule.args.as_slice()) {
         return Err(LogicFault::Premise(3));
     }
-    if !fit(s, def.params.as_slice(), rule.end, rule.end_args.as_slice()) {
+    if !fit_there(s, def.params.as_slice(), rule.end, rule.end_args.as_slice()) {
         return Err(LogicFault::Premise(3));
     }
     if !s.are_equal(rule.at, rule.end) {

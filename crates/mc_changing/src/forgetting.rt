@@ -1,13 +1,14 @@
 // A node that nothing names.
-ghost use Rattle.std.specs.Prelude.{◌≡◌, ◌≢◌, ◌∷◌, [], List, OnOk};
+ghost use Rattle.std.specs.Prelude.{◌≡◌, ◌≢◌, ◌∷◌, ◌&&◌, ◌==◌, [], IsTrue, List, OnOk, not};
 ghost use Rattle.mc_base.specs.Nodes.{null};
 ghost use Rattle.mc_base.specs.declared.plain.Atom.{Atom as Fact};
-ghost use Rattle.mc_changing.specs.Lacking.{IsAllowed};
 ghost use Rattle.mc_fold.specs.Changed.{IsListWithout, left_over};
-ghost use Rattle.mc_fold.specs.ChangeJudges.{forgetting_node};
+ghost use Rattle.mc_fold.specs.ChangeJudges.{forgetting_node, is_there};
 ghost use Rattle.mc_forget.specs.Left.{IsMade};
 ghost use Rattle.mc_premises.specs.Known.{Test, Tells};
 ghost use Rattle.mc_premises.specs.Premises.{AnswersBy, Changes};
+ghost use Rattle.mc_pure.specs.Pure.{IsNode};
+ghost use Rattle.mc_state.specs.Facts.{IsFalse, IsUnnamed};
 
 use crate::single::is_there;
 use mc_base::NodeId;
@@ -16,15 +17,27 @@ use mc_state::LogicFault;
 use mc_symbolic::State;
 use std::alloc::Global;
 
+/// Whether the node is there and is not node 0.
+fn is_another(s: &State, node: NodeId) -> bool
+    ensures told { result ≡ (is_there s.now.kinds node && not (node.0 == 0)) }
+    ensures there { IsTrue result → IsNode s.now.kinds node }
+    ensures not_null { IsTrue result → node ≢ null }
+{
+    is_there(s, node) && !(node.0 == 0)
+}
+
 /// The premises of L11.
 fn premises(s: &State, node: NodeId) -> Result<(), LogicFault>
     ensures told { (know : Test) (atoms : List Fact) → Tells know s.now → AnswersBy (λ done. left_over s.now node atoms ∷ []) (forgetting_node know atoms node s.now) result }
-    ensures allowed { OnOk result (IsAllowed node s.now) }
+    ensures consistent { OnOk result (IsFalse s.now → ⊥) }
+    ensures there { OnOk result (IsNode s.now.kinds node) }
+    ensures not_null { OnOk result (node ≢ null) }
+    ensures unnamed { OnOk result (IsUnnamed node s.now) }
 {
     if s.is_false() {
         return Err(LogicFault::Premise(2));
     }
-    if !is_there(s, node) || !s.is_there(node) || node.0 == 0 {
+    if !is_another(s, node) {
         return Err(LogicFault::Premise(3));
     }
     if !is_unnamed(s, node) {

@@ -1,6 +1,7 @@
 // One successor, and nodes that are there.
-ghost use Rattle.std.specs.Prelude.{◌≡◌, ◌∷◌, [], IfOk};
+ghost use Rattle.std.specs.Prelude.{◌≡◌, ◌∷◌, [], IfOk, IsTrue};
 ghost use Rattle.mc_fold.specs.ChangeJudges.{is_there};
+ghost use Rattle.mc_pure.specs.Pure.{IsNode};
 
 use mc_base::{NoMemory, NodeId};
 use mc_symbolic::State;
@@ -18,7 +19,8 @@ pub fn single(alloc: Global, state: State) -> Result<Vec<State>, NoMemory>
 /// Whether the node is there.
 #[tactic(auto, unfolding(mc_fold::specs::ChangeJudges::is_there))]
 pub fn is_there(s: &State, node: NodeId) -> bool
-    ensures { result ≡ is_there s.now.kinds node }
+    ensures told { result ≡ is_there s.now.kinds node }
+    ensures there { IsTrue result → IsNode s.now.kinds node }
 {
     if node.0 == 0 {
         return true;
