@@ -2,7 +2,7 @@
 use crate::builder::{Builder, Draft, Label, LowerFault, Mark, Role, Variable};
 use crate::lowering::Lowered;
 use mc_base::{Items, PointId, VarInfo};
-use mc_defs::Structs;
+use mc_defs::{FieldInfo, StructInfo, Structs};
 use mc_flow::{Flow, Instr, Operand, Point};
 use std::alloc::Global;
 
@@ -148,8 +148,40 @@ fn infos(alloc: Global, variables: Vec<Variable>) -> Result<Items<VarInfo>, Lowe
     Ok(Items::of(infos))
 }
 
+// A field again.
+fn field_again(alloc: Global, field: &FieldInfo) -> Result<FieldInfo, LowerFault> {
+    Ok(FieldInfo {
+        name: field.name.copy(alloc)?,
+        kind: field.kind,
+    })
+}
+
+// A struct again.
+fn struct_again(alloc: Global, info: &StructInfo) -> Result<StructInfo, LowerFault> {
+    let mut fields = Vec::new(alloc);
+    for field in info.fields.as_slice() {
+        fields.push(field_again(alloc, field)?)?;
+    }
+    Ok(StructInfo {
+        name: info.name.copy(alloc)?,
+        fields: Items::of(fields),
+    })
+}
+
+// The same structs again.
+fn structs_again(alloc: Global, structs: &Structs) -> Result<Structs, LowerFault> {
+    let mut list = Vec::new(alloc);
+    for info in structs.list.as_slice() {
+        list.push(struct_again(alloc, info)?)?;
+    }
+    Ok(Structs {
+        list: Items::of(list),
+    })
+}
+
 /// The flow graph with these points, variables and structs.
-pub fn finish(alloc: Global, builder: Builder, structs: Structs) -> Result<Lowered, LowerFault> {
+pub fn finish(alloc: Global, builder: Builder, structs: &Structs) -> Result<Lowered, LowerFault> {
+    let structs = structs_again(alloc, structs)?;
     let heads = of_role(alloc, builder.points.as_slice(), Role::Head)?;
     let merges = of_role(alloc, builder.points.as_slice(), Role::Merge)?;
     let stops = of_role(alloc, builder.points.as_slice(), Role::Stop)?;

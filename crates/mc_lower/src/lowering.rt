@@ -130,9 +130,9 @@ impl<'a> Lowering<'a> {
 pub fn lower(
     alloc: Global,
     program: &Resolved,
-    structs: Structs,
+    structs: &Structs,
 ) -> Result<Lowered, LowerFault> {
-    let flow = lower_points(alloc, program, &structs)?;
+    let flow = lower_points(alloc, program, structs)?;
     finish(alloc, flow, structs)
 }
 

@@ -24,7 +24,7 @@ fn an_empty_program(rt: HostRuntime) -> Result<(), Fail> {
     let structs = Structs {
         list: Items::new(alloc),
     };
-    let lowered = lower(alloc, &program, structs)?;
+    let lowered = lower(alloc, &program, &structs)?;
     assert_eq!(rt; lowered.flow.points.len(), 2);
     Ok(())
 }
