@@ -8,6 +8,7 @@ mod finishing;
 mod lowering;
 mod statements;
 mod tasks;
+#[cfg(test)]
 mod tests;
 mod values;
 
