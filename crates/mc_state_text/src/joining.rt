@@ -1,0 +1,29 @@
+// Texts that are joined.
+ghost use Rattle.std.specs.Prelude.{◌≡◌, ◌++◌, OnOk};
+ghost use Rattle.mc_state_text.specs.Text.{joined, part};
+
+use mc_base::{Items, NoMemory};
+
+/// Adds texts, with a gap between each two.
+pub fn push_joined(out: &mut Vec<u8>, gap: &[u8], texts: &[Items<u8>]) -> Result<(), NoMemory>
+    ensures { OnOk result (out.new.items ≡ out.old.items ++ joined gap.now texts.now) }
+{
+    for (i, text) in texts.iter().enumerate() {
+        if i > 0 {
+            out.extend_from_slice(gap)?;
+        }
+        out.extend_from_slice(text.as_slice())?;
+    }
+    Ok(())
+}
+
+/// The same, and `-` where there are none.
+pub fn push_part(out: &mut Vec<u8>, gap: &[u8], texts: &[Items<u8>]) -> Result<(), NoMemory>
+    ensures { OnOk result (out.new.items ≡ out.old.items ++ part gap.now texts.now) }
+{
+    if texts.is_empty() {
+        out.push(b'-')?;
+        return Ok(());
+    }
+    push_joined(out, gap, texts)
+}
