@@ -1,7 +1,7 @@
 -- The text of a state.
-use Rattle.std.specs.Prelude.{◌≡◌, ◌==◌, ◌++◌, ◌∷◌, ℕ, zero, suc, ℤ, pos, negsuc, Bool, List, [], Option, Some, None, codes, map, take, slice_get, option_map, unwrap_or, nat_eq, if◌then◌else◌}
-use Rattle.std.specs.List.{list_any}
-use Rattle.std.specs.Cmp.Lexicographic.{pointwise}
+use Rattle.std.specs.Prelude.{◌≡◌, ◌==◌, ◌++◌, ◌∷◌, ℕ, zero, suc, ℤ, pos, negsuc, Bool, List, [], Option, Some, None, codes, map, take, slice_get, option_map, unwrap_or, if◌then◌else◌}
+use Rattle.std.specs.List.{list_any, join_by}
+use Rattle.std.specs.Str.{bytes_eq}
 use Rattle.std.specs.Fmt.{decimal, signed_decimal}
 use Rattle.mc_base.specs.declared.ids.NodeId.{NodeId}
 use Rattle.mc_base.specs.declared.ids.PredId.{PredId}
@@ -14,11 +14,8 @@ use Rattle.mc_defs.specs.declared.shapes.FieldInfo.{FieldInfo}
 use Rattle.mc_defs.specs.declared.shapes.StructInfo.{StructInfo}
 use Rattle.mc_graph.specs.declared.edge.Edge.{Edge}
 use Rattle.mc_graph.specs.declared.edge.Edge.TheVariants.{Block, Ind, Seg}
-use Rattle.mc_graph.specs.Graph.{block_starts}
 use Rattle.mc_pure.specs.Canonical.{IsCanonical}
-use Rattle.mc_pure.specs.Pure.{Pure}
-use Rattle.mc_state.specs.State.{State}
-use Rattle.mc_symbolic.specs.Starts.{HaveSameNodes}
+use Rattle.mc_state.specs.State.{State, pure_of}
 
 -- a text, as bytes
 abbrev pub Text : Type 0
@@ -26,9 +23,7 @@ Text = List ℕ
 
 -- texts with a gap between each two
 abbrev pub joined : Text → List Text → Text
-joined gap [] = []
-joined gap (t ∷ []) = t
-joined gap (t ∷ u ∷ texts) = t ++ gap ++ joined gap (u ∷ texts)
+joined gap texts = join_by (λ t. t) gap texts
 
 -- an empty part is -
 abbrev pub part : Text → List Text → Text
@@ -46,11 +41,11 @@ known_text (Some n) = node_text n
 
 -- nodes, parted by commas
 abbrev pub nodes_text : List NodeId → Text
-nodes_text ns = joined (codes ",") (map node_text ns)
+nodes_text ns = join_by node_text (codes ",") ns
 
 -- the name is that of one of the variables
 abbrev pub is_name_of : List VarInfo → Text → Bool
-is_name_of vars name = list_any (λ v. pointwise nat_eq v.name name) vars
+is_name_of vars name = list_any (λ v. bytes_eq v.name name) vars
 
 -- a variable with these before it: a temporary, which has no name, is $ and its number; the first of a name is the name, and a
 -- later one has its number behind a point
@@ -112,13 +107,6 @@ state_text vars defs structs s atoms =
     part (codes " ") (var_texts vars 0 s.env) ++ codes "; " ++ part (codes ", ") (map (λ e. edge_text defs structs e.1) s.graph.edges) ++ codes "; "
     ++ part (codes ", ") (map atom_text atoms)
 
--- what is known of the state's nodes, blocks starting in any order
-pub record IsKnownOf (p : Pure) (s : State) : Type 0 where
-  pub kinds : p.kinds ≡ s.kinds
-  pub written : p.written ≡ s.atoms
-  pub starts : HaveSameNodes p.starts (block_starts s.graph.edges)
-
 -- the text of a state: that of its canonical list of atoms
 abbrev pub IsTextOf : List VarInfo → List Def → List StructInfo → State → Text → Type 0
-IsTextOf vars defs structs s text =
-    (p : Pure) × IsKnownOf p s × ((atoms : List Atom) × IsCanonical p atoms × (text ≡ state_text vars defs structs s atoms))
+IsTextOf vars defs structs s text = (atoms : List Atom) × IsCanonical (pure_of s) atoms × (text ≡ state_text vars defs structs s atoms)

@@ -1,11 +1,10 @@
 // The texts of edges.
-ghost use Rattle.std.specs.Prelude.{◌≡◌, ◌++◌, ◌∷◌, OnOk, IfOk, map};
-ghost use Rattle.std.specs.Option.{option_copied};
+ghost use Rattle.std.specs.Prelude.{◌≡◌, ◌++◌, ◌∷◌, OnOk, IfOk, codes, map, slice_get};
 ghost use Rattle.mc_state_text.specs.Text.{nodes_text, pred_text, field_text, field_texts, struct_text, edge_text};
 
 use crate::joining::push_joined;
 use crate::nodes::{push_known, push_node};
-use mc_base::{EdgeId, Items, NoMemory, NodeId, PredId};
+use mc_base::{EdgeId, Items, NoMemory, NodeId, PredId, StructId};
 use mc_defs::{Def, FieldInfo, StructInfo};
 use mc_graph::Edge;
 use std::alloc::Global;
@@ -34,6 +33,15 @@ fn push_pred(out: &mut Vec<u8>, defs: &[Def], pred: PredId) -> Result<(), NoMemo
     if let Some(def) = defs.get(pred.0 as usize) {
         out.extend_from_slice(def.name.as_slice())?;
     }
+    Ok(())
+}
+
+/// Adds the name of a predicate, and a parenthesis.
+fn push_open(out: &mut Vec<u8>, defs: &[Def], pred: PredId) -> Result<(), NoMemory>
+    ensures { OnOk result (out.new.items ≡ out.old.items ++ (pred_text defs.now pred ++ codes "(")) }
+{
+    push_pred(out, defs, pred)?;
+    out.push(b'(')?;
     Ok(())
 }
 
@@ -73,12 +81,13 @@ fn field_texts(
 fn push_struct(
     alloc: Global,
     out: &mut Vec<u8>,
-    info: Option<&StructInfo>,
+    structs: &[StructInfo],
+    shape: StructId,
     nodes: &[Option<NodeId>],
 ) -> Result<(), NoMemory>
-    ensures { OnOk result (out.new.items ≡ out.old.items ++ struct_text (option_copied info) nodes.now) }
+    ensures { OnOk result (out.new.items ≡ out.old.items ++ struct_text (slice_get structs.now shape.0) nodes.now) }
 {
-    let Some(info) = info else {
+    let Some(info) = structs.get(shape.0 as usize) else {
         out.extend_from_slice(b"{}")?;
         return Ok(());
     };
@@ -88,6 +97,19 @@ fn push_struct(
     push_joined(out, b",", texts.as_slice())?;
     out.push(b'}')?;
     Ok(())
+}
+
+/// Adds an arrow, the node where a segment ends and others.
+fn push_end(
+    alloc: Global,
+    out: &mut Vec<u8>,
+    end: NodeId,
+    others: &[NodeId],
+) -> Result<(), NoMemory>
+    ensures { OnOk result (out.new.items ≡ out.old.items ++ (codes " -> " ++ nodes_text (end ∷ others.now))) }
+{
+    out.extend_from_slice(b" -> ")?;
+    push_nodes(alloc, out, end, others)
 }
 
 /// Adds an edge.
@@ -104,11 +126,10 @@ fn push_edge(
         Edge::Block { at, shape, fields } => {
             push_node(alloc, out, *at)?;
             out.extend_from_slice(b" -> ")?;
-            push_struct(alloc, out, structs.get(shape.0 as usize), fields.as_slice())
+            push_struct(alloc, out, structs, *shape, fields.as_slice())
         }
         Edge::Ind { at, pred, args } => {
-            push_pred(out, defs, *pred)?;
-            out.push(b'(')?;
+            push_open(out, defs, *pred)?;
             push_nodes(alloc, out, *at, args.as_slice())?;
             out.push(b')')?;
             Ok(())
@@ -120,11 +141,9 @@ fn push_edge(
             end,
             end_args,
         } => {
-            push_pred(out, defs, *pred)?;
-            out.push(b'(')?;
+            push_open(out, defs, *pred)?;
             push_nodes(alloc, out, *at, args.as_slice())?;
-            out.extend_from_slice(b" -> ")?;
-            push_nodes(alloc, out, *end, end_args.as_slice())?;
+            push_end(alloc, out, *end, end_args.as_slice())?;
             out.push(b')')?;
             Ok(())
         }

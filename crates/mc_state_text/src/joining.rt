@@ -8,10 +8,12 @@ use mc_base::{Items, NoMemory};
 pub fn push_joined(out: &mut Vec<u8>, gap: &[u8], texts: &[Items<u8>]) -> Result<(), NoMemory>
     ensures { OnOk result (out.new.items ≡ out.old.items ++ joined gap.now texts.now) }
 {
-    for (i, text) in texts.iter().enumerate() {
-        if i > 0 {
-            out.extend_from_slice(gap)?;
-        }
+    let Some((first, others)) = texts.split_first() else {
+        return Ok(());
+    };
+    out.extend_from_slice(first.as_slice())?;
+    for text in others {
+        out.extend_from_slice(gap)?;
         out.extend_from_slice(text.as_slice())?;
     }
     Ok(())

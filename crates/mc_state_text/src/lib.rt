@@ -30,7 +30,7 @@ pub fn print(
 {
     let known = var_texts(alloc, vars, state.env())?;
     let edges = edge_texts(alloc, defs, structs, state.edges())?;
-    let atoms = mc_canon::canon(alloc, state.known())?;
+    let atoms = state.canon(alloc)?;
     let atoms = atom_texts(alloc, atoms.as_slice())?;
     let mut text = Vec::new(alloc);
     push_part(&mut text, b" ", known.as_slice())?;

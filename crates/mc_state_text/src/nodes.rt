@@ -1,5 +1,5 @@
 // The texts of nodes and atoms.
-ghost use Rattle.std.specs.Prelude.{◌≡◌, ◌++◌, OnOk, IfOk, map};
+ghost use Rattle.std.specs.Prelude.{◌≡◌, ◌++◌, OnOk, IfOk, codes, map};
 ghost use Rattle.std.specs.Fmt.{decimal, signed_decimal};
 ghost use Rattle.mc_state_text.specs.Text.{node_text, known_text, offset_text, atom_text};
 
@@ -79,6 +79,15 @@ fn push_relation(
     push_offset(alloc, out, by)
 }
 
+/// Adds the ends of a range, parted by a comma.
+fn push_bounds(alloc: Global, out: &mut Vec<u8>, lo: i64, hi: i64) -> Result<(), NoMemory>
+    ensures { OnOk result (out.new.items ≡ out.old.items ++ (signed_decimal lo ++ codes "," ++ signed_decimal hi)) }
+{
+    push_signed(alloc, out, lo)?;
+    out.push(b',')?;
+    push_signed(alloc, out, hi)
+}
+
 /// Adds an atom.
 fn push_atom(alloc: Global, out: &mut Vec<u8>, atom: &Atom) -> Result<(), NoMemory>
     ensures { OnOk result (out.new.items ≡ out.old.items ++ atom_text atom.now) }
@@ -89,9 +98,7 @@ fn push_atom(alloc: Global, out: &mut Vec<u8>, atom: &Atom) -> Result<(), NoMemo
         Atom::In(n, lo, hi) => {
             push_node(alloc, out, *n)?;
             out.extend_from_slice(b" in [")?;
-            push_signed(alloc, out, *lo)?;
-            out.push(b',')?;
-            push_signed(alloc, out, *hi)?;
+            push_bounds(alloc, out, *lo, *hi)?;
             out.push(b']')?;
             Ok(())
         }
