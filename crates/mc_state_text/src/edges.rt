@@ -46,11 +46,7 @@ fn push_open(out: &mut Vec<u8>, defs: &[Def], pred: PredId) -> Result<(), NoMemo
 }
 
 /// The text of a field with its node.
-fn field_text(
-    alloc: Global,
-    field: &FieldInfo,
-    node: Option<NodeId>,
-) -> Result<Items<u8>, NoMemory>
+fn field_text(alloc: Global, field: &FieldInfo, node: Option<NodeId>) -> Result<Items<u8>, NoMemory>
     ensures { IfOk result (λ text. text ≡ field_text field.now node) }
 {
     let mut out = Vec::from_slice(alloc, field.name.as_slice())?;

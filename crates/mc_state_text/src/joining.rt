@@ -1,5 +1,5 @@
 // Texts that are joined.
-ghost use Rattle.std.specs.Prelude.{◌≡◌, ◌++◌, OnOk};
+ghost use Rattle.std.specs.Prelude.{◌≡◌, ◌++◌, OnOk, codes};
 ghost use Rattle.mc_state_text.specs.Text.{joined, part};
 
 use mc_base::{Items, NoMemory};
@@ -28,4 +28,12 @@ pub fn push_part(out: &mut Vec<u8>, gap: &[u8], texts: &[Items<u8>]) -> Result<(
         return Ok(());
     }
     push_joined(out, gap, texts)
+}
+
+/// Adds a further part, whose texts are parted by commas and blanks.
+pub fn push_next_part(out: &mut Vec<u8>, texts: &[Items<u8>]) -> Result<(), NoMemory>
+    ensures { OnOk result (out.new.items ≡ out.old.items ++ (codes "; " ++ part (codes ", ") texts.now)) }
+{
+    out.extend_from_slice(b"; ")?;
+    push_part(out, b", ", texts)
 }

@@ -41,7 +41,12 @@ fn push_name(
 }
 
 /// Adds the name of a variable.
-pub fn push_var(alloc: Global, out: &mut Vec<u8>, vars: &[VarInfo], x: usize) -> Result<(), NoMemory>
+pub fn push_var(
+    alloc: Global,
+    out: &mut Vec<u8>,
+    vars: &[VarInfo],
+    x: usize,
+) -> Result<(), NoMemory>
     ensures { OnOk result (out.new.items ≡ out.old.items ++ var_text vars.now x) }
 {
     match vars.get(x) {

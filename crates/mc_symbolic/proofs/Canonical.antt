@@ -46,12 +46,15 @@ module _ (more : FollowsFromMore) (false_more : FalseFromMore) (kinds : Kinds) (
 pub canonical_same : FollowsFromMore → FalseFromMore → (kinds : Kinds) (written : List Atom) (xs ys : List NodeId) → HaveSameNodes xs ys → (atoms : List Atom)
     → IsCanonical (record { kinds = kinds; written = written; starts = xs }) atoms → IsCanonical (record { kinds = kinds; written = written; starts = ys }) atoms
 canonical_same more false_more kinds written xs ys same atoms (inl h) = inl ((false_same more false_more kinds written xs ys same).0 h.0, h.1)
-canonical_same more false_more kinds written xs ys same atoms (inr h) = inr ((λ w. h.0 ((false_same more false_more kinds written xs ys same).1 w)), record {
-  ranges = h.1.ranges;
-  equalities = h.1.equalities;
-  differences = h.1.differences;
-  together = h.1.together;
-  ranges_listed = listed _ _ h.1.ranges (range more false_more kinds xs ys same written) (range more false_more kinds ys xs (turned xs ys same) written) h.1.ranges_listed;
-  equalities_listed = listed _ _ h.1.equalities (class more false_more kinds xs ys same written) (class more false_more kinds ys xs (turned xs ys same) written) h.1.equalities_listed;
-  differences_listed = listed _ _ h.1.differences (difference more false_more kinds xs ys same written (h.1.ranges ++ h.1.equalities)) (difference more false_more kinds ys xs (turned xs ys same) written (h.1.ranges ++ h.1.equalities)) h.1.differences_listed;
-})
+canonical_same more false_more kinds written xs ys same atoms (inr h) = inr (
+  (λ w. h.0 ((false_same more false_more kinds written xs ys same).1 w)),
+  record {
+    ranges = h.1.ranges;
+    equalities = h.1.equalities;
+    differences = h.1.differences;
+    together = h.1.together;
+    ranges_listed = listed _ _ h.1.ranges (range more false_more kinds xs ys same written) (range more false_more kinds ys xs (turned xs ys same) written) h.1.ranges_listed;
+    equalities_listed = listed _ _ h.1.equalities (class more false_more kinds xs ys same written) (class more false_more kinds ys xs (turned xs ys same) written) h.1.equalities_listed;
+    differences_listed = listed _ _ h.1.differences (difference more false_more kinds xs ys same written (h.1.ranges ++ h.1.equalities)) (difference more false_more kinds ys xs (turned xs ys same) written (h.1.ranges ++ h.1.equalities)) h.1.differences_listed;
+  },
+)

@@ -37,9 +37,23 @@ fn node(number: u64) -> Option<NodeId> {
 fn empty_parts_are_dashes(rt: HostRuntime) -> Result<(), Fail> {
     let alloc = rt.alloc();
     let pointers = vars(alloc, Kind::Ptr, &[b"p"])?;
-    let null = text(alloc, pointers.as_slice(), &[node(0)], &[ZERO], Vec::new(alloc), &[])?;
+    let null = text(
+        alloc,
+        pointers.as_slice(),
+        &[node(0)],
+        &[ZERO],
+        Vec::new(alloc),
+        &[],
+    )?;
     assert!(rt; null.as_slice() == b"p=0; -; -".as_slice());
-    let none = text(alloc, pointers.as_slice(), &[None], &[ZERO], Vec::new(alloc), &[])?;
+    let none = text(
+        alloc,
+        pointers.as_slice(),
+        &[None],
+        &[ZERO],
+        Vec::new(alloc),
+        &[],
+    )?;
     assert!(rt; none.as_slice() == b"-; -; -".as_slice());
     Ok(())
 }
@@ -49,12 +63,26 @@ fn ranges_have_both_ends(rt: HostRuntime) -> Result<(), Fail> {
     let alloc = rt.alloc();
     let pointers = vars(alloc, Kind::Ptr, &[b"p"])?;
     let freed = [Atom::In(NodeId(1), 1, MAX)];
-    let shown = text(alloc, pointers.as_slice(), &[node(1)], &[ZERO, PTR], Vec::new(alloc), &freed)?;
+    let shown = text(
+        alloc,
+        pointers.as_slice(),
+        &[node(1)],
+        &[ZERO, PTR],
+        Vec::new(alloc),
+        &freed,
+    )?;
     assert!(rt; shown.as_slice() == b"p=n1; -; n1 in [1,4611686018427387903]".as_slice());
     let numbers = vars(alloc, Kind::Int, &[b"x", b"y"])?;
     let small = [Atom::In(NodeId(2), -1, 1)];
     let two = [node(1), node(2)];
-    let shown = text(alloc, numbers.as_slice(), &two, &[ZERO, INT, INT], Vec::new(alloc), &small)?;
+    let shown = text(
+        alloc,
+        numbers.as_slice(),
+        &two,
+        &[ZERO, INT, INT],
+        Vec::new(alloc),
+        &small,
+    )?;
     assert!(rt; shown.as_slice() == b"x=n1 y=n2; -; n2 in [-1,1]".as_slice());
     Ok(())
 }
@@ -71,7 +99,14 @@ fn offsets_have_signs(rt: HostRuntime) -> Result<(), Fail> {
         Atom::In(NodeId(3), 0, 9),
         Atom::Ne(NodeId(3), NodeId(1), -2),
     ];
-    let shown = text(alloc, numbers.as_slice(), &nodes, &kinds, Vec::new(alloc), &atoms)?;
+    let shown = text(
+        alloc,
+        numbers.as_slice(),
+        &nodes,
+        &kinds,
+        Vec::new(alloc),
+        &atoms,
+    )?;
     let wanted = b"x=n1 $1=n2 $2=n3; -; n1 in [0,9], n2 in [1,10], n3 in [0,9], n2=n1+1, n3!=n1-2";
     assert!(rt; shown.as_slice() == wanted.as_slice());
     Ok(())
@@ -82,7 +117,14 @@ fn unknown_fields_are_marked(rt: HostRuntime) -> Result<(), Fail> {
     let alloc = rt.alloc();
     let pointers = vars(alloc, Kind::Ptr, &[b"p"])?;
     let edges = one(alloc, block(alloc, 1, None, None)?)?;
-    let shown = text(alloc, pointers.as_slice(), &[node(1)], &[ZERO, PTR], edges, &[])?;
+    let shown = text(
+        alloc,
+        pointers.as_slice(),
+        &[node(1)],
+        &[ZERO, PTR],
+        edges,
+        &[],
+    )?;
     let wanted = b"p=n1; n1 -> node{data:?,next:?}; n1 in [1,4611686018427387903]";
     assert!(rt; shown.as_slice() == wanted.as_slice());
     Ok(())
@@ -97,8 +139,16 @@ fn later_variables_of_a_name_have_numbers(rt: HostRuntime) -> Result<(), Fail> {
     edges.push(ind(alloc, LIST, 2, &[])?)?;
     edges.push(seg(alloc, LIST, 3, &[], 1, &[])?)?;
     let atoms = [Atom::In(NodeId(3), 1, MAX)];
-    let shown = text(alloc, pointers.as_slice(), &nodes, &[ZERO, PTR, PTR, PTR, INT], edges, &atoms)?;
-    let wanted = b"l=n1 l.3=n2 r.5=n3; n1 -> node{data:n4,next:0}, list(n2), list(n3 -> n1); n1 in [1,4611686018427387903], n3 in [1,4611686018427387903]";
+    let shown = text(
+        alloc,
+        pointers.as_slice(),
+        &nodes,
+        &[ZERO, PTR, PTR, PTR, INT],
+        edges,
+        &atoms,
+    )?;
+    let wanted =
+        b"l=n1 l.3=n2 r.5=n3; n1 -> node{data:n4,next:0}, list(n2), list(n3 -> n1); n1 in [1,4611686018427387903], n3 in [1,4611686018427387903]";
     assert!(rt; shown.as_slice() == wanted.as_slice());
     Ok(())
 }
@@ -111,7 +161,14 @@ fn arguments_follow_their_nodes(rt: HostRuntime) -> Result<(), Fail> {
     edges.push(ind(alloc, SORTED, 2, &[3])?)?;
     let atoms = [Atom::In(NodeId(3), 0, 2147483647)];
     let nodes = [node(1), node(2)];
-    let shown = text(alloc, pointers.as_slice(), &nodes, &[ZERO, PTR, PTR, INT], edges, &atoms)?;
+    let shown = text(
+        alloc,
+        pointers.as_slice(),
+        &nodes,
+        &[ZERO, PTR, PTR, INT],
+        edges,
+        &atoms,
+    )?;
     let wanted = b"l=n1 c=n2; sorted(n1,0 -> n2,n3), sorted(n2,n3); n3 in [0,2147483647]";
     assert!(rt; shown.as_slice() == wanted.as_slice());
     Ok(())
