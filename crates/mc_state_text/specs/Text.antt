@@ -77,10 +77,14 @@ field_texts [] nodes = []
 field_texts (f ∷ fields) [] = []
 field_texts (f ∷ fields) (n ∷ nodes) = field_text f n ∷ field_texts fields nodes
 
--- a struct's name with fields and their nodes
+-- a block of a struct: its name, with fields and their nodes
+abbrev pub block_text : StructInfo → List (Option NodeId) → Text
+block_text info nodes = info.name ++ codes "{" ++ joined (codes ",") (field_texts info.fields nodes) ++ codes "}"
+
+-- the same for a struct that is there
 abbrev pub struct_text : Option StructInfo → List (Option NodeId) → Text
 struct_text None nodes = codes "{}"
-struct_text (Some info) nodes = info.name ++ codes "{" ++ joined (codes ",") (field_texts info.fields nodes) ++ codes "}"
+struct_text (Some info) nodes = block_text info nodes
 
 -- an edge
 abbrev pub edge_text : List Def → List StructInfo → Edge → Text
@@ -95,11 +99,15 @@ offset_text (pos zero) = []
 offset_text (pos (suc n)) = codes "+" ++ decimal (suc n)
 offset_text (negsuc n) = signed_decimal (negsuc n)
 
+-- a node and its range
+abbrev pub range_text : NodeId → ℤ → ℤ → Text
+range_text n lo hi = node_text n ++ codes " in [" ++ signed_decimal lo ++ codes "," ++ signed_decimal hi ++ codes "]"
+
 -- an atom
 abbrev pub atom_text : Atom → Text
 atom_text (Eq a b c) = node_text a ++ codes "=" ++ node_text b ++ offset_text c
 atom_text (Ne a b c) = node_text a ++ codes "!=" ++ node_text b ++ offset_text c
-atom_text (In n lo hi) = node_text n ++ codes " in [" ++ signed_decimal lo ++ codes "," ++ signed_decimal hi ++ codes "]"
+atom_text (In n lo hi) = range_text n lo hi
 
 -- known variables, edges and these atoms
 abbrev pub state_text : List VarInfo → List Def → List StructInfo → State → List Atom → Text

@@ -1,6 +1,6 @@
 // The texts of edges.
 ghost use Rattle.std.specs.Prelude.{◌≡◌, ◌++◌, ◌∷◌, OnOk, IfOk, codes, map, slice_get};
-ghost use Rattle.mc_state_text.specs.Text.{nodes_text, pred_text, field_text, field_texts, struct_text, edge_text};
+ghost use Rattle.mc_state_text.specs.Text.{block_text, joined, nodes_text, pred_text, field_text, field_texts, struct_text, edge_text};
 
 use crate::joining::push_joined;
 use crate::nodes::{push_known, push_node};
@@ -73,7 +73,36 @@ fn field_texts(
     Ok(texts)
 }
 
+/// Adds fields with their nodes, parted by commas.
+fn push_fields(
+    alloc: Global,
+    out: &mut Vec<u8>,
+    fields: &[FieldInfo],
+    nodes: &[Option<NodeId>],
+) -> Result<(), NoMemory>
+    ensures { OnOk result (out.new.items ≡ out.old.items ++ joined (codes ",") (field_texts fields.now nodes.now)) }
+{
+    let texts = field_texts(alloc, fields, nodes)?;
+    push_joined(out, b",", texts.as_slice())
+}
+
 /// Adds a struct's name with fields and their nodes.
+fn push_block(
+    alloc: Global,
+    out: &mut Vec<u8>,
+    info: &StructInfo,
+    nodes: &[Option<NodeId>],
+) -> Result<(), NoMemory>
+    ensures { OnOk result (out.new.items ≡ out.old.items ++ block_text info.now nodes.now) }
+{
+    out.extend_from_slice(info.name.as_slice())?;
+    out.push(b'{')?;
+    push_fields(alloc, out, info.fields.as_slice(), nodes)?;
+    out.push(b'}')?;
+    Ok(())
+}
+
+/// Adds the same for a struct that is there.
 fn push_struct(
     alloc: Global,
     out: &mut Vec<u8>,
@@ -83,16 +112,10 @@ fn push_struct(
 ) -> Result<(), NoMemory>
     ensures { OnOk result (out.new.items ≡ out.old.items ++ struct_text (slice_get structs.now shape.0) nodes.now) }
 {
-    let Some(info) = structs.get(shape.0 as usize) else {
-        out.extend_from_slice(b"{}")?;
-        return Ok(());
-    };
-    out.extend_from_slice(info.name.as_slice())?;
-    out.push(b'{')?;
-    let texts = field_texts(alloc, info.fields.as_slice(), nodes)?;
-    push_joined(out, b",", texts.as_slice())?;
-    out.push(b'}')?;
-    Ok(())
+    match structs.get(shape.0 as usize) {
+        Some(info) => push_block(alloc, out, info, nodes),
+        None => out.extend_from_slice(b"{}"),
+    }
 }
 
 /// Adds an arrow, the node where a segment ends and others.

@@ -1,7 +1,7 @@
 // The texts of nodes and atoms.
 ghost use Rattle.std.specs.Prelude.{◌≡◌, ◌++◌, OnOk, IfOk, codes, map};
 ghost use Rattle.std.specs.Fmt.{decimal, signed_decimal};
-ghost use Rattle.mc_state_text.specs.Text.{node_text, known_text, offset_text, atom_text};
+ghost use Rattle.mc_state_text.specs.Text.{node_text, known_text, offset_text, range_text, atom_text};
 
 use mc_base::{Atom, Items, NoMemory, NodeId};
 use std::alloc::Global;
@@ -88,6 +88,30 @@ fn push_bounds(alloc: Global, out: &mut Vec<u8>, lo: i64, hi: i64) -> Result<(),
     push_signed(alloc, out, hi)
 }
 
+/// Adds a node, and what its range begins with.
+fn push_within(alloc: Global, out: &mut Vec<u8>, node: NodeId) -> Result<(), NoMemory>
+    ensures { OnOk result (out.new.items ≡ out.old.items ++ (node_text node ++ codes " in [")) }
+{
+    push_node(alloc, out, node)?;
+    out.extend_from_slice(b" in [")
+}
+
+/// Adds a node and its range.
+fn push_range(
+    alloc: Global,
+    out: &mut Vec<u8>,
+    node: NodeId,
+    lo: i64,
+    hi: i64,
+) -> Result<(), NoMemory>
+    ensures { OnOk result (out.new.items ≡ out.old.items ++ range_text node lo hi) }
+{
+    push_within(alloc, out, node)?;
+    push_bounds(alloc, out, lo, hi)?;
+    out.push(b']')?;
+    Ok(())
+}
+
 /// Adds an atom.
 fn push_atom(alloc: Global, out: &mut Vec<u8>, atom: &Atom) -> Result<(), NoMemory>
     ensures { OnOk result (out.new.items ≡ out.old.items ++ atom_text atom.now) }
@@ -95,13 +119,7 @@ fn push_atom(alloc: Global, out: &mut Vec<u8>, atom: &Atom) -> Result<(), NoMemo
     match atom {
         Atom::Eq(a, b, by) => push_relation(alloc, out, *a, b"=", *b, *by),
         Atom::Ne(a, b, by) => push_relation(alloc, out, *a, b"!=", *b, *by),
-        Atom::In(n, lo, hi) => {
-            push_node(alloc, out, *n)?;
-            out.extend_from_slice(b" in [")?;
-            push_bounds(alloc, out, *lo, *hi)?;
-            out.push(b']')?;
-            Ok(())
-        }
+        Atom::In(n, lo, hi) => push_range(alloc, out, *n, *lo, *hi),
     }
 }
 
