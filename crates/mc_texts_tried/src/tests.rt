@@ -133,7 +133,7 @@ fn unknown_fields_are_marked(rt: HostRuntime) -> Result<(), Fail> {
 #[test]
 fn later_variables_of_a_name_have_numbers(rt: HostRuntime) -> Result<(), Fail> {
     let alloc = rt.alloc();
-    let pointers = vars(alloc, Kind::Ptr, &[b"l", b"c", b"", b"l", b"", b"r"])?;
+    let pointers = vars(alloc, Kind::Ptr, &[b"l", b"r", b"", b"l", b"", b"r"])?;
     let nodes = [node(1), None, None, node(2), None, node(3)];
     let mut edges = one(alloc, block(alloc, 1, node(4), node(0))?)?;
     edges.push(ind(alloc, LIST, 2, &[])?)?;
