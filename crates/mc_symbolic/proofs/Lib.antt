@@ -1,4 +1,5 @@
 pub mod Starts
+pub mod Canonical
 pub mod Kept
 pub mod Merging
 pub mod Finding

@@ -8,6 +8,7 @@ ghost use Rattle.mc_graph.specs.Edges.{nodes_of, with_field_node};
 ghost use Rattle.mc_graph.specs.Graph.{edge_with, without, replaced, block_starts};
 ghost use Rattle.mc_pure.specs.Pure.{IsNode, IsWellFormed, kind_of};
 ghost use Rattle.mc_pure.specs.Derived.{Follows, HasRange, IsFalse as IsFalsePure};
+ghost use Rattle.mc_pure.specs.Canonical.{IsCanonical};
 ghost use Rattle.mc_pure.specs.Rows.{nodes_of as all_nodes};
 ghost use Rattle.mc_state.specs.State.{unknown, pure_of, var_node, next_node, with_var, with_nodes, with_atom, with_edges, with_only_edges};
 ghost use Rattle.mc_state.specs.Facts.{Derives, IsFalse, AreEqual, AreAllEqual, CanMerge, merged, instead};
@@ -341,6 +342,14 @@ impl State {
     {
         mc_pure::derived_grows();
         &self.pure
+    }
+
+    /// The canonical list of what is known of the nodes.
+    pub fn canon(&self, alloc: Global) -> Result<Vec<Atom>, NoMemory>
+        ensures { IfOk result (λ list. IsCanonical (pure_of self.now) list.items) }
+    {
+        mc_pure::derived_grows();
+        mc_canon::canon(alloc, &self.pure)
     }
 
     /// Puts other nodes and atoms in place of those that are known, where blocks start as before.
