@@ -1,3 +1,4 @@
 pub mod Stepped
 pub mod Fits
 pub mod Values
+pub mod Found

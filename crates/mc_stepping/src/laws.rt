@@ -1,4 +1,5 @@
 // What steps rest on. Each law is what a function with no body ensures.
+ghost use Rattle.mc_stepping.specs.Found.{FoundEdgesAreThere, FoundFieldsAreThere, FreedMayBeWritten};
 ghost use Rattle.mc_stepping.specs.Values.{OperandsFit};
 
 use mc_state::{nodes_are_there, numbers_stay_bounded};
@@ -10,3 +11,10 @@ pub fn operands_fit()
     numbers_stay_bounded();
     nodes_are_there();
 }
+
+/// Edges that are found are there, with the nodes of their fields, and what is known of a freed block may be written.
+pub fn blocks_are_there()
+    ensures edges { FoundEdgesAreThere }
+    ensures fields { FoundFieldsAreThere }
+    ensures freed { FreedMayBeWritten }
+{}

@@ -1,10 +1,17 @@
 //! The rules of instructions, decided: what comes of an instruction at a state, or its first premise that is unmet.
 #![tactic(auto)]
 
+mod blocks;
+mod comparisons;
 mod laws;
 mod moves;
 mod next;
 mod operands;
+mod shapes;
 
+pub use blocks::{free, free_null, load, malloc, store};
+pub use comparisons::test_equal;
+pub use laws::{blocks_are_there, operands_fit};
 pub use moves::{copy, forget, skip, take};
 pub use next::{Next, Refused, Stepped};
+pub use shapes::{assert_empty, end};

@@ -5,7 +5,7 @@ ghost use Rattle.mc_premises.specs.Known.{Test, Tells};
 ghost use Rattle.mc_step.specs.Judges.{skipping, copying, forgetting, taking};
 ghost use Rattle.mc_step.specs.Steps.{moved_to};
 ghost use Rattle.mc_stepping.specs.Fits.{FitsAt};
-ghost use Rattle.mc_stepping.specs.Stepped.{Steps, successors};
+ghost use Rattle.mc_stepping.specs.Stepped.{Steps, seen, successors};
 
 use crate::laws::operands_fit;
 use crate::operands::{put, read};
@@ -17,14 +17,21 @@ use mc_state::nodes_are_there;
 use mc_symbolic::State;
 
 /// The branch that goes on at a point.
-pub fn moved_to(point: PointId, state: State) -> Stepped
-    ensures { successors result ≡ moved_to point state ∷ [] }
+pub fn next_at(point: PointId, state: State) -> Next
+    ensures { moved_to point state ≡ seen result }
 {
-    Stepped::Moved(Next {
+    Next {
         point,
         goal: None,
         state,
-    })
+    }
+}
+
+/// The branch goes on at a point.
+pub fn moved_to(point: PointId, state: State) -> Stepped
+    ensures { successors result ≡ moved_to point state ∷ [] }
+{
+    Stepped::Moved(next_at(point, state))
 }
 
 /// S1: a Skip goes on.

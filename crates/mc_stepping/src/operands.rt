@@ -46,3 +46,13 @@ pub fn put(s: &mut State, value: &Value) -> Result<NodeId, NoMemory>
         Value::Number(c) => add_number(s, c),
     }
 }
+
+/// The node that a value gets.
+pub fn node_of(s: &State, value: &Value) -> NodeId
+    ensures { result ≡ value_node s.now value.now }
+{
+    match value {
+        Value::Node(node) => *node,
+        Value::Number(_) => s.next_node(),
+    }
+}
