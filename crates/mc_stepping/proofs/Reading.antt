@@ -27,7 +27,9 @@ use Rattle.mc_state.specs.State.{State, next_node, with_nodes, with_atoms, with_
 use Rattle.mc_state.specs.Fits.{AreNodes, EdgeFitsDefs, EdgeFitsStructs, IsWellMade}
 use Rattle.mc_state.specs.Laws.{AtomsStayBounded, NewNodesHaveKinds, NodesStayBounded}
 use Rattle.mc_step.specs.Operands.{operand_node, with_operand}
-use Rattle.mc_stepping.specs.Values.{HasOperand, OperandsFit}
+use Rattle.mc_stepping.specs.Values.{CanPut, HasOperand, IsNumber, OperandsFit, ReadOperandsFit}
+use Rattle.mc_stepping.specs.declared.operands.Value.{Value}
+use Rattle.mc_stepping.specs.declared.operands.Value.TheVariants.{Node, Number}
 use Rattle.mc_stepping.proofs.Growing.{Grows, all_append, all_map, all_may_grow, atom_grows, atom_there, defs_grow, get_slice, known_kind, map_slice, structs_grow}
 
 -- how changed states stay well made
@@ -105,3 +107,11 @@ module _ (laws : OperandLaws) (defs : List Def) (vars : List VarInfo) (structs :
 
 pub operands_fit : OperandLaws → OperandsFit
 operands_fit laws defs vars structs s kind o n made fits known = operand_fits laws defs vars structs s kind o n made fits known
+
+pub read_operands_fit : ReadOperandsFit
+read_operands_fit vars kind o (Node n) fits is = tt
+read_operands_fit vars kind o (Number c) fits is =
+    let int = int_const vars kind c (subst (λ (o : Operand). IsOperand vars kind o) is.0 fits) is.1 in
+    let low = int.1.0 in
+    let high = int.1.1 in
+    (omega (arith, ints), omega (arith, ints))

@@ -1,6 +1,6 @@
 // Operands, read and put into a state.
 ghost use Rattle.std.specs.Prelude.{◌≡◌, IfOk, OnOk};
-ghost use Rattle.mc_stepping.specs.Values.{CanPut, IsRead, value_node, with_value};
+ghost use Rattle.mc_stepping.specs.Values.{CanPut, IsNumber, IsRead, StaysRead, value_node, with_value};
 
 use mc_base::{NoMemory, NodeId};
 use mc_changes::add_number;
@@ -18,7 +18,9 @@ pub enum Value {
 
 /// What an operand is. None for a variable that is not known.
 pub fn read(s: &State, o: Operand) -> Option<Value>
-    ensures { IsRead s.now o result }
+    ensures here { IsRead s.now o result }
+    ensures stays { StaysRead s.now o result }
+    ensures number { IsNumber o result }
 {
     match o {
         Operand::Var(x) => match s.var(x) {

@@ -1,4 +1,4 @@
-use Rattle.mc_stepping.proofs.Reading.{OperandLaws, operands_fit}
+use Rattle.mc_stepping.proofs.Reading.{OperandLaws, operands_fit, read_operands_fit}
 use Rattle.mc_stepping.proofs.laws.operands_fit.Goals as goal
 
 pub returns : goal.returns
@@ -8,4 +8,4 @@ returns c =
       atoms = c.numbers_stay_bounded.ensures.atoms;
       kinds = c.nodes_are_there.ensures.kinds;
     } in
-    operands_fit laws
+    record { put = operands_fit laws; read = read_operands_fit }
