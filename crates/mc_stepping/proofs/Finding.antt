@@ -82,8 +82,8 @@ pub edges_are_there : FoundEdgesAreThere
 edges_are_there s test e b is = (found_there 0 s.graph.edges s.graph.next test e b.ids is).0
 
 pub fields_are_there : FoundFieldsAreThere
-fields_are_there s test e f m b is known =
-    field_there s.kinds e.1 f m (edge_at (λ (e : Edge). AreNodes s.kinds (nodes_of e)) s.graph.edges e.0 e.1 (edges_are_there s test e b is) b.edges) known
+fields_are_there s id e f m b is known =
+    field_there s.kinds e f m (edge_at (λ (e : Edge). AreNodes s.kinds (nodes_of e)) s.graph.edges id e is b.edges) known
 
 -- ---- what is freed
 
@@ -101,8 +101,7 @@ apart defs kinds at ((id, Ind b pred args) ∷ es) has fit = apart defs kinds at
 apart defs kinds at ((id, Seg b args pred stop ends) ∷ es) has fit = apart defs kinds at es has fit.1
 
 pub freed_may_be_written : FreedMayBeWritten
-freed_may_be_written defs vars structs s test e made is =
-    let there = edges_are_there s test e made.bounded is in
-    let has = start_kind defs s.kinds e.1 (edge_at (EdgeFitsDefs defs s.kinds) s.graph.edges e.0 e.1 there made.fits_defs) in
+freed_may_be_written defs vars structs s id e made there =
+    let has = start_kind defs s.kinds e (edge_at (EdgeFitsDefs defs s.kinds) s.graph.edges id e there made.fits_defs) in
     (((Ptr, has), (omega (arith, ints), omega (arith, ints)), (omega (arith, ints), omega (arith, ints))),
-    apart defs s.kinds (start_of e.1) (without s.graph.edges e.0) has (all_without (EdgeFitsDefs defs s.kinds) s.graph.edges e.0 made.fits_defs))
+    apart defs s.kinds (start_of e) (without s.graph.edges id) has (all_without (EdgeFitsDefs defs s.kinds) s.graph.edges id made.fits_defs))

@@ -21,15 +21,15 @@ FoundEdgesAreThere =
     (s : State) (test : EdgeId × Edge → Bool) (e : EdgeId × Edge)
     → IsBounded s → find test s.graph.edges ≡ Some e → edge_with s.graph.edges e.0 ≡ Some e.1
 
--- the node of a field of an edge that is found is there
+-- the node of a field of an edge is there
 abbrev pub FoundFieldsAreThere : Type 0
 FoundFieldsAreThere =
-    (s : State) (test : EdgeId × Edge → Bool) (e : EdgeId × Edge) (f : ℕ) (m : NodeId)
-    → IsBounded s → find test s.graph.edges ≡ Some e → known_field e.1 f ≡ Some m → IsNode s.kinds m
+    (s : State) (id : EdgeId) (e : Edge) (f : ℕ) (m : NodeId)
+    → IsBounded s → edge_with s.graph.edges id ≡ Some e → known_field e f ≡ Some m → IsNode s.kinds m
 
--- what is known of the start of an edge that is freed may be written
+-- what is known of the start of a block that is freed may be written
 abbrev pub FreedMayBeWritten : Type 0
 FreedMayBeWritten =
-    (defs : List Def) (vars : List VarInfo) (structs : List StructInfo) (s : State) (test : EdgeId × Edge → Bool) (e : EdgeId × Edge)
-    → IsWellMade defs vars structs s → find test s.graph.edges ≡ Some e
-    → AllByRecursion (IsWellFormed s.kinds) (freed_atoms (start_of e.1) (block_starts (without s.graph.edges e.0)))
+    (defs : List Def) (vars : List VarInfo) (structs : List StructInfo) (s : State) (id : EdgeId) (e : Edge)
+    → IsWellMade defs vars structs s → edge_with s.graph.edges id ≡ Some e
+    → AllByRecursion (IsWellFormed s.kinds) (freed_atoms (start_of e) (block_starts (without s.graph.edges id)))

@@ -1,23 +1,24 @@
 // Loads, stores, new blocks and freed ones.
-ghost use Rattle.std.specs.Prelude.{◌≡◌, ◌∷◌, ◌++◌, [], pos, Some, None, IfOk, OnOk, map, replicate};
+ghost use Rattle.std.specs.Prelude.{◌≡◌, ◌∷◌, ◌++◌, [], pos, Some, None, IfOk, OnOk, map, option_and_then, option_map, replicate};
 ghost use Rattle.std.specs.List.{AllByRecursion, find};
-ghost use Rattle.std.specs.Option.{option_copied};
 ghost use Rattle.mc_base.specs.declared.plain.Atom.TheVariants.{Ne};
 ghost use Rattle.mc_flow.specs.declared.instr.Instr.TheVariants.{Load, Store, Malloc, Free};
 ghost use Rattle.mc_flow.specs.Steps.{field_count};
 ghost use Rattle.mc_graph.specs.declared.edge.Edge.TheVariants.{Block};
-ghost use Rattle.mc_graph.specs.Graph.{block_starts, without};
+ghost use Rattle.mc_graph.specs.Edges.{start_of, with_field_node};
+ghost use Rattle.mc_graph.specs.Graph.{block_starts, edge_with, without};
 ghost use Rattle.mc_premises.specs.Known.{Test, Tells};
-ghost use Rattle.mc_pure.specs.Pure.{IsWellFormed};
+ghost use Rattle.mc_pure.specs.Pure.{IsNode, IsWellFormed};
 ghost use Rattle.mc_state.specs.State.{next_node, with_atoms, with_block, with_only_edges, with_var};
-ghost use Rattle.mc_step.specs.Judges.{allocating, freeing, freeing_null, is_block, is_block_at, is_shaped_at, known_field, loading, storing};
+ghost use Rattle.mc_step.specs.Judges.{allocating, freeing, freeing_null, is_block, is_block_at, is_shaped_at, known_field, loading, storing, with_replaced};
 ghost use Rattle.mc_step.specs.Steps.{freed_atoms};
 ghost use Rattle.mc_stepping.specs.Fits.{FitsAt};
 ghost use Rattle.mc_stepping.specs.Stepped.{Steps};
+ghost use Rattle.mc_stepping.specs.Values.{CanPut, value_node, with_value};
 
 use crate::laws::{blocks_are_there, operands_fit};
 use crate::moves::{moved_to, next_at};
-use crate::operands::{NULL, node_of, put, read};
+use crate::operands::{NULL, Value, node_of, put, read};
 use crate::{Refused, Stepped};
 use mc_base::{Atom, EdgeId, Items, Kind, NoMemory, NodeId, PointId, StructId, VarId};
 use mc_changes::assume_all;
@@ -34,14 +35,14 @@ fn is_shaped_at(s: &State, n: NodeId, shape: StructId, e: &(EdgeId, Edge)) -> bo
     e.1.has_shape(shape) && s.are_equal(n, e.1.start())
 }
 
-/// The first block of the struct at a node that is equal.
-fn shaped_block(s: &State, n: NodeId, shape: StructId) -> Option<&(EdgeId, Edge)>
+/// The id of the first block of the struct at a node that is equal.
+fn shaped_block(s: &State, n: NodeId, shape: StructId) -> Option<EdgeId>
     ensures { (know : Test) → Tells know s.now
-        → option_copied result ≡ find (is_shaped_at know n shape) s.now.graph.edges }
+        → result ≡ option_map (λ e. e.0) (find (is_shaped_at know n shape) s.now.graph.edges) }
 {
     for e in s.edges() {
         if is_shaped_at(s, n, shape, e) {
-            return Some(e);
+            return Some(e.0);
         }
     }
     None
@@ -65,23 +66,31 @@ fn is_block_at(s: &State, n: NodeId, e: &(EdgeId, Edge)) -> bool
     is_block(&e.1) && s.are_equal(n, e.1.start())
 }
 
-/// The first block at a node that is equal.
-fn block(s: &State, n: NodeId) -> Option<&(EdgeId, Edge)>
-    ensures { (know : Test) → Tells know s.now → option_copied result ≡ find (is_block_at know n) s.now.graph.edges }
+/// The id of the first block at a node that is equal.
+fn block(s: &State, n: NodeId) -> Option<EdgeId>
+    ensures { (know : Test) → Tells know s.now
+        → result ≡ option_map (λ e. e.0) (find (is_block_at know n) s.now.graph.edges) }
 {
     for e in s.edges() {
         if is_block_at(s, n, e) {
-            return Some(e);
+            return Some(e.0);
         }
     }
     None
 }
 
-/// The node of a field that is known.
-fn known_field(e: &Edge, f: u64) -> Option<NodeId>
-    ensures { result ≡ known_field e.now f }
+/// The node of a field of an edge, where it is known.
+fn known_field(s: &State, id: EdgeId, f: u64) -> Option<NodeId>
+    ensures field { result ≡ option_and_then (λ e. known_field e f) (edge_with s.now.graph.edges id) }
+    ensures there { (n : _) → result ≡ Some n → IsNode s.now.kinds n }
 {
-    e.field(f).flatten()
+    // For the proof alone: the field's node is there.
+    blocks_are_there();
+    s.is_bounded();
+    match s.edge(id) {
+        Some(e) => e.field(f).flatten(),
+        None => None,
+    }
 }
 
 /// S8: a Load gives the variable the node of a field that is known, of a block of the struct where the base points.
@@ -95,7 +104,7 @@ pub fn load(
 ) -> Result<Stepped, Refused>
     ensures { (know : Test) → Tells know s → Steps (loading know (Some (Load x y shape f q)) s) s result }
 {
-    // For the proof alone: the field's node is there.
+    // For the proof alone: the block that is found is there.
     blocks_are_there();
     s.is_bounded();
     if s.is_false() {
@@ -104,14 +113,26 @@ pub fn load(
     let Some(base) = s.var(y) else {
         return Err(Refused::Premise(3, s));
     };
-    let Some(e) = shaped_block(&s, base, shape) else {
+    let Some(id) = shaped_block(&s, base, shape) else {
         return Err(Refused::Premise(4, s));
     };
-    let Some(node) = known_field(&e.1, f) else {
+    let Some(node) = known_field(&s, id, f) else {
         return Err(Refused::Premise(5, s));
     };
     s.set_var(x, Some(node));
     Ok(moved_to(q, s))
+}
+
+/// Gives a field of a block the node of a value. Without memory the state is lost.
+fn store_in(s: &mut State, id: EdgeId, f: u64, value: &Value) -> Result<(), NoMemory>
+    requires put { CanPut value.now }
+    requires there { IsNode (with_value s.old value.now).kinds (value_node s.old value.now) }
+    ensures { (e : _) → edge_with s.old.graph.edges id ≡ Some e → OnOk result (s.new
+        ≡ with_replaced (with_value s.old value.now) id (with_field_node f (value_node s.old value.now) e)) }
+{
+    let node = put(s, value)?;
+    s.set_field(id, f, node);
+    Ok(())
 }
 
 /// S9: a Store gives a field of a block of the struct where the base points the operand's node.
@@ -139,15 +160,13 @@ pub fn store(
     let Some(base) = s.var(y) else {
         return Err(Refused::Premise(4, s));
     };
-    let Some(e) = shaped_block(&s, base, shape) else {
+    let Some(id) = shaped_block(&s, base, shape) else {
         return Err(Refused::Premise(5, s));
     };
-    let id = e.0;
-    let Ok(node) = put(&mut s, &value) else {
-        return Err(Refused::NoMemory);
-    };
-    s.set_field(id, f, node);
-    Ok(moved_to(q, s))
+    match store_in(&mut s, id, f, &value) {
+        Ok(()) => Ok(moved_to(q, s)),
+        Err(_) => Err(Refused::NoMemory),
+    }
 }
 
 /// The number of fields of a struct.
@@ -213,11 +232,14 @@ pub fn malloc(
     let Ok(mut full) = s.copy(alloc) else {
         return Err(Refused::NoMemory);
     };
-    let Ok(()) = allocated(alloc, &mut full, x, shape, field_count(&flow.structs, shape)) else {
-        return Err(Refused::NoMemory);
-    };
-    s.set_var(x, Some(NULL));
-    Ok(Stepped::Branched(next_at(q, s), next_at(q, full)))
+    let fields = field_count(&flow.structs, shape);
+    match allocated(alloc, &mut full, x, shape, fields) {
+        Ok(()) => {
+            s.set_var(x, Some(NULL));
+            Ok(Stepped::Branched(next_at(q, s), next_at(q, full)))
+        }
+        Err(_) => Err(Refused::NoMemory),
+    }
 }
 
 /// S11: a Free of an operand that is known to be null goes on.
@@ -236,10 +258,17 @@ pub fn free_null(mut s: State, from: Operand, q: PointId) -> Result<Stepped, Ref
     if !s.are_equal(node_of(&s, &value), NULL) {
         return Err(Refused::Premise(4, s));
     }
-    let Ok(_) = put(&mut s, &value) else {
-        return Err(Refused::NoMemory);
-    };
-    Ok(moved_to(q, s))
+    match put(&mut s, &value) {
+        Ok(_) => Ok(moved_to(q, s)),
+        Err(_) => Err(Refused::NoMemory),
+    }
+}
+
+/// The start of an edge.
+fn start_with(s: &State, id: EdgeId) -> Option<NodeId>
+    ensures { result ≡ option_map start_of (edge_with s.now.graph.edges id) }
+{
+    s.edge(id).map(|e| e.start())
 }
 
 /// Adds for each block of some edges that the node is not its start.
@@ -274,6 +303,25 @@ fn remove_block(alloc: Global, s: &mut State, id: EdgeId, at: NodeId) -> Result<
     assume_all(s, atoms.as_slice())
 }
 
+/// The state without a block that starts at a node, with a value's node. Without memory the state is lost.
+fn free_in(
+    alloc: Global,
+    s: &mut State,
+    id: EdgeId,
+    at: NodeId,
+    value: &Value,
+) -> Result<(), NoMemory>
+    requires put { CanPut value.now }
+    requires freed { AllByRecursion (IsWellFormed (with_value s.old value.now).kinds)
+        (freed_atoms at (block_starts (without (with_value s.old value.now).graph.edges id))) }
+    ensures { OnOk result (s.new ≡ with_atoms (with_only_edges (with_value s.old value.now)
+        (without (with_value s.old value.now).graph.edges id))
+        (freed_atoms at (block_starts (without (with_value s.old value.now).graph.edges id)))) }
+{
+    put(s, value)?;
+    remove_block(alloc, s, id, at)
+}
+
 /// S12: a Free of a block takes it out; its start is an address, and no other block's.
 pub fn free(alloc: Global, mut s: State, from: Operand, q: PointId) -> Result<Stepped, Refused>
     requires { FitsAt (Free from q) s }
@@ -288,16 +336,14 @@ pub fn free(alloc: Global, mut s: State, from: Operand, q: PointId) -> Result<St
     let Some(value) = read(&s, from) else {
         return Err(Refused::Premise(3, s));
     };
-    let Some(e) = block(&s, node_of(&s, &value)) else {
+    let Some(id) = block(&s, node_of(&s, &value)) else {
         return Err(Refused::Premise(4, s));
     };
-    let id = e.0;
-    let at = e.1.start();
-    let Ok(_) = put(&mut s, &value) else {
-        return Err(Refused::NoMemory);
+    let Some(at) = start_with(&s, id) else {
+        return Err(Refused::Premise(4, s));
     };
-    let Ok(()) = remove_block(alloc, &mut s, id, at) else {
-        return Err(Refused::NoMemory);
-    };
-    Ok(moved_to(q, s))
+    match free_in(alloc, &mut s, id, at, &value) {
+        Ok(()) => Ok(moved_to(q, s)),
+        Err(_) => Err(Refused::NoMemory),
+    }
 }
