@@ -1,0 +1,4 @@
+pub mod Dropped
+pub mod Lacking
+pub mod Named
+pub mod Spare
