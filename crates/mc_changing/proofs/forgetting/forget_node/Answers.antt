@@ -1,4 +1,4 @@
-use Rattle.std.proofs.Common.{◌≡◌, ◌∷◌, [], List, Ok, subst, sym}
+use Rattle.std.proofs.Common.{◌≡◌, ◌∷◌, [], Ok, subst, sym}
 use Rattle.std.proofs.lemmas.Result.{err_from_is_err_and}
 use Rattle.mc_fold.specs.Changed.{left_over}
 use Rattle.mc_fold.specs.ChangeJudges.{forgetting_node}

@@ -1,4 +1,4 @@
-use Rattle.std.proofs.Common.{rules, ◌≡◌, ◌∷◌, ◌∙◌, [], IfOk, ap, subst, sym}
+use Rattle.std.proofs.Common.{◌≡◌, ◌∷◌, ◌∙◌, [], IfOk, ap, subst, sym}
 use Rattle.mc_fold.specs.Changed.{IsListWithout, left_over}
 use Rattle.mc_state.specs.Facts.{IsFalse}
 use Rattle.mc_state.specs.State.{State}
