@@ -45,10 +45,10 @@ fn has_kind_image(s: &State, images: &[NodeId], target: &State, node: NodeId) ->
     ensures { (know : Test) → Tells know s.now
         → result ≡ has_kind_image know s.now.kinds images.now target.now.kinds node }
 {
-    match target.kind(node) {
-        Some(kind) => has_image(s, images, node, kind),
-        None => false,
-    }
+    let Some(kind) = target.kind(node) else {
+        return false;
+    };
+    has_image(s, images, node, kind)
 }
 
 /// Whether nodes of the target have kinds, and images of them.
@@ -125,10 +125,12 @@ pub fn are_all_images(s: &State, images: &[NodeId], theres: &[NodeId], heres: &[
 fn is_known_too(s: &State, images: &[NodeId], there: Option<NodeId>, here: Option<NodeId>) -> bool
     ensures { (know : Test) → Tells know s.now → result ≡ is_known_too know images.now there here }
 {
-    match (there, here) {
-        (None, _) => true,
-        (Some(_), None) => false,
-        (Some(there), Some(here)) => is_image(s, images, there, here),
+    let Some(node) = there else {
+        return true;
+    };
+    match here {
+        Some(other) => is_image(s, images, node, other),
+        None => false,
     }
 }
 
