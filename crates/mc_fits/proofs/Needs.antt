@@ -1,16 +1,12 @@
 -- What comes of what premises give.
-use Rattle.std.proofs.Common.{◌≡◌, ℕ, Bool, true, false, Option, Some, None, List, [], Ok, refl, sym, ap, ◌∙◌}
+use Rattle.std.proofs.Common.{◌≡◌, ℕ, Bool, true, false, Option, Some, None, [], Ok, refl, sym, ap, ◌∙◌}
 use Rattle.std.specs.Prelude.{◌==◌, ◌&&◌, not, length, slice_get}
 use Rattle.std.specs.List.{list_all}
-use Rattle.mc_base.specs.declared.ids.EdgeId.{EdgeId}
-use Rattle.mc_base.specs.declared.ids.NodeId.{NodeId}
-use Rattle.mc_premises.specs.Known.{Test, is_false}
+use Rattle.mc_premises.specs.Known.{is_false}
 use Rattle.mc_premises.specs.Lists.{all_both}
 use Rattle.mc_premises.specs.Named.{are_distinct}
 use Rattle.mc_premises.specs.Premises.{Judged, need, have, then_give}
-use Rattle.mc_state.specs.State.{State}
-use Rattle.mc_kernel.specs.Branches.{Path}
-use Rattle.mc_kernel.specs.Judges.{are_images, is_known_too, is_edge_at, knows_image, is_whole_too, jumping_to, ends}
+use Rattle.mc_kernel.specs.Judges.{are_images, is_known_too, is_edge_at, knows_image, is_whole_too, ends}
 use Rattle.mc_fits.specs.Fitting.{fitting_to, JumpsAreFits}
 
 -- a premise comes before what comes of the rest
@@ -30,7 +26,7 @@ step f k b rest given e = after f k b rest ∙ ap (need k b) e
 pub jumps_fit : JumpsAreFits
 jumps_fit know heads j images ids s =
     ap (need 2 (not (is_false know)))
-    (have_same 3 (slice_get heads j) _ _ (λ t. sym (
+    (have_same 3 (slice_get heads j) _ (λ t. then_give ends (fitting_to know t images ids s)) (λ t. sym (
     step ends 4 (are_images know s images t) _ _
     (step ends 5 (all_both (is_known_too know images) t.env s.env) _ _
     (step ends 6 (are_distinct ids && length t.graph.edges == length ids) _ _

@@ -5,7 +5,7 @@ use Rattle.mc_pure.specs.Nodes.{RiseFrom}
 use Rattle.mc_pure.specs.Pure.{kind_of}
 use Rattle.mc_kernel.specs.Judges.{has_image}
 use Rattle.mc_fits.specs.Fitting.{has_kind_image}
-use Rattle.mc_fits.proofs.Kinds.{each_found}
+use Rattle.mc_fits.proofs.Found.{each_found}
 use Rattle.mc_fits.proofs.images.have_images.Goals as goal
 
 pub returns : goal.returns
