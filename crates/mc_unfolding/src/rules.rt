@@ -32,7 +32,7 @@ pub struct UnfoldBack {
 }
 
 impl LogicRule for UnfoldInd {
-    ghost judged = { λ rule know defs access s. unfolding_ind know defs access rule.edge s };
+    ghost judged = { λ rule know left defs access s. unfolding_ind know defs access rule.edge s };
 
     fn successors(
         &self,
@@ -51,7 +51,7 @@ impl LogicRule for UnfoldInd {
 }
 
 impl LogicRule for UnfoldSeg {
-    ghost judged = { λ rule know defs access s. unfolding_seg know defs access rule.edge s };
+    ghost judged = { λ rule know left defs access s. unfolding_seg know defs access rule.edge s };
 
     fn successors(
         &self,
@@ -70,7 +70,7 @@ impl LogicRule for UnfoldSeg {
 }
 
 impl LogicRule for UnfoldBack {
-    ghost judged = { λ rule know defs access s. unfolding_back know defs access rule.edge s };
+    ghost judged = { λ rule know left defs access s. unfolding_back know defs access rule.edge s };
 
     fn successors(
         &self,
