@@ -1,5 +1,5 @@
 -- Kinds that are looked up node by node.
-use Rattle.std.proofs.Common.{◌≡◌, ◌≢◌, ◌≤◌, ◌&&◌, ℕ, suc, Bool, true, false, nat_eq, Option, Some, List, [], ◌∷◌, map, refl, ap, ◌∙◌, eqb-true, eq-eqb, arith}
+use Rattle.std.proofs.Common.{◌≡◌, ◌≤◌, ◌&&◌, ℕ, suc, Bool, true, false, Option, Some, [], ◌∷◌, map, refl, ap, ◌∙◌, eqb-true, eq-eqb, arith}
 use Rattle.std.specs.Prelude.{◌==◌, if◌then◌else◌}
 use Rattle.std.specs.List.{list_all}
 use Rattle.mc_base.specs.declared.ids.NodeId.{NodeId}

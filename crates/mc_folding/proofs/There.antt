@@ -1,7 +1,6 @@
 -- Names that fit a rule are nodes that are there.
 use Rattle.std.proofs.Common.{inl, ℕ, zero, suc, List, [], ◌∷◌, map, drop, refl}
 use Rattle.std.specs.Prelude.{take}
-use Rattle.std.specs.List.{AllByRecursion}
 use Rattle.mc_base.specs.declared.ids.NodeId.{NodeId}
 use Rattle.mc_base.specs.declared.plain.Kind.TheVariants.{Ptr}
 use Rattle.mc_defs.specs.Instances.{node_of}

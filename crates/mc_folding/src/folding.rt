@@ -27,6 +27,7 @@ use mc_symbolic::State;
 use std::alloc::Global;
 
 /// A rule of a predicate, by its number, and nodes for its names.
+#[derive(Clone, Copy)]
 pub struct NamedRule<'a> {
     pub pred: PredId,
     pub rule: u64,

@@ -1,6 +1,6 @@
-use Rattle.std.proofs.Common.{sym, ◌∙◌, ap, subst, refl}
+use Rattle.std.proofs.Common.{◌∙◌, ap, subst, refl}
 use Rattle.std.specs.List.{list_all}
-use Rattle.std.specs.Prelude.{drop, map}
+use Rattle.std.specs.Prelude.{drop}
 use Rattle.mc_pure.specs.Nodes.{RiseFrom}
 use Rattle.mc_pure.specs.Pure.{kind_of}
 use Rattle.mc_kernel.specs.Judges.{has_image}
