@@ -1,0 +1,5 @@
+pub mod Joinings
+pub mod Parts
+pub mod Steps
+pub mod Whole
+pub mod Laws
