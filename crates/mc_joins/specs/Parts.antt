@@ -115,22 +115,33 @@ abbrev pub empty_seg : Basis → Half → PredId → NodeId → Part
 empty_seg w h pred n =
     record { state = h.state; edge = Seg n (standing_args w h pred n) pred n (standing_args w h pred n); used = [] }
 
+-- the Ind that edges are folded into, with nodes of its arguments
+abbrev pub ind_part : Basis → Joining → Side → Pair → PredId → List Term → Choice → Option Part
+ind_part w j side p pred args found =
+    option_map (λ named. record { state = named.state; edge = Ind (of_side side p) pred named.nodes; used = found.used })
+    (nodes_of_args w pred (half j side).state args)
+
 -- an Ind of free edges: the first cover of the predicate with these arguments
 abbrev pub folded_ind : Basis → Joining → Side → Pair → PredId → List Term → Option Part
 folded_ind w j side p pred args =
-    option_and_then (λ (found : Choice).
-    option_map (λ (args : Named). record { state = args.state; edge = Ind (of_side side p) pred args.nodes; used = found.used })
-    (nodes_of_args w pred (half j side).state args))
+    option_and_then (ind_part w j side p pred args)
     (first_cover (w.know (half j side).state) w.defs pred (plain (of_side side p)) args (free_edges j side p))
+
+-- the Seg that edges are folded into, with nodes of its end arguments
+abbrev pub ended_part : Basis → Side → Pair → PredId → NodeId → List Term → List EdgeId → Named → Option Part
+ended_part w side p pred «end» ends used first =
+    option_map (λ last. record { state = last.state; edge = Seg (of_side side p) first.nodes pred end last.nodes; used = used })
+    (nodes_of_args w pred first.state ends)
+
+-- and with nodes of its arguments
+abbrev pub seg_part : Basis → Joining → Side → Pair → PredId → List Term → NodeId → List Term → Choice → Option Part
+seg_part w j side p pred args «end» ends found =
+    option_and_then (ended_part w side p pred end ends found.used) (nodes_of_args w pred (half j side).state args)
 
 -- a Seg of free edges to a node with end arguments: the first segment cover of the predicate with these arguments
 abbrev pub folded_seg : Basis → Joining → Side → Pair → PredId → List Term → NodeId → List Term → Option Part
 folded_seg w j side p pred args «end» ends =
-    option_and_then (λ (found : Choice).
-    option_and_then (λ (args : Named).
-    option_map (λ (ends : Named). record { state = ends.state; edge = Seg (of_side side p) args.nodes pred end ends.nodes; used = found.used })
-    (nodes_of_args w pred args.state ends))
-    (nodes_of_args w pred (half j side).state args))
+    option_and_then (seg_part w j side p pred args end ends)
     (first_seg_cover (w.know (half j side).state) w.defs pred (plain (of_side side p)) args (plain end) ends (free_edges j side p))
 
 -- the same, where the arguments are guessed with that end as stop

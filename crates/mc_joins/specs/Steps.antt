@@ -18,6 +18,7 @@ use Rattle.mc_state.specs.declared.line.Side.{Side}
 use Rattle.mc_state.specs.declared.line.Side.TheVariants.{Left, Right}
 use Rattle.mc_state.specs.declared.line.JoinStep.{JoinStep}
 use Rattle.mc_state.specs.declared.line.JoinStep.TheVariants.{J1, J2, J3, J4, J5, J6, J7}
+use Rattle.mc_state.specs.declared.terms.Term.{Term}
 use Rattle.mc_state.specs.Terms.{plain}
 use Rattle.mc_joins.specs.Joinings.{Half, Joining, Pair, across, half, of_side, with_pairs, known_both, same_pair}
 use Rattle.mc_joins.specs.Joinings.{edge_at, next_pair}
@@ -133,19 +134,28 @@ may_end side p q =
 abbrev pub uses_edge : Part → Bool
 uses_edge part = not (length part.used == 0)
 
+-- the join by a Seg of a side's folded edges, which uses one, and an empty segment on the other side
+abbrev pub six_with : Basis → Joining → Pair → Ending → Part → Option Joining
+six_with w j p e mine =
+    only_if (uses_edge mine)
+    (option_map (closing (across e.side) p)
+    (joined_from j e.side mine (empty_seg w (half j (across e.side)) e.pred (of_side (across e.side) p))))
+
+-- the end arguments at the end's pair: those of an edge there
+abbrev pub six_ends : Basis → Joining → Ending → Pair → List Term
+six_ends w j e q = map plain (standing_args w (half j e.side) e.pred (of_side e.side q))
+
+-- the Seg ends at this pair
+abbrev pub six_to : Basis → Joining → Pair → Ending → Pair → Option Joining
+six_to w j p e q =
+    only_if (may_end e.side p q)
+    (option_and_then (six_with w j p e)
+    (guessed_seg w j e.side p e.pred (of_side e.side q) (six_ends w j e q)))
+
 -- J6: a side's edges are folded from its node of the pair to that of another pair; the other node of both is one, and has an
 -- empty segment
 abbrev pub by_j6 : Basis → Joining → Pair → Ending → Option Joining
-by_j6 w j p e =
-    option_and_then (λ (q : Pair).
-    only_if (may_end e.side p q)
-    (option_and_then (λ (mine : Part).
-    only_if (uses_edge mine)
-    (option_map (closing (across e.side) p)
-    (joined_from j e.side mine (empty_seg w (half j (across e.side)) e.pred (of_side (across e.side) p)))))
-    (guessed_seg w j e.side p e.pred (of_side e.side q)
-    (map plain (standing_args w (half j e.side) e.pred (of_side e.side q))))))
-    (slice_get j.pairs e.place)
+by_j6 w j p e = option_and_then (six_to w j p e) (slice_get j.pairs e.place)
 
 -- the edge of the side that is not folded is a Seg of the predicate to the end's pair, whose nodes are pointers
 abbrev pub is_seg_to : Joining → Ending → Pair → SegParts → Bool
@@ -153,19 +163,26 @@ is_seg_to j e q s =
     s.pred.0 == e.pred.0 && s.stop.0 == (of_side (across e.side) q).0 && has_kind j.left.state.kinds Ptr q.0
     && has_kind j.right.state.kinds Ptr q.1
 
+-- the end arguments there for those of the Seg: of one that is in a pair its first partner, of any other that of an edge there
+abbrev pub seven_ends : Basis → Joining → Ending → Pair → SegParts → List Term
+seven_ends w j e q s =
+    with_partners j.pairs (across e.side) s.ends (map plain (standing_args w (half j e.side) e.pred (of_side e.side q)))
+
+-- the join by that Seg and one of the other side's folded edges
+abbrev pub seven_with : Basis → Joining → Pair → Ending → Pair → EdgeId × Edge → SegParts → Option Joining
+seven_with w j p e q found s =
+    only_if (is_seg_to j e q s)
+    (option_and_then (λ mine. joined_from j e.side mine (as_it_is (half j (across e.side)) found))
+    (guessed_seg w j e.side p e.pred (of_side e.side q) (seven_ends w j e q s)))
+
+-- the edge is a Seg
+abbrev pub seven_from : Basis → Joining → Pair → Ending → Pair → EdgeId × Edge → Option Joining
+seven_from w j p e q found = option_and_then (seven_with w j p e q found) (seg_of (Some found.1))
+
 -- J7: one side's edge is a Seg; the other side's edges are folded from its node of the pair to that of the pair where the Seg ends
 abbrev pub by_j7 : Basis → Joining → Pair → Ending → Option Joining
 by_j7 w j p e =
-    option_and_then (λ (q : Pair).
-    option_and_then (λ (found : EdgeId × Edge).
-    option_and_then (λ (s : SegParts).
-    only_if (is_seg_to j e q s)
-    (option_and_then (λ (mine : Part). joined_from j e.side mine (as_it_is (half j (across e.side)) found))
-    (guessed_seg w j e.side p e.pred (of_side e.side q)
-    (with_partners j.pairs (across e.side) s.ends (map plain (standing_args w (half j e.side) e.pred (of_side e.side q)))))))
-    (seg_of (Some found.1)))
-    (edge_at j (across e.side) p))
-    (slice_get j.pairs e.place)
+    option_and_then (λ q. option_and_then (seven_from w j p e q) (edge_at j (across e.side) p)) (slice_get j.pairs e.place)
 
 -- the predicates
 abbrev pub predicates : Basis → List PredId
@@ -193,17 +210,25 @@ by_both of_form j p =
     option_and_then (λ both. only_if (of_form both.0.1 both.1.1) (joined j (as_it_is j.left both.0) (as_it_is j.right both.1)))
     (option_zip (edge_at j Left p) (edge_at j Right p))
 
+-- the arguments there for those of a side's Ind: of one that is in a pair its first partner, of any other what is guessed
+abbrev pub four_args : Basis → Joining → Pair → PredId → Side → IndParts → List Term
+four_args w j p pred side i =
+    with_partners j.pairs side i.args (guessed w (half j (across side)) pred (of_side (across side) p) None)
+
+-- the join by a side's Ind and an Ind of the other side's folded edges
+abbrev pub four_with : Basis → Joining → Pair → PredId → Side → EdgeId × Edge → IndParts → Option Joining
+four_with w j p pred side found i =
+    only_if (is_none (ind_of pred (edge_there j (across side) p)))
+    (option_and_then (λ theirs. joined_from j side (as_it_is (half j side) found) theirs)
+    (folded_ind w j (across side) p pred (four_args w j p pred side i)))
+
+-- the edge is an Ind of the predicate
+abbrev pub four_from : Basis → Joining → Pair → PredId → Side → EdgeId × Edge → Option Joining
+four_from w j p pred side found = option_and_then (four_with w j p pred side found) (ind_of pred (Some found.1))
+
 -- J4, where a side's edge is an Ind of the predicate and the other's is not: that one's edges are folded
 abbrev pub by_ind : Basis → Joining → Pair → PredId → Side → Option Joining
-by_ind w j p pred side =
-    option_and_then (λ (found : EdgeId × Edge).
-    option_and_then (λ (i : IndParts).
-    only_if (is_none (ind_of pred (edge_there j (across side) p)))
-    (option_and_then (λ (theirs : Part). joined_from j side (as_it_is (half j side) found) theirs)
-    (folded_ind w j (across side) p pred
-    (with_partners j.pairs side i.args (guessed w (half j (across side)) pred (of_side (across side) p) None)))))
-    (ind_of pred (Some found.1)))
-    (edge_at j side p)
+by_ind w j p pred side = option_and_then (four_from w j p pred side) (edge_at j side p)
 
 -- neither side's edge is an Ind, and they are not alike, or one is missing
 abbrev pub are_unlike : Option Edge → Option Edge → Bool
@@ -216,12 +241,15 @@ are_unlike (Some e) (Some f) = not (is_ind e) && not (is_ind f) && not (are_alik
 abbrev pub guessed_ind : Basis → Joining → Pair → PredId → Side → Option Part
 guessed_ind w j p pred side = folded_ind w j side p pred (guessed w (half j side) pred (of_side side p) None)
 
--- J5: both sides' edges are folded, and at least one is used
+-- the join by two Inds of folded edges, of which at least one is used
+abbrev pub five_with : Joining → Part × Part → Option Joining
+five_with j both = only_if (uses_edge both.0 || uses_edge both.1) (joined j both.0 both.1)
+
+-- J5: both sides' edges are folded
 abbrev pub by_folds : Basis → Joining → Pair → PredId → Option Joining
 by_folds w j p pred =
     only_if (are_unlike (edge_there j Left p) (edge_there j Right p))
-    (option_and_then (λ both. only_if (uses_edge both.0 || uses_edge both.1) (joined j both.0 both.1))
-    (option_zip (guessed_ind w j p pred Left) (guessed_ind w j p pred Right)))
+    (option_and_then (five_with j) (option_zip (guessed_ind w j p pred Left) (guessed_ind w j p pred Right)))
 
 -- ---- steps
 
