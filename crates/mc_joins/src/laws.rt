@@ -9,4 +9,6 @@ pub fn stuck_is_every()
 /// A whole join of two states by the same steps gives one state.
 pub fn joins_are_determined()
     ensures { JoinsAreDetermined }
-{}
+{
+    mc_pure::derived_grows();
+}
