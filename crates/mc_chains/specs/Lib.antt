@@ -1,0 +1,4 @@
+pub mod Opened
+pub mod Chains
+pub mod Judges
+pub mod Laws

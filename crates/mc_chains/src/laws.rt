@@ -1,0 +1,14 @@
+// What holds of chains. Each law is what a function with no body ensures.
+ghost use Rattle.mc_chains.specs.Laws.{FinalChainHasLastPass, FinalChainFindsFaults, OpeningIsJudged};
+
+use mc_kernel::last_pass_finds_faults;
+use mc_reading::lines_make_well_made;
+
+/// The last pass of a final legal chain changes nothing, so its faults are found at its stuck branches.
+pub fn final_chains_find_faults()
+    ensures last { FinalChainHasLastPass }
+    ensures faults { FinalChainFindsFaults }
+{
+    lines_make_well_made();
+    last_pass_finds_faults();
+}
