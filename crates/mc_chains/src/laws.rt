@@ -3,6 +3,7 @@ ghost use Rattle.mc_chains.specs.Laws.{FinalChainHasLastPass, FinalChainFindsFau
 
 use mc_kernel::last_pass_finds_faults;
 use mc_reading::lines_make_well_made;
+use mc_state::numbers_stay_bounded;
 
 /// The last pass of a final legal chain changes nothing, so its faults are found at its stuck branches.
 pub fn final_chains_find_faults()
@@ -10,5 +11,6 @@ pub fn final_chains_find_faults()
     ensures faults { FinalChainFindsFaults }
 {
     lines_make_well_made();
+    numbers_stay_bounded();
     last_pass_finds_faults();
 }
