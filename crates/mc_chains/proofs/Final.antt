@@ -21,7 +21,7 @@ use Rattle.mc_kernel.specs.Instances.{IsInstance, Reads, stuck_by}
 use Rattle.mc_joins.specs.Parts.{Basis}
 use Rattle.mc_reading.specs.Documents.{IsMade}
 use Rattle.mc_reading.specs.Laws.{LinesMakeWellMade}
-use Rattle.mc_chains.specs.Chains.{changes, changes_some, over, IsPassLine, ReadsPass, ReadsPasses, last_pass, KnowsStates, IsLegalChain, IsFinal}
+use Rattle.mc_chains.specs.Chains.{changes, changes_some, over, IsPassLine, ReadsPass, ReadsPasses, last_pass, IsLegalChain, IsFinal}
 use Rattle.mc_chains.specs.Laws.{NewStatesAreMade, FinalChainHasLastPass, FinalChainFindsFaults}
 use Rattle.mc_chains.specs.Opened.{with_state_at, with_state_for}
 
@@ -84,7 +84,7 @@ all_join P (x ∷ xs) ys a b = (a.0, all_join P xs ys a.1 b)
 
 -- ---- passes
 
-module _ (made_lines : LinesMakeWellMade) (unknown : UnknownIsBounded) (flow : Flow) (defs : List Def) (valid : IsValid flow defs) (new : NewStatesAreMade flow defs) (know : State → Test) (knows : KnowsStates flow defs know) (cuts : List PointId) where
+module _ (made_lines : LinesMakeWellMade) (unknown : UnknownIsBounded) (flow : Flow) (defs : List Def) (valid : IsValid flow defs) (know : State → Test) (new : NewStatesAreMade know flow defs) (cuts : List PointId) where
   abbrev Made : State → Type 0
   Made s = IsWellMade defs flow.vars flow.structs.list s
 
@@ -120,7 +120,7 @@ module _ (made_lines : LinesMakeWellMade) (unknown : UnknownIsBounded) (flow : F
       )
       at (C3 j steps) i =
           let left = one_of Made (states_at b.point heads) j i.left (all_at Made b.point heads (states_made heads good)) i.there in
-          let result = new.join_made basis round flow.thresholds i.left b.state steps i.result knows refl i.joins left made in (
+          let result = new.join_made round i.left b.state steps i.result i.joins left made in (
             subst (AllByRecursion (IsMade flow defs)) (sym i.ends) tt,
             subst (AllByRecursion Good) (sym i.gives) (all_for Good b.point j i.result heads (i.may.cut.at_cut, result) good),
           )
@@ -179,9 +179,9 @@ module _ (made_lines : LinesMakeWellMade) (unknown : UnknownIsBounded) (flow : F
       last_of cuts_are (suc round) (more ∷ passes) stuck mid after (pass_keeps round rules (roots flow heads) own heads mid good (roots_made heads good) pass) none reads
 
 pub has_last_pass : LinesMakeWellMade → UnknownIsBounded → FinalChainHasLastPass
-has_last_pass made_lines unknown flow defs lines c valid new final =
-    last_of made_lines unknown flow defs valid new c.know c.knows c.cuts c.cuts_are 1 c.passes c.stuck [] c.heads tt final c.reads
+has_last_pass made_lines unknown know flow defs lines c valid new final =
+    last_of made_lines unknown flow defs valid know new c.cuts c.cuts_are 1 c.passes c.stuck [] c.heads tt final c.reads
 
 pub finds_faults : LinesMakeWellMade → UnknownIsBounded → LastPassFindsFaults → FinalChainFindsFaults
-finds_faults made_lines unknown faults flow defs lines c valid new final =
-    faults flow defs c.cuts c.heads (last_pass c.passes) c.stuck valid (has_last_pass made_lines unknown flow defs lines c valid new final)
+finds_faults made_lines unknown faults know flow defs lines c valid new final =
+    faults flow defs c.cuts c.heads (last_pass c.passes) c.stuck valid (has_last_pass made_lines unknown know flow defs lines c valid new final)

@@ -65,32 +65,31 @@ last_pass (rules ∷ more ∷ passes) = last_pass (more ∷ passes)
 abbrev pub KnowsStates : Flow → List Def → (State → Test) → Type 0
 KnowsStates flow defs know = (s : State) → IsWellMade defs flow.vars flow.structs.list s → Tells (know s) s
 
--- a legal chain: its header, its cuts, its passes, which begin with no state at any cut, and the end
-pub record IsLegalChain (flow : Flow) (defs : List Def) (lines : List Line) : Type 0 where
+-- a legal chain, by what is derived in states: its header, its cuts, its passes, which begin with no state at any cut, and the end
+pub record IsLegalChain (know : State → Test) (flow : Flow) (defs : List Def) (lines : List Line) : Type 0 where
   pub cuts : List PointId
   pub passes : List (List Line)
   pub spelled : lines ≡ Header One Chain ∷ (map Cut cuts ++ (flat_map (λ rules. Pass ∷ rules) passes ++ End ∷ []))
   pub cuts_are : AreCuts flow cuts
-  pub know : State → Test
-  pub knows : KnowsStates flow defs know
   pub stuck : List Path
   pub heads : List Head
   pub reads : ReadsPasses flow (record { know = know; defs = defs }) cuts 1 passes stuck [] heads
 
 -- it is final: its last pass changes no state of a cut
-abbrev pub IsFinal : {flow : Flow} {defs : List Def} {lines : List Line} → IsLegalChain flow defs lines → Type 0
-IsFinal c = changes_some (last_pass c.passes) ≡ false
+abbrev pub IsFinal : List (List Line) → Type 0
+IsFinal passes = changes_some (last_pass passes) ≡ false
 
 -- ---- what is said of chains
 
 -- the document is a final legal chain with so many stuck branches, at least one
-abbrev pub HasAlarms : Flow → List Def → List Line → ℕ → Type 0
-HasAlarms flow defs lines count = (c : IsLegalChain flow defs lines) × IsFinal c × (length c.stuck ≡ count) × (0 < count)
+abbrev pub HasAlarms : (State → Test) → Flow → List Def → List Line → ℕ → Type 0
+HasAlarms know flow defs lines count =
+    (c : IsLegalChain know flow defs lines) × IsFinal c.passes × (length c.stuck ≡ count) × (0 < count)
 
 -- it is a final legal chain without one
-abbrev pub HasNoAlarm : Flow → List Def → List Line → Type 0
-HasNoAlarm flow defs lines = (c : IsLegalChain flow defs lines) × IsFinal c × (c.stuck ≡ [])
+abbrev pub HasNoAlarm : (State → Test) → Flow → List Def → List Line → Type 0
+HasNoAlarm know flow defs lines = (c : IsLegalChain know flow defs lines) × IsFinal c.passes × (c.stuck ≡ [])
 
 -- it is a legal chain that is not final
-abbrev pub IsUnfinished : Flow → List Def → List Line → Type 0
-IsUnfinished flow defs lines = (c : IsLegalChain flow defs lines) × (IsFinal c → ⊥)
+abbrev pub IsUnfinished : (State → Test) → Flow → List Def → List Line → Type 0
+IsUnfinished know flow defs lines = (c : IsLegalChain know flow defs lines) × (changes_some (last_pass c.passes) ≡ true)

@@ -1,5 +1,5 @@
 -- What the lines of chains give, or the first premise that is unmet, and chains that are read line by line.
-use Rattle.std.specs.Prelude.{◌≡◌, ◌↔◌, ◌==◌, ◌&&◌, ◌||◌, ◌++◌, not, ℕ, suc, ℤ, Bool, true, false, List, [], ◌∷◌, Option, Some, None, Result, Ok, Err}
+use Rattle.std.specs.Prelude.{◌==◌, ◌&&◌, ◌||◌, ◌++◌, not, ℕ, suc, Bool, true, false, List, [], ◌∷◌, Option, Some, None, Result, Ok, Err}
 use Rattle.std.specs.Prelude.{is_none, is_some, length, option_and_then, slice_get, if◌then◌else◌}
 use Rattle.std.specs.List.{list_all}
 use Rattle.mc_base.specs.declared.ids.PointId.{PointId}
@@ -12,26 +12,25 @@ use Rattle.mc_premises.specs.Known.{is_false}
 use Rattle.mc_premises.specs.Lists.{all_both}
 use Rattle.mc_premises.specs.Premises.{Judged, need, have, then_give}
 use Rattle.mc_state.specs.declared.line.JoinStep.{JoinStep}
-use Rattle.mc_state.specs.Facts.{IsTidy}
 use Rattle.mc_state.specs.State.{State}
 use Rattle.mc_step.specs.Operands.{code_at}
-use Rattle.mc_same.specs.Same.{AreSameUnder, anew}
+use Rattle.mc_same.specs.Same.{anew}
 use Rattle.mc_kernel.specs.Branches.{Head, Path, Setting, roots, states_at}
 use Rattle.mc_kernel.specs.Judges.{Knowledge, may_cut, is_chain, judged_line}
 use Rattle.mc_kernel.specs.Readings.{has_all_heads, is_skip, comes_after, has_no_branch, first_branch, marked}
 use Rattle.mc_joins.specs.Joinings.{Joining, begun, next_pair}
 use Rattle.mc_joins.specs.Parts.{Basis}
 use Rattle.mc_joins.specs.Steps.{after_steps, is_stuck}
-use Rattle.mc_joins.specs.Whole.{AreJointAtoms, result_of}
+use Rattle.mc_joins.specs.Whole.{result_of}
 use Rattle.mc_chains.specs.Chains.{changes, over}
 use Rattle.mc_chains.specs.Opened.{with_state_at, with_state_for}
 
--- what the lines of chains are judged by: what other lines are, which states are tidy, the atoms that a whole join writes in a pass,
--- and which states are the same under some renaming
+-- what the lines of chains are judged by: what other lines are, which states are tidy, the atoms that a whole join writes in a pass of
+-- a number, and which states are the same under some renaming
 pub record Lore : Type 0 where
   pub lines : Knowledge
   pub tidy : State → Bool
-  pub joint : ℕ → List ℤ → Joining → List Atom
+  pub joint : ℕ → Joining → List Atom
   pub same : State → State → Bool
 
 -- what joins are judged by
@@ -65,19 +64,19 @@ opening_state k defs g tries b =
     (Ok (with_state_at b.point (anew b.state) g.heads))))))
 
 -- what a whole join gives in a pass
-abbrev pub given_by : Lore → ℕ → List ℤ → State → State → Joining → State
-given_by k round thresholds left right last = result_of left right last (k.joint round thresholds last)
+abbrev pub given_by : Lore → ℕ → State → State → Joining → State
+given_by k round left right last = result_of left right last (k.joint round last)
 
 -- C3: the states of cuts with what a whole join gives in place of one
-abbrev pub joining_state : Lore → List Def → ℕ → List ℤ → Setting → ℕ → List JoinStep → Path → Judged (List Head)
-joining_state k defs round thresholds g j steps b =
+abbrev pub joining_state : Lore → List Def → ℕ → Setting → ℕ → List JoinStep → Path → Judged (List Head)
+joining_state k defs round g j steps b =
     need 1 (may_change g b)
     (need 2 (not (is_false (k.lines.know b.state)))
     (have 3 (slice_get (states_at b.point g.heads) j) (λ left.
     need 4 (k.tidy b.state && k.tidy left)
     (have 5 (whole_join (basis k defs) left b.state steps) (λ last.
-    need 6 (not (k.same (given_by k round thresholds left b.state last) left))
-    (Ok (with_state_for b.point j (given_by k round thresholds left b.state last) g.heads)))))))
+    need 6 (not (k.same (given_by k round left b.state last) left))
+    (Ok (with_state_for b.point j (given_by k round left b.state last) g.heads)))))))
 
 -- ---- chains that are read line by line
 
@@ -149,7 +148,7 @@ abbrev pub passing_line : Lore → Flow → List Def → ℕ → Setting → Lin
 passing_line k flow defs round g (line.C2 tries) b =
     then_give (λ heads. record { next = []; heads = heads }) (opening_state k defs g tries b)
 passing_line k flow defs round g (line.C3 j steps) b =
-    then_give (λ heads. record { next = []; heads = heads }) (joining_state k defs round flow.thresholds g j steps b)
+    then_give (λ heads. record { next = []; heads = heads }) (joining_state k defs round g j steps b)
 passing_line k flow defs round g l b =
     then_give (λ next. record { next = next; heads = g.heads }) (judged_line k.lines flow defs g l b)
 
