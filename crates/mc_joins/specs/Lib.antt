@@ -3,3 +3,4 @@ pub mod Parts
 pub mod Steps
 pub mod Whole
 pub mod Laws
+pub mod Examples

@@ -2,6 +2,8 @@
 //! with no body ensures.
 #![tactic(auto)]
 
+mod examples;
 mod laws;
 
+pub use examples::folding_joins;
 pub use laws::{joins_are_determined, stuck_is_every};
