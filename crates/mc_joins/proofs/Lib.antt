@@ -1,3 +1,4 @@
 mod Members
 mod Stuck
 mod Once
+mod Counter

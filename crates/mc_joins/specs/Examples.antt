@@ -3,7 +3,7 @@ use Rattle.std.specs.Prelude.{◌≡◌, ℕ, suc, pos, true, List, [], ◌∷�
 use Rattle.mc_base.specs.declared.ids.EdgeId.{EdgeId}
 use Rattle.mc_base.specs.declared.ids.NodeId.{NodeId}
 use Rattle.mc_base.specs.declared.plain.Atom.{Atom}
-use Rattle.mc_base.specs.declared.plain.Atom.TheVariants.{In}
+use Rattle.mc_base.specs.declared.plain.Atom.TheVariants.{Eq, In}
 use Rattle.mc_base.specs.declared.plain.Kind.TheVariants.{Int, Ptr}
 use Rattle.mc_base.specs.Nodes.{null}
 use Rattle.mc_defs.specs.Examples.{cell_id, list_id, lenlist_id, tree_id, defs}
@@ -13,7 +13,8 @@ use Rattle.mc_graph.specs.Graph.{Edges, numbered}
 use Rattle.mc_join.specs.Joint.{Pairs}
 use Rattle.mc_pure.specs.Examples.{node}
 use Rattle.mc_pure.specs.Pure.{Kinds}
-use Rattle.mc_state.specs.State.{State}
+use Rattle.mc_state.specs.declared.line.Side.{Side}
+use Rattle.mc_state.specs.State.{State, with_atoms, with_nodes}
 use Rattle.mc_cover.specs.Examples.{knowing}
 use Rattle.mc_joins.specs.Joinings.{Half, Joining, Pair}
 use Rattle.mc_joins.specs.Parts.{Basis}
@@ -45,6 +46,11 @@ used_up s = record { state = s; unused = [] }
 -- a join of two states without an edge left
 abbrev pub all_joined : State → State → Pairs → List Edge → Joining
 all_joined left right pairs es = record { left = used_up left; right = used_up right; pairs = pairs; edges = es; closed = [] }
+
+-- the same, where a side's edges do not count any more at a pair
+abbrev pub all_joined_but : Side → Pair → State → State → Pairs → List Edge → Joining
+all_joined_but side p left right pairs es =
+    record { left = used_up left; right = used_up right; pairs = pairs; edges = es; closed = (side, p) ∷ [] }
 
 -- ---- lists
 
@@ -96,10 +102,19 @@ some_on = state_of (Some (node 1) ∷ Some (node 2) ∷ []) ((node 1, Ptr) ∷ (
 abbrev pub both_null : State
 both_null = state_of (Some null ∷ Some null ∷ []) [] [] []
 
--- a list of a length that is a node, and a cell that points to a list of a length
+-- the variable is a list of a length, node 2
 abbrev pub a_length : State
-a_length =
-    state_of (Some (node 1) ∷ []) ((node 1, Ptr) ∷ (node 2, Int) ∷ []) (Ind (node 1) lenlist_id (node 2 ∷ []) ∷ []) (In (node 2) (pos 0) (pos 9) ∷ [])
+a_length = state_of (Some (node 1) ∷ []) ((node 1, Ptr) ∷ (node 2, Int) ∷ []) (Ind (node 1) lenlist_id (node 2 ∷ []) ∷ []) []
+
+-- the variable is a cell that points to a list of a length, node 4, from 0 to 9
+abbrev pub one_longer : State
+one_longer =
+    state_of (Some (node 1) ∷ []) ((node 1, Ptr) ∷ (node 2, Int) ∷ (node 3, Ptr) ∷ (node 4, Int) ∷ [])
+    (cell ∷ Ind (node 3) lenlist_id (node 4 ∷ []) ∷ []) (In (node 4) (pos 0) (pos 9) ∷ [])
+
+-- where the number one more has a node
+abbrev pub with_longer : State
+with_longer = with_atoms (with_nodes one_longer (Int ∷ [])) (Eq (node 5) (node 4) (pos 1) ∷ [])
 
 -- ---- numbers
 
