@@ -1,1 +1,2 @@
 mod Final
+mod Assertion

@@ -2,6 +2,8 @@
 //! each law is what a function with no body ensures.
 #![tactic(auto)]
 
+mod examples;
 mod laws;
 
+pub use examples::assertion_alarms;
 pub use laws::final_chains_find_faults;
