@@ -1,2 +1,4 @@
 mod Final
 mod Assertion
+mod Places
+mod Judging

@@ -1,5 +1,5 @@
 -- Chains of small programs.
-use Rattle.std.specs.Prelude.{pos, true, false, None, List, [], ◌∷◌, ◌++◌}
+use Rattle.std.specs.Prelude.{pos, Bool, true, false, None, List, [], ◌∷◌, ◌++◌}
 use Rattle.mc_base.specs.declared.ids.PointId.{PointId}
 use Rattle.mc_base.specs.Nodes.{null}
 use Rattle.mc_cert.specs.declared.line.Line.{Line}
@@ -13,7 +13,9 @@ use Rattle.mc_state.specs.declared.line.Version.TheVariants.{One}
 use Rattle.mc_kernel.specs.Branches.{Head, Path, Setting}
 use Rattle.mc_kernel.specs.Examples.{at, var, flow_of, loop_vars}
 use Rattle.mc_state.specs.State.{State}
+use Rattle.mc_joins.specs.Examples.{by_atoms}
 use Rattle.mc_chains.specs.Chains.{over}
+use Rattle.mc_chains.specs.Judges.{Lore}
 
 -- ---- int main() { while (input() != 0) {} assert(0); return 0; }
 
@@ -55,7 +57,7 @@ assert_document = Header One Chain ∷ Cut (at 1) ∷ Pass ∷ (first_pass ++ (P
 abbrev pub short_document : List Line
 short_document = Header One Chain ∷ Cut (at 1) ∷ Pass ∷ (first_pass ++ End ∷ [])
 
--- ---- C2
+-- ---- C2 and C3
 
 -- a branch that has come to the cut with a state
 abbrev pub arrived : State → Path
@@ -64,3 +66,11 @@ arrived s = record { point = at 1; state = s; goal = None; moved = true; closing
 -- the cut has one state
 abbrev pub with_one : State → Setting
 with_one s = over (at 1 ∷ []) ((at 1, s) ∷ [])
+
+-- where what is known is what states write, and both states are tidy
+abbrev pub told : Lore → Lore
+told k = record k { lines = record k.lines { know = by_atoms.know }; tidy = λ s. true }
+
+-- where besides a join writes no atom, and states are the same or not
+abbrev pub told_same : Bool → Lore → Lore
+told_same same k = record (told k) { joint = λ round last. []; same = λ s t. same }

@@ -1,7 +1,9 @@
 // What holds of chains. Each law is what a function with no body ensures.
-ghost use Rattle.mc_chains.specs.Laws.{FinalChainHasLastPass, FinalChainFindsFaults, OpeningIsJudged};
+ghost use Rattle.mc_chains.specs.Laws.{FinalChainHasLastPass, FinalChainFindsFaults, OpeningIsJudged, JoiningIsJudged};
 
+use mc_joins::joins_are_determined;
 use mc_kernel::last_pass_finds_faults;
+use mc_premises::tests_tell;
 use mc_reading::lines_make_well_made;
 use mc_state::numbers_stay_bounded;
 
@@ -13,4 +15,14 @@ pub fn final_chains_find_faults()
     lines_make_well_made();
     numbers_stay_bounded();
     last_pass_finds_faults();
+}
+
+/// C2 and C3 give these states of cuts exactly where they are instances of their rules; so where one is none, one
+/// premise is the first that is unmet.
+pub fn changes_are_judged()
+    ensures opening { OpeningIsJudged }
+    ensures joining { JoiningIsJudged }
+{
+    tests_tell();
+    joins_are_determined();
 }
