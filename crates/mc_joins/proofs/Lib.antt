@@ -2,3 +2,4 @@ mod Members
 mod Stuck
 mod Once
 mod Counter
+mod Steady
