@@ -2,3 +2,4 @@ mod Final
 mod Assertion
 mod Places
 mod Judging
+mod AnewMade

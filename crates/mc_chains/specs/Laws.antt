@@ -51,6 +51,10 @@ OpeningIsJudged =
     → IsRight k flow defs → Made flow defs b.state → AllByRecursion (Made flow defs) (states_at b.point g.heads)
     → IsJudged (opening_state k defs g tries b) (OpensState (basis k defs) g tries b [])
 
+-- a well-made state that is numbered anew is well made
+abbrev pub AnewIsMade : Type 0
+AnewIsMade = (flow : Flow) (defs : List Def) (s : State) → Made flow defs s → Made flow defs (anew s)
+
 -- what is made of well-made states by numbering anew and by whole joins is well made
 pub record NewStatesAreMade (know : State → Test) (flow : Flow) (defs : List Def) : Type 0 where
   pub anew_made : (s : State) → Made flow defs s → Made flow defs (anew s)

@@ -1,10 +1,12 @@
 // What holds of chains. Each law is what a function with no body ensures.
 ghost use Rattle.mc_chains.specs.Laws.{FinalChainHasLastPass, FinalChainFindsFaults, OpeningIsJudged, JoiningIsJudged};
+ghost use Rattle.mc_chains.specs.Laws.{AnewIsMade};
 
 use mc_joins::joins_are_determined;
 use mc_kernel::last_pass_finds_faults;
 use mc_premises::tests_tell;
 use mc_reading::lines_make_well_made;
+use mc_same::numbering_is_sound;
 use mc_state::numbers_stay_bounded;
 
 /// The last pass of a final legal chain changes nothing, so its faults are found at its stuck branches.
@@ -25,4 +27,11 @@ pub fn changes_are_judged()
 {
     tests_tell();
     joins_are_determined();
+}
+
+/// A well-made state that is numbered anew is well made.
+pub fn numbering_makes_well()
+    ensures { AnewIsMade }
+{
+    numbering_is_sound();
 }
