@@ -3,3 +3,7 @@ mod Stuck
 mod Once
 mod Counter
 mod Steady
+mod NamedKinds
+mod JointKinds
+mod JointEdges
+mod JoinMade

@@ -38,11 +38,11 @@ use Rattle.mc_joins.specs.Steps.{Ending, pairs_of, edge_for, half_after, joined,
 -- ---- options
 
 module _ {X Y : Type 0} where
-  bind_some : (f : X → Option Y) (o : Option X) (y : Y) → option_and_then f o ≡ Some y → (x : X) × (o ≡ Some x) × (f x ≡ Some y)
+  pub bind_some : (f : X → Option Y) (o : Option X) (y : Y) → option_and_then f o ≡ Some y → (x : X) × (o ≡ Some x) × (f x ≡ Some y)
   bind_some f None y e = absurd (cc e)
   bind_some f (Some x) y e = (x, refl, e)
 
-  map_some : (f : X → Y) (o : Option X) (y : Y) → option_map f o ≡ Some y → (x : X) × (o ≡ Some x) × (f x ≡ y)
+  pub map_some : (f : X → Y) (o : Option X) (y : Y) → option_map f o ≡ Some y → (x : X) × (o ≡ Some x) × (f x ≡ y)
   map_some f None y e = absurd (cc e)
   map_some f (Some x) y e = (x, refl, cc e)
 
@@ -50,17 +50,17 @@ module _ {X Y : Type 0} where
   bind_each f g None h = refl
   bind_each f g (Some x) h = h x refl
 
-  zip_some : (o : Option X) (p : Option Y) (xy : X × Y) → option_zip o p ≡ Some xy → (o ≡ Some xy.0) × (p ≡ Some xy.1)
+  pub zip_some : (o : Option X) (p : Option Y) (xy : X × Y) → option_zip o p ≡ Some xy → (o ≡ Some xy.0) × (p ≡ Some xy.1)
   zip_some None p xy e = absurd (cc e)
   zip_some (Some x) None xy e = absurd (cc e)
   zip_some (Some x) (Some y) xy e =
       let same : ◌≡◌ {A = X × Y} (x, y) xy = cc e in (ap (λ (z : X × Y). Some z.0) same, ap (λ (z : X × Y). Some z.1) same)
 
-only_some : {X : Type 0} (b : Bool) (o : Option X) (x : X) → only_if b o ≡ Some x → o ≡ Some x
+pub only_some : {X : Type 0} (b : Bool) (o : Option X) (x : X) → only_if b o ≡ Some x → o ≡ Some x
 only_some true o x e = e
 only_some false o x e = absurd (cc e)
 
-or_some : {X : Type 0} (P : X → Type 0) (o p : Option X) (x : X) → (o ≡ Some x → P x) → (p ≡ Some x → P x) → option_or o p ≡ Some x → P x
+pub or_some : {X : Type 0} (P : X → Type 0) (o p : Option X) (x : X) → (o ≡ Some x → P x) → (p ≡ Some x → P x) → option_or o p ≡ Some x → P x
 or_some P None p x f g e = g e
 or_some P (Some y) p x f g e = f e
 
@@ -97,7 +97,7 @@ module _ (judged : SpareIsJudged) (stays : SpareStaysMade) (defs : List Def) (va
         at (Ok (u ∷ x ∷ us)) is e = absurd (cc e)
         at (Err k) is e = absurd (cc e)
 
-    node_made : (s : State) (kind : Kind) (t : Term) (n : Named) → Made s → node_of_term basis s kind t ≡ Some n → Made n.state
+    pub node_made : (s : State) (kind : Kind) (t : Term) (n : Named) → Made s → node_of_term basis s kind t ≡ Some n → Made n.state
     node_made s kind t n made e =
         or_some (λ (m : Named). Made m.state) (option_map (λ (m : NodeId). let r : Named = record { state = s; nodes = m ∷ [] } in r) (own_node basis s kind t)) (spare_node basis s kind t) n
         (λ f. let got = map_some (λ (m : NodeId). let r : Named = record { state = s; nodes = m ∷ [] } in r) (own_node basis s kind t) n f in subst Made (ap (λ (m : Named). m.state) got.2) made)
@@ -115,7 +115,7 @@ module _ (judged : SpareIsJudged) (stays : SpareStaysMade) (defs : List Def) (va
         let rest = map_some (behind first.0.nodes) (nodes_of_terms basis first.0.state kinds ts) n first.2 in
         subst Made (ap (λ (m : Named). m.state) rest.2) (terms_made first.0.state kinds ts rest.0 (node_made s kind t first.0 made first.1) rest.1)
 
-    args_made : (pred : PredId) (s : State) (args : List Term) (n : Named) → Made s → nodes_of_args basis pred s args ≡ Some n → Made n.state
+    pub args_made : (pred : PredId) (s : State) (args : List Term) (n : Named) → Made s → nodes_of_args basis pred s args ≡ Some n → Made n.state
     args_made pred s args n made e =
         let d = bind_some (λ (def : Def). nodes_of_terms basis s def.params args) (slice_get defs pred.0) n e in terms_made s d.0.params args n made d.2
 

@@ -51,3 +51,11 @@ abbrev pub JoinsAreDetermined : Type 0
 JoinsAreDetermined =
     (w : Basis) (round : ℕ) (thresholds : List ℤ) (left right : State) (steps : List JoinStep) (t u : State)
     → Joins w round thresholds left right steps t → Joins w round thresholds left right steps u → t ≡ u
+
+-- what a whole join of well-made states gives is well made
+abbrev pub JoinsMakeWell : Type 0
+JoinsMakeWell =
+    (defs : List Def) (vars : List VarInfo) (structs : List StructInfo) (know : State → Test) (round : ℕ) (thresholds : List ℤ)
+    (left right : State) (steps : List JoinStep) (t : State)
+    → KnowsMade defs vars structs know → IsWellMade defs vars structs left → IsWellMade defs vars structs right
+    → Joins (record { know = know; defs = defs }) round thresholds left right steps t → IsWellMade defs vars structs t

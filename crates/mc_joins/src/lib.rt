@@ -8,4 +8,4 @@ mod laws;
 pub use examples::{
     counter_joins, empty_joins, folding_joins, naming_joins, refused_joins, segment_joins, stuck_joins,
 };
-pub use laws::{joins_are_determined, steps_are_determined, stuck_is_every};
+pub use laws::{joins_are_determined, joins_make_well, steps_are_determined, stuck_is_every};
