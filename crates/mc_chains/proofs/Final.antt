@@ -22,8 +22,11 @@ use Rattle.mc_joins.specs.Parts.{Basis}
 use Rattle.mc_reading.specs.Documents.{IsMade}
 use Rattle.mc_reading.specs.Laws.{LinesMakeWellMade}
 use Rattle.mc_chains.specs.Chains.{changes, changes_some, over, IsPassLine, ReadsPass, ReadsPasses, last_pass, IsLegalChain, IsFinal}
-use Rattle.mc_chains.specs.Laws.{NewStatesAreMade, FinalChainHasLastPass, FinalChainFindsFaults}
+use Rattle.mc_same.specs.Laws.{AnewIsBounded}
+use Rattle.mc_joins.specs.Laws.{JoinsMakeWell}
+use Rattle.mc_chains.specs.Laws.{FinalChainHasLastPass, FinalChainFindsFaults}
 use Rattle.mc_chains.specs.Opened.{with_state_at, with_state_for}
+use Rattle.mc_chains.proofs.NewStates.{NewStatesAreMade, new_states}
 
 -- ---- the entry
 
@@ -178,10 +181,10 @@ module _ (made_lines : LinesMakeWellMade) (unknown : UnknownIsBounded) (flow : F
   last_of cuts_are round (rules ∷ more ∷ passes) stuck heads after good none (changed, own, mid, pass, reads) =
       last_of cuts_are (suc round) (more ∷ passes) stuck mid after (pass_keeps round rules (roots flow heads) own heads mid good (roots_made heads good) pass) none reads
 
-pub has_last_pass : LinesMakeWellMade → UnknownIsBounded → FinalChainHasLastPass
-has_last_pass made_lines unknown know flow defs lines c valid new final =
-    last_of made_lines unknown flow defs valid know new c.cuts c.cuts_are 1 c.passes c.stuck [] c.heads tt final c.reads
+pub has_last_pass : LinesMakeWellMade → UnknownIsBounded → AnewIsBounded → JoinsMakeWell → FinalChainHasLastPass
+has_last_pass made_lines unknown anew_bounded joins know flow defs lines c valid knows final =
+    last_of made_lines unknown flow defs valid know (new_states anew_bounded joins know flow defs knows) c.cuts c.cuts_are 1 c.passes c.stuck [] c.heads tt final c.reads
 
-pub finds_faults : LinesMakeWellMade → UnknownIsBounded → LastPassFindsFaults → FinalChainFindsFaults
-finds_faults made_lines unknown faults know flow defs lines c valid new final =
-    faults flow defs c.cuts c.heads (last_pass c.passes) c.stuck valid (has_last_pass made_lines unknown know flow defs lines c valid new final)
+pub finds_faults : LinesMakeWellMade → UnknownIsBounded → AnewIsBounded → JoinsMakeWell → LastPassFindsFaults → FinalChainFindsFaults
+finds_faults made_lines unknown anew_bounded joins faults know flow defs lines c valid knows final =
+    faults flow defs c.cuts c.heads (last_pass c.passes) c.stuck valid (has_last_pass made_lines unknown anew_bounded joins know flow defs lines c valid knows final)

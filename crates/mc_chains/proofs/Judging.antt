@@ -21,7 +21,10 @@ use Rattle.mc_joins.specs.Parts.{Basis}
 use Rattle.mc_joins.specs.Steps.{after_steps, is_stuck}
 use Rattle.mc_joins.specs.Whole.{Joins, GetsStuck, AreJointAtoms, result_of}
 use Rattle.mc_chains.specs.Judges.{Lore, basis, may_change, whole_join, gets_stuck, opening_state, given_by, joining_state}
-use Rattle.mc_chains.specs.Laws.{Made, IsWholeJoin, IsRight, NewStatesAreMade, OpeningIsJudged, JoiningIsJudged}
+use Rattle.mc_same.specs.Laws.{AnewIsBounded}
+use Rattle.mc_joins.specs.Laws.{JoinsMakeWell}
+use Rattle.mc_chains.specs.Laws.{Made, IsWholeJoin, IsRight, OpeningIsJudged, JoiningIsJudged}
+use Rattle.mc_chains.proofs.NewStates.{NewStatesAreMade, new_states}
 use Rattle.mc_chains.specs.Opened.{MayChange, AreTidy, OpensState, JoinsState, with_state_at, with_state_for}
 use Rattle.mc_chains.proofs.Places.{and_both, and_yes, not_yes, clash, may_from, may_to}
 
@@ -215,8 +218,9 @@ pub opening_judged : FalseIsTold → OpeningIsJudged
 opening_judged told k flow defs g tries b right made lefts_made next =
     (opening_from told k flow defs right g b made lefts_made tries next, opening_to told k flow defs right g b made lefts_made tries next)
 
-pub joining_judged : FalseIsTold → JoinsAreDetermined → JoiningIsJudged
-joining_judged told determined k flow defs round g j steps b right new made lefts_made next = (
-  joining_from told k flow defs right determined new round g j steps b made lefts_made next,
-  joining_to told k flow defs right determined new round g j steps b made lefts_made next,
-)
+pub joining_judged : FalseIsTold → JoinsAreDetermined → AnewIsBounded → JoinsMakeWell → JoiningIsJudged
+joining_judged told determined anew_bounded joins k flow defs round g j steps b right made lefts_made next =
+    let new = new_states anew_bounded joins k.lines.know flow defs right.knows in (
+      joining_from told k flow defs right determined new round g j steps b made lefts_made next,
+      joining_to told k flow defs right determined new round g j steps b made lefts_made next,
+    )

@@ -3,3 +3,4 @@ mod Assertion
 mod Places
 mod Judging
 mod AnewMade
+mod NewStates

@@ -16,7 +16,7 @@ use Rattle.mc_kernel.specs.Branches.{Path, Setting, states_at}
 use Rattle.mc_kernel.specs.Certificates.{IsLastPass, FaultsOnlyStuck}
 use Rattle.mc_joins.specs.Joinings.{Joining, begun, next_pair}
 use Rattle.mc_joins.specs.Steps.{after_steps}
-use Rattle.mc_joins.specs.Whole.{Joins, AreJointAtoms}
+use Rattle.mc_joins.specs.Whole.{AreJointAtoms}
 use Rattle.mc_chains.specs.Chains.{IsLegalChain, IsFinal, KnowsStates, last_pass}
 use Rattle.mc_chains.specs.Judges.{Lore, basis, given_by, opening_state, joining_state}
 use Rattle.mc_chains.specs.Opened.{OpensState, JoinsState}
@@ -55,18 +55,11 @@ OpeningIsJudged =
 abbrev pub AnewIsMade : Type 0
 AnewIsMade = (flow : Flow) (defs : List Def) (s : State) → Made flow defs s → Made flow defs (anew s)
 
--- what is made of well-made states by numbering anew and by whole joins is well made
-pub record NewStatesAreMade (know : State → Test) (flow : Flow) (defs : List Def) : Type 0 where
-  pub anew_made : (s : State) → Made flow defs s → Made flow defs (anew s)
-  pub join_made : (round : ℕ) (left right : State) (steps : List JoinStep) (t : State)
-      → Joins (record { know = know; defs = defs }) round flow.thresholds left right steps t
-      → Made flow defs left → Made flow defs right → Made flow defs t
-
--- C3 is judged by its instances, where what joins give is well made
+-- C3 is judged by its instances
 abbrev pub JoiningIsJudged : Type 0
 JoiningIsJudged =
     (k : Lore) (flow : Flow) (defs : List Def) (round : ℕ) (g : Setting) (j : ℕ) (steps : List JoinStep) (b : Path)
-    → IsRight k flow defs → NewStatesAreMade k.lines.know flow defs → Made flow defs b.state → AllByRecursion (Made flow defs) (states_at b.point g.heads)
+    → IsRight k flow defs → Made flow defs b.state → AllByRecursion (Made flow defs) (states_at b.point g.heads)
     → IsJudged (joining_state k defs round g j steps b) (JoinsState (basis k defs) round flow.thresholds g j steps b [])
 
 -- ---- whole chains
@@ -75,11 +68,11 @@ JoiningIsJudged =
 abbrev pub FinalChainHasLastPass : Type 0
 FinalChainHasLastPass =
     (know : State → Test) (flow : Flow) (defs : List Def) (lines : List Line) (c : IsLegalChain know flow defs lines)
-    → IsValid flow defs → NewStatesAreMade know flow defs → IsFinal c.passes
+    → IsValid flow defs → KnowsStates flow defs know → IsFinal c.passes
     → IsLastPass flow defs c.cuts c.heads (last_pass c.passes) c.stuck
 
 -- so every run that faults is at a stuck branch of its last pass, at its fault or before it
 abbrev pub FinalChainFindsFaults : Type 0
 FinalChainFindsFaults =
     (know : State → Test) (flow : Flow) (defs : List Def) (lines : List Line) (c : IsLegalChain know flow defs lines)
-    → IsValid flow defs → NewStatesAreMade know flow defs → IsFinal c.passes → FaultsOnlyStuck flow defs c.stuck
+    → IsValid flow defs → KnowsStates flow defs know → IsFinal c.passes → FaultsOnlyStuck flow defs c.stuck

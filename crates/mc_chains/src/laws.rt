@@ -2,7 +2,7 @@
 ghost use Rattle.mc_chains.specs.Laws.{FinalChainHasLastPass, FinalChainFindsFaults, OpeningIsJudged, JoiningIsJudged};
 ghost use Rattle.mc_chains.specs.Laws.{AnewIsMade};
 
-use mc_joins::joins_are_determined;
+use mc_joins::{joins_are_determined, joins_make_well};
 use mc_kernel::last_pass_finds_faults;
 use mc_premises::tests_tell;
 use mc_reading::lines_make_well_made;
@@ -16,6 +16,8 @@ pub fn final_chains_find_faults()
 {
     lines_make_well_made();
     numbers_stay_bounded();
+    numbering_is_sound();
+    joins_make_well();
     last_pass_finds_faults();
 }
 
@@ -27,6 +29,8 @@ pub fn changes_are_judged()
 {
     tests_tell();
     joins_are_determined();
+    numbering_is_sound();
+    joins_make_well();
 }
 
 /// A well-made state that is numbered anew is well made.

@@ -5,5 +5,7 @@ pub returns : goal.returns
 returns c =
     record {
       opening = opening_judged c.tests_tell.ensures.is_false;
-      joining = joining_judged c.tests_tell.ensures.is_false c.joins_are_determined.ensures;
+      joining =
+          joining_judged c.tests_tell.ensures.is_false c.joins_are_determined.ensures c.numbering_is_sound.ensures.bounded
+          c.joins_make_well.ensures;
     }
