@@ -205,30 +205,103 @@ module _ (law : TrueIsNotFalse) (know : State → Test) where
   -- the second pass
   reads : ReadsPass assert_flow basis 2 (ex.at 1 ∷ []) second_pass (roots assert_flow heads) (gone 8 fails ∷ []) heads heads
   reads = (
-    gone 1 head ∷ [], heads, gone 8 fails ∷ [],
+    gone 1 head ∷ [],
+    heads,
+    gone 8 fails ∷ [],
     ((record { plain = refl; open_still = refl; before_cut = inr refl }, (moved_to (ex.at 1) head ∷ [], record { q = ex.at 1; at = refl; consistent = head_sound; gives = refl }, refl)), refl),
-    ([], heads, gone 8 fails ∷ [], (jumps head refl refl refl head_sound, refl),
-    (gone 2 head ∷ [], heads, gone 8 fails ∷ [],
-    ((record { plain = refl; open_still = refl; before_cut = inr refl }, (moved_to (ex.at 2) head ∷ [], record { q = ex.at 2; at = refl; consistent = head_sound; gives = refl }, refl)), refl),
-    (gone 3 with_input ∷ [], heads, gone 8 fails ∷ [],
-    ((may 2 head (omega arith), (moved_to (ex.at 3) with_input ∷ [], record { x = ex.var 1; q = ex.at 3; at = refl; consistent = head_sound; gives = refl }, refl)), refl),
-    (gone 5 at_zero ∷ gone 4 not_zero ∷ [], heads, gone 8 fails ∷ [],
-    ((may 3 with_input (omega arith), (moved_to (ex.at 5) at_zero ∷ moved_to (ex.at 4) not_zero ∷ [],
-    record { o = _; o' = _; t = ex.at 5; f = ex.at 4; at = refl; consistent = input_sound; a = node 1; left_known = refl; b = null; right_known = refl; before = with_input; operands = refl; gives = refl }, refl)), refl),
-    (gone 6 after_zero ∷ [], heads, gone 8 fails ∷ [],
-    ((may 5 at_zero (omega arith), (moved_to (ex.at 6) after_zero ∷ [], record { xs = ex.var 1 ∷ []; q = ex.at 6; at = refl; consistent = zero_sound; gives = refl }, refl)), refl),
-    (gone 7 after_zero ∷ [], heads, gone 8 fails ∷ [],
-    ((may 6 after_zero (omega arith), (moved_to (ex.at 7) after_zero ∷ [], record { q = ex.at 7; at = refl; consistent = zero_sound; gives = refl }, refl)), refl),
-    (gone 8 fails ∷ gone 9 passes ∷ [], heads, gone 8 fails ∷ [],
-    ((may 7 after_zero (omega arith), (moved_to (ex.at 8) fails ∷ moved_to (ex.at 9) passes ∷ [],
-    record { o = _; o' = _; t = ex.at 8; f = ex.at 9; at = refl; consistent = zero_sound; a = null; left_known = refl; b = null; right_known = refl; before = after_zero; operands = refl; gives = refl }, refl)), refl),
-    ([], heads, [],
-    (record { chain = refl; plain = refl; open_still = refl; gap = Reached; unmet = record { consistent = fails_sound; code = instr.Fail; at = refl; lacks = (tt, tt) }; gives = refl }, refl),
-    ([], heads, [], ((refl, passes_false, refl), refl),
-    (gone 1 after_other ∷ [], heads, [],
-    ((may 4 not_zero (omega arith), (moved_to (ex.at 1) after_other ∷ [], record { xs = ex.var 1 ∷ []; q = ex.at 1; at = refl; consistent = other_sound; gives = refl }, refl)), refl),
-    ([], heads, [], (jumps after_other refl refl refl other_sound, refl), (refl, refl, refl), refl),
-    refl), refl), refl), refl), refl), refl), refl), refl), refl), refl), refl)
+    (
+      [],
+      heads,
+      gone 8 fails ∷ [],
+      (jumps head refl refl refl head_sound, refl),
+      (
+        gone 2 head ∷ [],
+        heads,
+        gone 8 fails ∷ [],
+        ((record { plain = refl; open_still = refl; before_cut = inr refl }, (moved_to (ex.at 2) head ∷ [], record { q = ex.at 2; at = refl; consistent = head_sound; gives = refl }, refl)), refl),
+        (
+          gone 3 with_input ∷ [],
+          heads,
+          gone 8 fails ∷ [],
+          ((may 2 head (omega arith), (moved_to (ex.at 3) with_input ∷ [], record { x = ex.var 1; q = ex.at 3; at = refl; consistent = head_sound; gives = refl }, refl)), refl),
+          (
+            gone 5 at_zero ∷ gone 4 not_zero ∷ [],
+            heads,
+            gone 8 fails ∷ [],
+            (
+              (
+                may 3 with_input (omega arith),
+                (
+                  moved_to (ex.at 5) at_zero ∷ moved_to (ex.at 4) not_zero ∷ [],
+                  record { o = _; o' = _; t = ex.at 5; f = ex.at 4; at = refl; consistent = input_sound; a = node 1; left_known = refl; b = null; right_known = refl; before = with_input; operands = refl; gives = refl },
+                  refl,
+                ),
+              ),
+              refl,
+            ),
+            (
+              gone 6 after_zero ∷ [],
+              heads,
+              gone 8 fails ∷ [],
+              ((may 5 at_zero (omega arith), (moved_to (ex.at 6) after_zero ∷ [], record { xs = ex.var 1 ∷ []; q = ex.at 6; at = refl; consistent = zero_sound; gives = refl }, refl)), refl),
+              (
+                gone 7 after_zero ∷ [],
+                heads,
+                gone 8 fails ∷ [],
+                ((may 6 after_zero (omega arith), (moved_to (ex.at 7) after_zero ∷ [], record { q = ex.at 7; at = refl; consistent = zero_sound; gives = refl }, refl)), refl),
+                (
+                  gone 8 fails ∷ gone 9 passes ∷ [],
+                  heads,
+                  gone 8 fails ∷ [],
+                  (
+                    (
+                      may 7 after_zero (omega arith),
+                      (
+                        moved_to (ex.at 8) fails ∷ moved_to (ex.at 9) passes ∷ [],
+                        record { o = _; o' = _; t = ex.at 8; f = ex.at 9; at = refl; consistent = zero_sound; a = null; left_known = refl; b = null; right_known = refl; before = after_zero; operands = refl; gives = refl },
+                        refl,
+                      ),
+                    ),
+                    refl,
+                  ),
+                  (
+                    [],
+                    heads,
+                    [],
+                    (record { chain = refl; plain = refl; open_still = refl; gap = Reached; unmet = record { consistent = fails_sound; code = instr.Fail; at = refl; lacks = (tt, tt) }; gives = refl }, refl),
+                    (
+                      [],
+                      heads,
+                      [],
+                      ((refl, passes_false, refl), refl),
+                      (
+                        gone 1 after_other ∷ [],
+                        heads,
+                        [],
+                        ((may 4 not_zero (omega arith), (moved_to (ex.at 1) after_other ∷ [], record { xs = ex.var 1 ∷ []; q = ex.at 1; at = refl; consistent = other_sound; gives = refl }, refl)), refl),
+                        ([], heads, [], (jumps after_other refl refl refl other_sound, refl), (refl, refl, refl), refl),
+                        refl,
+                      ),
+                      refl,
+                    ),
+                    refl,
+                  ),
+                  refl,
+                ),
+                refl,
+              ),
+              refl,
+            ),
+            refl,
+          ),
+          refl,
+        ),
+        refl,
+      ),
+      refl,
+    ),
+    refl,
+  )
 
   cuts_are : AreCuts assert_flow (ex.at 1 ∷ [])
   cuts_are = record {

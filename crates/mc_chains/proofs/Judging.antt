@@ -156,7 +156,7 @@ module _ (told : FalseIsTold) (k : Lore) (flow : Flow) (defs : List Def) (right 
       done = done;
       gives = refl;
       atoms = right.joint round left b.state steps last
-      (record { left_made = left_made; right_made = made; left_tidy = left_tidy; right_tidy = own_tidy; reached = reached; done = done });
+          (record { left_made = left_made; right_made = made; left_tidy = left_tidy; right_tidy = own_tidy; reached = reached; done = done });
     }
 
     abbrev is_wrong : Bool

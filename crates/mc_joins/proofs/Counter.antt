@@ -1,10 +1,9 @@
 -- How a counter widens.
-use Rattle.std.proofs.Common.{◌≡◌, ◌<◌, ℕ, zero, suc, ℤ, pos, List, [], ◌∷◌, length, refl, inl, arith}
+use Rattle.std.proofs.Common.{◌<◌, ℕ, zero, suc, ℤ, pos, [], ◌∷◌, refl, inl, arith}
 use Rattle.std.specs.Prelude.{◌≤ℤ◌, ◌<ℤ◌, ◌≤◌, slice_index_or}
 use Rattle.std.proofs.lemmas.Int.{ints}
 use Rattle.mc_base.specs.declared.plain.Kind.TheVariants.{Int}
 use Rattle.mc_join.specs.Joint.{IsJointRange, IsLate}
-use Rattle.mc_ranges.specs.Thresholds.{WidensUp, WidensDown}
 
 early : IsLate Int 2 → ⊥
 early l = let three : 3 ≤ 2 = l in omega arith
@@ -14,7 +13,6 @@ late = let three : 3 ≤ 3 = omega arith in three
 
 pub in_second : IsJointRange Int 2 (pos 0 ∷ pos 9 ∷ []) (pos 0) (pos 0) (pos 1) (pos 1) (pos 0) (pos 1)
 in_second = record { hull = λ no. (refl, refl); wide = λ l. absurd (early l) }
-
 
 nearest : (k : ℕ) (d : ℤ) → k < 2 → pos 1 ≤ℤ slice_index_or (pos 0 ∷ pos 9 ∷ []) k d → pos 9 ≤ℤ slice_index_or (pos 0 ∷ pos 9 ∷ []) k d
 nearest zero d less above = let wrong : pos 1 ≤ℤ pos 0 = above in absurd (let no : ⊥ = omega (arith, ints) in no)

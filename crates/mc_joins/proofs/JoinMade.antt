@@ -1,14 +1,13 @@
 -- What a whole join of well-made states gives is well made.
 use Rattle.std.proofs.Common.{◌≡◌, ◌⊎◌, ◌<◌, ℕ, ℤ, zero, suc, ◌+◌, List, [], ◌∷◌, ◌++◌, Bool, true, false, Option, Some, None, length, map, slice_get, refl, ap, sym, ◌∙◌, subst, inl, inr, arith, eqb-true, eq-eqb}
-use Rattle.std.specs.Prelude.{◌==◌, ◌&&◌, ◌||◌, not, cond, is_some, is_none, find, option_and_then, option_map, option_to_list, unwrap_or, zip, replicate, if◌then◌else◌}
-use Rattle.std.specs.Option.{option_or, option_zip}
+use Rattle.std.specs.Prelude.{◌==◌, ◌&&◌, ◌||◌, not, cond, is_some, is_none, find, option_and_then, option_map, unwrap_or, replicate, if◌then◌else◌}
+use Rattle.std.specs.Option.{option_zip}
 use Rattle.std.specs.List.{AllByRecursion, list_any}
-use Rattle.std.proofs.lemmas.Bool.{ne_eqb}
 use Rattle.mc_base.specs.declared.ids.EdgeId.{EdgeId}
 use Rattle.mc_base.specs.declared.ids.NodeId.{NodeId}
 use Rattle.mc_base.specs.declared.ids.PredId.{PredId}
 use Rattle.mc_base.specs.declared.plain.Kind.{Kind}
-use Rattle.mc_base.specs.declared.plain.Kind.TheVariants.{Int, Ptr}
+use Rattle.mc_base.specs.declared.plain.Kind.TheVariants.{Ptr}
 use Rattle.mc_base.specs.declared.plain.VarInfo.{VarInfo}
 use Rattle.mc_base.specs.declared.plain.Atom.{Atom}
 use Rattle.mc_base.specs.declared.plain.Atom.TheVariants.{Eq, Ne, In}
@@ -37,16 +36,16 @@ use Rattle.mc_state.specs.State.{State}
 use Rattle.mc_state.specs.Terms.{plain}
 use Rattle.mc_fold.specs.JudgedLaws.{SpareIsJudged}
 use Rattle.mc_fold.specs.MadeLaws.{SpareStaysMade}
-use Rattle.mc_cover.specs.First.{Choice, first_cover, first_seg_cover}
+use Rattle.mc_cover.specs.First.{first_cover, first_seg_cover}
 use Rattle.mc_cover.specs.Guessed.{first_edge, or_else, summary_of}
 use Rattle.mc_cover.specs.Terms.{equal_terms}
 use Rattle.mc_joins.specs.Joinings.{Half, Joining, Pair, across, half, of_side, same_side, same_pair, with_pairs, known_both, is_closed, free_edges, edge_at, has_edge, next_pair, begun}
 use Rattle.mc_joins.specs.Laws.{KnowsMade, JoinsMakeWell}
-use Rattle.mc_joins.specs.Parts.{Basis, Part, Named, nodes_of_args, zeros, standing_args, as_it_is, empty_seg, ind_part, folded_ind, ended_part, seg_part, folded_seg, guessed_seg}
+use Rattle.mc_joins.specs.Parts.{Basis, Part, nodes_of_args, zeros, standing_args, as_it_is, empty_seg, ind_part, folded_ind, ended_part, seg_part, folded_seg, guessed_seg}
 use Rattle.mc_joins.specs.Steps.{Ending, pairs_of, known_for, edge_for, half_after, joined, joined_from, are_blocks, are_inds, are_segs, edge_there, only_if, closing, may_end, uses_edge, six_with, six_ends, six_to, by_j6, is_seg_to, seven_ends, seven_with, seven_from, by_j7, no_j6, no_j7, by_both, four_args, four_with, four_from, by_ind, are_unlike, guessed_ind, five_with, by_folds, step_at, after_step, after_steps}
-use Rattle.mc_joins.specs.Whole.{AreJointAtoms, kind_of_pair, kinds_from, kinds_of_pairs, result_of}
+use Rattle.mc_joins.specs.Whole.{AreJointAtoms, kinds_from, kinds_of_pairs, result_of}
 use Rattle.mc_joins.proofs.JointEdges.{Alike, same_pred, blocks_alike, inds_alike, segs_alike, both_kinds, edge_kinds, edge_fits, may_joint}
-use Rattle.mc_joins.proofs.JointKinds.{OneKind, Proper, Listed, NoNull, no_null, More, with_more, node_kind, pair_kind, kinds_step, any_left, listed_on, itself}
+use Rattle.mc_joins.proofs.JointKinds.{OneKind, Proper, Listed, NoNull, no_null, with_more, node_kind, pair_kind, kinds_step, any_left, listed_on, itself}
 use Rattle.mc_joins.proofs.Members.{Has}
 use Rattle.mc_joins.proofs.NamedKinds.{Grow, Fits, have_grow, may_grow, fits_grow, find_some, args_named}
 use Rattle.mc_joins.proofs.Steady.{bind_some, map_some, zip_some, or_some, args_made}
@@ -192,21 +191,21 @@ module _ (defs : List Def) (vars : List VarInfo) (structs : List StructInfo) (le
             left_grows = λ kind x h. pl.grows kind x (i.left_grows kind x h);
             right_grows = λ kind x h. pr.grows kind x (i.right_grows kind x h);
             left_fit = all_others (λ (e : EdgeId × Edge). Fits defs structs lk e.1) j.left.unused l.used
-            (all_map (λ (e : EdgeId × Edge). Fits defs structs j.left.state.kinds e.1) (λ (e : EdgeId × Edge). Fits defs structs lk e.1) j.left.unused
-            (λ e h. fits_grow j.left.state.kinds lk pl.grows defs structs e.1 h) i.left_fit);
+                (all_map (λ (e : EdgeId × Edge). Fits defs structs j.left.state.kinds e.1) (λ (e : EdgeId × Edge). Fits defs structs lk e.1) j.left.unused
+                (λ e h. fits_grow j.left.state.kinds lk pl.grows defs structs e.1 h) i.left_fit);
             right_fit = all_others (λ (e : EdgeId × Edge). Fits defs structs rk e.1) j.right.unused r.used
-            (all_map (λ (e : EdgeId × Edge). Fits defs structs j.right.state.kinds e.1) (λ (e : EdgeId × Edge). Fits defs structs rk e.1) j.right.unused
-            (λ e h. fits_grow j.right.state.kinds rk pr.grows defs structs e.1 h) i.right_fit);
+                (all_map (λ (e : EdgeId × Edge). Fits defs structs j.right.state.kinds e.1) (λ (e : EdgeId × Edge). Fits defs structs rk e.1) j.right.unused
+                (λ e h. fits_grow j.right.state.kinds rk pr.grows defs structs e.1 h) i.right_fit);
             rest = i.rest ++ w.more;
             front = front;
             proper = proper;
             vars_listed = subst (λ (ps : Pairs). AllByRecursion (Listed ps) (known_both left.env right.env)) (sym front)
-            (listed_on ((null, null) ∷ i.rest) w.more (known_both left.env right.env) (subst (λ (ps : Pairs). AllByRecursion (Listed ps) (known_both left.env right.env)) i.front i.vars_listed));
+                (listed_on ((null, null) ∷ i.rest) w.more (known_both left.env right.env) (subst (λ (ps : Pairs). AllByRecursion (Listed ps) (known_both left.env right.env)) i.front i.vars_listed));
             closed = i.closed;
             edges = all_join (Fits defs structs K) j.edges (new ∷ [])
-            (all_map (Fits defs structs (kinds_from j 1 i.rest)) (Fits defs structs K) j.edges
-            (λ e h. fits_grow (kinds_from j 1 i.rest) K (more_pairs j (joined_to j l r new) before none pl.grows pr.grows i.rest w.more i.proper) defs structs e h) i.edges)
-            (fits, tt);
+                (all_map (Fits defs structs (kinds_from j 1 i.rest)) (Fits defs structs K) j.edges
+                (λ e h. fits_grow (kinds_from j 1 i.rest) K (more_pairs j (joined_to j l r new) before none pl.grows pr.grows i.rest w.more i.proper) defs structs e h) i.edges)
+                (fits, tt);
           }
 
   -- ---- what sides give
@@ -699,19 +698,19 @@ module _ (defs : List Def) (vars : List VarInfo) (structs : List StructInfo) (le
           ids = subst (λ (g : Graph). IdsAscend 0 g.edges g.next) (sym graph_is) (ids_are 0 (length last.edges) last.edges (omega arith));
           vars = subst (λ (k : Kinds). AreNodes k (known_nodes t.env)) (sym kinds_are) (subst (λ (ns : List (Option NodeId)). AreNodes K (known_nodes ns)) (sym env_is) (may_there K ks (known_for ((null, null) ∷ i.rest) left.env right.env) env_fits));
           edges = subst (λ (k : Kinds). AllByRecursion (λ (e : EdgeId × Edge). AreNodes k (nodes_of e.1)) t.graph.edges) (sym kinds_are)
-          (subst (λ (g : Graph). AllByRecursion (λ (e : EdgeId × Edge). AreNodes K (nodes_of e.1)) g.edges) (sym graph_is)
-          (all_numbered (λ (e : Edge). AreNodes K (nodes_of e)) 0 last.edges (all_map (Fits defs structs K) (λ (e : Edge). AreNodes K (nodes_of e)) last.edges (edge_there_too K) i.edges)));
+              (subst (λ (g : Graph). AllByRecursion (λ (e : EdgeId × Edge). AreNodes K (nodes_of e.1)) g.edges) (sym graph_is)
+              (all_numbered (λ (e : Edge). AreNodes K (nodes_of e)) 0 last.edges (all_map (Fits defs structs K) (λ (e : Edge). AreNodes K (nodes_of e)) last.edges (edge_there_too K) i.edges)));
           atoms = all_map (IsWellFormed t.kinds) (λ (a : Atom). AreNodes t.kinds (nodes_of_atom a)) t.atoms (atom_there t.kinds) well;
         };
         atoms = well;
         fits_defs = subst (λ (k : Kinds). AllByRecursion (λ (e : EdgeId × Edge). EdgeFitsDefs defs k e.1) t.graph.edges) (sym kinds_are)
-        (subst (λ (g : Graph). AllByRecursion (λ (e : EdgeId × Edge). EdgeFitsDefs defs K e.1) g.edges) (sym graph_is)
-        (all_numbered (EdgeFitsDefs defs K) 0 last.edges (all_map (Fits defs structs K) (EdgeFitsDefs defs K) last.edges (λ e h. h.0) i.edges)));
+            (subst (λ (g : Graph). AllByRecursion (λ (e : EdgeId × Edge). EdgeFitsDefs defs K e.1) g.edges) (sym graph_is)
+            (all_numbered (EdgeFitsDefs defs K) 0 last.edges (all_map (Fits defs structs K) (EdgeFitsDefs defs K) last.edges (λ e h. h.0) i.edges)));
         fits_program = record {
           vars_fit = subst (λ (k : Kinds). MayHaveKinds k ks t.env) (sym kinds_are) (subst (λ (ns : List (Option NodeId)). MayHaveKinds K ks ns) (sym env_is) env_fits);
           blocks_fit = subst (λ (k : Kinds). AllByRecursion (λ (e : EdgeId × Edge). EdgeFitsStructs structs k e.1) t.graph.edges) (sym kinds_are)
-          (subst (λ (g : Graph). AllByRecursion (λ (e : EdgeId × Edge). EdgeFitsStructs structs K e.1) g.edges) (sym graph_is)
-          (all_numbered (EdgeFitsStructs structs K) 0 last.edges (all_map (Fits defs structs K) (EdgeFitsStructs structs K) last.edges (λ e h. h.1) i.edges)));
+              (subst (λ (g : Graph). AllByRecursion (λ (e : EdgeId × Edge). EdgeFitsStructs structs K e.1) g.edges) (sym graph_is)
+              (all_numbered (EdgeFitsStructs structs K) 0 last.edges (all_map (Fits defs structs K) (EdgeFitsStructs structs K) last.edges (λ e h. h.1) i.edges)));
         };
       }
 

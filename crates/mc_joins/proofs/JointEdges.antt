@@ -1,7 +1,6 @@
 -- The edge that two edges of one form make fits, where both fit.
-use Rattle.std.proofs.Common.{◌≡◌, ℕ, suc, List, [], ◌∷◌, ◌++◌, Bool, true, false, Option, Some, None, length, map, slice_get, refl, ap, sym, ◌∙◌, subst, inl, inr, eqb-true}
-use Rattle.std.specs.Prelude.{◌==◌, is_some, option_map, zip, if◌then◌else◌}
-use Rattle.std.specs.Option.{option_zip}
+use Rattle.std.proofs.Common.{◌≡◌, ℕ, suc, List, [], ◌∷◌, ◌++◌, Bool, true, false, Option, Some, None, length, map, slice_get, refl, ap, sym, ◌∙◌, subst, eqb-true}
+use Rattle.std.specs.Prelude.{◌==◌, is_some, zip, if◌then◌else◌}
 use Rattle.std.specs.List.{AllByRecursion}
 use Rattle.mc_base.specs.declared.ids.NodeId.{NodeId}
 use Rattle.mc_base.specs.declared.ids.PredId.{PredId}
@@ -14,10 +13,9 @@ use Rattle.mc_graph.specs.declared.edge.Edge.{Edge}
 use Rattle.mc_graph.specs.declared.edge.Edge.TheVariants.{Block, Ind, Seg}
 use Rattle.mc_graph.specs.Edges.{start_of}
 use Rattle.mc_join.specs.Joint.{Pairs}
-use Rattle.mc_premises.specs.Named.{IndParts, SegParts, ind_of, seg_of}
 use Rattle.mc_pure.specs.Pure.{Kinds, HasKind}
 use Rattle.mc_state.specs.Fits.{HaveKinds, MayHaveKinds, ArgsFit}
-use Rattle.mc_joins.specs.Joinings.{Pair, known_both}
+use Rattle.mc_joins.specs.Joinings.{known_both}
 use Rattle.mc_joins.specs.Steps.{pairs_of, node_for, nodes_for, known_for, edge_for, are_blocks, are_inds, are_segs}
 use Rattle.mc_joins.proofs.NamedKinds.{Fits}
 use Rattle.mc_joins.proofs.JointKinds.{OneKind, Listed}

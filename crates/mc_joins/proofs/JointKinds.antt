@@ -1,24 +1,18 @@
 -- The nodes of a result have the kinds of their pairs.
-use Rattle.std.proofs.Common.{◌≡◌, ◌<◌, ℕ, zero, suc, ◌+◌, List, [], ◌∷◌, ◌++◌, Bool, true, false, Option, Some, None, length, map, slice_get, refl, ap, sym, ◌∙◌, subst, inl, inr, arith, eqb-true, eq-eqb}
-use Rattle.std.specs.Prelude.{◌==◌, ◌&&◌, ◌||◌, ◌⊎◌, not, cond, nat_lt, option_map, option_to_list, unwrap_or, zip, fold, if◌then◌else◌}
-use Rattle.std.specs.Option.{option_or, option_zip}
+use Rattle.std.proofs.Common.{◌≡◌, ◌<◌, ℕ, suc, ◌+◌, List, [], ◌∷◌, ◌++◌, Bool, true, false, Option, Some, None, length, refl, ap, sym, ◌∙◌, subst, inl, inr, arith, eqb-true, eq-eqb}
+use Rattle.std.specs.Prelude.{◌==◌, ◌&&◌, ◌||◌, not, cond, nat_lt, option_map, option_to_list, unwrap_or, if◌then◌else◌}
+use Rattle.std.specs.Option.{option_or}
 use Rattle.std.specs.List.{AllByRecursion, list_any, prefix_len}
 use Rattle.std.proofs.lemmas.Bool.{ne_eqb}
 use Rattle.mc_base.specs.declared.ids.NodeId.{NodeId}
 use Rattle.mc_base.specs.declared.plain.Kind.{Kind}
-use Rattle.mc_base.specs.declared.plain.Kind.TheVariants.{Ptr}
 use Rattle.mc_base.specs.Nodes.{null}
-use Rattle.mc_defs.specs.declared.rules.Def.{Def}
-use Rattle.mc_defs.specs.declared.shapes.StructInfo.{StructInfo}
-use Rattle.mc_graph.specs.declared.edge.Edge.{Edge}
-use Rattle.mc_graph.specs.declared.edge.Edge.TheVariants.{Block, Ind, Seg}
 use Rattle.mc_join.specs.Joint.{Pairs}
 use Rattle.mc_pure.specs.Pure.{Kinds, HasKind, kind_of}
-use Rattle.mc_state.specs.Fits.{HaveKinds, MayHaveKinds, ArgsFit, EdgeFitsDefs, EdgeFitsStructs, NodesAscend}
-use Rattle.mc_joins.specs.Joinings.{Joining, Pair, same_pair, with_pair, with_pairs, known_both}
-use Rattle.mc_joins.specs.Steps.{pairs_of, node_for, nodes_for, known_for, edge_for}
+use Rattle.mc_state.specs.Fits.{NodesAscend}
+use Rattle.mc_joins.specs.Joinings.{Joining, Pair, same_pair, with_pairs}
+use Rattle.mc_joins.specs.Steps.{node_for}
 use Rattle.mc_joins.specs.Whole.{kind_of_pair, kinds_from}
-use Rattle.mc_joins.proofs.NamedKinds.{Grow, Fits}
 
 -- two nodes of one kind
 abbrev pub OneKind : Kinds → Kinds → Pair → Type 0
@@ -196,5 +190,5 @@ module _ (j : Joining) (left_none : NoNull j.left.state.kinds) where
       at false c d is cx dy l' true =
           inr (place_kind 1 rest (x, y) kind proper
           (pair_kind (x, y) kind l r (λ p q.
-              let front : same_pair (x, y) (null, null) ≡ true = ap (λ (b : Bool). b && (y.0 == 0)) (eq-eqb x.0 0 p) ∙ eq-eqb y.0 0 q in
-              cc (front, is))) l')
+          let front : same_pair (x, y) (null, null) ≡ true = ap (λ (b : Bool). b && (y.0 == 0)) (eq-eqb x.0 0 p) ∙ eq-eqb y.0 0 q in
+          cc (front, is))) l')

@@ -1,7 +1,6 @@
 -- Nodes that are named for terms have their kinds, and what fits goes on to fit.
-use Rattle.std.proofs.Common.{◌≡◌, ◌<◌, ℕ, suc, List, [], ◌∷◌, ◌++◌, Bool, true, false, Option, Some, None, length, map, slice_get, refl, ap, sym, ◌∙◌, subst, inl, inr, arith, eqb-true, eq-eqb}
-use Rattle.std.specs.Prelude.{◌==◌, ◌⊎◌, Ok, Err, cond, filter, find, option_and_then, option_map, replicate, if◌then◌else◌}
-use Rattle.std.specs.Option.{option_or}
+use Rattle.std.proofs.Common.{◌≡◌, ◌<◌, ℕ, suc, List, [], ◌∷◌, ◌++◌, Bool, true, false, Option, Some, None, map, slice_get, refl, ap, sym, ◌∙◌, subst, inl, inr, arith, eq-eqb}
+use Rattle.std.specs.Prelude.{◌==◌, ◌⊎◌, Ok, Err, cond, filter, find, option_map, if◌then◌else◌}
 use Rattle.std.specs.List.{AllByRecursion}
 use Rattle.std.proofs.lemmas.Bool.{ne_eqb}
 use Rattle.mc_base.specs.declared.ids.NodeId.{NodeId}
@@ -10,7 +9,6 @@ use Rattle.mc_base.specs.declared.plain.Kind.{Kind}
 use Rattle.mc_base.specs.declared.plain.Kind.TheVariants.{Int, Ptr}
 use Rattle.mc_base.specs.declared.plain.Atom.TheVariants.{Eq}
 use Rattle.mc_base.specs.declared.plain.VarInfo.{VarInfo}
-use Rattle.mc_base.specs.Nodes.{null}
 use Rattle.mc_defs.specs.declared.rules.Def.{Def}
 use Rattle.mc_defs.specs.declared.shapes.StructInfo.{StructInfo}
 use Rattle.mc_graph.specs.declared.edge.Edge.{Edge}
@@ -205,7 +203,7 @@ module _ (judged : SpareIsJudged) (stays : SpareStaysMade) (new : NewNodesHaveKi
       let kinds_are : rest.0.state.kinds ≡ n.state.kinds = ap (λ (m : Named). m.state.kinds) rest.2 in (
         λ own m h. subst (λ (ks : Kinds). HasKind ks own m) kinds_are (more.0 own m (one.grows own m h)),
         subst (λ (ns : List NodeId). HaveKinds n.state.kinds (kind ∷ kinds) ns) nodes
-        (subst (λ (ks : Kinds). HaveKinds ks (kind ∷ kinds) (one.node ∷ rest.0.nodes)) kinds_are (more.0 kind one.node one.has, more.1)),
+            (subst (λ (ks : Kinds). HaveKinds ks (kind ∷ kinds) (one.node ∷ rest.0.nodes)) kinds_are (more.0 kind one.node one.has, more.1)),
       )
 
   -- arguments fit, and the other nodes keep their kinds

@@ -1,6 +1,6 @@
 -- Steps of joins keep states well made, and depend on what is derived alone.
 use mathlib.Core.Path.{fun_ext}
-use Rattle.std.proofs.Common.{◌≡◌, ℕ, List, [], ◌∷◌, Bool, true, false, Option, Some, None, map, slice_get, refl, ap, sym, ◌∙◌, subst, inl, inr}
+use Rattle.std.proofs.Common.{◌≡◌, List, [], ◌∷◌, Bool, true, false, Option, Some, None, map, slice_get, refl, ap, sym, ◌∙◌, subst}
 use Rattle.std.specs.Prelude.{◌&&◌, ◌||◌, Ok, Err, is_none, find, option_and_then, option_map, unwrap_or}
 use Rattle.std.specs.List.{list_all}
 use Rattle.std.specs.Option.{option_or, option_zip}
@@ -30,10 +30,10 @@ use Rattle.mc_fold.specs.MadeLaws.{SpareStaysMade}
 use Rattle.mc_cover.specs.First.{Choice, first_cover, first_seg_cover}
 use Rattle.mc_cover.specs.Guessed.{first_edge, guess, summary_of}
 use Rattle.mc_cover.specs.Terms.{equal_terms}
-use Rattle.mc_joins.specs.Joinings.{Half, Joining, Pair, across, half, of_side, with_pairs, free_edges, edge_at, next_pair, begun}
+use Rattle.mc_joins.specs.Joinings.{Joining, Pair, across, half, of_side, with_pairs, free_edges, edge_at, next_pair, begun}
 use Rattle.mc_joins.specs.Laws.{KnowsMade, StepsAreDetermined, StepsKeepMade, PrefixesAreDetermined}
 use Rattle.mc_joins.specs.Parts.{Basis, Part, Named, nodes_of_kind, only_state, spare_node, own_node, node_of_term, behind, nodes_of_terms, nodes_of_args, zeros, standing_args, guessed, with_partners, as_it_is, empty_seg, ind_part, folded_ind, ended_part, seg_part, folded_seg, guessed_seg}
-use Rattle.mc_joins.specs.Steps.{Ending, pairs_of, edge_for, half_after, joined, joined_from, are_blocks, are_inds, are_segs, edge_there, only_if, closing, may_end, uses_edge, six_with, six_ends, six_to, by_j6, is_seg_to, seven_ends, seven_with, seven_from, by_j7, endings, no_j6, no_j7, by_both, four_args, four_with, four_from, by_ind, are_unlike, guessed_ind, five_with, by_folds, step_at, after_step, after_steps}
+use Rattle.mc_joins.specs.Steps.{Ending, pairs_of, edge_for, joined, joined_from, are_blocks, are_inds, are_segs, edge_there, only_if, closing, may_end, uses_edge, six_with, six_ends, six_to, by_j6, is_seg_to, seven_ends, seven_with, seven_from, by_j7, endings, no_j6, no_j7, by_both, four_args, four_with, four_from, by_ind, are_unlike, guessed_ind, five_with, by_folds, step_at, after_step, after_steps}
 
 -- ---- options
 
@@ -258,8 +258,8 @@ module _ (judged : SpareIsJudged) (stays : SpareStaysMade) (defs : List Def) (va
           by_side side (λ (test : Test). option_and_then (ind_part w j side p pred args) (first_cover test defs pred (plain (of_side side p)) args (free_edges j side p)))
           ∙ bind_each (ind_part w j side p pred args) (ind_part v j side p pred args) (first_cover (other (half j side).state) defs pred (plain (of_side side p)) args (free_edges j side p))
           (λ found is.
-              ap (option_map (λ (named : Named). let r : Part = record { state = named.state; edge = Ind (of_side side p) pred named.nodes; used = found.used } in r))
-              (args_same pred (half j side).state args (made_half side)))
+          ap (option_map (λ (named : Named). let r : Part = record { state = named.state; edge = Ind (of_side side p) pred named.nodes; used = found.used } in r))
+          (args_same pred (half j side).state args (made_half side)))
 
       seg_part_same : (side : Side) (p : Pair) (pred : PredId) (args : List Term) («end» : NodeId) (ends : List Term) (found : Choice)
           → seg_part w j side p pred args end ends found ≡ seg_part v j side p pred args end ends found
@@ -267,8 +267,8 @@ module _ (judged : SpareIsJudged) (stays : SpareStaysMade) (defs : List Def) (va
           ap (option_and_then (ended_part w side p pred end ends found.used)) (args_same pred (half j side).state args (made_half side))
           ∙ bind_each (ended_part w side p pred end ends found.used) (ended_part v side p pred end ends found.used) (nodes_of_args v pred (half j side).state args)
           (λ first is.
-              ap (option_map (λ (last : Named). let r : Part = record { state = last.state; edge = Seg (of_side side p) first.nodes pred end last.nodes; used = found.used } in r))
-              (args_same pred first.state ends (args_made other also pred (half j side).state args first (made_half side) is)))
+          ap (option_map (λ (last : Named). let r : Part = record { state = last.state; edge = Seg (of_side side p) first.nodes pred end last.nodes; used = found.used } in r))
+          (args_same pred first.state ends (args_made other also pred (half j side).state args first (made_half side) is)))
 
       seg_same : (side : Side) (p : Pair) (pred : PredId) (args : List Term) («end» : NodeId) (ends : List Term)
           → folded_seg w j side p pred args end ends ≡ folded_seg v j side p pred args end ends
@@ -291,10 +291,10 @@ module _ (judged : SpareIsJudged) (stays : SpareStaysMade) (defs : List Def) (va
       six_with_same : (p : Pair) (e : Ending) (mine : Part) → six_with w j p e mine ≡ six_with v j p e mine
       six_with_same p e mine =
           ap (λ (args : List NodeId).
-              only_if (uses_edge mine)
-              (option_map (closing (across e.side) p)
-              (joined_from j e.side mine
-              (let r : Part = record { state = (half j (across e.side)).state; edge = Seg (of_side (across e.side) p) args e.pred (of_side (across e.side) p) args; used = [] } in r))))
+          only_if (uses_edge mine)
+          (option_map (closing (across e.side) p)
+          (joined_from j e.side mine
+          (let r : Part = record { state = (half j (across e.side)).state; edge = Seg (of_side (across e.side) p) args e.pred (of_side (across e.side) p) args; used = [] } in r))))
           (standing_same (across e.side) e.pred (of_side (across e.side) p))
 
       six_to_same : (p : Pair) (e : Ending) (q : Pair) → six_to w j p e q ≡ six_to v j p e q
@@ -311,8 +311,8 @@ module _ (judged : SpareIsJudged) (stays : SpareStaysMade) (defs : List Def) (va
       seven_with_same p e q found s =
           ap (only_if (is_seg_to j e q s))
           (ap (λ (args : List NodeId).
-              option_and_then (λ (mine : Part). joined_from j e.side mine (as_it_is (half j (across e.side)) found))
-              (guessed_seg w j e.side p e.pred (of_side e.side q) (with_partners j.pairs (across e.side) s.ends (map plain args))))
+          option_and_then (λ (mine : Part). joined_from j e.side mine (as_it_is (half j (across e.side)) found))
+          (guessed_seg w j e.side p e.pred (of_side e.side q) (with_partners j.pairs (across e.side) s.ends (map plain args))))
           (standing_same e.side e.pred (of_side e.side q))
           ∙ ap (option_and_then (λ (mine : Part). joined_from j e.side mine (as_it_is (half j (across e.side)) found)))
           (guessed_seg_same e.side p e.pred (of_side e.side q) (seven_ends v j e q s)))
@@ -342,9 +342,9 @@ module _ (judged : SpareIsJudged) (stays : SpareStaysMade) (defs : List Def) (va
       four_with_same p pred side found i =
           ap (only_if (is_none (ind_of pred (edge_there j (across side) p))))
           (by_side (across side) (λ (test : Test).
-              option_and_then (λ (theirs : Part). joined_from j side (as_it_is (half j side) found) theirs)
-              (folded_ind w j (across side) p pred
-              (with_partners j.pairs side i.args (guess test defs pred (plain (of_side (across side) p)) None (half j (across side)).unused))))
+          option_and_then (λ (theirs : Part). joined_from j side (as_it_is (half j side) found) theirs)
+          (folded_ind w j (across side) p pred
+          (with_partners j.pairs side i.args (guess test defs pred (plain (of_side (across side) p)) None (half j (across side)).unused))))
           ∙ ap (option_and_then (λ (theirs : Part). joined_from j side (as_it_is (half j side) found) theirs)) (ind_same (across side) p pred (four_args v j p pred side i)))
 
       four_same : (p : Pair) (pred : PredId) (side : Side) → by_ind w j p pred side ≡ by_ind v j p pred side

@@ -1,6 +1,6 @@
 -- A join is stuck exactly where no step at all applies.
-use Rattle.std.proofs.Common.{◌≡◌, ℕ, Bool, true, false, List, [], ◌∷◌, ◌++◌, map, Option, Some, None, slice_get, refl, ap, sym, ◌∙◌, inl, inr}
-use Rattle.std.specs.Prelude.{◌&&◌, ◌||◌, is_some, is_none, flat_map, option_and_then, option_map, length}
+use Rattle.std.proofs.Common.{◌≡◌, ℕ, Bool, true, false, List, [], ◌∷◌, ◌++◌, map, Option, Some, None, slice_get, refl, ap, ◌∙◌, inl, inr}
+use Rattle.std.specs.Prelude.{◌&&◌, is_some, is_none, flat_map, option_and_then, option_map, length}
 use Rattle.std.specs.List.{list_all, range_with_len}
 use Rattle.std.specs.Option.{option_or, option_zip}
 use Rattle.mc_base.specs.declared.ids.EdgeId.{EdgeId}
@@ -17,10 +17,10 @@ use Rattle.mc_state.specs.State.{State}
 use Rattle.mc_state.specs.Terms.{plain}
 use Rattle.mc_premises.specs.Named.{SegParts, IndParts, seg_of, ind_of}
 use Rattle.mc_cover.specs.First.{Choice, first_cover, first_seg_cover}
-use Rattle.mc_joins.specs.Joinings.{Half, Joining, Pair, half, across, of_side, free_edges, edge_at, next_pair}
+use Rattle.mc_joins.specs.Joinings.{Joining, Pair, half, across, of_side, free_edges, edge_at, next_pair}
 use Rattle.mc_joins.specs.Laws.{StuckIsEvery}
 use Rattle.mc_joins.specs.Parts.{Basis, Part, Named, nodes_of_terms, nodes_of_args, ind_part, ended_part, seg_part, folded_ind, folded_seg, guessed, guessed_seg, as_it_is}
-use Rattle.mc_joins.specs.Steps.{Ending, only_if, may_end, joined_from, six_ends, six_with, six_to, by_j6, seven_ends, seven_with, seven_from, by_j7, is_seg_to, predicates, endings, no_j6, no_j7, edge_there, four_args, four_with, four_from, by_ind, are_unlike, guessed_ind, five_with, by_folds, step_at, after_step, all_steps, is_stuck}
+use Rattle.mc_joins.specs.Steps.{Ending, only_if, may_end, joined_from, six_ends, six_with, six_to, by_j6, seven_ends, seven_with, seven_from, by_j7, is_seg_to, predicates, endings, no_j6, no_j7, edge_there, four_args, four_with, four_from, by_ind, are_unlike, guessed_ind, five_with, by_folds, step_at, after_step, all_steps}
 use Rattle.mc_joins.proofs.Members.{Has, has_all, all_of, has_map, has_left, has_right, has_flat, first_place_has, then_none, none_is, is_none_of}
 
 only_none : {X : Type 0} (b : Bool) (o : Option X) → o ≡ None → only_if b o ≡ None
@@ -170,5 +170,5 @@ pub stuck_is_every : StuckIsEvery
 stuck_is_every w j = (
   λ e. let both = both_true (is_some (next_pair j)) (list_all (λ step. is_none (after_step w j step)) (all_steps w j)) e in (both.0, every w j both.1),
   λ k. ap (λ b. b && list_all (λ step. is_none (after_step w j step)) (all_steps w j)) k.0
-  ∙ all_of (λ step. is_none (after_step w j step)) (all_steps w j) (λ step. is_none_of (after_step w j step) (k.1 step)),
+      ∙ all_of (λ step. is_none (after_step w j step)) (all_steps w j) (λ step. is_none_of (after_step w j step) (k.1 step)),
 )

@@ -1,6 +1,5 @@
 -- Small states that are joined.
-use Rattle.std.specs.Prelude.{◌≡◌, ℕ, suc, pos, true, List, [], ◌∷◌, Option, Some, None, length}
-use Rattle.mc_base.specs.declared.ids.EdgeId.{EdgeId}
+use Rattle.std.specs.Prelude.{ℕ, suc, pos, true, List, [], ◌∷◌, Option, Some, length}
 use Rattle.mc_base.specs.declared.ids.NodeId.{NodeId}
 use Rattle.mc_base.specs.declared.plain.Atom.{Atom}
 use Rattle.mc_base.specs.declared.plain.Atom.TheVariants.{Eq, In}
@@ -9,7 +8,7 @@ use Rattle.mc_base.specs.Nodes.{null}
 use Rattle.mc_defs.specs.Examples.{cell_id, list_id, lenlist_id, tree_id, defs}
 use Rattle.mc_graph.specs.declared.edge.Edge.{Edge}
 use Rattle.mc_graph.specs.declared.edge.Edge.TheVariants.{Block, Ind, Seg}
-use Rattle.mc_graph.specs.Graph.{Edges, numbered}
+use Rattle.mc_graph.specs.Graph.{numbered}
 use Rattle.mc_join.specs.Joint.{Pairs}
 use Rattle.mc_pure.specs.Examples.{node}
 use Rattle.mc_pure.specs.Pure.{Kinds}

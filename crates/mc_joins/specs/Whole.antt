@@ -1,8 +1,7 @@
 -- Whole joins, and what they give.
-use Rattle.std.specs.Prelude.{◌≡◌, ◌==◌, ◌&&◌, ◌++◌, ℕ, suc, ℤ, Bool, true, List, [], ◌∷◌, Option, Some, None, length, map}
+use Rattle.std.specs.Prelude.{◌≡◌, ◌==◌, ◌&&◌, ◌++◌, ℕ, suc, ℤ, Bool, true, List, [], ◌∷◌, Option, Some, None, length}
 use Rattle.std.specs.Prelude.{option_map, option_to_list}
 use Rattle.std.specs.Option.{option_or}
-use Rattle.mc_base.specs.declared.ids.NodeId.{NodeId}
 use Rattle.mc_base.specs.declared.plain.Atom.{Atom}
 use Rattle.mc_base.specs.declared.plain.Kind.{Kind}
 use Rattle.mc_graph.specs.Graph.{numbered}
