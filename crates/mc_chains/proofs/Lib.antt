@@ -1,0 +1,6 @@
+mod Final
+mod Assertion
+mod Places
+mod Judging
+mod AnewMade
+mod NewStates

@@ -1,0 +1,9 @@
+mod Members
+mod Stuck
+mod Once
+mod Counter
+mod Steady
+mod NamedKinds
+mod JointKinds
+mod JointEdges
+mod JoinMade
