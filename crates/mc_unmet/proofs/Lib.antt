@@ -1,0 +1,4 @@
+pub mod Back
+pub mod Cases
+pub mod Searching
+pub mod Told
