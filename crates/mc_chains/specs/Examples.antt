@@ -43,7 +43,8 @@ assert_flow = flow_of loop_vars (at 1 ∷ []) assert_code
 abbrev pub first_pass : List Line
 first_pass = S1 ∷ C2 [] ∷ []
 
--- the second changes nothing: from the entry to the head; from the head to the fault, where it is stuck, and back to the head
+-- the second changes nothing: from the entry to the head; from the head to the fault, where it is stuck, and back to
+-- the head
 abbrev pub second_pass : List Line
 second_pass =
     S1 ∷ L13 0 (null ∷ []) [] ∷ S1 ∷ S4 ∷ S13 ∷ S3 ∷ S1 ∷ S13 ∷ C1 ∷ L12 ∷ S3 ∷ L13 0 (null ∷ []) [] ∷ []
