@@ -1,5 +1,5 @@
 -- The chain of a loop and an assertion behind it.
-use Rattle.std.proofs.Common.{◌≡◌, ◌≢◌, ◌<◌, ℕ, zero, suc, List, [], ◌∷◌, Some, None, true, false, slice_get, refl, ap, subst, arith, inl, inr, ℤ, pos}
+use Rattle.std.proofs.Common.{◌≡◌, ◌≢◌, ◌<◌, ℕ, zero, suc, List, [], ◌∷◌, Some, None, true, slice_get, refl, ap, subst, arith, inl, inr, ℤ, pos}
 use Rattle.std.specs.Prelude.{Contains, slice_index_or}
 use Rattle.std.specs.List.{AllByRecursion}
 use Rattle.std.proofs.lemmas.Int.{ints}
@@ -27,7 +27,7 @@ use Rattle.mc_state.specs.Facts.{IsTidy}
 use Rattle.mc_state.specs.State.{State, unknown, with_atom}
 use Rattle.mc_step.specs.declared.gap.Gap.TheVariants.{Reached}
 use Rattle.mc_step.specs.Steps.{moved_to}
-use Rattle.mc_kernel.specs.Branches.{Head, Path, Setting, MayStep, path_of, roots, AreCuts, begins}
+use Rattle.mc_kernel.specs.Branches.{Head, Path, Setting, MayStep, path_of, roots, AreCuts}
 use Rattle.mc_kernel.specs.Examples as ex
 use Rattle.mc_kernel.specs.Instances.{JumpsTo}
 use Rattle.mc_joins.specs.Parts.{Basis}

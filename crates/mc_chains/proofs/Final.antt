@@ -1,7 +1,7 @@
 -- The last pass of a final legal chain changes nothing.
-use Rattle.std.proofs.Common.{◌≡◌, ◌⊎◌, ℕ, zero, suc, List, [], ◌∷◌, ◌++◌, Bool, true, false, Option, Some, None, map, length, slice_get, refl, ap, sym, subst, ◌∙◌}
+use Rattle.std.proofs.Common.{◌≡◌, ℕ, zero, suc, List, [], ◌∷◌, ◌++◌, Bool, true, false, Some, None, map, length, slice_get, refl, sym, subst}
 use Rattle.std.specs.Prelude.{◌||◌, ◌==◌, nat_lt, replicate, Contains, if◌then◌else◌}
-use Rattle.std.specs.List.{AllByRecursion, list_any}
+use Rattle.std.specs.List.{AllByRecursion}
 use Rattle.mc_base.specs.declared.ids.PointId.{PointId}
 use Rattle.mc_base.specs.declared.plain.VarInfo.{VarInfo}
 use Rattle.mc_cert.specs.declared.line.Line.{Line}
@@ -15,13 +15,13 @@ use Rattle.mc_state.specs.Fits.{IsBounded, IsWellMade, MayHaveKinds}
 use Rattle.mc_state.specs.Laws.{UnknownIsBounded}
 use Rattle.mc_state.specs.State.{State}
 use Rattle.mc_same.specs.Same.{anew}
-use Rattle.mc_kernel.specs.Branches.{Head, Path, Setting, AreCuts, entry_path, begins, roots, states_at}
+use Rattle.mc_kernel.specs.Branches.{Head, Path, AreCuts, entry_path, begins, roots, states_at}
 use Rattle.mc_kernel.specs.Certificates.{IsLastPass, LastPassFindsFaults}
-use Rattle.mc_kernel.specs.Instances.{IsInstance, Reads, stuck_by}
+use Rattle.mc_kernel.specs.Instances.{IsInstance, Reads}
 use Rattle.mc_joins.specs.Parts.{Basis}
 use Rattle.mc_reading.specs.Documents.{IsMade}
 use Rattle.mc_reading.specs.Laws.{LinesMakeWellMade}
-use Rattle.mc_chains.specs.Chains.{changes, changes_some, over, IsPassLine, ReadsPass, ReadsPasses, last_pass, IsLegalChain, IsFinal}
+use Rattle.mc_chains.specs.Chains.{changes, changes_some, over, IsPassLine, ReadsPass, ReadsPasses, last_pass}
 use Rattle.mc_same.specs.Laws.{AnewIsBounded}
 use Rattle.mc_joins.specs.Laws.{JoinsMakeWell}
 use Rattle.mc_chains.specs.Laws.{FinalChainHasLastPass, FinalChainFindsFaults}

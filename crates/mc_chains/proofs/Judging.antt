@@ -1,14 +1,13 @@
 -- C2 and C3 are judged by their instances.
-use Rattle.std.proofs.Common.{◌≡◌, inl, inr, ℕ, zero, suc, List, [], ◌∷◌, Bool, true, false, Option, Some, None, length, slice_get, refl, ap, sym, ◌∙◌, subst, arith, eqb-true, eq-eqb}
+use Rattle.std.proofs.Common.{◌≡◌, ℕ, zero, suc, List, [], ◌∷◌, Bool, true, false, Option, Some, None, length, slice_get, refl, ap, sym, ◌∙◌, subst, eqb-true, eq-eqb}
 use Rattle.std.specs.Prelude.{◌&&◌, ◌==◌, not, is_some, is_none, option_and_then, if◌then◌else◌, Ok}
 use Rattle.std.specs.List.{AllByRecursion, AllZip, list_all}
-use Rattle.mc_base.specs.declared.ids.PointId.{PointId}
 use Rattle.mc_defs.specs.declared.rules.Def.{Def}
 use Rattle.mc_flow.specs.declared.graph.Flow.{Flow}
 use Rattle.mc_premises.specs.Known.{is_false}
 use Rattle.mc_premises.specs.Laws.{FalseIsTold}
 use Rattle.mc_premises.specs.Lists.{all_both}
-use Rattle.mc_premises.specs.Premises.{Judged, need, have}
+use Rattle.mc_premises.specs.Premises.{Judged}
 use Rattle.mc_premises.proofs.Numbered.{need_ok, have_ok}
 use Rattle.mc_state.specs.declared.line.JoinStep.{JoinStep}
 use Rattle.mc_state.specs.Facts.{IsTidy, IsFalse}
@@ -19,13 +18,13 @@ use Rattle.mc_joins.specs.Joinings.{Joining, Pair, begun, next_pair}
 use Rattle.mc_joins.specs.Laws.{JoinsAreDetermined}
 use Rattle.mc_joins.specs.Parts.{Basis}
 use Rattle.mc_joins.specs.Steps.{after_steps, is_stuck}
-use Rattle.mc_joins.specs.Whole.{Joins, GetsStuck, AreJointAtoms, result_of}
+use Rattle.mc_joins.specs.Whole.{Joins, GetsStuck}
 use Rattle.mc_chains.specs.Judges.{Lore, basis, may_change, whole_join, gets_stuck, opening_state, given_by, joining_state}
 use Rattle.mc_same.specs.Laws.{AnewIsBounded}
 use Rattle.mc_joins.specs.Laws.{JoinsMakeWell}
-use Rattle.mc_chains.specs.Laws.{Made, IsWholeJoin, IsRight, OpeningIsJudged, JoiningIsJudged}
+use Rattle.mc_chains.specs.Laws.{Made, IsRight, OpeningIsJudged, JoiningIsJudged}
 use Rattle.mc_chains.proofs.NewStates.{NewStatesAreMade, new_states}
-use Rattle.mc_chains.specs.Opened.{MayChange, AreTidy, OpensState, JoinsState, with_state_at, with_state_for}
+use Rattle.mc_chains.specs.Opened.{OpensState, JoinsState, with_state_at, with_state_for}
 use Rattle.mc_chains.proofs.Places.{and_both, and_yes, not_yes, clash, may_from, may_to}
 
 -- ---- prefixes and whole joins

@@ -5,7 +5,7 @@ use Rattle.mc_base.specs.declared.ids.PointId.{PointId}
 use Rattle.mc_state.specs.declared.goal.Goal.{Goal}
 use Rattle.mc_state.specs.declared.line.Form.{Form}
 use Rattle.mc_state.specs.declared.line.Form.TheVariants.{Certificate, Chain}
-use Rattle.mc_kernel.specs.Branches.{Path, Setting, MayCut, IsChain, IsPlain}
+use Rattle.mc_kernel.specs.Branches.{Path, Setting}
 use Rattle.mc_kernel.specs.Judges.{is_plain, is_cut, may_cut, is_chain}
 use Rattle.mc_chains.specs.Judges.{may_change}
 use Rattle.mc_chains.specs.Opened.{MayChange}

@@ -26,8 +26,8 @@ changes other = false
 abbrev pub changes_some : List Line → Bool
 changes_some rules = list_any changes rules
 
--- a line of a pass at a branch, over the states of cuts as they are at that line; these branches come of it, and the states of cuts
--- are these then
+-- a line of a pass at a branch, over the states of cuts as they are at that line; these branches come of it, and the
+-- states of cuts are these then
 abbrev pub IsPassLine : Flow → Basis → ℕ → Setting → Line → Path → List Path → List Head → Type 0
 IsPassLine flow w round g (C2 tries) b next heads = OpensState w g tries b next heads
 IsPassLine flow w round g (C3 j steps) b next heads = JoinsState w round flow.thresholds g j steps b next heads
@@ -37,22 +37,25 @@ IsPassLine flow w round g line b next heads = IsInstance flow w.defs g line b ne
 abbrev pub over : List PointId → List Head → Setting
 over cuts heads = record { form = Chain; cuts = cuts; heads = heads }
 
--- the lines of a pass, read depth first, end all branches; these branches are stuck, and the states of cuts are changed from the first
--- to the second by its lines, and by them alone
-abbrev pub ReadsPass : Flow → Basis → ℕ → List PointId → List Line → List Path → List Path → List Head → List Head → Type 0
+-- the lines of a pass, read depth first, end all branches; these branches are stuck, and the states of cuts are
+-- changed from the first to the second by its lines, and by them alone
+abbrev pub ReadsPass : Flow → Basis → ℕ → List PointId → List Line → List Path → List Path → List Head → List Head
+    → Type 0
 ReadsPass flow w round cuts [] bs stuck heads after = (bs ≡ []) × (stuck ≡ []) × (after ≡ heads)
 ReadsPass flow w round cuts (line ∷ lines) [] stuck heads after = ⊥
 ReadsPass flow w round cuts (line ∷ lines) (b ∷ bs) stuck heads after =
-    (next : List Path) × (mid : List Head) × (later : List Path) × IsPassLine flow w round (over cuts heads) line b next mid
+    (next : List Path) × (mid : List Head) × (later : List Path)
+    × IsPassLine flow w round (over cuts heads) line b next mid
     × ReadsPass flow w round cuts lines (next ++ bs) later mid after × (stuck ≡ stuck_by line b later)
 
--- passes with numbers from one on, at least one: the roots of each are the entry and the states of cuts as they are when it begins, and
--- each but the last changes those; the stuck branches are those of the last pass
+-- passes with numbers from one on, at least one: the roots of each are the entry and the states of cuts as they are
+-- when it begins, and each but the last changes those; the stuck branches are those of the last pass
 abbrev pub ReadsPasses : Flow → Basis → List PointId → ℕ → List (List Line) → List Path → List Head → List Head → Type 0
 ReadsPasses flow w cuts round [] stuck heads after = ⊥
 ReadsPasses flow w cuts round (rules ∷ []) stuck heads after = ReadsPass flow w round cuts rules (roots flow heads) stuck heads after
 ReadsPasses flow w cuts round (rules ∷ more ∷ passes) stuck heads after =
-    (changes_some rules ≡ true) × (own : List Path) × (mid : List Head) × ReadsPass flow w round cuts rules (roots flow heads) own heads mid
+    (changes_some rules ≡ true) × (own : List Path) × (mid : List Head)
+    × ReadsPass flow w round cuts rules (roots flow heads) own heads mid
     × ReadsPasses flow w cuts (suc round) (more ∷ passes) stuck mid after
 
 -- the last pass, of at least one
@@ -65,7 +68,8 @@ last_pass (rules ∷ more ∷ passes) = last_pass (more ∷ passes)
 abbrev pub KnowsStates : Flow → List Def → (State → Test) → Type 0
 KnowsStates flow defs know = (s : State) → IsWellMade defs flow.vars flow.structs.list s → Tells (know s) s
 
--- a legal chain, by what is derived in states: its header, its cuts, its passes, which begin with no state at any cut, and the end
+-- a legal chain, by what is derived in states: its header, its cuts, its passes, which begin with no state at any
+-- cut, and the end
 pub record IsLegalChain (know : State → Test) (flow : Flow) (defs : List Def) (lines : List Line) : Type 0 where
   pub cuts : List PointId
   pub passes : List (List Line)

@@ -1,6 +1,5 @@
 -- Chains of small programs.
 use Rattle.std.specs.Prelude.{pos, Bool, true, false, None, List, [], ◌∷◌, ◌++◌}
-use Rattle.mc_base.specs.declared.ids.PointId.{PointId}
 use Rattle.mc_base.specs.Nodes.{null}
 use Rattle.mc_cert.specs.declared.line.Line.{Line}
 use Rattle.mc_cert.specs.declared.line.Line.TheVariants.{Header, Cut, Pass, End, S1, S3, S4, S13, L12, L13, C1, C2}
@@ -10,7 +9,7 @@ use Rattle.mc_flow.specs.declared.instr.Instr.TheVariants as instr
 use Rattle.mc_flow.specs.declared.instr.Operand.TheVariants.{Var, Const}
 use Rattle.mc_state.specs.declared.line.Form.TheVariants.{Chain}
 use Rattle.mc_state.specs.declared.line.Version.TheVariants.{One}
-use Rattle.mc_kernel.specs.Branches.{Head, Path, Setting}
+use Rattle.mc_kernel.specs.Branches.{Path, Setting}
 use Rattle.mc_kernel.specs.Examples.{at, var, flow_of, loop_vars}
 use Rattle.mc_state.specs.State.{State}
 use Rattle.mc_joins.specs.Examples.{by_atoms}
@@ -44,7 +43,8 @@ assert_flow = flow_of loop_vars (at 1 ∷ []) assert_code
 abbrev pub first_pass : List Line
 first_pass = S1 ∷ C2 [] ∷ []
 
--- the second changes nothing: from the entry to the head; from the head to the fault, where it is stuck, and back to the head
+-- the second changes nothing: from the entry to the head; from the head to the fault, where it is stuck, and back to
+-- the head
 abbrev pub second_pass : List Line
 second_pass =
     S1 ∷ L13 0 (null ∷ []) [] ∷ S1 ∷ S4 ∷ S13 ∷ S3 ∷ S1 ∷ S13 ∷ C1 ∷ L12 ∷ S3 ∷ L13 0 (null ∷ []) [] ∷ []

@@ -25,8 +25,8 @@ use Rattle.mc_joins.specs.Whole.{result_of}
 use Rattle.mc_chains.specs.Chains.{changes, over}
 use Rattle.mc_chains.specs.Opened.{with_state_at, with_state_for}
 
--- what the lines of chains are judged by: what other lines are, which states are tidy, the atoms that a whole join writes in a pass of
--- a number, and which states are the same under some renaming
+-- what the lines of chains are judged by: what other lines are, which states are tidy, the atoms that a whole join
+-- writes in a pass of a number, and which states are the same under some renaming
 pub record Lore : Type 0 where
   pub lines : Knowledge
   pub tidy : State → Bool
@@ -86,8 +86,8 @@ pub data Stage : Type 0 where
   passing : Stage
   finished : Stage
 
--- a chain of which some lines are read: its cuts, the states of cuts as they are, the number of its last pass, the branches that are open
--- in it, those that are stuck, and whether a line of it has changed the states of cuts
+-- a chain of which some lines are read: its cuts, the states of cuts as they are, the number of its last pass, the
+-- branches that are open in it, those that are stuck, and whether a line of it has changed the states of cuts
 pub record Reading : Type 0 where
   pub stage : Stage
   pub cuts : List PointId
@@ -174,7 +174,8 @@ abbrev pub behind : ℕ → Judged Reading → (Reading → Result Reading (ℕ 
 behind number (Ok r) rest = rest r
 behind number (Err k) rest = Err (number, k)
 
--- what a chain becomes by lines that are numbered from one on, or the number of the first refused one with its first unmet premise
+-- what a chain becomes by lines that are numbered from one on, or the number of the first refused one with its first
+-- unmet premise
 abbrev pub reading_lines : Lore → Flow → List Def → ℕ → List Line → Reading → Result Reading (ℕ × ℕ)
 reading_lines k flow defs number [] r = Ok r
 reading_lines k flow defs number (l ∷ lines) r =

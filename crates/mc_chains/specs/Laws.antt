@@ -41,8 +41,10 @@ pub record IsRight (k : Lore) (flow : Flow) (defs : List Def) : Type 0 where
   pub knows : KnowsStates flow defs k.lines.know
   pub tidy : (s : State) → Made flow defs s → (k.tidy s ≡ true) ↔ IsTidy s
   pub joint : (round : ℕ) (left right : State) (steps : List JoinStep) (last : Joining)
-      → IsWholeJoin k.lines.know flow defs left right steps last → AreJointAtoms round flow.thresholds last (given_by k round left right last)
-  pub same : (s t : State) → Made flow defs s → Made flow defs t → (k.same s t ≡ true) ↔ ((f : ℕ → ℕ) × (back : ℕ → ℕ) × AreSameUnder f back s t)
+      → IsWholeJoin k.lines.know flow defs left right steps last
+      → AreJointAtoms round flow.thresholds last (given_by k round left right last)
+  pub same : (s t : State) → Made flow defs s → Made flow defs t → (k.same s t ≡ true)
+      ↔ ((f : ℕ → ℕ) × (back : ℕ → ℕ) × AreSameUnder f back s t)
 
 -- C2 is judged by its instances
 abbrev pub OpeningIsJudged : Type 0
@@ -64,7 +66,8 @@ JoiningIsJudged =
 
 -- ---- whole chains
 
--- the last pass of a final legal chain changes nothing: it ends every branch over the states of cuts as they are at the end
+-- the last pass of a final legal chain changes nothing: it ends every branch over the states of cuts as they are at
+-- the end
 abbrev pub FinalChainHasLastPass : Type 0
 FinalChainHasLastPass =
     (know : State → Test) (flow : Flow) (defs : List Def) (lines : List Line) (c : IsLegalChain know flow defs lines)

@@ -12,7 +12,8 @@ use Rattle.mc_joins.specs.Whole.{Joins, GetsStuck}
 
 -- ---- lists of states
 
--- a state more at a point, behind all that are at points up to it; the states of cuts stand in the order of their points
+-- a state more at a point, behind all that are at points up to it; the states of cuts stand in the order of their
+-- points
 abbrev pub with_state_at : PointId → State → List Head → List Head
 with_state_at p s [] = (p, s) ∷ []
 with_state_at p s (h ∷ heads) = if nat_lt p.0 h.0.0 then (p, s) ∷ h ∷ heads else h ∷ with_state_at p s heads

@@ -1,5 +1,5 @@
-//! Chains of passes: lines that change the states of cuts, legal chains, and what is said of them. There is no code here;
-//! each law is what a function with no body ensures.
+//! Chains of passes: lines that change the states of cuts, legal chains, and what is said of them. There is no code
+//! here; each law is what a function with no body ensures.
 #![tactic(auto)]
 
 mod examples;

@@ -18,7 +18,8 @@ use Rattle.mc_cover.specs.Examples.{knowing}
 use Rattle.mc_joins.specs.Joinings.{Half, Joining, Pair}
 use Rattle.mc_joins.specs.Parts.{Basis}
 
--- in these states nothing is known but the written atoms, and that nodes are themselves and lie in the ranges of their kinds
+-- in these states nothing is known but the written atoms, and that nodes are themselves and lie in the ranges of
+-- their kinds
 abbrev pub by_atoms : Basis
 by_atoms = record { know = λ s. knowing s s.atoms; defs = defs }
 

@@ -22,8 +22,9 @@ pub record Half : Type 0 where
   pub state : State
   pub unused : Edges
 
--- a join that has come some way: its pairs, of which each is the node of the result with its place as number; the edges of the
--- result; and the pairs from which J6 has made a Seg, each with the side whose edges do not count there any more
+-- a join that has come some way: its pairs, of which each is the node of the result with its place as number; the
+-- edges of the result; and the pairs from which J6 has made a Seg, each with the side whose edges do not count there
+-- any more
 pub record Joining : Type 0 where
   pub left : Half
   pub right : Half
@@ -77,7 +78,8 @@ known_both (None ∷ ls) (r ∷ rs) = known_both ls rs
 known_both (Some l ∷ ls) (None ∷ rs) = known_both ls rs
 known_both (Some l ∷ ls) (Some r ∷ rs) = (l, r) ∷ known_both ls rs
 
--- nothing is joined yet; the pairs are node 0 of both sides and, in the order of variables, the nodes of those that both know
+-- nothing is joined yet; the pairs are node 0 of both sides and, in the order of variables, the nodes of those that
+-- both know
 abbrev pub begun : State → State → Joining
 begun left right =
     record {
@@ -98,7 +100,8 @@ partner pairs side n = option_map (of_side (across side)) (find (λ q. (of_side 
 abbrev pub is_closed : Joining → Side → Pair → Bool
 is_closed j side p = list_any (λ c. same_side c.0 side && same_pair c.1 p) j.closed
 
--- the edge of a side at a pair: the least unused one that starts at the pair's node there, where the side's edges count
+-- the edge of a side at a pair: the least unused one that starts at the pair's node there, where the side's edges
+-- count
 abbrev pub edge_at : Joining → Side → Pair → Option (EdgeId × Edge)
 edge_at j side p = if is_closed j side p then None else find (λ e. (start_of e.1).0 == (of_side side p).0) (half j side).unused
 

@@ -22,8 +22,8 @@ StuckIsEvery =
 abbrev pub KnowsMade : List Def → List VarInfo → List StructInfo → (State → Test) → Type 0
 KnowsMade defs vars structs know = (s : State) → IsWellMade defs vars structs s → Tells (know s) s
 
--- a step of a join of well-made states depends on what is derived in states and on nothing else: there is one join that it gives, or
--- it does not apply, by whatever tests tell that
+-- a step of a join of well-made states depends on what is derived in states and on nothing else: there is one join
+-- that it gives, or it does not apply, by whatever tests tell that
 abbrev pub StepsAreDetermined : Type 0
 StepsAreDetermined =
     (defs : List Def) (vars : List VarInfo) (structs : List StructInfo) (know other : State → Test) (j : Joining) (step : JoinStep)
@@ -35,7 +35,8 @@ StepsAreDetermined =
 abbrev pub StepsKeepMade : Type 0
 StepsKeepMade =
     (defs : List Def) (vars : List VarInfo) (structs : List StructInfo) (know : State → Test) (j : Joining) (step : JoinStep) (next : Joining)
-    → KnowsMade defs vars structs know → IsWellMade defs vars structs j.left.state → IsWellMade defs vars structs j.right.state
+    → KnowsMade defs vars structs know → IsWellMade defs vars structs j.left.state
+    → IsWellMade defs vars structs j.right.state
     → after_step (record { know = know; defs = defs }) j step ≡ Some next
     → IsWellMade defs vars structs next.left.state × IsWellMade defs vars structs next.right.state
 
@@ -43,7 +44,8 @@ StepsKeepMade =
 abbrev pub PrefixesAreDetermined : Type 0
 PrefixesAreDetermined =
     (defs : List Def) (vars : List VarInfo) (structs : List StructInfo) (know other : State → Test) (left right : State) (steps : List JoinStep)
-    → KnowsMade defs vars structs know → KnowsMade defs vars structs other → IsWellMade defs vars structs left → IsWellMade defs vars structs right
+    → KnowsMade defs vars structs know → KnowsMade defs vars structs other → IsWellMade defs vars structs left
+    → IsWellMade defs vars structs right
     → after_steps (record { know = know; defs = defs }) (begun left right) steps ≡ after_steps (record { know = other; defs = defs }) (begun left right) steps
 
 -- a whole join of two states by the same steps gives one state

@@ -29,7 +29,8 @@ pub record Basis : Type 0 where
   pub know : State → Test
   pub defs : List Def
 
--- what a side gives: its state with the nodes that are named for it, the edge that is joined, and the edges that it uses
+-- what a side gives: its state with the nodes that are named for it, the edge that is joined, and the edges that it
+-- uses
 pub record Part : Type 0 where
   pub state : State
   pub edge : Edge

@@ -124,7 +124,8 @@ pub record Ending : Type 0 where
 abbrev pub closing : Side → Pair → Joining → Joining
 closing side p j = record j { closed = (side, p) ∷ j.closed }
 
--- the end's pair has the same other node as this pair, and another node than it on the folded side; none of these is node 0
+-- the end's pair has the same other node as this pair, and another node than it on the folded side; none of these is
+-- node 0
 abbrev pub may_end : Side → Pair → Pair → Bool
 may_end side p q =
     not (p.0.0 == 0) && not (p.1.0 == 0) && (of_side (across side) q).0 == (of_side (across side) p).0
@@ -152,8 +153,8 @@ six_to w j p e q =
     (option_and_then (six_with w j p e)
     (guessed_seg w j e.side p e.pred (of_side e.side q) (six_ends w j e q)))
 
--- J6: a side's edges are folded from its node of the pair to that of another pair; the other node of both is one, and has an
--- empty segment
+-- J6: a side's edges are folded from its node of the pair to that of another pair; the other node of both is one, and
+-- has an empty segment
 abbrev pub by_j6 : Basis → Joining → Pair → Ending → Option Joining
 by_j6 w j p e = option_and_then (six_to w j p e) (slice_get j.pairs e.place)
 
@@ -163,7 +164,8 @@ is_seg_to j e q s =
     s.pred.0 == e.pred.0 && s.stop.0 == (of_side (across e.side) q).0 && has_kind j.left.state.kinds Ptr q.0
     && has_kind j.right.state.kinds Ptr q.1
 
--- the end arguments there for those of the Seg: of one that is in a pair its first partner, of any other that of an edge there
+-- the end arguments there for those of the Seg: of one that is in a pair its first partner, of any other that of an
+-- edge there
 abbrev pub seven_ends : Basis → Joining → Ending → Pair → SegParts → List Term
 seven_ends w j e q s =
     with_partners j.pairs (across e.side) s.ends (map plain (standing_args w (half j e.side) e.pred (of_side e.side q)))
@@ -179,7 +181,8 @@ seven_with w j p e q found s =
 abbrev pub seven_from : Basis → Joining → Pair → Ending → Pair → EdgeId × Edge → Option Joining
 seven_from w j p e q found = option_and_then (seven_with w j p e q found) (seg_of (Some found.1))
 
--- J7: one side's edge is a Seg; the other side's edges are folded from its node of the pair to that of the pair where the Seg ends
+-- J7: one side's edge is a Seg; the other side's edges are folded from its node of the pair to that of the pair where
+-- the Seg ends
 abbrev pub by_j7 : Basis → Joining → Pair → Ending → Option Joining
 by_j7 w j p e =
     option_and_then (λ q. option_and_then (seven_from w j p e q) (edge_at j (across e.side) p)) (slice_get j.pairs e.place)
@@ -210,7 +213,8 @@ by_both of_form j p =
     option_and_then (λ both. only_if (of_form both.0.1 both.1.1) (joined j (as_it_is j.left both.0) (as_it_is j.right both.1)))
     (option_zip (edge_at j Left p) (edge_at j Right p))
 
--- the arguments there for those of a side's Ind: of one that is in a pair its first partner, of any other what is guessed
+-- the arguments there for those of a side's Ind: of one that is in a pair its first partner, of any other what is
+-- guessed
 abbrev pub four_args : Basis → Joining → Pair → PredId → Side → IndParts → List Term
 four_args w j p pred side i =
     with_partners j.pairs side i.args (guessed w (half j (across side)) pred (of_side (across side) p) None)

@@ -33,8 +33,8 @@ kinds_of_pairs j (p ∷ ps) = kinds_from j 1 ps
 abbrev pub all_used : Joining → Bool
 all_used j = length j.left.unused == 0 && length j.right.unused == 0
 
--- what a join gives, with these atoms: a variable that one side does not know is unknown, edges have the numbers of their steps, and
--- it is whole where both states are and no edge is left out
+-- what a join gives, with these atoms: a variable that one side does not know is unknown, edges have the numbers of
+-- their steps, and it is whole where both states are and no edge is left out
 abbrev pub result_of : State → State → Joining → List Atom → State
 result_of left right j atoms =
     record {
@@ -46,8 +46,8 @@ result_of left right j atoms =
       whole = left.whole && right.whole && all_used j;
     }
 
--- the atoms of a join, judged on the two states as they were before any fold, with the nodes that were named; they are written as
--- the canonical list of what they derive, with the disequalities inside one class
+-- the atoms of a join, judged on the two states as they were before any fold, with the nodes that were named; they
+-- are written as the canonical list of what they derive, with the disequalities inside one class
 pub record AreJointAtoms (round : ℕ) (thresholds : List ℤ) (j : Joining) (t : State) : Type 0 where
   pub join : IsJoin (pure_of j.left.state) (pure_of j.right.state) j.pairs round thresholds (alone t)
   pub listed : IsWholeList (alone t) t.atoms
