@@ -81,12 +81,8 @@ fn block(s: &State, n: NodeId) -> Option<EdgeId>
 
 /// The node of a field of an edge, where it is known.
 fn known_field(s: &State, id: EdgeId, f: u64) -> Option<NodeId>
-    ensures field { result ≡ option_and_then (λ e. known_field e f) (edge_with s.now.graph.edges id) }
-    ensures there { (n : _) → result ≡ Some n → IsNode s.now.kinds n }
+    ensures { result ≡ option_and_then (λ e. known_field e f) (edge_with s.now.graph.edges id) }
 {
-    // For the proof alone: the field's node is there.
-    blocks_are_there();
-    s.is_bounded();
     match s.edge(id) {
         Some(e) => e.field(f).flatten(),
         None => None,
