@@ -14,12 +14,15 @@ use Rattle.mc_graph.specs.declared.edge.Edge.TheVariants.{Block, Ind, Seg}
 use Rattle.mc_graph.specs.Edges.{nodes_of, start_of}
 use Rattle.mc_graph.specs.Graph.{block_starts, without}
 use Rattle.mc_pure.specs.Pure.{HasKind, IsNode, Kinds}
+use Rattle.mc_ranges.specs.Range.{IsOutcome}
 use Rattle.mc_state.specs.Fits.{AreNodes, EdgeFitsDefs}
-use Rattle.mc_step.specs.Fitting.{ConstantsFit, FoundEdgesAreThere, FoundFieldsAreThere, FreedMayBeWritten, InstructionsFit, OperandFits, OperandsFit}
+use Rattle.mc_step.specs.Fitting.{ConstantsFit, FoundEdgesAreThere, FoundFieldsAreThere, FreedMayBeWritten, EndsAreLeast, InstructionsFit, OperandFits, OperandsFit, ends_of}
 use Rattle.mc_step.specs.Judges.{flat_node, known_field}
+use Rattle.mc_step.specs.Sums.{Operation, difference, product, sum}
 use Rattle.mc_step.proofs.Grown.{all_without}
 use Rattle.mc_step.proofs.JudgedBlocks.{found_there}
 use Rattle.mc_step.proofs.JudgedMoves.{nodes_from}
+use Rattle.mc_step.proofs.JudgedSums.{SpansResults, differences_span, least_atoms, products_span, sums_span}
 use Rattle.mc_step.proofs.Lists.{edge_at, known_field as field_node}
 use Rattle.mc_step.proofs.LowerLaws.{MadeLaws}
 use Rattle.mc_step.proofs.Moving.{fits_at}
@@ -72,3 +75,17 @@ freed_may_be_written defs vars structs s id e made there =
     let fit = all_without (EdgeFitsDefs defs s.kinds) s.graph.edges id made.fits_defs in
     (((Ptr, has), (omega (arith, ints), omega (arith, ints)), (omega (arith, ints), omega (arith, ints))),
     others_well s.kinds (start_of e) (block_starts left) has (starts_pointers defs s.kinds left fit))
+
+-- ---- results
+
+ends_are_least : (op : Operation) → SpansResults op → EndsAreLeast op
+ends_are_least op spans n left right results p q is = least_atoms (IsOutcome op.apply left right) (op.ends (ends_of left) (ends_of right)) (spans left right p q) n results is
+
+pub sums_are : EndsAreLeast sum
+sums_are = ends_are_least sum sums_span
+
+pub differences_are : EndsAreLeast difference
+differences_are = ends_are_least difference differences_span
+
+pub products_are : EndsAreLeast product
+products_are = ends_are_least product products_span

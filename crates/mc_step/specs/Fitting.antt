@@ -1,5 +1,5 @@
 -- What instructions take, at states that are well made for their program.
-use Rattle.std.specs.Prelude.{◌≡◌, ℕ, ℤ, Bool, List, Option, Some}
+use Rattle.std.specs.Prelude.{◌≡◌, ◌≤ℤ◌, ℕ, ℤ, Bool, List, Option, Some}
 use Rattle.std.specs.List.{AllByRecursion, find}
 use Rattle.mc_base.specs.declared.ids.EdgeId.{EdgeId}
 use Rattle.mc_base.specs.declared.ids.NodeId.{NodeId}
@@ -18,11 +18,14 @@ use Rattle.mc_graph.specs.declared.edge.Edge.{Edge}
 use Rattle.mc_graph.specs.Edges.{start_of}
 use Rattle.mc_graph.specs.Graph.{block_starts, edge_with, without}
 use Rattle.mc_pure.specs.Pure.{HasKind, IsBound, IsNode, IsWellFormed}
+use Rattle.mc_ranges.specs.declared.Range.{Range}
+use Rattle.mc_ranges.specs.Range.{IsLeastIntRange, IsOutcome}
 use Rattle.mc_state.specs.Fits.{HaveKinds, IsBounded, IsWellMade}
 use Rattle.mc_state.specs.State.{State}
 use Rattle.mc_step.specs.Judges.{known_field, operand_nodes}
 use Rattle.mc_step.specs.Operands.{code_at, operand_node, with_operand, with_operands}
-use Rattle.mc_step.specs.Steps.{freed_atoms}
+use Rattle.mc_step.specs.Steps.{freed_atoms, in_range}
+use Rattle.mc_step.specs.Sums.{Ends, Operation, int_atoms}
 
 -- the instruction is one of a program for which the state is well made
 pub record FitsAt (code : Instr) (s : State) : Type 0 where
@@ -92,3 +95,16 @@ FreedMayBeWritten =
     (defs : List Def) (vars : List VarInfo) (structs : List StructInfo) (s : State) (id : EdgeId) (e : Edge)
     → IsWellMade defs vars structs s → edge_with s.graph.edges id ≡ Some e
     → AllByRecursion (IsWellFormed s.kinds) (freed_atoms (start_of e) (block_starts (without s.graph.edges id)))
+
+-- ---- results
+
+-- the ends of a range of numbers
+abbrev pub ends_of : Range → Ends
+ends_of r = record { lo = r.lo; hi = r.hi }
+
+-- the ends of an operation's results are those of their least range, where that lies in `int`
+abbrev pub EndsAreLeast : Operation → Type 0
+EndsAreLeast op =
+    (n : NodeId) (left right : Range) (results : Option Range)
+    → left.lo ≤ℤ left.hi → right.lo ≤ℤ right.hi → IsLeastIntRange (IsOutcome op.apply left right) results
+    → int_atoms n (op.ends (ends_of left) (ends_of right)) ≡ in_range n results

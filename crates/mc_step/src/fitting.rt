@@ -1,6 +1,7 @@
 // What instructions take fits well-made states. Each law is what a function with no body ensures.
+ghost use Rattle.mc_step.specs.Sums.{sum, difference, product};
 ghost use Rattle.mc_step.specs.Fitting.{InstructionsFit, OperandFits, OperandsFit, ConstantsFit};
-ghost use Rattle.mc_step.specs.Fitting.{FoundEdgesAreThere, FoundFieldsAreThere, FreedMayBeWritten};
+ghost use Rattle.mc_step.specs.Fitting.{EndsAreLeast, FoundEdgesAreThere, FoundFieldsAreThere, FreedMayBeWritten};
 
 /// Each instruction of a valid flow graph is one of a program for which the state is well made.
 pub fn instructions_fit()
@@ -22,4 +23,11 @@ pub fn blocks_are_there()
     ensures edges { FoundEdgesAreThere }
     ensures fields { FoundFieldsAreThere }
     ensures freed { FreedMayBeWritten }
+{}
+
+/// The ends of the results of two ranges are those of their least range, where that lies in `int`.
+pub fn results_are_ranged()
+    ensures sums { EndsAreLeast sum }
+    ensures differences { EndsAreLeast difference }
+    ensures products { EndsAreLeast product }
 {}

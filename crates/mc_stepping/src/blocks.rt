@@ -176,12 +176,7 @@ fn field_count(structs: &Structs, shape: StructId) -> usize
 }
 
 /// A block of the struct at a node, of whose fields nothing is known.
-fn new_block(
-    alloc: Global,
-    at: NodeId,
-    shape: StructId,
-    fields: usize,
-) -> Result<Edge, NoMemory>
+fn new_block(alloc: Global, at: NodeId, shape: StructId, fields: usize) -> Result<Edge, NoMemory>
     ensures { IfOk result (λ e. e ≡ Block at shape (replicate fields None)) }
 {
     Ok(Edge::Block {

@@ -90,7 +90,7 @@ pub fn forget(mut s: State, xs: &[VarId], q: PointId) -> Result<Stepped, Refused
 }
 
 /// Gives the variable a new node. Without memory the state is lost.
-fn put_new(s: &mut State, x: VarId) -> Result<(), NoMemory>
+pub fn put_new(s: &mut State, x: VarId) -> Result<(), NoMemory>
     ensures { OnOk result (s.new ≡ with_var (with_nodes s.old (Int ∷ [])) x (Some (next_node s.old))) }
 {
     // For the proof alone: the new node is there.

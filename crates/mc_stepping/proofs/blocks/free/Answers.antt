@@ -26,7 +26,7 @@ free_in-requires c =
     record {
       put = read.fits fits.vars Ptr fits.kinds;
       freed = freed_fits c.blocks_are_there.ensures.freed fits.defs fits.vars fits.structs.list s (with_value s v) c.in-Some-block.id c.in-Some-start_with.at one.made one.edges_stay
-      c.in-Some-start_with.ensures;
+          c.in-Some-start_with.ensures;
     }
 
 pub returns-in-Ok : goal.returns-in-Ok

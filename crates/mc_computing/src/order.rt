@@ -1,0 +1,154 @@
+// The order of operands.
+ghost use Rattle.std.specs.Prelude.{◌≡◌, Some, IfOk, OnOk};
+ghost use Rattle.mc_base.specs.declared.plain.Kind.TheVariants.{Int};
+ghost use Rattle.mc_flow.specs.declared.instr.Instr.TheVariants.{TestLe};
+ghost use Rattle.mc_premises.specs.Known.{Test, Tells};
+ghost use Rattle.mc_pure.specs.Pure.{HasKind};
+ghost use Rattle.mc_ranges.specs.Range.{IsIntRange};
+ghost use Rattle.mc_state.specs.Facts.{IsFalse};
+ghost use Rattle.mc_state.specs.State.{with_atoms};
+ghost use Rattle.mc_step.specs.Fitting.{FitsAt, ends_of};
+ghost use Rattle.mc_step.specs.Judges.{testing_at_most};
+ghost use Rattle.mc_step.specs.Sums.{AreLeast, IsLeast, Ranges, above_atoms, at_most_atoms};
+ghost use Rattle.mc_stepping.specs.Stepped.{Steps};
+ghost use Rattle.mc_stepping.specs.Values.{CanPut, value_node, with_value};
+
+use crate::results::{assume_in, int_range};
+use mc_base::{Atom, NoMemory, NodeId, PointId};
+use mc_flow::Operand;
+use mc_ranges::Range;
+use mc_step::{least_ranges_are_known, operands_fit, operands_tell_nothing};
+use mc_stepping::{Refused, Stepped, Value, next_at, put, read};
+use mc_symbolic::State;
+use std::alloc::Global;
+
+/// Writes that the left number is at most the right one, where they lie in these ranges. Without memory the state is lost.
+#[tactic(auto, using(crate::proofs::Written::two_atoms))]
+fn assume_at_most(
+    s: &mut State,
+    a: NodeId,
+    b: NodeId,
+    left: Range,
+    right: Range,
+) -> Result<(), NoMemory>
+    requires a { HasKind s.old.kinds Int a }
+    requires b { HasKind s.old.kinds Int b }
+    requires left { IsIntRange left }
+    requires right { IsIntRange right }
+    ensures { OnOk result (s.new ≡ with_atoms s.old (at_most_atoms a b (ends_of left) (ends_of right))) }
+{
+    let high = left.hi.min(right.hi);
+    assume_in(s, a, &left.lo, &high)?;
+    let low = left.lo.max(right.lo);
+    assume_in(s, b, &low, &right.hi)?;
+    Ok(())
+}
+
+/// Writes that the left number is greater, where they lie in these ranges. Without memory the state is lost.
+#[tactic(auto, using(crate::proofs::Written::three_atoms))]
+fn assume_above(
+    s: &mut State,
+    a: NodeId,
+    b: NodeId,
+    left: Range,
+    right: Range,
+) -> Result<(), NoMemory>
+    requires a { HasKind s.old.kinds Int a }
+    requires b { HasKind s.old.kinds Int b }
+    requires left { IsIntRange left }
+    requires right { IsIntRange right }
+    ensures { OnOk result (s.new ≡ with_atoms s.old (above_atoms a b (ends_of left) (ends_of right))) }
+{
+    let low = left.lo.max(right.lo + 1);
+    assume_in(s, a, &low, &left.hi)?;
+    let high = right.hi.min(left.hi - 1);
+    assume_in(s, b, &right.lo, &high)?;
+    s.assume(&Atom::Ne(a, b, 0))?;
+    Ok(())
+}
+
+/// Writes into a state that a node is at most another, and answers the state where it is greater. Without memory both are
+/// lost.
+fn split_order(alloc: Global, s: &mut State, a: NodeId, b: NodeId) -> Result<State, NoMemory>
+    requires a { HasKind s.old.kinds Int a }
+    requires b { HasKind s.old.kinds Int b }
+    requires not_false { IsFalse s.old → ⊥ }
+    ensures at_most { (range : Ranges) → IsLeast range s.old a → IsLeast range s.old b
+        → OnOk result (s.new ≡ with_atoms s.old (at_most_atoms a b (range s.old a) (range s.old b))) }
+    ensures above { (range : Ranges) → IsLeast range s.old a → IsLeast range s.old b
+        → IfOk result (λ t. t ≡ with_atoms s.old (above_atoms a b (range s.old a) (range s.old b))) }
+{
+    // For the proof alone: least ranges are one.
+    least_ranges_are_known();
+    let left = int_range(s, a);
+    let right = int_range(s, b);
+    let mut above = s.copy(alloc)?;
+    assume_at_most(s, a, b, left, right)?;
+    assume_above(&mut above, a, b, left, right)?;
+    Ok(above)
+}
+
+/// The same of two values, with their nodes.
+fn split_values(
+    alloc: Global,
+    s: &mut State,
+    left: &Value,
+    right: &Value,
+) -> Result<State, NoMemory>
+    requires put_left { CanPut left.now }
+    requires put_right { CanPut right.now }
+    requires left { HasKind (with_value (with_value s.old left.now) right.now).kinds Int (value_node s.old left.now) }
+    requires right { HasKind (with_value (with_value s.old left.now) right.now).kinds Int
+        (value_node (with_value s.old left.now) right.now) }
+    requires not_false { IsFalse (with_value (with_value s.old left.now) right.now) → ⊥ }
+    ensures at_most { (range : Ranges)
+        → IsLeast range (with_value (with_value s.old left.now) right.now) (value_node s.old left.now)
+        → IsLeast range (with_value (with_value s.old left.now) right.now) (value_node (with_value s.old left.now) right.now)
+        → OnOk result (s.new ≡ with_atoms (with_value (with_value s.old left.now) right.now)
+        (at_most_atoms (value_node s.old left.now) (value_node (with_value s.old left.now) right.now)
+        (range (with_value (with_value s.old left.now) right.now) (value_node s.old left.now))
+        (range (with_value (with_value s.old left.now) right.now) (value_node (with_value s.old left.now) right.now)))) }
+    ensures above { (range : Ranges)
+        → IsLeast range (with_value (with_value s.old left.now) right.now) (value_node s.old left.now)
+        → IsLeast range (with_value (with_value s.old left.now) right.now) (value_node (with_value s.old left.now) right.now)
+        → IfOk result (λ t. t ≡ with_atoms (with_value (with_value s.old left.now) right.now)
+        (above_atoms (value_node s.old left.now) (value_node (with_value s.old left.now) right.now)
+        (range (with_value (with_value s.old left.now) right.now) (value_node s.old left.now))
+        (range (with_value (with_value s.old left.now) right.now) (value_node (with_value s.old left.now) right.now)))) }
+{
+    let a = put(s, left)?;
+    let b = put(s, right)?;
+    let above = split_order(alloc, s, a, b)?;
+    Ok(above)
+}
+
+/// S14: a TestLe of two operands: the left is at most the right, or it is greater.
+pub fn test_at_most(
+    alloc: Global,
+    mut s: State,
+    left: Operand,
+    right: Operand,
+    t: PointId,
+    f: PointId,
+) -> Result<Stepped, Refused>
+    requires { FitsAt (TestLe left right t f) s }
+    ensures { (know : Test) (range : Ranges) → Tells know s → ((IsFalse s → ⊥) → AreLeast range left right s)
+        → Steps (testing_at_most know range (Some (TestLe left right t f)) s) s result }
+{
+    // For the proof alone: the operands' nodes can be put, and make no state false.
+    operands_fit();
+    operands_tell_nothing();
+    if s.is_false() {
+        return Err(Refused::Premise(2, s));
+    }
+    let Some(first) = read(&s, left) else {
+        return Err(Refused::Premise(3, s));
+    };
+    let Some(second) = read(&s, right) else {
+        return Err(Refused::Premise(4, s));
+    };
+    match split_values(alloc, &mut s, &first, &second) {
+        Ok(above) => Ok(Stepped::Branched(next_at(t, s), next_at(f, above))),
+        Err(_) => Err(Refused::NoMemory),
+    }
+}
