@@ -1,10 +1,12 @@
 //! The rules of instructions that speak of numbers, decided: sums, differences, products and their order.
 #![tactic(auto)]
 
-mod compute;
+
 mod order;
 mod results;
+mod sums;
 
-pub use compute::compute;
+
 pub use order::test_at_most;
 pub use results::Operation;
+pub use sums::compute;

@@ -18,7 +18,7 @@ use mc_base::{Atom, NoMemory, NodeId, PointId};
 use mc_flow::Operand;
 use mc_ranges::Range;
 use mc_step::{least_ranges_are_known, operands_fit, operands_tell_nothing};
-use mc_stepping::{Refused, Stepped, Value, next_at, put, read};
+use mc_stepping::{Refused, Stepped, Value, branched, put, read};
 use mc_symbolic::State;
 use std::alloc::Global;
 
@@ -148,7 +148,7 @@ pub fn test_at_most(
         return Err(Refused::Premise(4, s));
     };
     match split_values(alloc, &mut s, &first, &second) {
-        Ok(above) => Ok(Stepped::Branched(next_at(t, s), next_at(f, above))),
+        Ok(above) => Ok(branched(t, s, f, above)),
         Err(_) => Err(Refused::NoMemory),
     }
 }

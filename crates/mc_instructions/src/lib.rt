@@ -2,10 +2,12 @@
 #![tactic(auto)]
 
 mod arguments;
+mod dispatch;
 mod rule;
 mod shapes;
-mod step;
 
+
+pub use dispatch::step;
 pub use rule::InstrRule;
 pub use shapes::{assert_shape, assume_shape};
-pub use step::step;
+

@@ -2,6 +2,7 @@
 ghost use Rattle.std.specs.Prelude.{◌≡◌, ◌∷◌, ◌++◌, [], pos, Some, None, IfOk, OnOk, map, option_and_then, option_map, replicate};
 ghost use Rattle.std.specs.List.{AllByRecursion, find};
 ghost use Rattle.mc_base.specs.declared.plain.Atom.TheVariants.{Ne};
+ghost use Rattle.mc_base.specs.Nodes.{null};
 ghost use Rattle.mc_flow.specs.declared.instr.Instr.TheVariants.{Load, Store, Malloc, Free};
 ghost use Rattle.mc_flow.specs.Steps.{field_count};
 ghost use Rattle.mc_graph.specs.declared.edge.Edge.TheVariants.{Block};
@@ -11,12 +12,12 @@ ghost use Rattle.mc_premises.specs.Known.{Test, Tells};
 ghost use Rattle.mc_pure.specs.Pure.{IsNode, IsWellFormed};
 ghost use Rattle.mc_state.specs.State.{next_node, with_atoms, with_block, with_only_edges, with_var};
 ghost use Rattle.mc_step.specs.Judges.{allocating, freeing, freeing_null, is_block, is_block_at, is_shaped_at, known_field, loading, storing, with_replaced};
-ghost use Rattle.mc_step.specs.Steps.{freed_atoms};
+ghost use Rattle.mc_step.specs.Steps.{freed_atoms, moved_to};
 ghost use Rattle.mc_step.specs.Fitting.{FitsAt};
-ghost use Rattle.mc_stepping.specs.Stepped.{Steps};
+ghost use Rattle.mc_stepping.specs.Stepped.{Steps, successors};
 ghost use Rattle.mc_stepping.specs.Values.{CanPut, value_node, with_value};
 
-use crate::moves::{moved_to, next_at};
+use crate::moves::{branched, moved_to};
 use crate::operands::{NULL, Value, node_of, put, read};
 use crate::{Refused, Stepped};
 use mc_base::{Atom, EdgeId, Items, Kind, NoMemory, NodeId, PointId, StructId, VarId};
@@ -206,11 +207,19 @@ fn allocated(
     Ok(())
 }
 
+/// The variable is null, or points to a new block.
+fn null_or_block(q: PointId, x: VarId, mut s: State, full: State) -> Stepped
+    ensures { successors result ≡ moved_to q (with_var s x (Some null)) ∷ moved_to q full ∷ [] }
+{
+    s.set_var(x, Some(NULL));
+    branched(q, s, q, full)
+}
+
 /// S10: a Malloc gives the variable null, or a new block of whose fields nothing is known.
 pub fn malloc(
     alloc: Global,
     flow: &Flow,
-    mut s: State,
+    s: State,
     x: VarId,
     shape: StructId,
     q: PointId,
@@ -225,10 +234,7 @@ pub fn malloc(
     };
     let fields = field_count(&flow.structs, shape);
     match allocated(alloc, &mut full, x, shape, fields) {
-        Ok(()) => {
-            s.set_var(x, Some(NULL));
-            Ok(Stepped::Branched(next_at(q, s), next_at(q, full)))
-        }
+        Ok(()) => Ok(null_or_block(q, x, s, full)),
         Err(_) => Err(Refused::NoMemory),
     }
 }

@@ -10,7 +10,7 @@ ghost use Rattle.mc_step.specs.Fitting.{FitsAt};
 ghost use Rattle.mc_stepping.specs.Stepped.{Steps};
 ghost use Rattle.mc_stepping.specs.Values.{CanPut, value_node, with_value};
 
-use crate::moves::next_at;
+use crate::moves::branched;
 use crate::operands::{Value, put, read};
 use crate::{Refused, Stepped};
 use mc_base::{Atom, NoMemory, NodeId, PointId};
@@ -76,7 +76,7 @@ pub fn test_equal(
         return Err(Refused::Premise(4, s));
     };
     match split_values(alloc, &mut s, &first, &second) {
-        Ok(apart) => Ok(Stepped::Branched(next_at(t, s), next_at(f, apart))),
+        Ok(apart) => Ok(branched(t, s, f, apart)),
         Err(_) => Err(Refused::NoMemory),
     }
 }

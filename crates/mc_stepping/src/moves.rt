@@ -38,6 +38,13 @@ pub fn moved_to(point: PointId, state: State) -> Stepped
     Stepped::Moved(next_at(point, state))
 }
 
+/// There are two branches, in this order.
+pub fn branched(first: PointId, one: State, second: PointId, other: State) -> Stepped
+    ensures { successors result ≡ moved_to first one ∷ moved_to second other ∷ [] }
+{
+    Stepped::Branched(next_at(first, one), next_at(second, other))
+}
+
 /// S1: a Skip goes on.
 pub fn skip(s: State, q: PointId) -> Result<Stepped, Refused>
     ensures { (know : Test) → Tells know s → Steps (skipping know (Some (Skip q)) s) s result }

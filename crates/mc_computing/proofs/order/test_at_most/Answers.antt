@@ -42,6 +42,5 @@ returns-in-Ok c = λ know range tells least.
     let gives = compared know range s no c.args.left c.args.right v w first.here two.read c.args.t c.args.f in
     let below = c.in-Ok.ensures.at_most range are.left are.right in
     let over = c.in-Ok.ensures.above range are.left are.right in
-    let left = c.next_at.ensures in
-    let right = c.next_at-in-Ok.ensures in
+    let both = c.branched.ensures in
     cc

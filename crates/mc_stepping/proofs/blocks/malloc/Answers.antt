@@ -7,8 +7,6 @@ returns-in-Ok-allocated c = λ know tells.
     let no : is_false know ≡ false = let told = c.is_false.ensures.told know tells in cc in
     let full = c.in-Ok.ensures in
     let new = c.in-Ok-allocated.ensures in
-    let set = c.set_var.ensures in
     let count = c.field_count-fields.ensures in
-    let first = c.next_at.ensures in
-    let second = c.next_at-in-Ok-allocated.ensures in
+    let both = c.null_or_block.ensures in
     rw (no) (cc)

@@ -39,6 +39,5 @@ returns-in-Ok c = λ know tells.
     let gives = tested_equal know s no c.args.left c.args.right c.args.t c.args.f v w first.here (c.in-Some-read.ensures.stays t one.vars_stay) in
     let same = c.in-Ok.ensures.same in
     let apart = c.in-Ok.ensures.apart in
-    let left = c.next_at.ensures in
-    let right = c.next_at-in-Ok.ensures in
+    let both = c.branched.ensures in
     cc

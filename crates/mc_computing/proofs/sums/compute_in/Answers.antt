@@ -4,7 +4,7 @@ use Rattle.mc_base.specs.declared.plain.Kind.TheVariants.{Int}
 use Rattle.mc_pure.specs.Pure.{HasKind}
 use Rattle.mc_state.specs.State.{State, next_node, with_nodes}
 use Rattle.mc_computing.proofs.Put.{same_range}
-use Rattle.mc_computing.proofs.compute.compute_in.Goals as goal
+use Rattle.mc_computing.proofs.sums.compute_in.Goals as goal
 
 pub assume_computed-requires : goal.assume_computed-requires
 assume_computed-requires c =

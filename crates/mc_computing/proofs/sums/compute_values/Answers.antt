@@ -8,7 +8,7 @@ use Rattle.mc_step.specs.Sums.{IsLeast, Ranges, with_result}
 use Rattle.mc_stepping.specs.Values.{value_node, with_value}
 use Rattle.mc_computing.specs.Computed.{operation}
 use Rattle.mc_computing.proofs.Put.{carried}
-use Rattle.mc_computing.proofs.compute.compute_values.Goals as goal
+use Rattle.mc_computing.proofs.sums.compute_values.Goals as goal
 
 pub compute_in-requires : goal.compute_in-requires
 compute_in-requires c =

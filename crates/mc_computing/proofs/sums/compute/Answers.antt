@@ -12,7 +12,7 @@ use Rattle.mc_computing.specs.declared.results.Operation.{Operation}
 use Rattle.mc_computing.specs.declared.results.Operation.TheVariants.{Sum, Difference, Product}
 use Rattle.mc_computing.proofs.Put.{computed, least_of, two_fit}
 use Rattle.mc_computing.proofs.Fits.{operands_of}
-use Rattle.mc_computing.proofs.compute.compute.Goals as goal
+use Rattle.mc_computing.proofs.sums.compute.Goals as goal
 
 pub compute_values-requires : goal.compute_values-requires
 compute_values-requires c =
