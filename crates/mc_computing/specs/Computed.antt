@@ -1,4 +1,9 @@
 -- The operations of instructions.
+use Rattle.std.specs.Prelude.{List, [], ◌∷◌, Option, Some, None}
+use Rattle.std.specs.List.{AllByRecursion}
+use Rattle.mc_base.specs.declared.ids.NodeId.{NodeId}
+use Rattle.mc_base.specs.declared.plain.Atom.{Atom}
+use Rattle.mc_pure.specs.Pure.{AreOfOneKind, IsNode, IsWellFormed, Kinds}
 use Rattle.mc_flow.specs.declared.instr.Instr.{Instr}
 use Rattle.mc_flow.specs.declared.instr.Instr.TheVariants.{Add, Sub, Mul}
 use Rattle.mc_flow.specs.declared.instr.Operand.{Operand}
@@ -19,3 +24,16 @@ abbrev pub computes : Operation → VarId → Operand → Operand → PointId �
 computes Sum x o o' q = Add x o o' q
 computes Difference x o o' q = Sub x o o' q
 computes Product x o o' q = Mul x o o' q
+
+-- what is there, as a list
+abbrev pub list_of : {A : Type 0} → Option A → List A
+list_of None = []
+list_of (Some a) = a ∷ []
+
+-- the atom may be written of a node that is there
+abbrev pub MayStand : NodeId → Option Atom → Type 0
+MayStand n atom = (kinds : Kinds) → IsNode kinds n → AllByRecursion (IsWellFormed kinds) (list_of atom)
+
+-- the atom may be written of two nodes of one kind
+abbrev pub MayRelate : NodeId → NodeId → Option Atom → Type 0
+MayRelate n m atom = (kinds : Kinds) → AreOfOneKind kinds n m → AllByRecursion (IsWellFormed kinds) (list_of atom)

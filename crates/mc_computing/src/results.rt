@@ -1,18 +1,19 @@
 // What is known of the result of two nodes.
-ghost use Rattle.std.specs.Prelude.{◌≡◌, ◌≤ℤ◌, ◌++◌, pos, negsuc, OnOk};
+ghost use Rattle.std.specs.Prelude.{◌≡◌, ◌≤ℤ◌, ◌+ℤ◌, ◌-ℤ◌, ◌*ℤ◌, ◌++◌, pos, negsuc, Some, OnOk};
+ghost use Rattle.std.specs.List.{AllByRecursion};
 ghost use Rattle.mc_base.specs.declared.plain.Atom.TheVariants.{Eq, In};
 ghost use Rattle.mc_base.specs.declared.plain.Kind.TheVariants.{Int};
 ghost use Rattle.mc_flow.specs.Values.{wrapped};
 ghost use Rattle.mc_pure.specs.Derived.{HasRange};
-ghost use Rattle.mc_pure.specs.Pure.{AreOfOneKind, HasKind, IsBound, IsNode, IsOffset};
+ghost use Rattle.mc_pure.specs.Pure.{AreOfOneKind, HasKind, IsBound, IsNode, IsWellFormed};
 ghost use Rattle.mc_ranges.specs.Ends.{IsInt};
 ghost use Rattle.mc_ranges.specs.Range.{IsIntRange};
 ghost use Rattle.mc_state.specs.Facts.{IsFalse};
 ghost use Rattle.mc_state.specs.State.{pure_of, with_atom, with_atoms};
 ghost use Rattle.mc_step.specs.Fitting.{ends_of};
 ghost use Rattle.mc_step.specs.Steps.{in_range};
-ghost use Rattle.mc_step.specs.Sums.{are_ints, int_atoms, is_one, result_atoms, shift_atoms, shifted};
-ghost use Rattle.mc_computing.specs.Computed.{operation};
+ghost use Rattle.mc_step.specs.Sums.{are_ints, difference, int_atoms, is_one, product, result_atoms, shift_atoms, shifted, sum};
+ghost use Rattle.mc_computing.specs.Computed.{MayRelate, MayStand, list_of, operation};
 
 use mc_base::{Atom, NoMemory, NodeId};
 use mc_ranges::Range;
@@ -43,18 +44,49 @@ pub fn int_range(s: &State, node: NodeId) -> Range
     s.range(node)
 }
 
+/// The range of sums, where it lies in `int`.
+fn sums(left: Range, right: Range) -> Option<Range>
+    requires left { IsIntRange left }
+    requires right { IsIntRange right }
+    ensures { (n : _) → int_atoms n (sum.ends (ends_of left) (ends_of right)) ≡ in_range n result }
+{
+    // For the proof alone: the ends of the results are those of their least range.
+    results_are_ranged();
+    left.add(right)
+}
+
+/// The range of differences, where it lies in `int`.
+fn differences(left: Range, right: Range) -> Option<Range>
+    requires left { IsIntRange left }
+    requires right { IsIntRange right }
+    ensures { (n : _) → int_atoms n (difference.ends (ends_of left) (ends_of right)) ≡ in_range n result }
+{
+    // For the proof alone: the ends of the results are those of their least range.
+    results_are_ranged();
+    left.sub(right)
+}
+
+/// The range of products, where it lies in `int`.
+fn products(left: Range, right: Range) -> Option<Range>
+    requires left { IsIntRange left }
+    requires right { IsIntRange right }
+    ensures { (n : _) → int_atoms n (product.ends (ends_of left) (ends_of right)) ≡ in_range n result }
+{
+    // For the proof alone: the ends of the results are those of their least range.
+    results_are_ranged();
+    left.mul(right)
+}
+
 /// The range of the results, where it lies in `int`.
 fn results(op: Operation, left: Range, right: Range) -> Option<Range>
     requires left { IsIntRange left }
     requires right { IsIntRange right }
     ensures { (n : _) → int_atoms n ((operation op).ends (ends_of left) (ends_of right)) ≡ in_range n result }
 {
-    // For the proof alone: the ends of the results are those of their least range.
-    results_are_ranged();
     match op {
-        Operation::Sum => left.add(right),
-        Operation::Difference => left.sub(right),
-        Operation::Product => left.mul(right),
+        Operation::Sum => sums(left, right),
+        Operation::Difference => differences(left, right),
+        Operation::Product => products(left, right),
     }
 }
 
@@ -66,14 +98,43 @@ fn int(number: i64) -> i32
     number as i32
 }
 
+/// The same number in 64 bits, where it may stand in an atom.
+fn wide(number: i32) -> i64
+    ensures same { result ≡ number }
+    ensures bound { IsBound result }
+{
+    number as i64
+}
+
+/// The sum of two numbers, which wraps.
+fn wrapped_sum(x: i32, y: i32) -> i32
+    ensures { result ≡ wrapped (x +ℤ y) }
+{
+    x.wrapping_add(y)
+}
+
+/// The difference of two numbers, which wraps.
+fn wrapped_difference(x: i32, y: i32) -> i32
+    ensures { result ≡ wrapped (x -ℤ y) }
+{
+    x.wrapping_sub(y)
+}
+
+/// The product of two numbers, which wraps.
+fn wrapped_product(x: i32, y: i32) -> i32
+    ensures { result ≡ wrapped (x *ℤ y) }
+{
+    x.wrapping_mul(y)
+}
+
 /// The result of two numbers, which wraps.
 fn wrapped(op: Operation, x: i32, y: i32) -> i32
     ensures { result ≡ wrapped ((operation op).apply x y) }
 {
     match op {
-        Operation::Sum => x.wrapping_add(y),
-        Operation::Difference => x.wrapping_sub(y),
-        Operation::Product => x.wrapping_mul(y),
+        Operation::Sum => wrapped_sum(x, y),
+        Operation::Difference => wrapped_difference(x, y),
+        Operation::Product => wrapped_product(x, y),
     }
 }
 
@@ -117,89 +178,118 @@ fn offset(node: NodeId, from: NodeId, add: &i64) -> Atom
     Atom::Eq(node, from, *add)
 }
 
-/// Writes that a node is another and a number more. Without memory nothing changes.
-fn assume_offset(s: &mut State, node: NodeId, from: NodeId, add: &i64) -> Result<(), NoMemory>
-    requires kinds { AreOfOneKind s.old.kinds node from }
-    requires add { IsOffset add.now }
-    ensures { OnOk result (s.new ≡ with_atom s.old (Eq node from add.now)) }
-{
-    s.assume(&offset(node, from, add))
-}
-
-/// Writes that the result of two single numbers is their wrapped result, and another lies in the range of results, where
-/// that lies in `int`. Without memory the state is lost.
+/// Writes an atom, if there is one. Without memory nothing changes.
 #[tactic(auto, using(crate::proofs::Written::no_atoms))]
-fn assume_result(
-    s: &mut State,
-    op: Operation,
-    node: NodeId,
-    left: Range,
-    right: Range,
-) -> Result<(), NoMemory>
-    requires there { IsNode s.old.kinds node }
-    requires left { IsIntRange left }
-    requires right { IsIntRange right }
-    ensures { OnOk result (s.new ≡ with_atoms s.old (result_atoms (operation op) node (ends_of left) (ends_of right))) }
+fn assume_if(s: &mut State, atom: &Option<Atom>) -> Result<(), NoMemory>
+    requires { AllByRecursion (IsWellFormed s.old.kinds) (list_of atom.now) }
+    ensures { OnOk result (s.new ≡ with_atoms s.old (list_of atom.now)) }
 {
-    if is_one(left) && is_one(right) {
-        let number = i64::from(wrapped(op, int(left.lo), int(right.lo)));
-        assume_in(s, node, &number, &number)?;
-        Ok(())
-    } else {
-        assume_results(s, op, node, left, right)?;
-        Ok(())
-    }
-}
-
-/// Writes that the result lies in the range of results, where that lies in `int`. Without memory the state is lost.
-#[tactic(auto, using(crate::proofs::Written::no_atoms))]
-fn assume_results(
-    s: &mut State,
-    op: Operation,
-    node: NodeId,
-    left: Range,
-    right: Range,
-) -> Result<(), NoMemory>
-    requires there { IsNode s.old.kinds node }
-    requires left { IsIntRange left }
-    requires right { IsIntRange right }
-    ensures { OnOk result (s.new ≡ with_atoms s.old (int_atoms node ((operation op).ends (ends_of left) (ends_of right)))) }
-{
-    match results(op, left, right) {
-        Some(range) => {
-            assume_in(s, node, &range.lo, &range.hi)?;
+    match atom {
+        Some(atom) => {
+            s.assume(atom)?;
             Ok(())
         }
         None => Ok(()),
     }
 }
 
-/// Writes that a node is another and a number more, where the right range is one number and the other's stays in `int`.
-/// Without memory the state is lost.
-#[tactic(auto, using(crate::proofs::Written::no_atoms))]
-fn assume_shift(
-    s: &mut State,
-    node: NodeId,
-    from: NodeId,
-    left: Range,
-    right: Range,
-    add: i64,
-) -> Result<(), NoMemory>
-    requires kinds { AreOfOneKind s.old.kinds node from }
-    requires left { IsIntRange left }
-    requires add { (negsuc 2147483647 ≤ℤ add) × (add ≤ℤ pos 2147483648) }
-    ensures { OnOk result (s.new ≡ with_atoms s.old (shift_atoms node from (ends_of left) (ends_of right) add)) }
+/// Where the result of two single numbers lies: at their wrapped result.
+fn single(op: Operation, node: NodeId, x: i64, y: i64) -> Atom
+    requires left { IsInt x }
+    requires right { IsInt y }
+    ensures atom { result ≡ In node (wrapped ((operation op).apply x y)) (wrapped ((operation op).apply x y)) }
+    ensures fits { MayStand node (Some result) }
 {
-    if is_one(right) && stays_int(left, add) {
-        assume_offset(s, node, from, &add)?;
-        Ok(())
-    } else {
-        Ok(())
+    let number = wide(wrapped(op, int(x), int(y)));
+    in_range(node, &number, &number)
+}
+
+/// Where the result lies: in the range of results, where that lies in `int`.
+fn several(op: Operation, node: NodeId, left: Range, right: Range) -> Option<Atom>
+    requires left { IsIntRange left }
+    requires right { IsIntRange right }
+    ensures atom { int_atoms node ((operation op).ends (ends_of left) (ends_of right)) ≡ list_of result }
+    ensures fits { MayStand node result }
+{
+    match results(op, left, right) {
+        Some(range) => Some(in_range(node, &range.lo, &range.hi)),
+        None => None,
     }
 }
 
+/// Where the result lies: the result of two single numbers is their wrapped result, and another lies in the range of
+/// results, where that lies in `int`.
+fn place(op: Operation, node: NodeId, left: Range, right: Range) -> Option<Atom>
+    requires left { IsIntRange left }
+    requires right { IsIntRange right }
+    ensures atom { result_atoms (operation op) node (ends_of left) (ends_of right) ≡ list_of result }
+    ensures fits { MayStand node result }
+{
+    if is_one(left) && is_one(right) {
+        Some(single(op, node, left.lo, right.lo))
+    } else {
+        several(op, node, left, right)
+    }
+}
+
+/// The node is another and a number more, where the right range is one number and the other's stays in `int`.
+fn shift(node: NodeId, from: NodeId, left: Range, right: Range, add: i64) -> Option<Atom>
+    requires left { IsIntRange left }
+    requires add { (negsuc 2147483647 ≤ℤ add) × (add ≤ℤ pos 2147483648) }
+    ensures atom { shift_atoms node from (ends_of left) (ends_of right) add ≡ list_of result }
+    ensures fits { MayRelate node from result }
+{
+    if is_one(right) && stays_int(left, add) {
+        Some(offset(node, from, &add))
+    } else {
+        None
+    }
+}
+
+/// Writes by which numbers a sum differs from its operands. Without memory the state is lost.
+#[tactic(auto, using(crate::proofs::Written::more_atoms))]
+fn assume_sum(
+    s: &mut State,
+    node: NodeId,
+    a: NodeId,
+    b: NodeId,
+    left: Range,
+    right: Range,
+) -> Result<(), NoMemory>
+    requires first { AreOfOneKind s.old.kinds node a }
+    requires second { AreOfOneKind s.old.kinds node b }
+    requires left { IsIntRange left }
+    requires right { IsIntRange right }
+    ensures { OnOk result (s.new ≡ with_atoms s.old (sum.offsets node a b (ends_of left) (ends_of right))) }
+{
+    let first = shift(node, a, left, right, right.lo);
+    let second = shift(node, b, right, left, left.lo);
+    assume_if(s, &first)?;
+    assume_if(s, &second)?;
+    Ok(())
+}
+
+/// Writes by which number a difference differs from its left operand. Without memory the state is lost.
+fn assume_difference(
+    s: &mut State,
+    node: NodeId,
+    a: NodeId,
+    left: Range,
+    right: Range,
+) -> Result<(), NoMemory>
+    requires first { AreOfOneKind s.old.kinds node a }
+    requires left { IsIntRange left }
+    requires right { IsIntRange right }
+    ensures { (b : _) → OnOk result (s.new
+        ≡ with_atoms s.old (difference.offsets node a b (ends_of left) (ends_of right))) }
+{
+    let first = shift(node, a, left, right, -right.lo);
+    assume_if(s, &first)?;
+    Ok(())
+}
+
 /// Writes by which numbers a result differs from the operands. Without memory the state is lost.
-#[tactic(auto, using(crate::proofs::Written::no_atoms, crate::proofs::Written::more_atoms))]
+#[tactic(auto, using(crate::proofs::Written::no_atoms))]
 fn assume_offsets(
     s: &mut State,
     op: Operation,
@@ -217,12 +307,11 @@ fn assume_offsets(
 {
     match op {
         Operation::Sum => {
-            assume_shift(s, node, a, left, right, right.lo)?;
-            assume_shift(s, node, b, right, left, left.lo)?;
+            assume_sum(s, node, a, b, left, right)?;
             Ok(())
         }
         Operation::Difference => {
-            assume_shift(s, node, a, left, right, -right.lo)?;
+            assume_difference(s, node, a, left, right)?;
             Ok(())
         }
         Operation::Product => Ok(()),
@@ -230,7 +319,6 @@ fn assume_offsets(
 }
 
 /// Writes what is known of the result of two nodes by their ranges. Without memory the state is lost.
-#[tactic(auto, using(crate::proofs::Written::more_atoms))]
 pub fn assume_computed(
     s: &mut State,
     op: Operation,
@@ -247,7 +335,8 @@ pub fn assume_computed(
     ensures { OnOk result (s.new ≡ with_atoms s.old (result_atoms (operation op) node (ends_of left) (ends_of right)
         ++ (operation op).offsets node a b (ends_of left) (ends_of right))) }
 {
-    assume_result(s, op, node, left, right)?;
+    let place = place(op, node, left, right);
+    assume_if(s, &place)?;
     assume_offsets(s, op, node, a, b, left, right)?;
     Ok(())
 }

@@ -20,13 +20,7 @@ use mc_stepping::{Refused, Stepped, Value, moved_to, put, put_new, read};
 use mc_symbolic::State;
 
 /// The variable at a new node, which is the result of two nodes. Without memory the state is lost.
-fn compute_in(
-    s: &mut State,
-    op: Operation,
-    x: VarId,
-    a: NodeId,
-    b: NodeId,
-) -> Result<(), NoMemory>
+fn compute_in(s: &mut State, op: Operation, x: VarId, a: NodeId, b: NodeId) -> Result<(), NoMemory>
     requires left { HasKind s.old.kinds Int a }
     requires right { HasKind s.old.kinds Int b }
     requires not_false { IsFalse s.old → ⊥ }
