@@ -1,12 +1,13 @@
 // The order of operands.
-ghost use Rattle.std.specs.Prelude.{◌≡◌, Some, IfOk, OnOk};
+ghost use Rattle.std.specs.Prelude.{◌≡◌, ◌+ℤ◌, ◌-ℤ◌, pos, Some, IfOk, OnOk};
+ghost use Rattle.mc_base.specs.declared.plain.Atom.TheVariants.{Ne};
 ghost use Rattle.mc_base.specs.declared.plain.Kind.TheVariants.{Int};
 ghost use Rattle.mc_flow.specs.declared.instr.Instr.TheVariants.{TestLe};
 ghost use Rattle.mc_premises.specs.Known.{Test, Tells};
-ghost use Rattle.mc_pure.specs.Pure.{HasKind};
+ghost use Rattle.mc_pure.specs.Pure.{AreOfOneKind, HasKind};
 ghost use Rattle.mc_ranges.specs.Range.{IsIntRange};
 ghost use Rattle.mc_state.specs.Facts.{IsFalse};
-ghost use Rattle.mc_state.specs.State.{with_atoms};
+ghost use Rattle.mc_state.specs.State.{with_atom, with_atoms};
 ghost use Rattle.mc_step.specs.Fitting.{FitsAt, ends_of};
 ghost use Rattle.mc_step.specs.Judges.{testing_at_most};
 ghost use Rattle.mc_step.specs.Sums.{AreLeast, IsLeast, Ranges, above_atoms, at_most_atoms};
@@ -23,7 +24,6 @@ use mc_symbolic::State;
 use std::alloc::Global;
 
 /// Writes that the left number is at most the right one, where they lie in these ranges. Without memory the state is lost.
-#[tactic(auto, using(crate::proofs::Written::two_atoms))]
 fn assume_at_most(
     s: &mut State,
     a: NodeId,
@@ -33,19 +33,37 @@ fn assume_at_most(
 ) -> Result<(), NoMemory>
     requires a { HasKind s.old.kinds Int a }
     requires b { HasKind s.old.kinds Int b }
-    requires left { IsIntRange left }
-    requires right { IsIntRange right }
     ensures { OnOk result (s.new ≡ with_atoms s.old (at_most_atoms a b (ends_of left) (ends_of right))) }
 {
-    let high = left.hi.min(right.hi);
-    assume_in(s, a, &left.lo, &high)?;
-    let low = left.lo.max(right.lo);
-    assume_in(s, b, &low, &right.hi)?;
+    let both = left.meet(right);
+    assume_in(s, a, left, both)?;
+    assume_in(s, b, both, right)?;
+    Ok(())
+}
+
+/// The numbers above the least of the right ones and below the greatest of the left ones.
+fn between(left: Range, right: Range) -> Range
+    requires left { IsIntRange left }
+    requires right { IsIntRange right }
+    ensures low { result.lo ≡ right.lo +ℤ pos 1 }
+    ensures high { result.hi ≡ left.hi -ℤ pos 1 }
+{
+    Range {
+        lo: right.lo + 1,
+        hi: left.hi - 1,
+    }
+}
+
+/// Writes that two numbers differ. Without memory nothing changes.
+fn assume_apart(s: &mut State, a: NodeId, b: NodeId) -> Result<(), NoMemory>
+    requires { AreOfOneKind s.old.kinds a b }
+    ensures { OnOk result (s.new ≡ with_atom s.old (Ne a b (pos 0))) }
+{
+    s.assume(&Atom::Ne(a, b, 0))?;
     Ok(())
 }
 
 /// Writes that the left number is greater, where they lie in these ranges. Without memory the state is lost.
-#[tactic(auto, using(crate::proofs::Written::three_atoms))]
 fn assume_above(
     s: &mut State,
     a: NodeId,
@@ -59,11 +77,12 @@ fn assume_above(
     requires right { IsIntRange right }
     ensures { OnOk result (s.new ≡ with_atoms s.old (above_atoms a b (ends_of left) (ends_of right))) }
 {
-    let low = left.lo.max(right.lo + 1);
-    assume_in(s, a, &low, &left.hi)?;
-    let high = right.hi.min(left.hi - 1);
-    assume_in(s, b, &right.lo, &high)?;
-    s.assume(&Atom::Ne(a, b, 0))?;
+    let middle = between(left, right);
+    let low = left.meet(middle);
+    let high = right.meet(middle);
+    assume_in(s, a, low, left)?;
+    assume_in(s, b, right, high)?;
+    assume_apart(s, a, b)?;
     Ok(())
 }
 

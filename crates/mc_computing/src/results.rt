@@ -1,5 +1,5 @@
 // What is known of the result of two nodes.
-ghost use Rattle.std.specs.Prelude.{◌≡◌, ◌≤ℤ◌, ◌+ℤ◌, ◌-ℤ◌, ◌*ℤ◌, ◌++◌, pos, negsuc, Some, OnOk};
+ghost use Rattle.std.specs.Prelude.{◌≡◌, ◌≤ℤ◌, ◌+ℤ◌, ◌-ℤ◌, ◌*ℤ◌, neg_ℤ, ◌++◌, pos, negsuc, Some, OnOk};
 ghost use Rattle.std.specs.List.{AllByRecursion};
 ghost use Rattle.mc_base.specs.declared.plain.Atom.TheVariants.{Eq, In};
 ghost use Rattle.mc_base.specs.declared.plain.Kind.TheVariants.{Int};
@@ -145,37 +145,75 @@ fn is_one(range: Range) -> bool
     range.lo == range.hi
 }
 
-/// Whether the range, a number more, lies in `int`.
-fn stays_int(range: Range, add: i64) -> bool
-    requires range { IsIntRange range }
-    requires add { (negsuc 2147483647 ≤ℤ add) × (add ≤ℤ pos 2147483648) }
-    ensures { result ≡ are_ints (shifted (ends_of range) add) }
+/// Whether the range lies in `int`.
+fn are_ints(range: Range) -> bool
+    ensures { result ≡ are_ints (ends_of range) }
 {
-    LEAST <= range.lo + add && range.hi + add <= GREATEST
+    LEAST <= range.lo && range.hi <= GREATEST
 }
 
-/// The atom that a node lies in a range.
+/// The range, a number more: the low end of the other.
+fn moved(range: Range, by: Range) -> Range
+    requires range { IsIntRange range }
+    requires by { (negsuc 2147483647 ≤ℤ by.lo) × (by.lo ≤ℤ pos 2147483648) }
+    ensures low { result.lo ≡ range.lo +ℤ by.lo }
+    ensures high { result.hi ≡ range.hi +ℤ by.lo }
+{
+    Range {
+        lo: range.lo + by.lo,
+        hi: range.hi + by.lo,
+    }
+}
+
+/// Whether the range, a number more, lies in `int`.
+fn stays_int(range: Range, by: Range) -> bool
+    requires range { IsIntRange range }
+    requires by { (negsuc 2147483647 ≤ℤ by.lo) × (by.lo ≤ℤ pos 2147483648) }
+    ensures { result ≡ are_ints (shifted (ends_of range) by.lo) }
+{
+    are_ints(moved(range, by))
+}
+
+/// The low end with its sign turned, as a range.
+fn turned(range: Range) -> Range
+    requires { IsIntRange range }
+    ensures { result.lo ≡ neg_ℤ range.lo }
+{
+    Range {
+        lo: -range.lo,
+        hi: -range.lo,
+    }
+}
+
+/// The atom that a node lies between two numbers.
 fn in_range(node: NodeId, lo: &i64, hi: &i64) -> Atom
     ensures { result ≡ In node lo.now hi.now }
 {
     Atom::In(node, *lo, *hi)
 }
 
-/// Writes that a node lies in a range. Without memory nothing changes.
-pub fn assume_in(s: &mut State, node: NodeId, lo: &i64, hi: &i64) -> Result<(), NoMemory>
-    requires there { IsNode s.old.kinds node }
-    requires low { IsBound lo.now }
-    requires high { IsBound hi.now }
-    ensures { OnOk result (s.new ≡ with_atom s.old (In node lo.now hi.now)) }
+/// The atom that a node lies between the low end of a range and the high end of another.
+fn in_ends(node: NodeId, low: Range, high: Range) -> Atom
+    ensures { result ≡ In node low.lo high.hi }
 {
-    s.assume(&in_range(node, lo, hi))
+    in_range(node, &low.lo, &high.hi)
+}
+
+/// Writes that a node lies between the low end of a range and the high end of another. Without memory nothing changes.
+pub fn assume_in(s: &mut State, node: NodeId, low: Range, high: Range) -> Result<(), NoMemory>
+    requires { IsNode s.old.kinds node }
+    ensures { OnOk result (s.new ≡ with_atom s.old (In node low.lo high.hi)) }
+{
+    let atom = in_ends(node, low, high);
+    s.assume(&atom)?;
+    Ok(())
 }
 
 /// The atom that a node is another and a number more.
-fn offset(node: NodeId, from: NodeId, add: &i64) -> Atom
-    ensures { result ≡ Eq node from add.now }
+fn offset(node: NodeId, from: NodeId, by: Range) -> Atom
+    ensures { result ≡ Eq node from by.lo }
 {
-    Atom::Eq(node, from, *add)
+    Atom::Eq(node, from, by.lo)
 }
 
 /// Writes an atom, if there is one. Without memory nothing changes.
@@ -239,8 +277,8 @@ fn shift(node: NodeId, from: NodeId, left: Range, right: Range, add: i64) -> Opt
     ensures atom { shift_atoms node from (ends_of left) (ends_of right) add ≡ list_of result }
     ensures fits { MayRelate node from result }
 {
-    if is_one(right) && stays_int(left, add) {
-        Some(offset(node, from, &add))
+    if is_one(right) && stays_int(left, by) {
+        Some(offset(node, from, by))
     } else {
         None
     }
@@ -262,8 +300,8 @@ fn assume_sum(
     requires right { IsIntRange right }
     ensures { OnOk result (s.new ≡ with_atoms s.old (sum.offsets node a b (ends_of left) (ends_of right))) }
 {
-    let first = shift(node, a, left, right, right.lo);
-    let second = shift(node, b, right, left, left.lo);
+    let first = shift(node, a, left, right, right);
+    let second = shift(node, b, right, left, left);
     assume_if(s, &first)?;
     assume_if(s, &second)?;
     Ok(())
@@ -280,10 +318,11 @@ fn assume_difference(
     requires first { AreOfOneKind s.old.kinds node a }
     requires left { IsIntRange left }
     requires right { IsIntRange right }
-    ensures { (b : _) → OnOk result (s.new
-        ≡ with_atoms s.old (difference.offsets node a b (ends_of left) (ends_of right))) }
+    ensures { OnOk result (s.new
+        ≡ with_atoms s.old (shift_atoms node a (ends_of left) (ends_of right) (neg_ℤ right.lo))) }
 {
-    let first = shift(node, a, left, right, -right.lo);
+    let by = turned(right);
+    let first = shift(node, a, left, right, by);
     assume_if(s, &first)?;
     Ok(())
 }

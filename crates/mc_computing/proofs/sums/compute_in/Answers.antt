@@ -14,9 +14,6 @@ assume_computed-requires c =
     let new = c.in_ok-put_new.ensures in
     let n = c.next_node-node.result in
     let node : HasKind t.kinds Int n = subst (λ (m : NodeId). HasKind t.kinds Int m) (sym c.next_node-node.ensures) law.0.0 in
-    let u = c.put_new.new.s in
-    let first = (Int, node, law.1 Int c.args.a c.requires.left) in
-    let second = (Int, node, law.1 Int c.args.b c.requires.right) in
     record {
       first = (Int, subst (λ (u : State). HasKind u.kinds Int n) (sym new) node, subst (λ (u : State). HasKind u.kinds Int c.args.a) (sym new) (law.1 Int c.args.a c.requires.left));
       second = (Int, subst (λ (u : State). HasKind u.kinds Int n) (sym new) node, subst (λ (u : State). HasKind u.kinds Int c.args.b) (sym new) (law.1 Int c.args.b c.requires.right));

@@ -18,12 +18,12 @@ compute_in-requires c =
     let t = with_value (with_value s v) w in
     let one = c.in_ok-a.ensures in
     let two = c.in_ok-b.ensures in
-    let state : t ≡ c.put-b.new.s = sym (two.state ∙ ap (λ (u : State). with_value u w) one.state) in
+    let state : t ≡ c.put-2.new.s = sym (two.state ∙ ap (λ (u : State). with_value u w) one.state) in
     let second : value_node (with_value s v) w ≡ c.in_ok-b.b = sym (two.node ∙ ap (λ (u : State). value_node u w) one.state) in
     record {
-      left = carried (λ u a b. HasKind u.kinds Int a) t c.put-b.new.s (value_node s v) c.in_ok-a.a (value_node (with_value s v) w) c.in_ok-b.b state (sym one.node) second c.requires.left;
-      right = carried (λ u a b. HasKind u.kinds Int b) t c.put-b.new.s (value_node s v) c.in_ok-a.a (value_node (with_value s v) w) c.in_ok-b.b state (sym one.node) second c.requires.right;
-      not_false = carried (λ u a b. IsFalse u → ⊥) t c.put-b.new.s (value_node s v) c.in_ok-a.a (value_node (with_value s v) w) c.in_ok-b.b state (sym one.node) second c.requires.not_false;
+      left = carried (λ u a b. HasKind u.kinds Int a) t c.put-2.new.s (value_node s v) c.in_ok-a.a (value_node (with_value s v) w) c.in_ok-b.b state (sym one.node) second c.requires.left;
+      right = carried (λ u a b. HasKind u.kinds Int b) t c.put-2.new.s (value_node s v) c.in_ok-a.a (value_node (with_value s v) w) c.in_ok-b.b state (sym one.node) second c.requires.right;
+      not_false = carried (λ u a b. IsFalse u → ⊥) t c.put-2.new.s (value_node s v) c.in_ok-a.a (value_node (with_value s v) w) c.in_ok-b.b state (sym one.node) second c.requires.not_false;
     }
 
 pub returns : goal.returns
@@ -38,4 +38,4 @@ returns c =
     let second = two.node ∙ ap (λ (u : State). value_node u w) one.state in
     let op = operation c.args.op in
     carried (λ u a b. (range : Ranges) → IsLeast range u a → IsLeast range u b → c.compute_in.new.s ≡ with_result op c.args.x a b (range u a) (range u b) u)
-    c.put-b.new.s t c.in_ok-a.a (value_node s v) c.in_ok-b.b (value_node (with_value s v) w) state one.node second c.in_ok-compute_in.ensures
+    c.put-2.new.s t c.in_ok-a.a (value_node s v) c.in_ok-b.b (value_node (with_value s v) w) state one.node second c.in_ok-compute_in.ensures
