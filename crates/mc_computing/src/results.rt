@@ -271,10 +271,10 @@ fn place(op: Operation, node: NodeId, left: Range, right: Range) -> Option<Atom>
 }
 
 /// The node is another and a number more, where the right range is one number and the other's stays in `int`.
-fn shift(node: NodeId, from: NodeId, left: Range, right: Range, add: i64) -> Option<Atom>
+fn shift(node: NodeId, from: NodeId, left: Range, right: Range, by: Range) -> Option<Atom>
     requires left { IsIntRange left }
-    requires add { (negsuc 2147483647 ≤ℤ add) × (add ≤ℤ pos 2147483648) }
-    ensures atom { shift_atoms node from (ends_of left) (ends_of right) add ≡ list_of result }
+    requires by { (negsuc 2147483647 ≤ℤ by.lo) × (by.lo ≤ℤ pos 2147483648) }
+    ensures atom { shift_atoms node from (ends_of left) (ends_of right) by.lo ≡ list_of result }
     ensures fits { MayRelate node from result }
 {
     if is_one(right) && stays_int(left, by) {
