@@ -72,9 +72,10 @@ pub freed_may_be_written : FreedMayBeWritten
 freed_may_be_written defs vars structs s id e made there =
     let has = start_kind defs s.kinds e (edge_at (EdgeFitsDefs defs s.kinds) s.graph.edges id e there made.fits_defs) in
     let left = without s.graph.edges id in
-    let fit = all_without (EdgeFitsDefs defs s.kinds) s.graph.edges id made.fits_defs in
-    (((Ptr, has), (omega (arith, ints), omega (arith, ints)), (omega (arith, ints), omega (arith, ints))),
-    others_well s.kinds (start_of e) (block_starts left) has (starts_pointers defs s.kinds left fit))
+    let fit = all_without (EdgeFitsDefs defs s.kinds) s.graph.edges id made.fits_defs in (
+      ((Ptr, has), (omega (arith, ints), omega (arith, ints)), (omega (arith, ints), omega (arith, ints))),
+      others_well s.kinds (start_of e) (block_starts left) has (starts_pointers defs s.kinds left fit),
+    )
 
 -- ---- results
 
