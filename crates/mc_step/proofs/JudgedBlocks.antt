@@ -45,7 +45,7 @@ use Rattle.mc_step.proofs.OneBlock.{one_block, same_id, same_edge}
 -- ---- what is found
 
 -- what is found is there by its id, and its id is no less than the least
-found_there : (low : ℕ) (es : Edges) (high : ℕ) (test : EdgeId × Edge → Bool) (e : EdgeId × Edge) → IdsAscend low es high → find test es ≡ Some e → (edge_with es e.0 ≡ Some e.1) × (low ≤ e.0.0) × (test e ≡ true)
+pub found_there : (low : ℕ) (es : Edges) (high : ℕ) (test : EdgeId × Edge → Bool) (e : EdgeId × Edge) → IdsAscend low es high → find test es ≡ Some e → (edge_with es e.0 ≡ Some e.1) × (low ≤ e.0.0) × (test e ≡ true)
 found_there low [] high test e a is = absurd (cc is)
 found_there low (x ∷ es) high test e a is = at (λ h. found_there (suc x.0.0) es high test e a.2 h) (test x) refl is
   where

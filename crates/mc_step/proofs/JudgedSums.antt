@@ -27,6 +27,7 @@ use Rattle.mc_state.specs.Facts.{IsFalse}
 use Rattle.mc_state.specs.Fits.{IsWellMade}
 use Rattle.mc_state.specs.State.{State, pure_of, with_var, with_nodes, with_atoms, next_node}
 use Rattle.mc_step.specs.declared.next.Next.{Next}
+use Rattle.mc_step.specs.Fitting.{ends_of}
 use Rattle.mc_step.specs.Instructions.{ResultParts, add_of, sub_of, mul_of, test_le_of}
 use Rattle.mc_step.specs.Judges.{computing, adding, subtracting, multiplying, testing_at_most}
 use Rattle.mc_step.specs.Operands.{code_at, operand_node, with_operand}
@@ -40,10 +41,7 @@ use Rattle.mc_step.proofs.Moving.{fits_at}
 use Rattle.mc_step.proofs.Tests.{le_of}
 use Rattle.mc_step.proofs.WellMade.{two_made}
 
--- the ends of a range, and the range of ends that are ints
-abbrev pub ends_of : Range → Ends
-ends_of r = record { lo = r.lo; hi = r.hi }
-
+-- the range of ends that are ints
 abbrev range_of : (r : Ends) → AreInts r → Range
 range_of r i = let low = i.0 in let mid = i.1 in let high = i.2 in record { lo = r.lo; hi = r.hi; low_end = (omega (arith, ints), omega (arith, ints)); high_end = (omega (arith, ints), omega (arith, ints)) }
 
@@ -117,7 +115,7 @@ module _ (In' : ℤ → Type 0) (r : Ends) (spans : Spans In' r) where
           }
 
   -- and each least range is it
-  least_atoms : (n : NodeId) (range : Option Range) → IsLeastIntRange In' range → int_atoms n r ≡ in_range n range
+  pub least_atoms : (n : NodeId) (range : Option Range) → IsLeastIntRange In' range → int_atoms n r ≡ in_range n range
   least_atoms n None leaves = at (are_ints r) refl
     where
       at : (b : Bool) → are_ints r ≡ b → int_atoms n r ≡ []

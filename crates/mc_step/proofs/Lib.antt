@@ -34,4 +34,5 @@ pub mod Sound
 pub mod StepsMade
 pub mod Tests
 pub mod WellMade
+pub mod WhatFits
 pub mod Wrapping

@@ -25,6 +25,7 @@ use Rattle.mc_state.specs.Facts.{IsFalse, AreEqual}
 use Rattle.mc_step.specs.declared.next.Next.{Next}
 use Rattle.mc_step.specs.Instructions.{CopyParts, ResultParts, LoadParts, StoreParts, MallocParts, TestParts, AssumeParts, AssertParts, skip_of, copy_of, undef_of, input_of, add_of, sub_of, mul_of, load_of, store_of, malloc_of, free_of, test_eq_of, test_le_of, assume_of, assert_of, empty_of}
 use Rattle.mc_step.specs.JudgedLaws.{StepsAreOne}
+use Rattle.mc_step.specs.Fitting.{ends_of}
 use Rattle.mc_step.specs.Judges.{InstrRule, with_replaced, with_freed, with_shape, side_branch}
 use Rattle.mc_step.specs.Judges as rule
 use Rattle.mc_step.specs.Operands.{code_at, operand_node, with_operand, with_operands, HasBlock}
@@ -33,7 +34,7 @@ use Rattle.mc_step.specs.Sums.{Ends, Operation, sum, difference, product, with_r
 use Rattle.mc_step.proofs.Gaps.{same_node}
 use Rattle.mc_step.proofs.JudgedBlocks.{pointer_stays}
 use Rattle.mc_step.proofs.JudgedMoves.{nodes_to}
-use Rattle.mc_step.proofs.JudgedSums.{ends_of, same_ends, SpansResults, IsOffsets, computed_is, sums_span, differences_span, products_span}
+use Rattle.mc_step.proofs.JudgedSums.{same_ends, SpansResults, IsOffsets, computed_is, sums_span, differences_span, products_span}
 use Rattle.mc_step.proofs.Moving.{fits_at}
 use Rattle.mc_step.proofs.OneBlock.{same_id, same_edge}
 use Rattle.mc_base.specs.declared.plain.Kind.TheVariants.{Int}

@@ -154,13 +154,13 @@ have_nodes kinds (k ∷ ks) [] h = absurd h
 have_nodes kinds (k ∷ ks) (n ∷ ns) h = ((k, h.0), have_nodes kinds ks ns h.1)
 
 -- blocks start at pointers
-starts_pointers : (defs : List Def) (kinds : Kinds) (es : Edges) → AllByRecursion (λ (e : EdgeId × Edge). EdgeFitsDefs defs kinds e.1) es → AllByRecursion (HasKind kinds Ptr) (block_starts es)
+pub starts_pointers : (defs : List Def) (kinds : Kinds) (es : Edges) → AllByRecursion (λ (e : EdgeId × Edge). EdgeFitsDefs defs kinds e.1) es → AllByRecursion (HasKind kinds Ptr) (block_starts es)
 starts_pointers defs kinds [] a = tt
 starts_pointers defs kinds ((id, edge.Block at shape fields) ∷ es) a = (a.0.0, starts_pointers defs kinds es a.1)
 starts_pointers defs kinds ((id, edge.Ind at pred args) ∷ es) a = starts_pointers defs kinds es a.1
 starts_pointers defs kinds ((id, edge.Seg at args pred stop ends) ∷ es) a = starts_pointers defs kinds es a.1
 
-others_well : (kinds : Kinds) (a : NodeId) (bs : List NodeId) → HasKind kinds Ptr a → AllByRecursion (HasKind kinds Ptr) bs → AreWell kinds (map (λ b. Ne a b (pos 0)) bs)
+pub others_well : (kinds : Kinds) (a : NodeId) (bs : List NodeId) → HasKind kinds Ptr a → AllByRecursion (HasKind kinds Ptr) bs → AreWell kinds (map (λ b. Ne a b (pos 0)) bs)
 others_well kinds a [] is h = tt
 others_well kinds a (b ∷ bs) is h = (((Ptr, is, h.0), (omega (arith, ints), omega (arith, ints))), others_well kinds a bs is h.1)
 

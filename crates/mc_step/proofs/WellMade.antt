@@ -27,6 +27,7 @@ use Rattle.mc_graph.specs.Graph.{edge_with, without, numbered}
 use Rattle.mc_pure.specs.Pure.{HasKind, IsWellFormed}
 use Rattle.mc_state.specs.State.{State, next_node, with_var, without_vars, with_nodes, with_atoms, with_edges, with_only_edges, with_number}
 use Rattle.mc_state.specs.Fits.{AreNodes, HaveKinds, EdgeFitsDefs, EdgeFitsStructs, IsWellMade}
+use Rattle.mc_step.specs.Fitting.{HasOperand, HasOperands}
 use Rattle.mc_step.specs.Judges.{with_replaced}
 use Rattle.mc_step.specs.Operands.{operand_node, with_operand, with_operands, AreNodesOf}
 use Rattle.mc_step.proofs.Grown.{Grows, atom_grows, defs_grow, structs_grow, all_may_grow, known_kind, kind_set, unknown_set, get_slice, map_slice, all_without, all_replaced, atom_there}
@@ -130,10 +131,8 @@ module _ (laws : MadeLaws) (defs : List Def) (vars : List VarInfo) (structs : Li
   -- ---- operands
 
   -- the state with an operand's node, which is of a kind
-  pub record OperandMade (s : State) (kind : Kind) (n : NodeId) (t : State) : Type 0 where
-    pub made : Made t
-    pub has : HasKind t.kinds kind n
-    pub grows : Grows s.kinds t.kinds
+  abbrev pub OperandMade : State → Kind → NodeId → State → Type 0
+  OperandMade s kind n t = HasOperand defs vars structs s kind n t
 
   pub var_kind : (s : State) (x : VarId) (kind : Kind) (n : NodeId) → Made s → IsVar vars kind x → operand_node s (Var x) ≡ Some n → HasKind s.kinds kind n
   var_kind s x kind n m is known =
@@ -141,7 +140,7 @@ module _ (laws : MadeLaws) (defs : List Def) (vars : List VarInfo) (structs : Li
 
   const_made : (s : State) (kind : Kind) (c : ℤ) (zero : Bool) → IsOperand vars kind (Const c) → int_eq c (pos 0) ≡ zero → Made s
       → OperandMade s kind (if◌then◌else◌ {A = NodeId} zero null (next_node s)) (if◌then◌else◌ {A = State} zero s (with_number s c))
-  const_made s kind c true fits e m = record { made = m; has = inl refl; grows = λ k n h. h }
+  const_made s kind c true fits e m = record { made = m; has = inl refl; grows = λ k n h. h; vars_stay = refl; edges_stay = refl }
   const_made s kind c false fits e m =
       let is = int_const vars kind c fits e in
       let low = is.1.0 in
@@ -152,10 +151,12 @@ module _ (laws : MadeLaws) (defs : List Def) (vars : List VarInfo) (structs : Li
         made = atoms_made t (In (next_node s) c c ∷ []) (nodes_made s (Int ∷ []) m) (((Int, has), (omega (arith, ints), omega (arith, ints)), (omega (arith, ints), omega (arith, ints))), tt);
         has = subst (λ (k : Kind). HasKind t.kinds k (next_node s)) (sym is.0) has;
         grows = new_grows s Int m;
+        vars_stay = refl;
+        edges_stay = refl;
       }
 
   pub operand_made : (s : State) (kind : Kind) (o : Operand) (n : NodeId) → Made s → IsOperand vars kind o → operand_node s o ≡ Some n → OperandMade s kind n (with_operand s o)
-  operand_made s kind (Var x) n m fits known = record { made = m; has = var_kind s x kind n m fits known; grows = λ k n h. h }
+  operand_made s kind (Var x) n m fits known = record { made = m; has = var_kind s x kind n m fits known; grows = λ k n h. h; vars_stay = refl; edges_stay = refl }
   operand_made s kind (Const c) n m fits known =
       let node : (if int_eq c (pos 0) then null else next_node s) ≡ n = cc known in
       subst (λ (m : NodeId). OperandMade s kind m (with_operand s (Const c))) node (const_made s kind c (int_eq c (pos 0)) fits refl m)
@@ -174,10 +175,8 @@ module _ (laws : MadeLaws) (defs : List Def) (vars : List VarInfo) (structs : Li
       record { made = two.made; left = two.grows kind a one.has; right = two.has }
 
   -- the state with many operands' nodes, each of its kind
-  pub record ManyMade (s : State) (kinds : List Kind) (ns : List NodeId) (t : State) : Type 0 where
-    pub made : Made t
-    pub have' : HaveKinds t.kinds kinds ns
-    pub grows : Grows s.kinds t.kinds
+  abbrev pub ManyMade : State → List Kind → List NodeId → State → Type 0
+  ManyMade s kinds ns t = HasOperands defs vars structs s kinds ns t
 
   pub many_made : (os : List Operand) (kinds : List Kind) (s : State) (ns : List NodeId) → Made s → ArgsFit vars os kinds → AreNodesOf s os ns → ManyMade s kinds ns (with_operands s os)
   many_made [] [] s [] m fits h = record { made = m; have' = tt; grows = λ k n h. h }

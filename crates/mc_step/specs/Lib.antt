@@ -1,4 +1,5 @@
 pub mod Examples
+pub mod Fitting
 pub mod Instructions
 pub mod JudgedExamples
 pub mod JudgedLaws

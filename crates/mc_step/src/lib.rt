@@ -2,6 +2,7 @@
 #![tactic(auto)]
 
 mod examples;
+mod fitting;
 mod gap;
 mod judged_examples;
 mod judged_laws;
@@ -10,6 +11,7 @@ mod next;
 mod wrong_rules;
 
 pub use examples::{example_blocks, example_gaps, example_numbers, example_premises, example_runs};
+pub use fitting::{blocks_are_there, instructions_fit, operands_fit, results_are_ranged};
 pub use gap::Gap;
 pub use judged_examples::{
     example_comparisons, example_given, example_of_back_position, example_results,

@@ -1,0 +1,10 @@
+use Rattle.std.proofs.Common.{◌≡◌, drop}
+use Rattle.std.specs.List.{find}
+use Rattle.mc_premises.specs.Known.{Test, Tells}
+use Rattle.mc_step.specs.Judges.{is_block_at}
+use Rattle.mc_stepping.proofs.blocks.block.Given as goal
+
+abbrev pub invariant-loop-e : goal.invariant-loop-e
+invariant-loop-e l =
+    (know : Test) → Tells know l.s
+    → find (is_block_at know l.n) (drop l.e-index l.s.graph.edges) ≡ find (is_block_at know l.n) l.s.graph.edges
