@@ -1,0 +1,4 @@
+pub mod LowBits
+pub mod Answering
+pub mod Taking
+pub mod Faulty

@@ -1,0 +1,17 @@
+//! The values of the expressions of resolved programs, with inputs from a script, and what assignments do.
+#![tactic(auto)]
+
+mod asking;
+mod changes;
+mod evaluating;
+mod numbers;
+mod reading;
+mod refusal;
+mod turns;
+
+pub use asking::allocate;
+pub use changes::{assign, combine, free, set};
+pub use evaluating::{Evaluator, Here};
+pub use numbers::{Operation, compares};
+pub use reading::{all_there, held};
+pub use refusal::{Allocated, Arguments, Evaluated, Refusal};
