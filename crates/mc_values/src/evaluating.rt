@@ -80,8 +80,8 @@ fn enter<'a>(
     expression: &'a Expression,
 ) -> Result<Turn<'a>, NoMemory>
     ensures turn { IfOk result (λ turn. IsTurn here.now.structs.now here.now.values.now here.now.heap.now
-        (hands.Expression expression) stack.old script.old turn stack.new script.new) }
-    ensures falls { IfOk result (λ turn. Falls (hands.Expression expression) stack.old turn stack.new) }
+        (hands.Expression expression.entry) stack.old script.old turn stack.new script.new) }
+    ensures falls { IfOk result (λ turn. Falls (hands.Expression expression.entry) stack.old turn stack.new) }
 {
     match expression {
         Expression::Number(n) => Ok(Turn::Goes(Hand::Value(Some(i64::from(*n))))),
