@@ -5,3 +5,4 @@ pub mod Taking
 pub mod Faulty
 pub mod Turning
 pub mod Row
+pub mod Whole
