@@ -1,5 +1,5 @@
 -- What a script answers to a request.
-use Rattle.std.proofs.Common.{◌≡◌, ℕ, ℤ, Bool, true, false, List, [], ◌∷◌, Option, Some, None, refl, sym, subst}
+use Rattle.std.proofs.Common.{◌≡◌, ℕ, ℤ, true, false, List, [], ◌∷◌, Option, Some, None, refl, sym, subst}
 use Rattle.std.specs.Prelude.{MatchOption, is_some}
 use Rattle.mc_base.specs.Kinds.{InKind}
 use Rattle.mc_base.specs.declared.plain.Kind.TheVariants.{Int}

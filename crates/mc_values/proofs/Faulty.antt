@@ -1,14 +1,11 @@
 -- The turns that take no choice.
-use Rattle.std.proofs.Common.{◌≡◌, ◌∙◌, ◌⊎◌, inl, inr, ℕ, ℤ, List, [], ◌∷◌, Option, Some, refl, sym}
+use Rattle.std.proofs.Common.{List, [], ◌∷◌, refl}
 use Rattle.mc_base.specs.declared.plain.FaultKind.{FaultKind}
-use Rattle.mc_heap.specs.Choices.{Choice}
 use Rattle.mc_heap.specs.Heap.{Heap}
-use Rattle.mc_defs.specs.declared.shapes.StructInfo.{StructInfo}
-use Rattle.mc_meaning.specs.Values.{Evaluated, fault_of, value_of, operated, right_operand}
+use Rattle.mc_meaning.specs.Values.{fault_of}
 use Rattle.mc_resolved.specs.Configs.{Values}
 use Rattle.mc_values.specs.declared.turns.Pending.{Pending}
-use Rattle.mc_values.specs.declared.turns.Pending.TheVariants as Pending
-use Rattle.mc_values.specs.Turns.{After, AfterAll}
+use Rattle.mc_values.specs.Turns.{AfterAll}
 
 -- a fault goes through all that waits
 pub faults : (values : Values) (heap : Heap) (kind : FaultKind) (ps : List Pending) → AfterAll values heap ps (fault_of kind) (fault_of kind)

@@ -44,7 +44,7 @@ row_goes_on structs values heap es vs e left v old middle new h i = (
   h.0 ++ i.0,
   takes_more structs old middle new h.0 i.0 h.1 i.1,
   λ rest r g.
-  subst (λ (cs : List Choice). EvaluateAll (record { values = values; heap = heap }) es cs (behind (vs ++ v ∷ []) r)) (sym (append_assoc h.0 i.0 rest)) (subst (λ (all : Arguments). EvaluateAll (record { values = values; heap = heap }) es (h.0 ++ (i.0 ++ rest)) all) (behind_one vs v r) (h.2 (i.0 ++ rest) (put_before v r) (value_of v rest, i.2 rest, (r, g, refl)))),
+      subst (λ (cs : List Choice). EvaluateAll (record { values = values; heap = heap }) es cs (behind (vs ++ v ∷ []) r)) (sym (append_assoc h.0 i.0 rest)) (subst (λ (all : Arguments). EvaluateAll (record { values = values; heap = heap }) es (h.0 ++ (i.0 ++ rest)) all) (behind_one vs v r) (h.2 (i.0 ++ rest) (put_before v r) (value_of v rest, i.2 rest, (r, g, refl)))),
   λ rest asked g. subst (λ (cs : List Choice). ArgumentsAsk values heap es cs asked) (sym (append_assoc h.0 i.0 rest)) (h.3 (i.0 ++ rest) asked (inr (v, rest, i.2 rest, g))),
 )
 

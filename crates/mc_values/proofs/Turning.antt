@@ -15,14 +15,11 @@ use Rattle.mc_values.specs.declared.numbers.Operation.TheVariants.{Times, Plus, 
 use Rattle.mc_values.specs.declared.refusal.Evaluated as code
 use Rattle.mc_values.specs.declared.refusal.Evaluated.TheVariants as answers
 use Rattle.mc_values.specs.declared.turns.Pending.{Pending}
-use Rattle.mc_values.specs.declared.turns.Pending.TheVariants as Pending
 use Rattle.mc_values.specs.declared.turns.Hand.{Hand}
-use Rattle.mc_values.specs.declared.turns.Hand.TheVariants as Hand
 use Rattle.mc_values.specs.declared.turns.Turn.{Turn}
-use Rattle.mc_values.specs.declared.turns.Turn.TheVariants as Turn
 use Rattle.mc_values.specs.Asking.{AsksBehind, ValueAsks}
 use Rattle.mc_values.specs.Models.{IsAnswered, operation_of}
-use Rattle.mc_values.specs.Turns.{AllAsk, Asks, Comes, Gets, IsTurn, Leads}
+use Rattle.mc_values.specs.Turns.{Asks, Comes, Gets, IsTurn, Leads}
 use Rattle.mc_values.proofs.Faulty.{faults}
 
 -- ---- an expression at hand

@@ -11,7 +11,6 @@ use Rattle.mc_values.specs.declared.refusal.Evaluated as code
 use Rattle.mc_values.specs.declared.turns.Pending.{Pending}
 use Rattle.mc_values.specs.declared.turns.Hand.{Hand}
 use Rattle.mc_values.specs.declared.turns.Turn.{Turn}
-use Rattle.mc_values.specs.declared.turns.Turn.TheVariants as Turn
 use Rattle.mc_values.specs.Asking.{ValueAsks}
 use Rattle.mc_values.specs.Models.{IsEvaluated}
 use Rattle.mc_values.specs.Turns.{Asks, Comes, Falls, IsTurn, Leads, hand_weight, stack_weight}

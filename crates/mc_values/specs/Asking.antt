@@ -5,7 +5,6 @@ use Rattle.mc_heap.specs.Heap.{Heap}
 use Rattle.mc_meaning.specs.Values.{value_of}
 use Rattle.mc_resolved.specs.Programs.{Expr, number, input, value, minus, times, plus, difference}
 use Rattle.mc_resolved.specs.Configs.{Values}
-use Rattle.mc_resolved.specs.Steps.{Here}
 use Rattle.mc_resolved.specs.Values.{Evaluates}
 
 -- the expression has a value, and then this asks with the choices that are left

@@ -1,5 +1,5 @@
 -- What is left of an expression while a part of it is evaluated.
-use Rattle.std.specs.Prelude.{◌≡◌, ◌++◌, ◌⊎◌, ◌<◌, ℕ, ◌+◌, ℤ, List, [], ◌∷◌, Option}
+use Rattle.std.specs.Prelude.{◌≡◌, ◌++◌, ◌⊎◌, ◌<◌, ℕ, ◌+◌, List, [], ◌∷◌}
 use Rattle.mc_heap.specs.Choices.{Choice}
 use Rattle.mc_heap.specs.Heap.{Heap}
 use Rattle.mc_defs.specs.declared.shapes.StructInfo.{StructInfo}
@@ -11,11 +11,8 @@ use Rattle.mc_resolved.specs.Views.{expression_of}
 use Rattle.mc_values.specs.declared.refusal.Evaluated as code
 use Rattle.mc_values.specs.declared.refusal.Evaluated.TheVariants as answers
 use Rattle.mc_values.specs.declared.turns.Pending.{Pending}
-use Rattle.mc_values.specs.declared.turns.Pending.TheVariants as Pending
 use Rattle.mc_values.specs.declared.turns.Hand.{Hand}
-use Rattle.mc_values.specs.declared.turns.Hand.TheVariants as Hand
 use Rattle.mc_values.specs.declared.turns.Turn.{Turn}
-use Rattle.mc_values.specs.declared.turns.Turn.TheVariants as Turn
 use Rattle.mc_values.specs.Asking.{ValueAsks}
 use Rattle.mc_values.specs.Models.{operation_of, IsAnswered}
 use Rattle.mc_values.specs.Taking.{Takes}

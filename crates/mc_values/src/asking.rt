@@ -27,13 +27,7 @@ fn input_in(given: &Choice) -> Option<i64>
     ensures { MatchOption result (IsAllowed an_input (choice given.now) → ⊥) (λ value. (choice given.now ≡ choose_input value) × InKind Int value) }
 {
     match given {
-        Choice::Input(value) => {
-            if is_int(value) {
-                Some(*value)
-            } else {
-                None
-            }
-        }
+        Choice::Input(value) => { if is_int(value) { Some(*value) } else { None } }
         Choice::Malloc(_) => None,
         Choice::Shape(_) => None,
     }

@@ -24,23 +24,23 @@ returns-in-Err-clause-turn c =
 pub returns-in_ok-push-in-Minus-clause-turn : goal.returns-in_ok-push-in-Minus-clause-turn
 returns-in_ok-push-in-Minus-clause-turn c =
     minus_entered c.args.here.now.structs.now c.args.here.now.values.now c.args.here.now.heap.now c.args.expression c.deref.result c.args.stack.now c.push.new.self c.args.script.now (
-      minus_seen c.args.expression.now c.deref.result.now c.in-Minus.part c.in-Minus.is c.deref.ensures
+    minus_seen c.args.expression.now c.deref.result.now c.in-Minus.part c.in-Minus.is c.deref.ensures
     ) c.in_ok-push-in-Minus.ensures
 
 pub returns-in_ok-push-in-Times-clause-turn : goal.returns-in_ok-push-in-Times-clause-turn
 returns-in_ok-push-in-Times-clause-turn c =
     times_entered c.args.here.now.structs.now c.args.here.now.values.now c.args.here.now.heap.now c.args.expression c.deref-in-Times-2.result c.deref-in-Times.result c.args.stack.now c.push-in-Times.new.self c.args.script.now (
-      times_seen c.args.expression.now c.deref-in-Times-2.result.now c.deref-in-Times.result.now c.in-Times.first c.in-Times.second c.in-Times.is c.deref-in-Times-2.ensures c.deref-in-Times.ensures
+    times_seen c.args.expression.now c.deref-in-Times-2.result.now c.deref-in-Times.result.now c.in-Times.first c.in-Times.second c.in-Times.is c.deref-in-Times-2.ensures c.deref-in-Times.ensures
     ) c.in_ok-push-in-Times.ensures
 
 pub returns-in_ok-push-in-Plus-clause-turn : goal.returns-in_ok-push-in-Plus-clause-turn
 returns-in_ok-push-in-Plus-clause-turn c =
     plus_entered c.args.here.now.structs.now c.args.here.now.values.now c.args.here.now.heap.now c.args.expression c.deref-in-Plus-2.result c.deref-in-Plus.result c.args.stack.now c.push-in-Plus.new.self c.args.script.now (
-      plus_seen c.args.expression.now c.deref-in-Plus-2.result.now c.deref-in-Plus.result.now c.in-Plus.first c.in-Plus.second c.in-Plus.is c.deref-in-Plus-2.ensures c.deref-in-Plus.ensures
+    plus_seen c.args.expression.now c.deref-in-Plus-2.result.now c.deref-in-Plus.result.now c.in-Plus.first c.in-Plus.second c.in-Plus.is c.deref-in-Plus-2.ensures c.deref-in-Plus.ensures
     ) c.in_ok-push-in-Plus.ensures
 
 pub returns-in_ok-push-in-Difference-clause-turn : goal.returns-in_ok-push-in-Difference-clause-turn
 returns-in_ok-push-in-Difference-clause-turn c =
     difference_entered c.args.here.now.structs.now c.args.here.now.values.now c.args.here.now.heap.now c.args.expression c.deref-in-Difference-2.result c.deref-in-Difference.result c.args.stack.now c.push-in-Difference.new.self c.args.script.now (
-      difference_seen c.args.expression.now c.deref-in-Difference-2.result.now c.deref-in-Difference.result.now c.in-Difference.first c.in-Difference.second c.in-Difference.is c.deref-in-Difference-2.ensures c.deref-in-Difference.ensures
+    difference_seen c.args.expression.now c.deref-in-Difference-2.result.now c.deref-in-Difference.result.now c.in-Difference.first c.in-Difference.second c.in-Difference.is c.deref-in-Difference-2.ensures c.deref-in-Difference.ensures
     ) c.in_ok-push-in-Difference.ensures

@@ -1,4 +1,4 @@
-use Rattle.std.proofs.Common.{◌∙◌, List, ◌∷◌, ap}
+use Rattle.std.proofs.Common.{◌∙◌, ◌∷◌, ap}
 use Rattle.mc_values.specs.declared.turns.Pending.{Pending}
 use Rattle.mc_values.proofs.Turning.{operation_applied, operation_fails, right_begins, value_ends}
 use Rattle.mc_values.proofs.evaluating.resume.Goals as goal

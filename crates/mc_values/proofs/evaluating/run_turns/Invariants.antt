@@ -4,9 +4,9 @@ use Rattle.mc_values.specs.Turns.{hand_weight, stack_weight}
 use Rattle.mc_values.proofs.Whole.{Stands}
 use Rattle.mc_values.proofs.evaluating.run_turns.Given as goal
 
-abbrev pub invariant-loop-hand : goal.invariant-loop-hand
-invariant-loop-hand l =
+abbrev pub invariant-loop-next : goal.invariant-loop-next
+invariant-loop-next l =
     Stands l.here.structs.now l.here.values.now l.here.heap.now (expression_of l.expression) l.hand l.stack l.initial.script l.script
 
-abbrev pub decreases-loop-hand : goal.decreases-loop-hand
-decreases-loop-hand l = hand_weight l.hand + stack_weight l.stack
+abbrev pub decreases-loop-next : goal.decreases-loop-next
+decreases-loop-next l = hand_weight l.hand + stack_weight l.stack

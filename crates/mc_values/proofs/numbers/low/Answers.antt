@@ -1,4 +1,4 @@
-use Rattle.std.proofs.Common.{◌≡◌, ◌∙◌, ap, pos, ℤ, refl}
+use Rattle.std.proofs.Common.{◌≡◌, ◌∙◌, ap, pos, ℤ}
 use lib.IntN.{nat_abs}
 use mir.Syntax.{w64, w32}
 use mir.Val.{SFits, to_z, of_z}
