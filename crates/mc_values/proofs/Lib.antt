@@ -4,5 +4,6 @@ pub mod Answering
 pub mod Taking
 pub mod Faulty
 pub mod Turning
+pub mod SoFar
 pub mod Row
 pub mod Whole

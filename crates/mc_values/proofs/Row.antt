@@ -17,7 +17,7 @@ use Rattle.mc_values.specs.declared.refusal.Refusal.{Refusal}
 use Rattle.mc_values.specs.declared.refusal.Evaluated.TheVariants as one
 use Rattle.mc_values.specs.Asking.{ArgumentsAsk}
 use Rattle.mc_values.specs.Models.{IsEvaluated}
-use Rattle.mc_values.specs.Row.{behind, ComesSoFar}
+use Rattle.mc_values.proofs.SoFar.{behind, ComesSoFar}
 use Rattle.mc_values.specs.Taking.{IsRefusedBehind, WithTaken}
 use Rattle.mc_values.proofs.Taking.{takes_more}
 

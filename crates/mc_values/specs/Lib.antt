@@ -3,4 +3,3 @@ pub mod Asking
 pub mod Memory
 pub mod Models
 pub mod Turns
-pub mod Row

@@ -1,6 +1,6 @@
 use Rattle.std.proofs.Common.{ℤ, List, Option, length, take, drop, map, ◌-◌, sym, subst, arith}
 use Rattle.mc_resolved.specs.Views.{expression_of}
-use Rattle.mc_values.specs.Row.{ComesSoFar}
+use Rattle.mc_values.proofs.SoFar.{ComesSoFar}
 use Rattle.mc_values.proofs.Row.{all_evaluated, faults_there, goes_on, refused_there, row_begins}
 use Rattle.mc_values.proofs.evaluating.Evaluator.evaluate_all.Goals as goal
 

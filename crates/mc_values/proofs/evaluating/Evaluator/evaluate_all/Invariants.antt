@@ -1,6 +1,6 @@
 use Rattle.std.proofs.Common.{length, map}
 use Rattle.mc_resolved.specs.Views.{expression_of}
-use Rattle.mc_values.specs.Row.{ComesSoFar}
+use Rattle.mc_values.proofs.SoFar.{ComesSoFar}
 use Rattle.mc_values.proofs.evaluating.Evaluator.evaluate_all.Given as goal
 
 abbrev pub invariant-loop-left : goal.invariant-loop-left

@@ -1,5 +1,5 @@
 -- What is known while arguments are evaluated one after the other.
-use Rattle.std.specs.Prelude.{◌++◌, ℕ, ℤ, List, Option}
+use Rattle.std.proofs.Common.{◌++◌, ℕ, ℤ, List, Option}
 use Rattle.mc_heap.specs.Choices.{Choice}
 use Rattle.mc_heap.specs.Heap.{Heap}
 use Rattle.mc_defs.specs.declared.shapes.StructInfo.{StructInfo}
