@@ -1,5 +1,5 @@
 -- What the types of the code mean.
-use Rattle.std.specs.Prelude.{ℕ, ℤ, ◌+ℤ◌, ◌-ℤ◌, ◌*ℤ◌, List, Option, Result, Ok, Err}
+use Rattle.std.specs.Prelude.{◌≡◌, ℕ, ℤ, ◌+ℤ◌, ◌-ℤ◌, ◌*ℤ◌, List, Option, Result, Ok, Err}
 use Rattle.mc_base.specs.declared.plain.FaultKind.{FaultKind}
 use Rattle.mc_heap.specs.Choices.{Choice}
 use Rattle.mc_heap.specs.Heap.{Heap}
@@ -7,10 +7,10 @@ use Rattle.mc_defs.specs.declared.shapes.StructInfo.{StructInfo}
 use Rattle.mc_meaning.specs.Values.{Found, faulty, found, Evaluated, fault_of, value_of}
 use Rattle.mc_meaning.specs.Steps.{no_arguments, arguments}
 use Rattle.mc_waiting.specs.Requests.{an_input}
-use Rattle.mc_resolved.specs.Programs.{Expr}
+use Rattle.mc_resolved.specs.Programs.{Expr, Left}
 use Rattle.mc_resolved.specs.Configs.{Values}
 use Rattle.mc_resolved.specs.Steps.{EvaluateAll}
-use Rattle.mc_resolved.specs.Values.{Changed, fault_in, changed, Evaluates}
+use Rattle.mc_resolved.specs.Values.{Changed, fault_in, changed, assigned, combined, Evaluates}
 use Rattle.mc_values.specs.declared.numbers.Operation.{Operation}
 use Rattle.mc_values.specs.declared.numbers.Operation.TheVariants.{Times, Plus, Difference}
 use Rattle.mc_values.specs.declared.refusal.Evaluated as code
@@ -59,3 +59,8 @@ AreEvaluated structs values heap es old (all.Fault kind) new =
     WithTaken structs old new (λ choices rest. EvaluateAll (record { values = values; heap = heap }) es choices (no_arguments kind))
 AreEvaluated structs values heap es old (all.Unanswered why) new =
     IsRefusedBehind structs an_input old why new (λ choices left. ArgumentsAsk values heap es choices left)
+
+-- to combine is to assign this value, or a fault
+abbrev pub IsComputed : (ℤ → ℤ → ℤ) → Values → Heap → Left → Option ℤ → Result (Option ℤ) FaultKind → Type 0
+IsComputed operation values heap l v (Ok w) = combined operation values heap l v ≡ assigned values heap l w
+IsComputed operation values heap l v (Err kind) = combined operation values heap l v ≡ fault_in kind

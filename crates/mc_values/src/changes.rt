@@ -1,14 +1,13 @@
-// What assignments do, and what frees a block.
+// What is written into fields, and what frees a block.
 ghost use Rattle.std.specs.Prelude.{◌≡◌, ℤ, List, Option, OnErr};
-ghost use Rattle.mc_heap.specs.Heap.{Heap as HeapModel};
 ghost use Rattle.mc_resolved.specs.Steps.{freed};
-ghost use Rattle.mc_resolved.specs.Values.{assigned, assigned_behind, combined, put, set_variable};
+ghost use Rattle.mc_resolved.specs.Values.{assigned_behind, put};
 ghost use Rattle.mc_resolved.specs.Views.{field_of, left_of};
 ghost use Rattle.std.specs.Prelude.{map};
-ghost use Rattle.mc_values.specs.Models.{change_of, operation_of};
+ghost use Rattle.mc_values.specs.Models.{IsComputed, change_of, operation_of};
 
 use crate::numbers::{Operation, address_of, operate};
-use crate::reading::{held, left_value, loaded};
+use crate::reading::{left_value, loaded};
 use mc_base::FaultKind;
 use mc_heap::Heap;
 use mc_resolved::{FieldAt, LeftValue};
@@ -40,22 +39,8 @@ fn put(
     }
 }
 
-/// A variable gets a value. With a fault nothing changes.
-pub fn set(values: &mut [Option<i64>], variable: usize, value: Option<i64>) -> Result<(), FaultKind>
-    ensures change { (heap : HeapModel) → change_of result values.new heap ≡ set_variable values.old heap variable value }
-    ensures kept { OnErr result (values.new ≡ values.old) }
-{
-    if value.is_none() {
-        return Err(FaultKind::Uninit);
-    }
-    if variable < values.len() {
-        values[variable] = value;
-    }
-    Ok(())
-}
-
-// The last of these fields behind a value gets a value.
-fn assign_behind(
+/// The last of these fields behind a value gets a value. With a fault nothing changes.
+pub fn assign_behind(
     heap: &mut Heap,
     base: Option<i64>,
     first: &FieldAt,
@@ -80,48 +65,22 @@ fn assign_behind(
     put(heap, field, value, base)
 }
 
-/// A variable or field gets a value. With a fault nothing changes.
-pub fn assign(
-    values: &mut [Option<i64>],
-    heap: &mut Heap,
-    left: &LeftValue,
-    value: Option<i64>,
-) -> Result<(), FaultKind>
-    ensures change { change_of result values.new heap.new ≡ assigned values.old heap.old (left_of left.now) value }
-    ensures values { OnErr result (values.new ≡ values.old) }
-    ensures heap { OnErr result (heap.new ≡ heap.old) }
-{
-    match left.fields.as_slice() {
-        [] => set(values, left.variable, value),
-        [first, more @ ..] => {
-            let base = held(values, left.variable);
-            assign_behind(heap, base, first, more, value)
-        }
-    }
-}
-
-/// A variable or field gets what an operation makes of its value and another. With a fault nothing changes.
-pub fn combine(
+/// What an operation makes of what a variable or field holds and another value.
+pub fn computed(
     operation: Operation,
-    values: &mut [Option<i64>],
-    heap: &mut Heap,
+    values: &[Option<i64>],
+    heap: &Heap,
     left: &LeftValue,
     value: Option<i64>,
-) -> Result<(), FaultKind>
-    ensures change { change_of result values.new heap.new
-        ≡ combined (operation_of operation) values.old heap.old (left_of left.now) value }
-    ensures values { OnErr result (values.new ≡ values.old) }
-    ensures heap { OnErr result (heap.new ≡ heap.old) }
+) -> Result<Option<i64>, FaultKind>
+    ensures { IsComputed (operation_of operation) values.now heap.now (left_of left.now) value result }
 {
     match left_value(values, heap, left) {
         Err(kind) => Err(kind),
         Ok(None) => Err(FaultKind::Uninit),
         Ok(Some(first)) => match value {
             None => Err(FaultKind::Uninit),
-            Some(second) => {
-                let result = operate(operation, first, second);
-                assign(values, heap, left, Some(result))
-            }
+            Some(second) => Ok(Some(operate(operation, first, second))),
         },
     }
 }

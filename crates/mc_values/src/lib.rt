@@ -1,4 +1,4 @@
-//! The values of the expressions of resolved programs, with inputs from a script, and what assignments do.
+//! The values of the expressions of resolved programs, with inputs from a script, and what is written into fields.
 #![tactic(auto)]
 
 mod asking;
@@ -10,8 +10,8 @@ mod refusal;
 mod turns;
 
 pub use asking::allocate;
-pub use changes::{assign, combine, free, set};
+pub use changes::{assign_behind, computed, free};
 pub use evaluating::{Evaluator, Here};
 pub use numbers::{Operation, compares};
-pub use reading::{all_there, held};
+pub use reading::all_there;
 pub use refusal::{Allocated, Arguments, Evaluated, Refusal};
