@@ -35,6 +35,7 @@ fn applied(operation: Operation, a: Option<i64>, b: Option<i64>) -> Result<Optio
 }
 
 /// Where something is computed: what the variables hold, the heap, and the structs of the program.
+#[derive(Drop)]
 pub struct Here<'a> {
     pub values: &'a [Option<i64>],
     pub heap: &'a Heap,
