@@ -1,0 +1,4 @@
+pub mod Asking
+pub mod Models
+pub mod Steps
+pub mod Runs
