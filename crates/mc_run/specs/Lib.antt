@@ -1,4 +1,0 @@
-pub mod Asking
-pub mod Models
-pub mod Steps
-pub mod Runs
