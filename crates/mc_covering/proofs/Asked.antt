@@ -1,5 +1,5 @@
 -- What is asked of what is known of the nodes, a test tells.
-use Rattle.std.proofs.Common.{◌≡◌, ℤ, inl, inr, Bool, true, false, refl, sym, ◌∙◌}
+use Rattle.std.proofs.Common.{◌≡◌, ◌+◌, ◌≤◌, arith, ℕ, ℤ, inl, inr, Bool, true, false, refl, sym, ◌∙◌}
 use Rattle.std.specs.Prelude.{◌↔◌, ◌-ℤ◌, IsTrue}
 use mathlib.Core.Bool.{Bool-set}
 use mathlib.Core.HLevel.{→_set}
@@ -51,3 +51,9 @@ module _ (s : State) (p : Pure) (follows : (f : Atom) → Follows p f ↔ Follow
 -- where there is such a test, the one that is known to be one tells what is derived
 pub settled : (s : State) → ((k : Test) × Tells k s) → (know : Test) → ∥ Tells know s ∥₁ → Tells know s
 settled s k know t = subst (λ x. Tells x s) (∥∥₁_elim t (→_set Bool-set k.0 know) (λ own. same_tests k.0 know s k.1 own)) k.1
+
+pub le_left : (a b : ℕ) → a ≤ a + b
+le_left a b = omega arith
+
+pub le_right : (a b : ℕ) → b ≤ a + b
+le_right a b = omega arith

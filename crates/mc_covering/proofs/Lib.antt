@@ -5,3 +5,4 @@ pub mod Fixed
 pub mod Left
 pub mod Listed
 pub mod Pushed
+pub mod Found

@@ -15,6 +15,17 @@ use mc_symbolic::State;
 use mc_tries::find_first;
 use std::alloc::Global;
 
+// The search over a state.
+fn search_in<'a>(state: &'a State, defs: &'a Defs, used: &'a [EdgeId]) -> Search<'a>
+    requires sound { IsFalse state.now → ⊥ }
+    ensures state { result.state.now ≡ state.now }
+    ensures defs { result.defs.now ≡ defs.now }
+    ensures used { result.used.now ≡ used.now }
+{
+    is_told(state);
+    Search { state, defs, used }
+}
+
 // The marks of the first way to meet a goal with edges that are not used.
 fn find(
     alloc: Global,
@@ -30,7 +41,7 @@ fn find(
     is_told(state);
     state.is_bounded();
     let _defs = defs.as_slice();
-    let search = Search { state, defs, used };
+    let search = search_in(state, defs, used);
     let found = find_first(alloc, &search, goal)?;
     Ok(found)
 }

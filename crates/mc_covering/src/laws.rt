@@ -35,5 +35,4 @@ pub fn terms_are_near(state: &State)
 /// The numbers that atoms of definitions add are small.
 pub fn numbers_are_small()
     ensures { (defs : List Def) (p place : _) (def : Def) (rule : Rule) → IsDefs defs → slice_get defs p ≡ Some def → slice_get def.rules place ≡ Some rule → AllByRecursion AddsSmall rule.atoms }
-{
-}
+{}

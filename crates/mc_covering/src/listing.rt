@@ -47,12 +47,7 @@ fn push_with(
 }
 
 // Adds a rule with each block that it may have.
-fn push_rule(
-    all: &mut Vec<Mark>,
-    ids: &[EdgeId],
-    place: usize,
-    rule: &Rule,
-) -> Result<(), NoMemory>
+fn push_rule(all: &mut Vec<Mark>, ids: &[EdgeId], place: usize, rule: &Rule) -> Result<(), NoMemory>
     ensures { OnOk result (all.new.items ≡ all.old.items ++ flat_map (marks_with place rule.now) (blocks_for ids.now rule.now.block)) }
 {
     if rule.block.is_none() {

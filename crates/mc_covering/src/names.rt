@@ -104,7 +104,10 @@ fn is_known(state: &State, names: &[Term], atom: DefAtom) -> bool
 {
     match atom {
         DefAtom::Eq {
-            left, base, add, ..
+            left,
+            base,
+            add,
+            ..
         } => are_equal(state, &term_at(names, left), &sum(names, base, add)),
         DefAtom::Ne { left, base, add } => {
             are_different(state, &term_at(names, left), &sum(names, base, add))

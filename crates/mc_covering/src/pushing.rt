@@ -213,9 +213,11 @@ fn is_summary(
     ensures { IfOk result (λ is. (know : Test) → Tells know state.now → is ≡ (pred.0 == goal.now.pred.0 && (equal_terms know goal.now.at (plain at) && all_equal_terms know goal.now.args (map plain args.now)))) }
 {
     let terms = plain_terms(alloc, args)?;
-    Ok(pred.0 == goal.pred.0
-        && (are_equal(state, &goal.at, &plain(at))
-            && are_all_equal(state, goal.args.as_slice(), &terms)))
+    Ok(
+        pred.0 == goal.pred.0
+            && (are_equal(state, &goal.at, &plain(at))
+                && are_all_equal(state, goal.args.as_slice(), &terms)),
+    )
 }
 
 /// Whether an edge is an Ind that meets the goal.
@@ -280,13 +282,15 @@ pub fn push_seg(
         None => Ok(None),
         Some(Edge::Block { .. }) => Ok(None),
         Some(Edge::Ind { .. }) => Ok(None),
-        Some(Edge::Seg {
-            at,
-            args,
-            pred,
-            end,
-            end_args,
-        }) => {
+        Some(
+            Edge::Seg {
+                at,
+                args,
+                pred,
+                end,
+                end_args,
+            },
+        ) => {
             if !is_summary(alloc, state, goal, *pred, *at, args.as_slice())? {
                 return Ok(None);
             }
