@@ -23,7 +23,7 @@ use Rattle.mc_search.specs.Search.{is_free, first_try}
 use Rattle.mc_search.specs.Met.{IsIn}
 use Rattle.mc_search.proofs.Firsts.{none_on}
 use Rattle.mc_search.proofs.Tries.{LeadsOn, on_by_mark, on_none, on_both}
-use Rattle.mc_cover.specs.Goals.{Stop, Goal, Mark, at_end, by_ind, by_seg, by_rule, by_call, Setting, is_ind, is_seg, behind_seg, whole_block, contents_by}
+use Rattle.mc_cover.specs.Goals.{Stop, Goal, Mark, AtEnd, ByInd, BySeg, ByRule, ByCall, Setting, is_ind, is_seg, behind_seg, whole_block, contents_by}
 use Rattle.mc_cover.specs.Marks.{ends_here, names_at, def_at, rule_at, has_call, fits, goal_of, goals_to, calls_of_rule, calls_of_rule_to, calls_of, edge_of, takes, ids_of, marks, space}
 use Rattle.mc_cover.specs.First.{all_calls, Choice, choice_of, limit, first_for, first_cover, first_seg_cover}
 use Rattle.mc_cover.specs.Laws.{NoFirstNoCover, NoFirstNoSegCover}
@@ -89,20 +89,20 @@ module _ (w : Setting) (s : State) (tells : Tells w.know s) (fit : IsDefs w.defs
   ind_back : (pred : PredId) (at : Term) (args : List Term) (log : List Mark) (left : Edges) → IsByInd s pred at args (left_by w.edges log) left → Back (goal_for pred at args None ∷ []) log left
   ind_back pred at args log left (id, b, bs, e, same_at, same_args, l) =
       let g = goal_for pred at args None in
-      let r = is_free_there w.edges log (by_ind id) id high (Ind b pred bs) refl ascend e in
+      let r = is_free_there w.edges log (ByInd id) id high (Ind b pred bs) refl ascend e in
       let f : is_ind w.know g (edge_with w.edges id) ≡ true = ap (is_ind w.know g) r.1 ∙ and_yes (pred.0 == pred.0) (equal_terms w.know at (plain b) && all_equal_terms w.know args (map plain bs)) (eq-eqb pred.0 pred.0 refl)
       (and_yes (equal_terms w.know at (plain b)) (all_equal_terms w.know args (map plain bs)) (equal_to w.know s tells at (plain b) same_at) (all_equal_to w.know s tells args (map plain bs) same_args)) in
-      by_mark g log left (by_ind id) [] (ind_listed w g id (Ind b pred bs) r.1) f r.0 refl (none_back (log ++ by_ind id ∷ []) left (l ∙ sym (left_less w.edges log (by_ind id) id refl)))
+      by_mark g log left (ByInd id) [] (ind_listed w g id (Ind b pred bs) r.1) f r.0 refl (none_back (log ++ ByInd id ∷ []) left (l ∙ sym (left_less w.edges log (ByInd id) id refl)))
 
   seg_back : (M : PredId → Term → List Term → Edges → Edges → Type 0) (stop : Option Stop) → ((pred : PredId) (at : Term) (args : List Term) (log : List Mark) (left : Edges) → M pred at args (left_by w.edges log) left → Back (goal_for pred at args stop ∷ []) log left)
       → (pred : PredId) (at : Term) (args : List Term) (log : List Mark) (left : Edges) → IsBySeg M s pred at args (left_by w.edges log) left → Back (goal_for pred at args stop ∷ []) log left
   seg_back M stop f pred at args log left (id, b, bs, last, lasts, e, same_at, same_args, m) =
       let g = goal_for pred at args stop in
-      let r = is_free_there w.edges log (by_seg id) id high (Seg b bs pred last lasts) refl ascend e in
+      let r = is_free_there w.edges log (BySeg id) id high (Seg b bs pred last lasts) refl ascend e in
       let own : is_seg w.know g (edge_with w.edges id) ≡ true = ap (is_seg w.know g) r.1 ∙ and_yes (pred.0 == pred.0) (equal_terms w.know at (plain b) && all_equal_terms w.know args (map plain bs)) (eq-eqb pred.0 pred.0 refl)
       (and_yes (equal_terms w.know at (plain b)) (all_equal_terms w.know args (map plain bs)) (equal_to w.know s tells at (plain b) same_at) (all_equal_to w.know s tells args (map plain bs) same_args)) in
-      let from = subst (λ es. M pred (plain last) (map plain lasts) es left) (sym (left_less w.edges log (by_seg id) id refl)) m in
-      by_mark g log left (by_seg id) (goal_for pred (plain last) (map plain lasts) stop ∷ []) (seg_listed w g id (Seg b bs pred last lasts) r.1) own r.0 (ap (behind_seg g) r.1) (f pred (plain last) (map plain lasts) (log ++ by_seg id ∷ []) left from)
+      let from = subst (λ es. M pred (plain last) (map plain lasts) es left) (sym (left_less w.edges log (BySeg id) id refl)) m in
+      by_mark g log left (BySeg id) (goal_for pred (plain last) (map plain lasts) stop ∷ []) (seg_listed w g id (Seg b bs pred last lasts) r.1) own r.0 (ap (behind_seg g) r.1) (f pred (plain last) (map plain lasts) (log ++ BySeg id ∷ []) left from)
 
   -- a block that is taken, by the mark that takes it
   block_back : (mark : Option EdgeId → Mark) → ((b : Option EdgeId) → edge_of (mark b) ≡ b) → (o : Option StructId) (at : Term) (contents : List NodeId) (log : List Mark) (mid : Edges) → BlockIsTaken s o at contents (left_by w.edges log) mid
@@ -141,11 +141,11 @@ module _ (w : Setting) (s : State) (tells : Tells w.know s) (fit : IsDefs w.defs
   on_cover (suc k) pred at args log left (inr (inl h)) = seg_back (CoverAt w.defs s k) None (λ p a as' l e m. on_cover k p a as' l e m) pred at args log left h
   on_cover (suc k) pred at args log left (inr (inr (by, mid, t, calls))) =
       let g = goal_for pred at args None in
-      let b = block_back (by_rule by.place) (λ b. refl) by.rule.block at by.contents log mid t in
+      let b = block_back (ByRule by.place) (λ b. refl) by.rule.block at by.contents log mid t in
       let is = named_back pred at args None by b.0 b.1 in
       let found = subst (λ es. CallsAreFound (CoverAt w.defs s k) by.names by.rule.calls es left) b.3 calls in
-      let rest = calls_back (CoverAt w.defs s k) (λ p a as' l e m. on_cover k p a as' l e m) by.names by.rule.calls (log ++ by_rule by.place b.0 ∷ []) left found in
-      by_mark g log left (by_rule by.place b.0) (map (goal_of by.names None) by.rule.calls) (rule_listed w g by.def by.place by.rule b.0 by.contents (by_rule by.place b.0) by.defined by.listed b.1 (whole_in by.place by.rule b.0)) (ap is_some is) b.2 (ap calls_of_rule is) rest
+      let rest = calls_back (CoverAt w.defs s k) (λ p a as' l e m. on_cover k p a as' l e m) by.names by.rule.calls (log ++ ByRule by.place b.0 ∷ []) left found in
+      by_mark g log left (ByRule by.place b.0) (map (goal_of by.names None) by.rule.calls) (rule_listed w g by.def by.place by.rule b.0 by.contents (ByRule by.place b.0) by.defined by.listed b.1 (whole_in by.place by.rule b.0)) (ap is_some is) b.2 (ap calls_of_rule is) rest
 
   on_any : (pred : PredId) (at : Term) (args : List Term) (log : List Mark) (left : Edges) → Cover w.defs s pred at args (left_by w.edges log) left → Back (goal_for pred at args None ∷ []) log left
   on_any pred at args log left c = on_cover c.depth pred at args log left c.found
@@ -156,7 +156,7 @@ module _ (w : Setting) (s : State) (tells : Tells w.know s) (fit : IsDefs w.defs
       let f : ends_here w.know (def_at w g) g (Some stop) ≡ true = ap (λ o. ends_here w.know o g (Some stop)) d
       ∙ and_yes (equal_terms w.know at stop.0) (all_equal_terms w.know args stop.1 && all_lie_in w.know def.params args) (equal_to w.know s tells at stop.0 same_at)
       (and_yes (all_equal_terms w.know args stop.1) (all_lie_in w.know def.params args) (all_equal_to w.know s tells args stop.1 same_args) (all_lie_to w.know s tells def.params args kinds)) in
-      by_mark g log left at_end [] (inl refl) f refl refl (none_back (log ++ at_end ∷ []) left (l ∙ sym (left_same w.edges log at_end refl)))
+      by_mark g log left AtEnd [] (inl refl) f refl refl (none_back (log ++ AtEnd ∷ []) left (l ∙ sym (left_same w.edges log AtEnd refl)))
 
   -- a segment cover of any depth
   on_seg_cover : (stop : Stop) (k : ℕ) (pred : PredId) (at : Term) (args : List Term) (log : List Mark) (left : Edges) → SegCoverAt w.defs s stop.0 stop.1 k pred at args (left_by w.edges log) left → Back (goal_for pred at args (Some stop) ∷ []) log left
@@ -165,14 +165,14 @@ module _ (w : Setting) (s : State) (tells : Tells w.know s) (fit : IsDefs w.defs
   on_seg_cover stop (suc k) pred at args log left (inr (inl h)) = seg_back (SegCoverAt w.defs s stop.0 stop.1 k) (Some stop) (λ p a as' l e m. on_seg_cover stop k p a as' l e m) pred at args log left h
   on_seg_cover stop (suc k) pred at args log left (inr (inr (by, mid, t, call, calls))) =
       let g = goal_for pred at args (Some stop) in
-      let mark : Option EdgeId → Mark = λ b. by_call by.place b call in
+      let mark : Option EdgeId → Mark = λ b. ByCall by.place b call in
       let b = block_back mark (λ b. refl) by.rule.block at by.contents log mid t in
       let is = named_back pred at args (Some stop) by b.0 b.1 in
       let here = call_there (Cover w.defs s) (SegCoverAt w.defs s stop.0 stop.1 k) pred by.names call by.rule.calls mid left calls in
       let found = subst (λ es. CallsAreFoundAt (Cover w.defs s) (SegCoverAt w.defs s stop.0 stop.1 k) pred call by.names by.rule.calls es left) b.3 calls in
-      let rest = calls_back_to (Cover w.defs s) (SegCoverAt w.defs s stop.0 stop.1 k) stop on_any (λ p a as' l e m. on_seg_cover stop k p a as' l e m) pred by.names call by.rule.calls (log ++ by_call by.place b.0 call ∷ []) left found in
+      let rest = calls_back_to (Cover w.defs s) (SegCoverAt w.defs s stop.0 stop.1 k) stop on_any (λ p a as' l e m. on_seg_cover stop k p a as' l e m) pred by.names call by.rule.calls (log ++ ByCall by.place b.0 call ∷ []) left found in
       let f : on_some (has_call pred call) (rule_at w g by.place b.0) ≡ true = ap (on_some (has_call pred call)) is ∙ here.0 in
-      by_mark g log left (by_call by.place b.0 call) (goals_to by.names (Some stop) call by.rule.calls) (rule_listed w g by.def by.place by.rule b.0 by.contents (by_call by.place b.0 call) by.defined by.listed b.1 (call_in by.place by.rule b.0 call here.1)) f b.2 (ap (calls_of_rule_to (Some stop) call) is) rest
+      by_mark g log left (ByCall by.place b.0 call) (goals_to by.names (Some stop) call by.rule.calls) (rule_listed w g by.def by.place by.rule b.0 by.contents (ByCall by.place b.0 call) by.defined by.listed b.1 (call_in by.place by.rule b.0 call here.1)) f b.2 (ap (calls_of_rule_to (Some stop) call) is) rest
 
   -- where no try meets a goal, no marks do
   none_tried : (g : Goal) (left : Edges) → first_for w g ≡ None → Back (g ∷ []) [] left → ⊥

@@ -11,3 +11,5 @@ mod Settled
 mod FirstEdge
 mod Rules
 mod Guessing
+mod Enough
+mod Near

@@ -17,7 +17,7 @@ use Rattle.mc_premises.specs.Lists.{on_some}
 use Rattle.mc_premises.proofs.Tests.{and_both}
 use Rattle.mc_search.specs.Met.{IsIn, LeavesFew, AllLeaveFew}
 use Rattle.mc_search.proofs.Members.{in_left, in_right, in_map, in_flat_map}
-use Rattle.mc_cover.specs.Goals.{Stop, Goal, Mark, at_end, by_ind, by_seg, by_rule, by_call, Setting, is_ind, behind_seg, whole_block, contents_by}
+use Rattle.mc_cover.specs.Goals.{Stop, Goal, Mark, AtEnd, ByInd, BySeg, ByRule, ByCall, Setting, is_ind, behind_seg, whole_block, contents_by}
 use Rattle.mc_cover.specs.Marks.{Named, def_at, rule_at, has_call, goal_of, goals_to, calls_of_rule, calls_of_rule_to, ids_of, blocks_for, marks_with, marks_of_rules, rules_of, marks, space}
 use Rattle.mc_cover.specs.First.{calls_in, all_calls}
 use Rattle.mc_cover.proofs.Options.{there, then_some, same_some}
@@ -42,11 +42,11 @@ in_numbers first (suc count) zero j e l = inl (omega arith)
 in_numbers first (suc count) (suc i) j e l = inr (in_numbers (suc first) count i j (omega arith) (omega arith))
 
 -- the marks of a rule
-pub whole_in : (place : ℕ) (rule : Rule) (block : Option EdgeId) → IsIn (by_rule place block) (marks_with place rule block)
+pub whole_in : (place : ℕ) (rule : Rule) (block : Option EdgeId) → IsIn (ByRule place block) (marks_with place rule block)
 whole_in place rule block = inl refl
 
-pub call_in : (place : ℕ) (rule : Rule) (block : Option EdgeId) (call : ℕ) → call < length rule.calls → IsIn (by_call place block call) (marks_with place rule block)
-call_in place rule block call l = inr (in_map (by_call place block) call (numbers_from 0 (length rule.calls)) (in_numbers 0 (length rule.calls) call call (omega arith) l))
+pub call_in : (place : ℕ) (rule : Rule) (block : Option EdgeId) (call : ℕ) → call < length rule.calls → IsIn (ByCall place block call) (marks_with place rule block)
+call_in place rule block call l = inr (in_map (ByCall place block) call (numbers_from 0 (length rule.calls)) (in_numbers 0 (length rule.calls) call call (omega arith) l))
 
 in_rules : (ids : List EdgeId) (rules : List Rule) (start i j : ℕ) (rule : Rule) (m : Mark) → j ≡ start + i → slice_get rules i ≡ Some rule → IsIn m (flat_map (marks_with j rule) (blocks_for ids rule.block)) → IsIn m (marks_of_rules ids start rules)
 in_rules ids [] start i j rule m e at h = absurd (cc at)
@@ -68,14 +68,14 @@ block_in w at (Some shape) (Some id) contents c =
     in_map Some id (ids_of w.edges) (id_in w.edges id e.0 e.1)
 
 module _ (w : Setting) (g : Goal) where
-  pub ind_listed : (id : EdgeId) (e : Edge) → edge_with w.edges id ≡ Some e → IsIn (by_ind id) (marks w g)
+  pub ind_listed : (id : EdgeId) (e : Edge) → edge_with w.edges id ≡ Some e → IsIn (ByInd id) (marks w g)
   ind_listed id e h =
-      inr (in_left (by_ind id) (map by_ind (ids_of w.edges)) (map by_seg (ids_of w.edges) ++ marks_of_rules (ids_of w.edges) 0 (rules_of (def_at w g))) (in_map by_ind id (ids_of w.edges) (id_in w.edges id e h)))
+      inr (in_left (ByInd id) (map ByInd (ids_of w.edges)) (map BySeg (ids_of w.edges) ++ marks_of_rules (ids_of w.edges) 0 (rules_of (def_at w g))) (in_map ByInd id (ids_of w.edges) (id_in w.edges id e h)))
 
-  pub seg_listed : (id : EdgeId) (e : Edge) → edge_with w.edges id ≡ Some e → IsIn (by_seg id) (marks w g)
+  pub seg_listed : (id : EdgeId) (e : Edge) → edge_with w.edges id ≡ Some e → IsIn (BySeg id) (marks w g)
   seg_listed id e h =
-      inr (in_right (by_seg id) (map by_ind (ids_of w.edges)) (map by_seg (ids_of w.edges) ++ marks_of_rules (ids_of w.edges) 0 (rules_of (def_at w g)))
-      (in_left (by_seg id) (map by_seg (ids_of w.edges)) (marks_of_rules (ids_of w.edges) 0 (rules_of (def_at w g))) (in_map by_seg id (ids_of w.edges) (id_in w.edges id e h))))
+      inr (in_right (BySeg id) (map ByInd (ids_of w.edges)) (map BySeg (ids_of w.edges) ++ marks_of_rules (ids_of w.edges) 0 (rules_of (def_at w g)))
+      (in_left (BySeg id) (map BySeg (ids_of w.edges)) (marks_of_rules (ids_of w.edges) 0 (rules_of (def_at w g))) (in_map BySeg id (ids_of w.edges) (id_in w.edges id e h))))
 
   pub rule_listed : (def : Def) (place : ℕ) (rule : Rule) (block : Option EdgeId) (contents : List NodeId) (m : Mark) → slice_get w.defs g.pred.0 ≡ Some def → slice_get def.rules place ≡ Some rule
       → contents_by w.know w.edges g.at rule.block block ≡ Some contents → IsIn m (marks_with place rule block) → IsIn m (marks w g)
@@ -83,8 +83,8 @@ module _ (w : Setting) (g : Goal) where
       let of_block = in_flat_map (marks_with place rule) block (blocks_for (ids_of w.edges) rule.block) m (block_in w g.at rule.block block contents c) i in
       let own : slice_get (rules_of (def_at w g)) place ≡ Some rule = ap (λ o. slice_get (rules_of o) place) d ∙ l in
       let of_rules = in_rules (ids_of w.edges) (rules_of (def_at w g)) 0 place place rule m (omega arith) own of_block in
-      inr (in_right m (map by_ind (ids_of w.edges)) (map by_seg (ids_of w.edges) ++ marks_of_rules (ids_of w.edges) 0 (rules_of (def_at w g)))
-      (in_right m (map by_seg (ids_of w.edges)) (marks_of_rules (ids_of w.edges) 0 (rules_of (def_at w g))) of_rules))
+      inr (in_right m (map ByInd (ids_of w.edges)) (map BySeg (ids_of w.edges) ++ marks_of_rules (ids_of w.edges) 0 (rules_of (def_at w g)))
+      (in_right m (map BySeg (ids_of w.edges)) (marks_of_rules (ids_of w.edges) 0 (rules_of (def_at w g))) of_rules))
 
 -- no rule has more calls than all together
 rule_calls : (rules : List Rule) (place : ℕ) (rule : Rule) → slice_get rules place ≡ Some rule → length rule.calls ≤ calls_in rules
@@ -135,21 +135,21 @@ module _ (w : Setting) (fit : IsDefs w.defs) where
 
   -- each mark that fits leaves few goals
   pub all_few : AllLeaveFew (space w) (suc (all_calls w.defs)) numbers
-  all_few g at_end f = refl
-  all_few g (by_ind id) f =
+  all_few g AtEnd f = refl
+  all_few g (ByInd id) f =
       let both = and_both (not (is_some g.stop)) (is_ind w.know g (edge_with w.edges id)) f in
       let p = ind_parts w.know g (edge_with w.edges id) both.1 in
       (number_in w.edges id _ p.edge, omega arith)
-  all_few g (by_seg id) f =
+  all_few g (BySeg id) f =
       let p = seg_parts w.know g (edge_with w.edges id) f in
       let one : length (behind_seg g (edge_with w.edges id)) ≡ 1 = ap (λ o. length (behind_seg g o)) p.edge in
       (number_in w.edges id _ p.edge, omega arith)
-  all_few g (by_rule place block) f =
+  all_few g (ByRule place block) f =
       let both = and_both (not (is_some g.stop)) (is_some (rule_at w g place block)) f in
       let by = there (rule_at w g place block) both.1 in
       subst (λ o. LeavesFew (suc (all_calls w.defs)) numbers (option_map (λ (i : EdgeId). i.0) block) (calls_of_rule o)) (sym by.1)
       (rule_few g place block by.0 (map (goal_of by.0.names None) by.0.rule.calls) by.1 (λ e. ap (map (goal_of by.0.names None)) e) (length-map by.0.rule.calls (goal_of by.0.names None)))
-  all_few g (by_call place block call) f =
+  all_few g (ByCall place block call) f =
       let both = and_both (is_some g.stop) (on_some (has_call g.pred call) (rule_at w g place block)) f in
       let by = named_there (has_call g.pred call) (rule_at w g place block) both.1 in
       subst (λ o. LeavesFew (suc (all_calls w.defs)) numbers (option_map (λ (i : EdgeId). i.0) block) (calls_of_rule_to g.stop call o)) (sym by.1)

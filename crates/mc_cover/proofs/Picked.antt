@@ -12,7 +12,7 @@ use Rattle.mc_premises.proofs.Tests.{and_both, and_yes, not_no}
 use Rattle.mc_search.specs.Search.{uses, is_free, is_unused, first_try}
 use Rattle.mc_search.specs.Met.{Leads}
 use Rattle.mc_search.proofs.Firsts.{first_leads}
-use Rattle.mc_cover.specs.Goals.{Goal, Mark, at_end, by_ind, by_seg, by_rule, by_call, Setting, is_ind, whole_block, contents_by}
+use Rattle.mc_cover.specs.Goals.{Goal, Mark, AtEnd, ByInd, BySeg, ByRule, ByCall, Setting, is_ind, whole_block, contents_by}
 use Rattle.mc_cover.specs.Marks.{has_call, rule_at, fits, calls_of, edge_of, takes, space}
 use Rattle.mc_cover.specs.First.{taken, Choice, choice_of, limit, first_for}
 use Rattle.mc_cover.specs.Laws.{FirstTakesEdges}
@@ -71,17 +71,17 @@ module _ (w : Setting) where
       ap (λ i. is_some (edge_with w.edges i)) (sym (same_some own id b)) ∙ ap is_some e.1
 
   edge_there : (g : Goal) (m : Mark) (id : EdgeId) → fits w g m ≡ true → edge_of m ≡ Some id → is_some (edge_with w.edges id) ≡ true
-  edge_there g at_end id f e = absurd (cc e)
-  edge_there g (by_ind own) id f e =
+  edge_there g AtEnd id f e = absurd (cc e)
+  edge_there g (ByInd own) id f e =
       let both = and_both (not (is_some g.stop)) (is_ind w.know g (edge_with w.edges own)) f in
       ap (λ i. is_some (edge_with w.edges i)) (sym (same_some own id e)) ∙ ap is_some (ind_parts w.know g (edge_with w.edges own) both.1).edge
-  edge_there g (by_seg own) id f e = ap (λ i. is_some (edge_with w.edges i)) (sym (same_some own id e)) ∙ ap is_some (seg_parts w.know g (edge_with w.edges own) f).edge
-  edge_there g (by_rule place block) id f e =
+  edge_there g (BySeg own) id f e = ap (λ i. is_some (edge_with w.edges i)) (sym (same_some own id e)) ∙ ap is_some (seg_parts w.know g (edge_with w.edges own) f).edge
+  edge_there g (ByRule place block) id f e =
       let both = and_both (not (is_some g.stop)) (is_some (rule_at w g place block)) f in
       let by = there (rule_at w g place block) both.1 in
       let p = rule_parts w g place block by.0 by.1 in
       block_there g.at by.0.rule.block block p.contents id p.taken e
-  edge_there g (by_call place block call) id f e =
+  edge_there g (ByCall place block call) id f e =
       let both = and_both (is_some g.stop) (on_some (has_call g.pred call) (rule_at w g place block)) f in
       let by = named_there (has_call g.pred call) (rule_at w g place block) both.1 in
       let p = rule_parts w g place block by.0 by.1 in

@@ -22,7 +22,7 @@ use Rattle.mc_premises.proofs.Tests.{and_both}
 use Rattle.mc_search.specs.Search.{is_free, first_try}
 use Rattle.mc_search.specs.Met.{AreMetBy, IsMet}
 use Rattle.mc_search.proofs.Firsts.{first_meets}
-use Rattle.mc_cover.specs.Goals.{Stop, Goal, Mark, at_end, by_ind, by_seg, by_rule, by_call, Setting, is_ind, is_seg, behind_seg, whole_block, contents_by}
+use Rattle.mc_cover.specs.Goals.{Stop, Goal, Mark, AtEnd, ByInd, BySeg, ByRule, ByCall, Setting, is_ind, is_seg, behind_seg, whole_block, contents_by}
 use Rattle.mc_cover.specs.Marks.{Named, ends_here, names_at, def_at, rule_at, has_call, fits, goal_of, goals_to, calls_of_rule, calls_of_rule_to, calls_of, edge_of, takes, space}
 use Rattle.mc_cover.specs.First.{Choice, choice_of, limit, first_for}
 use Rattle.mc_cover.specs.Laws.{FirstIsCover, FirstIsSegCover}
@@ -65,40 +65,40 @@ module _ (w : Setting) (s : State) (tells : Tells w.know s) (fit : IsDefs w.defs
   with_stop : (k : ℕ) (g : Goal) (o own : Option Stop) (es left : Edges) → o ≡ own → Made k g own es left → Made k g o es left
   with_stop k g o own es left e m = subst (λ o. Made k g o es left) (sym e) m
 
-  ends_made : (k : ℕ) (g : Goal) (log after : List Mark) → ends_here w.know (def_at w g) g g.stop ≡ true → left_by w.edges after ≡ left_by w.edges (log ++ at_end ∷ []) → Made (suc k) g g.stop (left_by w.edges log) (left_by w.edges after)
+  ends_made : (k : ℕ) (g : Goal) (log after : List Mark) → ends_here w.know (def_at w g) g g.stop ≡ true → left_by w.edges after ≡ left_by w.edges (log ++ AtEnd ∷ []) → Made (suc k) g g.stop (left_by w.edges log) (left_by w.edges after)
   ends_made k g log after e r =
       let p = end_parts w.know (def_at w g) g g.stop e in
       let made : EndsThere w.defs s p.to.0 p.to.1 g.pred g.at g.args (left_by w.edges log) (left_by w.edges after) =
-      (p.own, p.defined, equal_from w.know s tells g.at p.to.0 p.same_at, all_equal_from w.know s tells g.args p.to.1 p.same_args, all_lie_from w.know s tells p.own.params g.args p.kinds, r ∙ left_same w.edges log at_end refl) in
+      (p.own, p.defined, equal_from w.know s tells g.at p.to.0 p.same_at, all_equal_from w.know s tells g.args p.to.1 p.same_args, all_lie_from w.know s tells p.own.params g.args p.kinds, r ∙ left_same w.edges log AtEnd refl) in
       with_stop (suc k) g g.stop (Some p.to) (left_by w.edges log) (left_by w.edges after) p.stops (inl made)
 
-  ind_made : (k : ℕ) (g : Goal) (log after : List Mark) (id : EdgeId) → g.stop ≡ None → is_ind w.know g (edge_with w.edges id) ≡ true → is_free takes log (by_ind id) ≡ true → left_by w.edges after ≡ left_by w.edges (log ++ by_ind id ∷ []) → Made (suc k) g g.stop (left_by w.edges log) (left_by w.edges after)
+  ind_made : (k : ℕ) (g : Goal) (log after : List Mark) (id : EdgeId) → g.stop ≡ None → is_ind w.know g (edge_with w.edges id) ≡ true → is_free takes log (ByInd id) ≡ true → left_by w.edges after ≡ left_by w.edges (log ++ ByInd id ∷ []) → Made (suc k) g g.stop (left_by w.edges log) (left_by w.edges after)
   ind_made k g log after id no' e free r =
       let p = ind_parts w.know g (edge_with w.edges id) e in
       let made : IsByInd s g.pred g.at g.args (left_by w.edges log) (left_by w.edges after) =
-      (id, p.b, p.args, still_there w.edges log (by_ind id) id (Ind p.b g.pred p.args) refl free p.edge, equal_from w.know s tells g.at (plain p.b) p.same_at, all_equal_from w.know s tells g.args (map plain p.args) p.same_args, r ∙ left_less w.edges log (by_ind id) id refl) in
+      (id, p.b, p.args, still_there w.edges log (ByInd id) id (Ind p.b g.pred p.args) refl free p.edge, equal_from w.know s tells g.at (plain p.b) p.same_at, all_equal_from w.know s tells g.args (map plain p.args) p.same_args, r ∙ left_less w.edges log (ByInd id) id refl) in
       with_stop (suc k) g g.stop None (left_by w.edges log) (left_by w.edges after) no' (inl made)
 
   -- what is behind a Seg
-  seg_by : (k : ℕ) (g next : Goal) (o : Option Stop) (log : List Mark) (left : Edges) (id : EdgeId) (p : SegParts w.know g (edge_with w.edges id)) → is_free takes log (by_seg id) ≡ true
+  seg_by : (k : ℕ) (g next : Goal) (o : Option Stop) (log : List Mark) (left : Edges) (id : EdgeId) (p : SegParts w.know g (edge_with w.edges id)) → is_free takes log (BySeg id) ≡ true
       → next ≡ (record { pred = g.pred; at = plain p.last; args = map plain p.lasts; stop = g.stop }) → Made k next o (without (left_by w.edges log) id) left → Made (suc k) g o (left_by w.edges log) left
   seg_by k g next None log left id p free is m =
-      let still = still_there w.edges log (by_seg id) id (Seg p.b p.args g.pred p.last p.lasts) refl free p.edge in
+      let still = still_there w.edges log (BySeg id) id (Seg p.b p.args g.pred p.last p.lasts) refl free p.edge in
       let rest = subst (λ n. Made k n None (without (left_by w.edges log) id) left) is m in
       inr (inl (id, p.b, p.args, p.last, p.lasts, still, equal_from w.know s tells g.at (plain p.b) p.same_at, all_equal_from w.know s tells g.args (map plain p.args) p.same_args, rest))
   seg_by k g next (Some stop) log left id p free is m =
-      let still = still_there w.edges log (by_seg id) id (Seg p.b p.args g.pred p.last p.lasts) refl free p.edge in
+      let still = still_there w.edges log (BySeg id) id (Seg p.b p.args g.pred p.last p.lasts) refl free p.edge in
       let rest = subst (λ n. Made k n (Some stop) (without (left_by w.edges log) id) left) is m in
       inr (inl (id, p.b, p.args, p.last, p.lasts, still, equal_from w.know s tells g.at (plain p.b) p.same_at, all_equal_from w.know s tells g.args (map plain p.args) p.same_args, rest))
 
-  seg_made : (k : ℕ) (g : Goal) (log after : List Mark) (id : EdgeId) → is_seg w.know g (edge_with w.edges id) ≡ true → is_free takes log (by_seg id) ≡ true
-      → AreMade k (behind_seg g (edge_with w.edges id)) (left_by w.edges (log ++ by_seg id ∷ [])) (left_by w.edges after) → Made (suc k) g g.stop (left_by w.edges log) (left_by w.edges after)
+  seg_made : (k : ℕ) (g : Goal) (log after : List Mark) (id : EdgeId) → is_seg w.know g (edge_with w.edges id) ≡ true → is_free takes log (BySeg id) ≡ true
+      → AreMade k (behind_seg g (edge_with w.edges id)) (left_by w.edges (log ++ BySeg id ∷ [])) (left_by w.edges after) → Made (suc k) g g.stop (left_by w.edges log) (left_by w.edges after)
   seg_made k g log after id e free r =
       let p = seg_parts w.know g (edge_with w.edges id) e in
-      let one : AreMade k (record { pred = g.pred; at = plain p.last; args = map plain p.lasts; stop = g.stop } ∷ []) (left_by w.edges (log ++ by_seg id ∷ [])) (left_by w.edges after) =
-      subst (λ o. AreMade k (behind_seg g o) (left_by w.edges (log ++ by_seg id ∷ [])) (left_by w.edges after)) p.edge r in
+      let one : AreMade k (record { pred = g.pred; at = plain p.last; args = map plain p.lasts; stop = g.stop } ∷ []) (left_by w.edges (log ++ BySeg id ∷ [])) (left_by w.edges after) =
+      subst (λ o. AreMade k (behind_seg g o) (left_by w.edges (log ++ BySeg id ∷ [])) (left_by w.edges after)) p.edge r in
       let next : Goal = record { pred = g.pred; at = plain p.last; args = map plain p.lasts; stop = g.stop } in
-      let from : Made k next g.stop (without (left_by w.edges log) id) one.0 = subst (λ es. Made k next g.stop es one.0) (left_less w.edges log (by_seg id) id refl) one.1 in
+      let from : Made k next g.stop (without (left_by w.edges log) id) one.0 = subst (λ es. Made k next g.stop es one.0) (left_less w.edges log (BySeg id) id refl) one.1 in
       let whole : Made k next g.stop (without (left_by w.edges log) id) (left_by w.edges after) = subst (λ left. Made k next g.stop (without (left_by w.edges log) id) left) (sym one.2) from in
       seg_by k g next g.stop log (left_by w.edges after) id p free refl whole
 
@@ -154,29 +154,29 @@ module _ (w : Setting) (s : State) (tells : Tells w.know s) (fit : IsDefs w.defs
   calls_found_to k names pred stop (suc call) (x ∷ calls) c es left at same (mid, m, r) =
       (mid, record { depth = k; found = m }, calls_found_to k names pred stop call calls c mid left at same r)
 
-  rule_made : (k : ℕ) (g : Goal) (log after : List Mark) (place : ℕ) (block : Option EdgeId) → g.stop ≡ None → (by : Named) → rule_at w g place block ≡ Some by → is_free takes log (by_rule place block) ≡ true
-      → AreMade k (calls_of_rule (rule_at w g place block)) (left_by w.edges (log ++ by_rule place block ∷ [])) (left_by w.edges after) → Made (suc k) g g.stop (left_by w.edges log) (left_by w.edges after)
+  rule_made : (k : ℕ) (g : Goal) (log after : List Mark) (place : ℕ) (block : Option EdgeId) → g.stop ≡ None → (by : Named) → rule_at w g place block ≡ Some by → is_free takes log (ByRule place block) ≡ true
+      → AreMade k (calls_of_rule (rule_at w g place block)) (left_by w.edges (log ++ ByRule place block ∷ [])) (left_by w.edges after) → Made (suc k) g g.stop (left_by w.edges log) (left_by w.edges after)
   rule_made k g log after place block no' by is free r =
       let p = rule_parts w g place block by is in
-      let calls : AreMade k (map (goal_of by.names None) by.rule.calls) (left_by w.edges (log ++ by_rule place block ∷ [])) (left_by w.edges after) =
-      subst (λ o. AreMade k (calls_of_rule o) (left_by w.edges (log ++ by_rule place block ∷ [])) (left_by w.edges after)) is r in
-      let named = subst (λ names. AreMade k (map (goal_of names None) by.rule.calls) (left_by w.edges (log ++ by_rule place block ∷ [])) (left_by w.edges after)) p.names calls in
-      let found = calls_found k (names_at g by.rule p.contents) by.rule.calls (left_by w.edges (log ++ by_rule place block ∷ [])) (left_by w.edges after) named in
+      let calls : AreMade k (map (goal_of by.names None) by.rule.calls) (left_by w.edges (log ++ ByRule place block ∷ [])) (left_by w.edges after) =
+      subst (λ o. AreMade k (calls_of_rule o) (left_by w.edges (log ++ ByRule place block ∷ [])) (left_by w.edges after)) is r in
+      let named = subst (λ names. AreMade k (map (goal_of names None) by.rule.calls) (left_by w.edges (log ++ ByRule place block ∷ [])) (left_by w.edges after)) p.names calls in
+      let found = calls_found k (names_at g by.rule p.contents) by.rule.calls (left_by w.edges (log ++ ByRule place block ∷ [])) (left_by w.edges after) named in
       with_stop (suc k) g g.stop None (left_by w.edges log) (left_by w.edges after) no'
-      (inr (inr (terms g place block by p, left_by w.edges (log ++ by_rule place block ∷ []), block_taken g log (by_rule place block) by.rule.block block p.contents refl free p.taken, found)))
+      (inr (inr (terms g place block by p, left_by w.edges (log ++ ByRule place block ∷ []), block_taken g log (ByRule place block) by.rule.block block p.contents refl free p.taken, found)))
 
-  call_made : (k : ℕ) (g : Goal) (log after : List Mark) (place : ℕ) (block : Option EdgeId) (call : ℕ) (stop : Stop) → g.stop ≡ Some stop → (by : Named) → rule_at w g place block ≡ Some by → has_call g.pred call by ≡ true → is_free takes log (by_call place block call) ≡ true
-      → AreMade k (calls_of_rule_to g.stop call (rule_at w g place block)) (left_by w.edges (log ++ by_call place block call ∷ [])) (left_by w.edges after) → Made (suc k) g g.stop (left_by w.edges log) (left_by w.edges after)
+  call_made : (k : ℕ) (g : Goal) (log after : List Mark) (place : ℕ) (block : Option EdgeId) (call : ℕ) (stop : Stop) → g.stop ≡ Some stop → (by : Named) → rule_at w g place block ≡ Some by → has_call g.pred call by ≡ true → is_free takes log (ByCall place block call) ≡ true
+      → AreMade k (calls_of_rule_to g.stop call (rule_at w g place block)) (left_by w.edges (log ++ ByCall place block call ∷ [])) (left_by w.edges after) → Made (suc k) g g.stop (left_by w.edges log) (left_by w.edges after)
   call_made k g log after place block call stop to by is has free r =
       let p = rule_parts w g place block by is in
       let c = call_parts g.pred (slice_get by.rule.calls call) has in
-      let from = left_by w.edges (log ++ by_call place block call ∷ []) in
+      let from = left_by w.edges (log ++ ByCall place block call ∷ []) in
       let calls : AreMade k (goals_to by.names g.stop call by.rule.calls) from (left_by w.edges after) = subst (λ o. AreMade k (calls_of_rule_to g.stop call o) from (left_by w.edges after)) is r in
       let stopped : AreMade k (goals_to by.names (Some stop) call by.rule.calls) from (left_by w.edges after) = subst (λ o. AreMade k (goals_to by.names o call by.rule.calls) from (left_by w.edges after)) to calls in
       let named : AreMade k (goals_to (names_at g by.rule p.contents) (Some stop) call by.rule.calls) from (left_by w.edges after) = subst (λ names. AreMade k (goals_to names (Some stop) call by.rule.calls) from (left_by w.edges after)) p.names stopped in
       let found = calls_found_to k (names_at g by.rule p.contents) g.pred stop call by.rule.calls c.0 from (left_by w.edges after) c.1 c.2 named in
       with_stop (suc k) g g.stop (Some stop) (left_by w.edges log) (left_by w.edges after) to
-      (inr (inr (terms g place block by p, from, block_taken g log (by_call place block call) by.rule.block block p.contents refl free p.taken, call, found)))
+      (inr (inr (terms g place block by p, from, block_taken g log (ByCall place block call) by.rule.block block p.contents refl free p.taken, call, found)))
 
   -- what meets a goal makes it
   made : (k : ℕ) (g : Goal) (log after : List Mark) → IsMet (space w) k g log after → Made k g g.stop (left_by w.edges log) (left_by w.edges after)
@@ -184,16 +184,16 @@ module _ (w : Setting) (s : State) (tells : Tells w.know s) (fit : IsDefs w.defs
   made (suc k) g log after (m, a, r) = by_mark m (and_both (fits w g m) (is_free takes log m) a) (all_made k (λ g l a. made k g l a) (calls_of w g m) (log ++ m ∷ []) after r)
     where
       by_mark : (m : Mark) → (fits w g m ≡ true) × (is_free takes log m ≡ true) → AreMade k (calls_of w g m) (left_by w.edges (log ++ m ∷ [])) (left_by w.edges after) → Made (suc k) g g.stop (left_by w.edges log) (left_by w.edges after)
-      by_mark at_end (f, u) r = ends_made k g log after f r
-      by_mark (by_ind id) (f, u) r =
+      by_mark AtEnd (f, u) r = ends_made k g log after f r
+      by_mark (ByInd id) (f, u) r =
           let both = and_both (not (is_some g.stop)) (is_ind w.know g (edge_with w.edges id)) f in
           ind_made k g log after id (not_there g.stop both.0) both.1 u r
-      by_mark (by_seg id) (f, u) r = seg_made k g log after id f u r
-      by_mark (by_rule place block) (f, u) r =
+      by_mark (BySeg id) (f, u) r = seg_made k g log after id f u r
+      by_mark (ByRule place block) (f, u) r =
           let both = and_both (not (is_some g.stop)) (is_some (rule_at w g place block)) f in
           let by = there (rule_at w g place block) both.1 in
           rule_made k g log after place block (not_there g.stop both.0) by.0 by.1 u r
-      by_mark (by_call place block call) (f, u) r =
+      by_mark (ByCall place block call) (f, u) r =
           let both = and_both (is_some g.stop) (on_some (has_call g.pred call) (rule_at w g place block)) f in
           let stop = there g.stop both.0 in
           let by = named_there (has_call g.pred call) (rule_at w g place block) both.1 in

@@ -40,9 +40,13 @@ pub record Choice : Type 0 where
 abbrev pub choice_of : Edges → List Mark → Choice
 choice_of es log = record { used = taken log; left = others es (taken log) }
 
+-- the marks of the first way to meet a goal
+abbrev pub first_marks : Setting → Goal → Option (List Mark)
+first_marks w g = first_try (space w) (limit w) g
+
 -- the first way to meet a goal
 abbrev pub first_for : Setting → Goal → Option Choice
-first_for w g = option_map (choice_of w.edges) (first_try (space w) (limit w) g)
+first_for w g = option_map (choice_of w.edges) (first_marks w g)
 
 -- the first cover of a predicate at a term with arguments, from these edges
 abbrev pub first_cover : Test → List Def → PredId → Term → List Term → Edges → Option Choice

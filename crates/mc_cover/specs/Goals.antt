@@ -11,27 +11,14 @@ use Rattle.mc_graph.specs.Graph.{Edges, edge_with}
 use Rattle.mc_state.specs.declared.terms.Term.{Term}
 use Rattle.mc_state.specs.Terms.{plain}
 use Rattle.mc_premises.specs.Known.{Test}
+pub use Rattle.mc_cover.specs.declared.goals.Goal.{Goal}
+pub use Rattle.mc_cover.specs.declared.goals.Mark.{Mark}
+pub use Rattle.mc_cover.specs.declared.goals.Mark.TheVariants.{AtEnd, ByInd, BySeg, ByRule, ByCall}
 use Rattle.mc_cover.specs.Terms.{equal_terms, all_equal_terms}
 
 -- where a segment ends: at a term, with arguments
 abbrev pub Stop : Type 0
 Stop = Term × List Term
-
--- a predicate at a term with arguments; where there is a stop, a segment of it from there to the stop
-pub record Goal : Type 0 where
-  pub pred : PredId
-  pub at : Term
-  pub args : List Term
-  pub stop : Option Stop
-
--- how a goal is met: nothing is taken, where the segment ends; this Ind; this Seg, and what is at its end; the rule of
--- the predicate at a place, with this block where it has one; such a rule, whose call at a place goes on to the stop
-pub data Mark : Type 0 where
-  at_end : Mark
-  by_ind : EdgeId → Mark
-  by_seg : EdgeId → Mark
-  by_rule : ℕ → Option EdgeId → Mark
-  by_call : ℕ → Option EdgeId → ℕ → Mark
 
 -- what a search reads: what is known, the definitions, and the edges that may be taken
 pub record Setting : Type 0 where

@@ -1,5 +1,5 @@
 -- What is first is a cover, there is none only where none exists, and the guess is the one that there is.
-use Rattle.std.specs.Prelude.{◌≡◌, ◌↔◌, ℕ, List, Option, Some, None, true, slice_get}
+use Rattle.std.specs.Prelude.{◌≡◌, ◌↔◌, ◌≤◌, ℕ, List, Option, Some, None, true, slice_get}
 use Rattle.mc_base.specs.declared.ids.PredId.{PredId}
 use Rattle.mc_defs.specs.declared.rules.Def.{Def}
 use Rattle.mc_defs.specs.Conditions.{IsDefs}
@@ -10,9 +10,11 @@ use Rattle.mc_state.specs.Guess.{Guess}
 use Rattle.mc_state.specs.State.{State}
 use Rattle.mc_premises.specs.Known.{Test, Tells}
 use Rattle.mc_premises.specs.Named.{others, are_there, are_distinct}
-use Rattle.mc_cover.specs.First.{Choice, first_for, first_cover, first_seg_cover}
+use Rattle.mc_search.specs.Search.{first_try}
+use Rattle.mc_cover.specs.First.{Choice, limit, first_marks, first_for, first_cover, first_seg_cover}
 use Rattle.mc_cover.specs.Goals.{Stop, Goal, Setting}
 use Rattle.mc_cover.specs.Guessed.{guess}
+use Rattle.mc_cover.specs.Near.{near_space}
 
 -- the first cover is a cover
 abbrev pub FirstIsCover : Type 0
@@ -66,3 +68,9 @@ abbrev pub NoGuessUndefined : Type 0
 NoGuessUndefined =
     (defs : List Def) (s : State) (pred : PredId) (at : Term) (stop : Option Stop) (es : Edges) (guessed : List Term)
     → slice_get defs pred.0 ≡ None → Guess defs s pred at stop es guessed → ⊥
+
+-- what edges that start where the goal stands give first, with at most so many marks or more, is what is first
+abbrev pub NearIsFirst : Type 0
+NearIsFirst =
+    (w : Setting) (g : Goal) (high n : ℕ) → IsDefs w.defs → IdsAscend 0 w.edges high → limit w ≤ n
+    → first_try (near_space w) n g ≡ first_marks w g

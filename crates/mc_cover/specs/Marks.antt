@@ -15,7 +15,7 @@ use Rattle.mc_state.specs.Terms.{plain, term_of}
 use Rattle.mc_premises.specs.Known.{Test}
 use Rattle.mc_premises.specs.Lists.{on_some}
 use Rattle.mc_search.specs.Search.{Space}
-use Rattle.mc_cover.specs.Goals.{Stop, Goal, Mark, at_end, by_ind, by_seg, by_rule, by_call, Setting, is_ind, is_seg, behind_seg, contents_by}
+use Rattle.mc_cover.specs.Goals.{Stop, Goal, Mark, AtEnd, ByInd, BySeg, ByRule, ByCall, Setting, is_ind, is_seg, behind_seg, contents_by}
 use Rattle.mc_cover.specs.Terms.{equal_terms, all_equal_terms, all_lie_in, atoms_known, with_fixed}
 
 -- the segment ends where it begins: the stop is equal, and the arguments lie in the ranges of their kinds
@@ -68,11 +68,11 @@ has_call pred call by = on_some (λ (c : Call). c.pred.0 == pred.0) (slice_get b
 
 -- whether a mark fits a goal, apart from what was taken before
 abbrev pub fits : Setting → Goal → Mark → Bool
-fits w g at_end = ends_here w.know (def_at w g) g g.stop
-fits w g (by_ind id) = not (is_some g.stop) && is_ind w.know g (edge_with w.edges id)
-fits w g (by_seg id) = is_seg w.know g (edge_with w.edges id)
-fits w g (by_rule place block) = not (is_some g.stop) && is_some (rule_at w g place block)
-fits w g (by_call place block call) = is_some g.stop && on_some (has_call g.pred call) (rule_at w g place block)
+fits w g AtEnd = ends_here w.know (def_at w g) g g.stop
+fits w g (ByInd id) = not (is_some g.stop) && is_ind w.know g (edge_with w.edges id)
+fits w g (BySeg id) = is_seg w.know g (edge_with w.edges id)
+fits w g (ByRule place block) = not (is_some g.stop) && is_some (rule_at w g place block)
+fits w g (ByCall place block call) = is_some g.stop && on_some (has_call g.pred call) (rule_at w g place block)
 
 -- what a call asks for, with a stop or none
 abbrev pub goal_of : List Term → Option Stop → Call → Goal
@@ -97,19 +97,19 @@ calls_of_rule_to stop call (Some by) = goals_to by.names stop call by.rule.calls
 
 -- what a mark leaves to be made
 abbrev pub calls_of : Setting → Goal → Mark → List Goal
-calls_of w g at_end = []
-calls_of w g (by_ind id) = []
-calls_of w g (by_seg id) = behind_seg g (edge_with w.edges id)
-calls_of w g (by_rule place block) = calls_of_rule (rule_at w g place block)
-calls_of w g (by_call place block call) = calls_of_rule_to g.stop call (rule_at w g place block)
+calls_of w g AtEnd = []
+calls_of w g (ByInd id) = []
+calls_of w g (BySeg id) = behind_seg g (edge_with w.edges id)
+calls_of w g (ByRule place block) = calls_of_rule (rule_at w g place block)
+calls_of w g (ByCall place block call) = calls_of_rule_to g.stop call (rule_at w g place block)
 
 -- the edge that a mark takes, if it takes one
 abbrev pub edge_of : Mark → Option EdgeId
-edge_of at_end = None
-edge_of (by_ind id) = Some id
-edge_of (by_seg id) = Some id
-edge_of (by_rule place block) = block
-edge_of (by_call place block call) = block
+edge_of AtEnd = None
+edge_of (ByInd id) = Some id
+edge_of (BySeg id) = Some id
+edge_of (ByRule place block) = block
+edge_of (ByCall place block call) = block
 
 -- and its number
 abbrev pub takes : Mark → Option ℕ
@@ -126,7 +126,7 @@ blocks_for ids (Some shape) = map Some ids
 
 -- a rule with a block: whole, and then with each choice of the call that goes on to the stop
 abbrev pub marks_with : ℕ → Rule → Option EdgeId → List Mark
-marks_with place rule block = by_rule place block ∷ map (by_call place block) (numbers_from 0 (length rule.calls))
+marks_with place rule block = ByRule place block ∷ map (ByCall place block) (numbers_from 0 (length rule.calls))
 
 -- rules from a place on, in order
 abbrev pub marks_of_rules : List EdgeId → ℕ → List Rule → List Mark
@@ -139,12 +139,14 @@ abbrev pub rules_of : Option Def → List Rule
 rules_of None = []
 rules_of (Some def) = def.rules
 
--- all marks in order: the end of a segment, each edge as an Ind, each as a Seg, and the rules of the predicate
+-- the marks of a goal with edges of these ids, in order: the end of a segment, each edge as an Ind, each as a Seg, and the
+-- rules of the predicate
+abbrev pub marks_on : List EdgeId → Option Def → List Mark
+marks_on ids def = AtEnd ∷ (map ByInd ids ++ (map BySeg ids ++ marks_of_rules ids 0 (rules_of def)))
+
+-- all marks of a goal
 abbrev pub marks : Setting → Goal → List Mark
-marks w g =
-    at_end
-    ∷ (map by_ind (ids_of w.edges)
-    ++ (map by_seg (ids_of w.edges) ++ marks_of_rules (ids_of w.edges) 0 (rules_of (def_at w g))))
+marks w g = marks_on (ids_of w.edges) (def_at w g)
 
 -- how goals are met; a search may end with any marks, since edges may be left
 abbrev pub space : Setting → Space Goal Mark

@@ -1,5 +1,5 @@
 // What is first, and what is guessed. Each law is what a function with no body ensures.
-ghost use Rattle.mc_cover.specs.Laws.{FirstIsCover, FirstIsSegCover, FirstTakesEdges, NoFirstNoCover, NoFirstNoSegCover, GuessIsTheGuess, NoGuessUndefined};
+ghost use Rattle.mc_cover.specs.Laws.{FirstIsCover, FirstIsSegCover, FirstTakesEdges, NoFirstNoCover, NoFirstNoSegCover, NearIsFirst, GuessIsTheGuess, NoGuessUndefined};
 
 /// The first cover is a cover, and the first segment cover is one; the edges that they use are
 /// there, each once.
@@ -13,6 +13,11 @@ pub fn firsts_are_covers()
 pub fn none_is_missed()
     ensures cover { NoFirstNoCover }
     ensures segment { NoFirstNoSegCover }
+{}
+
+/// A search that looks only at edges that start where the goal stands finds what is first.
+pub fn near_is_first()
+    ensures { NearIsFirst }
 {}
 
 /// Of a predicate that is defined there is one guess, which is the function's; of another there is none.

@@ -3,7 +3,9 @@
 #![tactic(auto)]
 
 mod examples;
+mod goals;
 mod laws;
 
 pub use examples::{example_firsts, example_guesses, example_segments, no_firsts};
-pub use laws::{firsts_are_covers, guess_is_the_guess, none_is_missed};
+pub use goals::{Goal, Mark};
+pub use laws::{firsts_are_covers, guess_is_the_guess, near_is_first, none_is_missed};

@@ -1,0 +1,4 @@
+pub mod Told
+pub mod Terms
+pub mod Setting
+pub mod Pushing
