@@ -1,0 +1,421 @@
+// Statements are lowered, or what they are made of is next.
+use crate::builder::{ABSENT, Builder, Label, LowerFault, NOWHERE, Role};
+use crate::conditions::Ways;
+use crate::tasks::{Context, Task, Turns, push};
+use crate::values::Site;
+use mc_base::Items;
+use mc_flow::{Instr, Operand};
+use mc_resolved::{
+    Argument, AssertShape, AssumeShape, Condition, ForHead, ForStart, RightSide, Statement,
+};
+use mc_stack::Stack;
+use mc_text::Place;
+
+impl<'a> Builder<'a> {
+    // ---- commands
+    // Where the condition is false, there is a Fail, or an End that is a stop.
+    fn check(
+        &mut self,
+        place: Place,
+        condition: &Condition,
+        role: Role,
+        otherwise: Instr,
+        occurrence: usize,
+    ) -> Result<(), LowerFault> {
+        let yes = self.label()?;
+        let no = self.label()?;
+        self.test(occurrence, condition, Ways { yes, no })?;
+        self.goal = no;
+        self.put(role, place, otherwise)?;
+        self.goal = yes;
+        Ok(())
+    }
+
+    // The operands of a shape's arguments.
+    fn arguments(
+        &self,
+        occurrence: usize,
+        arguments: &[Argument],
+    ) -> Result<Items<Operand>, LowerFault> {
+        let mut operands = Vec::new(self.alloc);
+        for at in 0..arguments.len() {
+            let operand = self.argument(occurrence, arguments[at])?;
+            operands.push(operand)?;
+        }
+        Ok(Items::of(operands))
+    }
+
+    // `assume_shape`.
+    fn assume_shape(&mut self, shape: &AssumeShape, occurrence: usize) -> Result<(), LowerFault> {
+        let variable = self.local(occurrence, shape.variable)?;
+        let operands = self.arguments(occurrence, shape.arguments.as_slice())?;
+        let next = self.label()?;
+        let code = Instr::AssumeShape(shape.predicate, variable, operands, next.target());
+        self.append(Role::Plain, shape.place, code, next)
+    }
+
+    // `assert_shape`.
+    fn assert_shape(&mut self, shape: &AssertShape, occurrence: usize) -> Result<(), LowerFault> {
+        let start = self.argument(occurrence, shape.start)?;
+        let operands = self.arguments(occurrence, shape.arguments.as_slice())?;
+        let next = self.label()?;
+        let code = Instr::AssertShape(shape.predicate, start, operands, next.target());
+        self.append(Role::Plain, shape.place, code, next)
+    }
+
+    // `assert_empty`.
+    fn assert_empty(&mut self, place: Place) -> Result<(), LowerFault> {
+        let next = self.label()?;
+        self.append(Role::Plain, place, Instr::AssertEmpty(next.target()), next)
+    }
+
+    // ---- statements with statements inside
+    // A block is entered.
+    fn block(
+        &mut self,
+        tasks: &mut Stack<Task<'a>>,
+        numbers: &'a [usize],
+        statements: &'a [Statement],
+        context: Context<'a>,
+    ) -> Result<(), LowerFault> {
+        let block = self.open(numbers, context.block)?;
+        push(tasks, Task::EndBlock(numbers, context.occurrence))?;
+        push(tasks, Task::Statements(statements, context.in_block(block)))
+    }
+
+    // `if` without `else`.
+    fn if_only(
+        &mut self,
+        tasks: &mut Stack<Task<'a>>,
+        place: Place,
+        condition: &Condition,
+        part: &'a Statement,
+        context: Context<'a>,
+    ) -> Result<(), LowerFault> {
+        let merge = self.label()?;
+        self.test_or(context.occurrence, condition, merge)?;
+        push(tasks, Task::Merge(place, merge))?;
+        push(tasks, Task::Statement(part, context))
+    }
+
+    // `if` with `else`.
+    fn if_else(
+        &mut self,
+        tasks: &mut Stack<Task<'a>>,
+        place: Place,
+        condition: &Condition,
+        first: &'a Statement,
+        second: &'a Statement,
+        context: Context<'a>,
+    ) -> Result<(), LowerFault> {
+        let no = self.label()?;
+        let merge = self.label()?;
+        self.test_or(context.occurrence, condition, no)?;
+        push(tasks, Task::Merge(place, merge))?;
+        push(tasks, Task::Statement(second, context))?;
+        push(tasks, Task::Otherwise(no, merge))?;
+        push(tasks, Task::Statement(first, context))
+    }
+
+    // The second part of an `if` begins.
+    fn otherwise(&mut self, no: Label, merge: Label) -> Result<(), LowerFault> {
+        self.meet(merge)?;
+        self.goal = no;
+        Ok(())
+    }
+
+    // The ways of an `if` meet at a Skip.
+    fn merge(&mut self, place: Place, merge: Label) -> Result<(), LowerFault> {
+        self.meet(merge)?;
+        self.skip(Role::Merge, place)
+    }
+
+    // `while`.
+    fn while_loop(
+        &mut self,
+        tasks: &mut Stack<Task<'a>>,
+        place: Place,
+        condition: &Condition,
+        body: &'a Statement,
+        context: Context<'a>,
+    ) -> Result<(), LowerFault> {
+        let head = self.goal;
+        self.skip(Role::Head, place)?;
+        let exit = self.label()?;
+        self.test_or(context.occurrence, condition, exit)?;
+        push(tasks, Task::EndWhile(place, head, exit))?;
+        push(tasks, Task::Statement(body, context.in_loop(exit, head)))
+    }
+
+    // The body of a `while` goes to the head.
+    fn end_while(&mut self, place: Place, head: Label, exit: Label) -> Result<(), LowerFault> {
+        self.meet(head)?;
+        self.goal = exit;
+        self.skip(Role::Plain, place)
+    }
+
+    // `do`.
+    fn do_loop(
+        &mut self,
+        tasks: &mut Stack<Task<'a>>,
+        place: Place,
+        body: &'a Statement,
+        condition: &'a Condition,
+        context: Context<'a>,
+    ) -> Result<(), LowerFault> {
+        let head = self.goal;
+        self.skip(Role::Head, place)?;
+        let turn = self.label()?;
+        let exit = self.label()?;
+        push(
+            tasks,
+            Task::EndDo(
+                place,
+                condition,
+                head,
+                Turns { exit, turn },
+                context.occurrence,
+            ),
+        )?;
+        push(tasks, Task::Statement(body, context.in_loop(exit, turn)))
+    }
+
+    // The point for `continue`, the condition, and the exit.
+    fn end_do(
+        &mut self,
+        place: Place,
+        condition: &Condition,
+        head: Label,
+        turns: Turns,
+        occurrence: usize,
+    ) -> Result<(), LowerFault> {
+        self.meet(turns.turn)?;
+        self.skip(Role::Plain, place)?;
+        let ways = Ways {
+            yes: head,
+            no: turns.exit,
+        };
+        self.test(occurrence, condition, ways)?;
+        self.goal = turns.exit;
+        self.skip(Role::Plain, place)
+    }
+
+    // `for`: its first part is next.
+    fn for_loop(
+        &mut self,
+        tasks: &mut Stack<Task<'a>>,
+        head: &'a ForHead,
+        body: &'a Statement,
+        context: Context<'a>,
+    ) -> Result<(), LowerFault> {
+        push(tasks, Task::For(head, body, context))?;
+        match &head.start {
+            ForStart::Nothing => Ok(()),
+            ForStart::Declaration(place, items) => {
+                push(tasks, Task::Declare(*place, items.as_slice(), context))
+            }
+            ForStart::Simple(simple) => push(tasks, Task::Simple(simple, context)),
+        }
+    }
+
+    // The head of a `for` and its condition; its body is next.
+    fn enter_for(
+        &mut self,
+        tasks: &mut Stack<Task<'a>>,
+        head: &'a ForHead,
+        body: &'a Statement,
+        context: Context<'a>,
+    ) -> Result<(), LowerFault> {
+        let begin = self.goal;
+        self.skip(Role::Head, head.place)?;
+        let turn = self.label()?;
+        let exit = self.label()?;
+        self.test_perhaps(context.occurrence, head.condition.as_ref(), exit)?;
+        push(
+            tasks,
+            Task::ForTurn(head, begin, Turns { exit, turn }, context),
+        )?;
+        push(tasks, Task::Statement(body, context.in_loop(exit, turn)))
+    }
+
+    // The point for `continue`; the last part is next.
+    fn turn_for(
+        &mut self,
+        tasks: &mut Stack<Task<'a>>,
+        head: &'a ForHead,
+        begin: Label,
+        turns: Turns,
+        context: Context<'a>,
+    ) -> Result<(), LowerFault> {
+        self.meet(turns.turn)?;
+        self.skip(Role::Plain, head.place)?;
+        push(
+            tasks,
+            Task::EndFor(head, begin, turns.exit, context.occurrence),
+        )?;
+        match &head.last {
+            None => Ok(()),
+            Some(simple) => push(tasks, Task::Simple(simple, context)),
+        }
+    }
+
+    // The last part goes to the head; behind the exit the variables of the head become undefined.
+    fn end_for(
+        &mut self,
+        head: &'a ForHead,
+        begin: Label,
+        exit: Label,
+        occurrence: usize,
+    ) -> Result<(), LowerFault> {
+        self.meet(begin)?;
+        self.goal = exit;
+        self.skip(Role::Plain, head.place)?;
+        self.leave(NOWHERE, occurrence, head.variables.as_slice())
+    }
+
+    // ---- jumps
+    // `break` and `continue`: the variables of the blocks that are left become undefined.
+    fn break_loop(&mut self, place: Place, context: Context<'a>) -> Result<(), LowerFault> {
+        let Some(turns) = context.turns else {
+            return Err(ABSENT);
+        };
+        self.leave_blocks(place, context.occurrence, context.block)?;
+        self.go(turns.exit)
+    }
+
+    fn continue_loop(&mut self, place: Place, context: Context<'a>) -> Result<(), LowerFault> {
+        let Some(turns) = context.turns else {
+            return Err(ABSENT);
+        };
+        self.leave_blocks(place, context.occurrence, context.block)?;
+        self.go(turns.turn)
+    }
+
+    // `return` with a value that is no call's.
+    fn return_value(&mut self, site: Site, right: &RightSide) -> Result<(), LowerFault> {
+        let variable = self.result(site.occurrence)?;
+        self.set_to(site, variable, right)?;
+        self.go_out(site.occurrence)
+    }
+
+    // `return`, perhaps with a value.
+    fn returns(
+        &mut self,
+        tasks: &mut Stack<Task<'a>>,
+        place: Place,
+        value: Option<&'a RightSide>,
+        context: Context<'a>,
+    ) -> Result<(), LowerFault> {
+        let site = Site {
+            occurrence: context.occurrence,
+            place,
+        };
+        match value {
+            None => self.go_out(context.occurrence),
+            Some(right) => match right {
+                RightSide::Call(call) => self.call_and_return(tasks, place, call, context),
+                RightSide::Expression(_) => self.return_value(site, right),
+                RightSide::Malloc(_, _) => self.return_value(site, right),
+            },
+        }
+    }
+
+    // A statement is lowered, or what is inside it is next.
+    fn statement(
+        &mut self,
+        tasks: &mut Stack<Task<'a>>,
+        statement: &'a Statement,
+        context: Context<'a>,
+    ) -> Result<(), LowerFault> {
+        let occurrence = context.occurrence;
+        match statement {
+            Statement::Declaration(place, items) => {
+                push(tasks, Task::Declare(*place, items.as_slice(), context))
+            }
+            Statement::Block(numbers, inner) => {
+                self.block(tasks, numbers.as_slice(), inner.as_slice(), context)
+            }
+            Statement::Empty => Ok(()),
+            Statement::Simple(simple) => push(tasks, Task::Simple(simple, context)),
+            Statement::Free(place, pointer) => {
+                let site = Site {
+                    occurrence,
+                    place: *place,
+                };
+                self.free(site, pointer)
+            }
+            Statement::Assert(place, condition) => {
+                self.check(*place, condition, Role::Plain, Instr::Fail, occurrence)
+            }
+            Statement::Assume(place, condition) => {
+                self.check(*place, condition, Role::Stop, Instr::End, occurrence)
+            }
+            Statement::AssumeShape(shape) => self.assume_shape(shape, occurrence),
+            Statement::AssertShape(shape) => self.assert_shape(shape, occurrence),
+            Statement::AssertEmpty(place) => self.assert_empty(*place),
+            Statement::If(place, condition, part) => {
+                self.if_only(tasks, *place, condition, part, context)
+            }
+            Statement::IfElse(place, condition, first, second) => {
+                self.if_else(tasks, *place, condition, first, second, context)
+            }
+            Statement::While(place, condition, body) => {
+                self.while_loop(tasks, *place, condition, body, context)
+            }
+            Statement::Do(place, body, condition) => {
+                self.do_loop(tasks, *place, body, condition, context)
+            }
+            Statement::For(head, body) => self.for_loop(tasks, head, body, context),
+            Statement::Break(place) => self.break_loop(*place, context),
+            Statement::Continue(place) => self.continue_loop(*place, context),
+            Statement::Return(place, value) => {
+                self.returns(tasks, *place, value.as_ref(), context)
+            }
+        }
+    }
+
+    // The first of these statements is next, and then the others.
+    fn statements(
+        &mut self,
+        tasks: &mut Stack<Task<'a>>,
+        statements: &'a [Statement],
+        context: Context<'a>,
+    ) -> Result<(), LowerFault> {
+        let Some((first, more)) = statements.split_first() else {
+            return Ok(());
+        };
+        push(tasks, Task::Statements(more, context))?;
+        push(tasks, Task::Statement(first, context))
+    }
+
+    /// What is next is lowered, or what it is made of is next.
+    pub fn step(&mut self, tasks: &mut Stack<Task<'a>>, task: Task<'a>) -> Result<(), LowerFault> {
+        match task {
+            Task::Statements(statements, context) => self.statements(tasks, statements, context),
+            Task::Statement(statement, context) => self.statement(tasks, statement, context),
+            Task::Simple(simple, context) => self.perform(tasks, simple, context),
+            Task::Declare(place, items, context) => self.declare(tasks, place, items, context),
+            Task::EndBlock(numbers, occurrence) => self.leave(NOWHERE, occurrence, numbers),
+            Task::Otherwise(no, merge) => self.otherwise(no, merge),
+            Task::Merge(place, merge) => self.merge(place, merge),
+            Task::EndWhile(place, head, exit) => self.end_while(place, head, exit),
+            Task::EndDo(place, condition, head, turns, occurrence) => {
+                self.end_do(place, condition, head, turns, occurrence)
+            }
+            Task::For(head, body, context) => self.enter_for(tasks, head, body, context),
+            Task::ForTurn(head, begin, turns, context) => {
+                self.turn_for(tasks, head, begin, turns, context)
+            }
+            Task::EndFor(head, begin, exit, occurrence) => {
+                self.end_for(head, begin, exit, occurrence)
+            }
+            Task::EndCall(place, callee) => self.end_call(place, callee),
+            Task::Take(place, target, answer, occurrence) => {
+                self.take_result(Site { occurrence, place }, target, answer)
+            }
+            Task::Answer(place, own, answer, occurrence) => {
+                self.answer_result(Site { occurrence, place }, own, answer)
+            }
+        }
+    }
+}
