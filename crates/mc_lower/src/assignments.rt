@@ -1,4 +1,15 @@
 // The points of assignments without calls.
+ghost use Rattle.std.specs.Prelude.{[], ℕ, ◌≡◌, OnOk};
+ghost use Rattle.mc_flow.specs.declared.instr.Instr.TheVariants.{Free, Malloc, Store};
+ghost use Rattle.mc_flow.specs.declared.instr.Operand.TheVariants.{Var};
+ghost use Rattle.mc_lowering.specs.Graphs.{Appends, Stage, plain};
+ghost use Rattle.mc_lowering.specs.Lowering.{Assigns, Changes, SetsTo};
+ghost use Rattle.mc_lowering.specs.Values.{Evaluates, Puts};
+ghost use Rattle.mc_resolved.specs.Programs.{Expr, allocation, expression as value_of};
+ghost use Rattle.mc_resolved.specs.Views.{expression_of, left_of, right_of};
+ghost use Rattle.mc_lower.specs.Valued.{Frees, joined, target_of};
+ghost use Rattle.mc_lower.specs.Worlds.{Agrees, Leads, World, stage_of};
+
 use crate::builder::{ABSENT, Builder, LowerFault, Role};
 use crate::values::{How, Operation, Site, Target, Value};
 use mc_base::{Kind, StructId, VarId};
@@ -8,12 +19,9 @@ use mc_text::Place;
 
 impl<'a> Builder<'a> {
     // A variable gets new memory.
-    fn allocate(
-        &mut self,
-        place: Place,
-        variable: VarId,
-        shape: StructId,
-    ) -> Result<(), LowerFault> {
+    fn allocate(&mut self, place: Place, variable: VarId, shape: StructId) -> Result<(), LowerFault>
+        ensures { OnOk result (Leads (λ w s u. Appends w.graph plain place (λ q. Malloc variable shape q) s u) self.old self.new) }
+    {
         let next = self.label()?;
         self.append(
             Role::Plain,
@@ -30,7 +38,9 @@ impl<'a> Builder<'a> {
         base: VarId,
         field: FieldAt,
         operand: Operand,
-    ) -> Result<(), LowerFault> {
+    ) -> Result<(), LowerFault>
+        ensures { OnOk result (Leads (λ w s u. Appends w.graph plain place (λ q. Store base field.shape field.field operand q) s u) self.old self.new) }
+    {
         let next = self.label()?;
         self.append(
             Role::Plain,
@@ -52,7 +62,9 @@ impl<'a> Builder<'a> {
         site: Site,
         variable: VarId,
         expression: &Expression,
-    ) -> Result<(), LowerFault> {
+    ) -> Result<(), LowerFault>
+        ensures { OnOk result (Leads (λ w s u. SetsTo w.graph (w.out site.occurrence) site.place variable (value_of (expression_of expression.now)) s u) self.old self.new) }
+    {
         let mut temporaries = Vec::new(self.alloc);
         match self.compute(site, expression, &mut temporaries)? {
             Value::Ready(operand) => self.copy(site.place, variable, operand),
@@ -70,7 +82,9 @@ impl<'a> Builder<'a> {
         variable: VarId,
         shape: StructId,
         count: usize,
-    ) -> Result<(), LowerFault> {
+    ) -> Result<(), LowerFault>
+        ensures { OnOk result ((i : ℕ) → Leads (λ w s u. SetsTo w.graph (w.out i) place variable (allocation shape.0 count) s u) self.old self.new) }
+    {
         self.check_count(shape, count)?;
         self.allocate(place, variable, shape)
     }
@@ -81,7 +95,9 @@ impl<'a> Builder<'a> {
         site: Site,
         variable: VarId,
         right: &RightSide,
-    ) -> Result<(), LowerFault> {
+    ) -> Result<(), LowerFault>
+        ensures { OnOk result (Leads (λ w s u. SetsTo w.graph (w.out site.occurrence) site.place variable (right_of right.now) s u) self.old self.new) }
+    {
         match right {
             RightSide::Expression(expression) => self.set_to_value(site, variable, expression),
             RightSide::Malloc(shape, count) => {
@@ -98,7 +114,9 @@ impl<'a> Builder<'a> {
         number: usize,
         operand: Operand,
         temporaries: &[VarId],
-    ) -> Result<(), LowerFault> {
+    ) -> Result<(), LowerFault>
+        ensures { OnOk result (Leads (λ w s u. Puts w.graph (w.out site.occurrence) site.place (record { variable = number; fields = [] }) operand temporaries.now s u) self.old self.new) }
+    {
         let variable = self.local(site.occurrence, number)?;
         self.copy(site.place, variable, operand)?;
         self.undefine(site.place, temporaries)
@@ -111,7 +129,9 @@ impl<'a> Builder<'a> {
         target: Target,
         operand: Operand,
         temporaries: &mut Vec<VarId>,
-    ) -> Result<(), LowerFault> {
+    ) -> Result<(), LowerFault>
+        ensures { OnOk result (Leads (λ w s u. Puts w.graph (w.out site.occurrence) site.place (target_of target) operand temporaries.old.items s u) self.old self.new) }
+    {
         let variable = self.local(site.occurrence, target.variable)?;
         let (base, last) = self.walk(site.place, variable, target.fields, temporaries)?;
         self.store(site.place, base, last, operand)?;
@@ -125,7 +145,9 @@ impl<'a> Builder<'a> {
         target: Target,
         operand: Operand,
         temporaries: &mut Vec<VarId>,
-    ) -> Result<(), LowerFault> {
+    ) -> Result<(), LowerFault>
+        ensures { OnOk result (Leads (λ w s u. Puts w.graph (w.out site.occurrence) site.place (target_of target) operand temporaries.old.items s u) self.old self.new) }
+    {
         if target.fields.is_empty() {
             self.put_into_variable(site, target.variable, operand, temporaries.as_slice())
         } else {
@@ -139,7 +161,9 @@ impl<'a> Builder<'a> {
         site: Site,
         target: Target,
         expression: &Expression,
-    ) -> Result<(), LowerFault> {
+    ) -> Result<(), LowerFault>
+        ensures { OnOk result (Leads (λ w s u. Assigns w.graph (w.out site.occurrence) site.place (target_of target) (value_of (expression_of expression.now)) s u) self.old self.new) }
+    {
         let mut temporaries = Vec::new(self.alloc);
         let operand = self.evaluate(site, expression, &mut temporaries)?;
         self.put_into_field(site, target, operand, &mut temporaries)
@@ -152,7 +176,9 @@ impl<'a> Builder<'a> {
         target: Target,
         shape: StructId,
         count: usize,
-    ) -> Result<(), LowerFault> {
+    ) -> Result<(), LowerFault>
+        ensures { OnOk result (Leads (λ w s u. Assigns w.graph (w.out site.occurrence) site.place (target_of target) (allocation shape.0 count) s u) self.old self.new) }
+    {
         self.check_count(shape, count)?;
         let variable = self.temporary(0, Kind::Ptr)?;
         self.allocate(site.place, variable, shape)?;
@@ -167,7 +193,9 @@ impl<'a> Builder<'a> {
         site: Site,
         target: Target,
         right: &RightSide,
-    ) -> Result<(), LowerFault> {
+    ) -> Result<(), LowerFault>
+        ensures { OnOk result (Leads (λ w s u. Assigns w.graph (w.out site.occurrence) site.place (target_of target) (right_of right.now) s u) self.old self.new) }
+    {
         match right {
             RightSide::Expression(expression) => self.assign_value(site, target, expression),
             RightSide::Malloc(shape, count) => self.assign_new(site, target, *shape, *count),
@@ -181,7 +209,9 @@ impl<'a> Builder<'a> {
         site: Site,
         target: Target,
         right: &RightSide,
-    ) -> Result<(), LowerFault> {
+    ) -> Result<(), LowerFault>
+        ensures { OnOk result (Leads (λ w s u. Assigns w.graph (w.out site.occurrence) site.place (target_of target) (right_of right.now) s u) self.old self.new) }
+    {
         if target.fields.is_empty() {
             let variable = self.local(site.occurrence, target.variable)?;
             self.set_to(site, variable, right)
@@ -198,7 +228,9 @@ impl<'a> Builder<'a> {
         number: usize,
         operand: Operand,
         temporaries: &[VarId],
-    ) -> Result<(), LowerFault> {
+    ) -> Result<(), LowerFault>
+        ensures { OnOk result (Leads (λ w s u. (e : Expr) (r : Stage) → Evaluates w.graph (w.out site.occurrence) site.place e [] r operand temporaries.now s → Changes w.graph (w.out site.occurrence) site.place (joined how) (record { variable = number; fields = [] }) e r u) self.old self.new) }
+    {
         let variable = self.local(site.occurrence, number)?;
         self.set(
             site.place,
@@ -216,7 +248,9 @@ impl<'a> Builder<'a> {
         left: &LeftValue,
         operand: Operand,
         temporaries: &mut Vec<VarId>,
-    ) -> Result<(), LowerFault> {
+    ) -> Result<(), LowerFault>
+        ensures { OnOk result (Leads (λ w s u. (e : Expr) (r : Stage) → Evaluates w.graph (w.out site.occurrence) site.place e [] r operand temporaries.old.items s → Changes w.graph (w.out site.occurrence) site.place (joined how) (left_of left.now) e r u) self.old self.new) }
+    {
         let variable = self.local(site.occurrence, left.variable)?;
         let (base, last) = self.walk(site.place, variable, left.fields.as_slice(), temporaries)?;
         let kind = self.field_kind(last)?;
@@ -235,7 +269,9 @@ impl<'a> Builder<'a> {
         how: How,
         left: &LeftValue,
         expression: &Expression,
-    ) -> Result<(), LowerFault> {
+    ) -> Result<(), LowerFault>
+        ensures { OnOk result (Leads (λ w s u. Changes w.graph (w.out site.occurrence) site.place (joined how) (left_of left.now) (expression_of expression.now) s u) self.old self.new) }
+    {
         let mut temporaries = Vec::new(self.alloc);
         let operand = self.evaluate(site, expression, &mut temporaries)?;
         if left.fields.is_empty() {
@@ -246,7 +282,9 @@ impl<'a> Builder<'a> {
     }
 
     // A block is freed.
-    fn release(&mut self, place: Place, operand: Operand) -> Result<(), LowerFault> {
+    fn release(&mut self, place: Place, operand: Operand) -> Result<(), LowerFault>
+        ensures { OnOk result (Leads (λ w s u. Appends w.graph plain place (λ q. Free operand q) s u) self.old self.new) }
+    {
         let next = self.label()?;
         self.append(
             Role::Plain,
@@ -257,7 +295,9 @@ impl<'a> Builder<'a> {
     }
 
     /// `free`.
-    pub fn free(&mut self, site: Site, pointer: &Expression) -> Result<(), LowerFault> {
+    pub fn free(&mut self, site: Site, pointer: &Expression) -> Result<(), LowerFault>
+        ensures { OnOk result (Leads (λ w s u. Frees w.graph (w.out site.occurrence) site.place (expression_of pointer.now) s u) self.old self.new) }
+    {
         let mut temporaries = Vec::new(self.alloc);
         let operand = self.evaluate(site, pointer, &mut temporaries)?;
         self.release(site.place, operand)?;

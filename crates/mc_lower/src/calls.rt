@@ -1,4 +1,13 @@
 // Calls, simple statements and declarations are lowered, or what they are made of is next.
+ghost use Rattle.std.specs.Prelude.{Some, ◌≡◌, ◌∷◌, IfOk, OnOk, length, map, slice_get};
+ghost use Rattle.mc_lowering.specs.Graphs.{Stage};
+ghost use Rattle.mc_lowering.specs.Lowering.{Awaits, Declares, LowersAll, Lowers, Passes, Performs, Receives};
+ghost use Rattle.mc_resolved.specs.Programs.{assign, call as performs_call, result_of, returns};
+ghost use Rattle.mc_resolved.specs.Views.{action_of, call_of, expression_of, function_of, initial_of, right_of};
+ghost use Rattle.mc_lower.specs.Left.{AnswersResult, Begins, DeclaresFirst, EndsCall, IsEntered, PassesAll, Rest, TakesResult, around_of};
+ghost use Rattle.mc_lower.specs.Valued.{target_of};
+ghost use Rattle.mc_lower.specs.Worlds.{Agrees, GoesTo, Leads, World, stage_of};
+
 use crate::builder::{ABSENT, Builder, LowerFault, Owner};
 use crate::tasks::{Context, Task, push};
 use crate::values::{How, Site, Target};
@@ -12,12 +21,14 @@ use mc_text::Place;
 #[derive(Clone, Copy)]
 pub struct Entered<'a> {
     pub callee: Context<'a>,
-    pub result: Option<VarId>,
+    pub answer: Option<VarId>,
 }
 
 impl<'a> Builder<'a> {
     /// A function by its number.
-    pub fn function(&self, number: usize) -> Result<&'a Function, LowerFault> {
+    pub fn function(&self, number: usize) -> Result<&'a Function, LowerFault>
+        ensures { IfOk result (λ f. (w : World) → Agrees w self.now → slice_get w.graph.program.functions number ≡ Some (function_of f.now)) }
+    {
         match self.program.functions.get(number) {
             Some(function) => Ok(function),
             None => Err(ABSENT),
@@ -25,11 +36,9 @@ impl<'a> Builder<'a> {
     }
 
     // A variable is made for each parameter of an occurrence of a function.
-    fn receive(
-        &mut self,
-        function: &Function,
-        occurrence: usize,
-    ) -> Result<Vec<VarId>, LowerFault> {
+    fn receive(&mut self, function: &Function, occurrence: usize) -> Result<Vec<VarId>, LowerFault>
+        ensures { IfOk result (λ vs. (w : World) → Agrees w self.new → Agrees w self.old × Receives w.graph (function_of function.now) (w.out occurrence) 0 function.now.parameters (stage_of w self.old) vs.items (stage_of w self.new)) }
+    {
         let mut parameters = Vec::new(self.alloc);
         for number in 0..function.parameters {
             let variable = self.create_local(function, occurrence, number)?;
@@ -44,7 +53,9 @@ impl<'a> Builder<'a> {
         place: Place,
         parameters: &[VarId],
         operands: &[Operand],
-    ) -> Result<(), LowerFault> {
+    ) -> Result<(), LowerFault>
+        ensures { OnOk result (Leads (λ w s u. Passes w.graph place parameters.now operands.now s u) self.old self.new) }
+    {
         if parameters.len() != operands.len() {
             return Err(ABSENT);
         }
@@ -55,7 +66,9 @@ impl<'a> Builder<'a> {
     }
 
     // The arguments are evaluated, and copied to the parameters.
-    fn give(&mut self, site: Site, call: &Call, parameters: &[VarId]) -> Result<(), LowerFault> {
+    fn give(&mut self, site: Site, call: &Call, parameters: &[VarId]) -> Result<(), LowerFault>
+        ensures { OnOk result (Leads (λ w s u. PassesAll w.graph (w.out site.occurrence) site.place (map expression_of call.now.arguments.items) parameters.now s u) self.old self.new) }
+    {
         let mut temporaries = Vec::new(self.alloc);
         let operands = self.evaluate_all(site, call.arguments.as_slice(), &mut temporaries)?;
         self.pass(site.place, parameters, operands.as_slice())?;
@@ -68,7 +81,9 @@ impl<'a> Builder<'a> {
         place: Place,
         function: &Function,
         occurrence: usize,
-    ) -> Result<Option<VarId>, LowerFault> {
+    ) -> Result<Option<VarId>, LowerFault>
+        ensures { IfOk result (λ r. (w : World) → Agrees w self.new → Agrees w self.old × Awaits w.graph (w.out occurrence) place function.now.result (stage_of w self.old) r (stage_of w self.new)) }
+    {
         match function.result {
             Some(kind) => {
                 let result = self.create_result(occurrence, kind)?;
@@ -86,7 +101,9 @@ impl<'a> Builder<'a> {
         place: Place,
         call: &Call,
         context: Context<'a>,
-    ) -> Result<Entered<'a>, LowerFault> {
+    ) -> Result<Entered<'a>, LowerFault>
+        ensures { IfOk result (λ e. (w : World) → Agrees w self.new → Agrees w self.old × IsEntered w place (call_of call.now) context e (stage_of w self.old) (stage_of w self.new)) }
+    {
         if context.depth >= self.program.functions.len() {
             return Err(ABSENT);
         }
@@ -98,7 +115,7 @@ impl<'a> Builder<'a> {
             place,
         };
         self.give(site, call, parameters.as_slice())?;
-        let result = self.await_result(place, function, occurrence)?;
+        let answer = self.await_result(place, function, occurrence)?;
         let callee = Context {
             function,
             occurrence,
@@ -106,11 +123,13 @@ impl<'a> Builder<'a> {
             block: None,
             turns: None,
         };
-        Ok(Entered { callee, result })
+        Ok(Entered { callee, answer })
     }
 
     /// The body of a call is behind: its variables become undefined.
-    pub fn end_call(&mut self, place: Place, callee: Context<'a>) -> Result<(), LowerFault> {
+    pub fn end_call(&mut self, place: Place, callee: Context<'a>) -> Result<(), LowerFault>
+        ensures { OnOk result (Leads (λ w s u. EndsCall w.graph (w.out callee.occurrence) place (length (function_of callee.function.now).locals) s u) self.old self.new) }
+    {
         let out = self.out(callee.occurrence)?;
         self.meet(out)?;
         self.forget(place, callee.occurrence, callee.function.locals.len())
@@ -122,7 +141,9 @@ impl<'a> Builder<'a> {
         site: Site,
         target: Target,
         answer: Option<VarId>,
-    ) -> Result<(), LowerFault> {
+    ) -> Result<(), LowerFault>
+        ensures { OnOk result (Leads (λ w s u. TakesResult w.graph (w.out site.occurrence) site.place target answer s u) self.old self.new) }
+    {
         let Some(returned) = answer else {
             return Err(ABSENT);
         };
@@ -137,7 +158,9 @@ impl<'a> Builder<'a> {
         site: Site,
         own: VarId,
         answer: Option<VarId>,
-    ) -> Result<(), LowerFault> {
+    ) -> Result<(), LowerFault>
+        ensures { OnOk result (Leads (λ w s u. AnswersResult w.graph (w.out site.occurrence) site.place own answer s u) self.old self.new) }
+    {
         let Some(returned) = answer else {
             return Err(ABSENT);
         };
@@ -147,7 +170,9 @@ impl<'a> Builder<'a> {
     }
 
     /// What was made goes on where `return` goes.
-    pub fn go_out(&mut self, occurrence: usize) -> Result<(), LowerFault> {
+    pub fn go_out(&mut self, occurrence: usize) -> Result<(), LowerFault>
+        ensures { OnOk result (Leads (λ w s u. GoesTo (w.out occurrence) s u) self.old self.new) }
+    {
         let out = self.out(occurrence)?;
         self.go(out)
     }
@@ -158,7 +183,9 @@ fn push_body<'a>(
     tasks: &mut Stack<Task<'a>>,
     place: Place,
     callee: Context<'a>,
-) -> Result<(), LowerFault> {
+) -> Result<(), LowerFault>
+    ensures { OnOk result ((w : World) (s u : Stage) → Rest w tasks.new s u → (m : Stage) × LowersAll w.graph (around_of w callee) (function_of callee.function.now).body s m × ((n : Stage) × EndsCall w.graph (w.out callee.occurrence) place (length (function_of callee.function.now).locals) m n × Rest w tasks.old n u)) }
+{
     push(tasks, Task::EndCall(place, callee))?;
     push(
         tasks,
@@ -168,13 +195,15 @@ fn push_body<'a>(
 
 impl<'a> Builder<'a> {
     // A call whose result is not used.
-    fn call(
+    fn call_for_nothing(
         &mut self,
         tasks: &mut Stack<Task<'a>>,
         place: Place,
         call: &Call,
         context: Context<'a>,
-    ) -> Result<(), LowerFault> {
+    ) -> Result<(), LowerFault>
+        ensures { OnOk result (Begins (λ w s m. Performs w.graph (w.out context.occurrence) place (performs_call (call_of call.now)) s m) self.old tasks.old self.new tasks.new) }
+    {
         let entered = self.enter_call(place, call, context)?;
         push_body(tasks, place, entered.callee)
     }
@@ -187,11 +216,13 @@ impl<'a> Builder<'a> {
         target: Target<'a>,
         call: &Call,
         context: Context<'a>,
-    ) -> Result<(), LowerFault> {
+    ) -> Result<(), LowerFault>
+        ensures { OnOk result (Begins (λ w s m. Performs w.graph (w.out context.occurrence) place (assign (target_of target) (result_of (call_of call.now))) s m) self.old tasks.old self.new tasks.new) }
+    {
         let entered = self.enter_call(place, call, context)?;
         push(
             tasks,
-            Task::Take(place, target, entered.result, context.occurrence),
+            Task::Take(place, target, entered.answer, context.occurrence),
         )?;
         push_body(tasks, place, entered.callee)
     }
@@ -203,12 +234,14 @@ impl<'a> Builder<'a> {
         place: Place,
         call: &Call,
         context: Context<'a>,
-    ) -> Result<(), LowerFault> {
-        let own = self.result(context.occurrence)?;
+    ) -> Result<(), LowerFault>
+        ensures { OnOk result (Begins (λ w s m. Lowers w.graph (around_of w context) (returns place (Some (result_of (call_of call.now)))) s m) self.old tasks.old self.new tasks.new) }
+    {
+        let own = self.own_result(context.occurrence)?;
         let entered = self.enter_call(place, call, context)?;
         push(
             tasks,
-            Task::Answer(place, own, entered.result, context.occurrence),
+            Task::Answer(place, own, entered.answer, context.occurrence),
         )?;
         push_body(tasks, place, entered.callee)
     }
@@ -221,7 +254,9 @@ impl<'a> Builder<'a> {
         target: Target<'a>,
         right: &'a RightSide,
         context: Context<'a>,
-    ) -> Result<(), LowerFault> {
+    ) -> Result<(), LowerFault>
+        ensures { OnOk result (Begins (λ w s m. Performs w.graph (w.out context.occurrence) place (assign (target_of target) (right_of right.now)) s m) self.old tasks.old self.new tasks.new) }
+    {
         let site = Site {
             occurrence: context.occurrence,
             place,
@@ -239,7 +274,9 @@ impl<'a> Builder<'a> {
         tasks: &mut Stack<Task<'a>>,
         simple: &'a Simple,
         context: Context<'a>,
-    ) -> Result<(), LowerFault> {
+    ) -> Result<(), LowerFault>
+        ensures { OnOk result (Begins (λ w s m. Performs w.graph (w.out context.occurrence) simple.now.place (action_of simple.now.action) s m) self.old tasks.old self.new tasks.new) }
+    {
         let place = simple.place;
         let site = Site {
             occurrence: context.occurrence,
@@ -249,7 +286,7 @@ impl<'a> Builder<'a> {
             Action::Assign(left, right) => {
                 self.assign_right(tasks, place, Target::of(left), right, context)
             }
-            Action::Call(call) => self.call(tasks, place, call, context),
+            Action::Call(call) => self.call_for_nothing(tasks, place, call, context),
             Action::Add(left, expression) => self.change(site, How::Plus, left, expression),
             Action::Subtract(left, expression) => {
                 self.change(site, How::Difference, left, expression)
@@ -264,7 +301,9 @@ impl<'a> Builder<'a> {
         place: Place,
         item: &'a Initial,
         context: Context<'a>,
-    ) -> Result<(), LowerFault> {
+    ) -> Result<(), LowerFault>
+        ensures { OnOk result (Begins (λ w s m. DeclaresFirst w context place (initial_of item.now) s m) self.old tasks.old self.new tasks.new) }
+    {
         let variable = self.create_local(context.function, context.occurrence, item.variable)?;
         match &item.value {
             None => self.undefine_all(place, &[variable]),
@@ -285,7 +324,9 @@ impl<'a> Builder<'a> {
         place: Place,
         items: &'a [Initial],
         context: Context<'a>,
-    ) -> Result<(), LowerFault> {
+    ) -> Result<(), LowerFault>
+        ensures { OnOk result (Begins (λ w s m. Declares w.graph (function_of context.function.now) (w.out context.occurrence) place (map initial_of items.now) s m) self.old tasks.old self.new tasks.new) }
+    {
         let Some((item, more)) = items.split_first() else {
             return Ok(());
         };

@@ -1,4 +1,12 @@
 // The points that test conditions.
+ghost use Rattle.std.specs.Prelude.{ℕ, ◌≡◌, ◌∷◌, OnOk, length, option_map};
+ghost use Rattle.mc_lowering.specs.Graphs.{Undefines, plain, point, stage};
+ghost use Rattle.mc_lowering.specs.Values.{Compares, decides};
+ghost use Rattle.mc_resolved.specs.Programs.{compare, plain as plain_condition};
+ghost use Rattle.mc_resolved.specs.Views.{condition_of, expression_of};
+ghost use Rattle.mc_lower.specs.Valued.{Testing, TestsOn, TestsPerhapsOn, TestsTo};
+ghost use Rattle.mc_lower.specs.Worlds.{Agrees, Leads, World, stage_of};
+
 use crate::builder::{ABSENT, Builder, Label, LowerFault, Role};
 use crate::values::{Site, nothing};
 use mc_ast::Comparison;
@@ -17,14 +25,16 @@ pub struct Ways {
 
 // What is still to be tested: a condition from a label on.
 #[derive(Clone, Copy)]
-struct Work<'c> {
-    from: Label,
-    condition: &'c Condition,
-    ways: Ways,
+pub struct Work<'c> {
+    pub from: Label,
+    pub condition: &'c Condition,
+    pub ways: Ways,
 }
 
 // The test that goes the one way where the comparison is true, else the other.
-fn decides(comparison: Comparison, left: Operand, right: Operand, ways: Ways) -> Instr {
+fn decides(comparison: Comparison, left: Operand, right: Operand, ways: Ways) -> Instr
+    ensures { result ≡ decides comparison left right (point ways.yes.0) (point ways.no.0) }
+{
     let yes = ways.yes.target();
     let no = ways.no.target();
     match comparison {
@@ -43,7 +53,9 @@ fn push<'c>(
     from: Label,
     condition: &'c Condition,
     ways: Ways,
-) -> Result<(), LowerFault> {
+) -> Result<(), LowerFault>
+    ensures { OnOk result (work.new ≡ record { from = from; condition = condition.entry; ways = ways } ∷ work.old) }
+{
     work.push(Work {
         from,
         condition,
@@ -60,7 +72,9 @@ impl<'a> Builder<'a> {
         temporaries: &[VarId],
         from: Label,
         to: Label,
-    ) -> Result<(), LowerFault> {
+    ) -> Result<(), LowerFault>
+        ensures { OnOk result ((w : World) → Agrees w self.new → Agrees w self.old × Undefines w.graph place temporaries.now (stage (w.at from.0) (length self.old.points.items) (length self.old.variables.items)) (stage (w.at to.0) (length self.new.points.items) (length self.new.variables.items))) }
+    {
         self.goal = from;
         self.undefine(place, temporaries)?;
         self.meet(to)
@@ -75,7 +89,9 @@ impl<'a> Builder<'a> {
         right: Operand,
         temporaries: &[VarId],
         ways: Ways,
-    ) -> Result<(), LowerFault> {
+    ) -> Result<(), LowerFault>
+        ensures { OnOk result ((w : World) → Agrees w self.new → Agrees w self.old × Compares w.graph place comparison left right temporaries.now (stage_of w self.old) (w.at ways.yes.0) (w.at ways.no.0) (length self.new.points.items) (length self.new.variables.items)) }
+    {
         let yes = self.label()?;
         let no = self.label()?;
         let code = decides(comparison, left, right, Ways { yes, no });
@@ -90,7 +106,9 @@ impl<'a> Builder<'a> {
         site: Site,
         expression: &Expression,
         ways: Ways,
-    ) -> Result<(), LowerFault> {
+    ) -> Result<(), LowerFault>
+        ensures { OnOk result ((w : World) → Agrees w self.new → Agrees w self.old × TestsTo w site.occurrence (plain_condition site.place (expression_of expression.now)) ways self.old self.new) }
+    {
         let mut temporaries = Vec::new(self.alloc);
         let operand = self.evaluate(site, expression, &mut temporaries)?;
         self.compare(
@@ -111,7 +129,9 @@ impl<'a> Builder<'a> {
         left: &Expression,
         right: &Expression,
         ways: Ways,
-    ) -> Result<(), LowerFault> {
+    ) -> Result<(), LowerFault>
+        ensures { OnOk result ((w : World) → Agrees w self.new → Agrees w self.old × TestsTo w site.occurrence (compare site.place comparison (expression_of left.now) (expression_of right.now)) ways self.old self.new) }
+    {
         let mut temporaries = Vec::new(self.alloc);
         let left = self.evaluate(site, left, &mut temporaries)?;
         let right = self.evaluate(site, right, &mut temporaries)?;
@@ -132,7 +152,9 @@ impl<'a> Builder<'a> {
         condition: &'c Condition,
         ways: Ways,
         work: &mut Stack<Work<'c>>,
-    ) -> Result<(), LowerFault> {
+    ) -> Result<(), LowerFault>
+        ensures { OnOk result ((w : World) (n k : ℕ) → Agrees w self.new → Testing w occurrence work.new (length self.new.points.items) (length self.new.variables.items) n k → Agrees w self.old × Testing w occurrence (record { from = self.old.goal; condition = condition.entry; ways = ways } ∷ work.old) (length self.old.points.items) (length self.old.variables.items) n k) }
+    {
         let from = self.goal;
         match condition {
             Condition::Plain(place, expression) => {
@@ -183,7 +205,9 @@ impl<'a> Builder<'a> {
         occurrence: usize,
         next: Work<'c>,
         work: &mut Stack<Work<'c>>,
-    ) -> Result<(), LowerFault> {
+    ) -> Result<(), LowerFault>
+        ensures { OnOk result ((w : World) (n k : ℕ) → Agrees w self.new → Testing w occurrence work.new (length self.new.points.items) (length self.new.variables.items) n k → Agrees w self.old × Testing w occurrence (next ∷ work.old) (length self.old.points.items) (length self.old.variables.items) n k) }
+    {
         self.goal = next.from;
         self.enter_condition(occurrence, next.condition, next.ways, work)
     }
@@ -195,7 +219,9 @@ impl<'a> Builder<'a> {
         occurrence: usize,
         condition: &Condition,
         ways: Ways,
-    ) -> Result<(), LowerFault> {
+    ) -> Result<(), LowerFault>
+        ensures { OnOk result ((w : World) → Agrees w self.new → Agrees w self.old × TestsTo w occurrence (condition_of condition.now) ways self.old self.new) }
+    {
         let mut work = Stack::new(self.alloc);
         push(&mut work, self.goal, condition, ways)?;
         for _ in 0..u64::MAX {
@@ -213,7 +239,9 @@ impl<'a> Builder<'a> {
         occurrence: usize,
         condition: &Condition,
         no: Label,
-    ) -> Result<(), LowerFault> {
+    ) -> Result<(), LowerFault>
+        ensures { OnOk result (Leads (λ w s u. TestsOn w.graph (w.out occurrence) (condition_of condition.now) (w.at no.0) s u) self.old self.new) }
+    {
         let yes = self.label()?;
         self.test(occurrence, condition, Ways { yes, no })?;
         self.goal = yes;
@@ -226,7 +254,9 @@ impl<'a> Builder<'a> {
         occurrence: usize,
         condition: Option<&Condition>,
         no: Label,
-    ) -> Result<(), LowerFault> {
+    ) -> Result<(), LowerFault>
+        ensures { OnOk result (Leads (λ w s u. TestsPerhapsOn w.graph (w.out occurrence) (option_map (λ c. condition_of c.now) condition) (w.at no.0) s u) self.old self.new) }
+    {
         match condition {
             Some(condition) => self.test_or(occurrence, condition, no),
             None => Ok(()),

@@ -1,4 +1,10 @@
 // Labels become points, and the lists of a flow graph are made.
+ghost use Rattle.std.specs.Prelude.{◌≡◌, ◌↔◌, IfOk, OnOk, IsTrue, map};
+ghost use Rattle.mc_flow.specs.declared.graph.Point.{Point};
+ghost use Rattle.mc_lowering.specs.Lowering.{AreThresholds};
+ghost use Rattle.mc_lower.specs.Finished.{AreApart, AreOnce, AreSettled, AreThose, IsFinished, point_at};
+ghost use Rattle.mc_lower.specs.Worlds.{AllAt, IsMarked, point_in, role_of, settled, target as point_of_target};
+
 use crate::builder::{ABSENT, Builder, Draft, Label, LowerFault, Mark, Role, Variable};
 use crate::lowering::Lowered;
 use crate::owners::find;
@@ -8,7 +14,9 @@ use mc_flow::{Flow, Instr, Operand, Point};
 use std::alloc::Global;
 
 // The point of a label; of one that nothing goes on to, any.
-fn point_of(table: &[usize], label: Label) -> usize {
+fn point_of(table: &[usize], label: Label) -> usize
+    ensures { result ≡ point_at table.now label.0 }
+{
     match table.get(label.0 as usize) {
         Some(point) => *point,
         None => 0,
@@ -44,7 +52,9 @@ fn points_of(alloc: Global, labels: u64, marks: &[Mark]) -> Result<Vec<usize>, L
 }
 
 // Whether what is known of a label holds of the table.
-fn holds(table: &[usize], mark: Mark) -> bool {
+fn holds(table: &[usize], mark: Mark) -> bool
+    ensures { IsTrue result ↔ IsMarked (point_at table.now) mark }
+{
     match mark {
         Mark::At(label, point) => point_of(table, label) == point,
         Mark::Same(label, other) => point_of(table, label) == point_of(table, other),
@@ -52,7 +62,9 @@ fn holds(table: &[usize], mark: Mark) -> bool {
 }
 
 // Whether all that is known of labels holds of the table.
-fn all_hold(table: &[usize], marks: &[Mark]) -> bool {
+fn all_hold(table: &[usize], marks: &[Mark]) -> bool
+    ensures { IsTrue result → AllAt (λ i m. IsMarked (point_at table.now) m) marks.now }
+{
     for at in 0..marks.len() {
         if !holds(table, marks[at]) {
             return false;
@@ -81,7 +93,9 @@ fn last_labels(
 }
 
 // Whether these labels are different points, by a table that has for each point the number of its label.
-fn are_apart(table: &[usize], outs: &[Label], lasts: &[usize]) -> bool {
+fn are_apart(table: &[usize], outs: &[Label], lasts: &[usize]) -> bool
+    ensures { IsTrue result → AreApart (point_at table.now) outs.now }
+{
     for at in 0..outs.len() {
         if lasts.get(point_of(table, outs[at])).copied() != Some(at) {
             return false;
@@ -91,7 +105,9 @@ fn are_apart(table: &[usize], outs: &[Label], lasts: &[usize]) -> bool {
 }
 
 // Whether no two variables have one owner.
-fn are_once(variables: &[Variable]) -> bool {
+fn are_once(variables: &[Variable]) -> bool
+    ensures { IsTrue result → AreOnce variables.now }
+{
     for at in 0..variables.len() {
         if find(variables, variables[at].owner) != Some(at) {
             return false;
@@ -101,12 +117,16 @@ fn are_once(variables: &[Variable]) -> bool {
 }
 
 // The point that a target stands for.
-fn settled(table: &[usize], target: PointId) -> PointId {
+fn settled(table: &[usize], target: PointId) -> PointId
+    ensures { result ≡ point_of_target (point_at table.now) target }
+{
     PointId(point_of(table, Label(target.0)) as u64)
 }
 
 // An instruction with points in place of labels.
-fn with_points(table: &[usize], code: Instr) -> Instr {
+fn with_points(table: &[usize], code: Instr) -> Instr
+    ensures { result ≡ settled (point_at table.now) code }
+{
     match code {
         Instr::Skip(q) => Instr::Skip(settled(table, q)),
         Instr::Copy(x, o, q) => Instr::Copy(x, o, settled(table, q)),
@@ -130,7 +150,9 @@ fn with_points(table: &[usize], code: Instr) -> Instr {
 }
 
 // The points of a role, ascending.
-fn of_role(alloc: Global, points: &[Draft], role: Role) -> Result<Items<PointId>, LowerFault> {
+fn of_role(alloc: Global, points: &[Draft], role: Role) -> Result<Items<PointId>, LowerFault>
+    ensures { IfOk result (λ ps. AreThose points.now (role_of role) ps) }
+{
     let mut list = Vec::new(alloc);
     for (number, point) in points.iter().enumerate() {
         if point.role == role {
@@ -187,7 +209,9 @@ fn add_all(list: &mut Vec<i64>, operands: &[Operand]) -> Result<(), LowerFault> 
 }
 
 // The constants of all operands, ascending, each once.
-fn thresholds(alloc: Global, points: &[Draft]) -> Result<Items<i64>, LowerFault> {
+fn thresholds(alloc: Global, table: &[usize], points: &[Draft]) -> Result<Items<i64>, LowerFault>
+    ensures { IfOk result (λ cs. AreThresholds (map (point_in (point_at table.now)) points.now) cs) }
+{
     let mut all = Vec::new(alloc);
     for point in points {
         add_constants(&mut all, &point.code)?;
@@ -203,7 +227,9 @@ fn thresholds(alloc: Global, points: &[Draft]) -> Result<Items<i64>, LowerFault>
 }
 
 // The points of a flow graph.
-fn settle(alloc: Global, table: &[usize], drafts: Vec<Draft>) -> Result<Items<Point>, LowerFault> {
+fn settle(alloc: Global, table: &[usize], drafts: Vec<Draft>) -> Result<Items<Point>, LowerFault>
+    ensures { IfOk result (λ points. points ≡ map (point_in (point_at table.now)) drafts.items) }
+{
     let mut points = Vec::new(alloc);
     for draft in drafts {
         let code = with_points(table, draft.code);
@@ -216,7 +242,9 @@ fn settle(alloc: Global, table: &[usize], drafts: Vec<Draft>) -> Result<Items<Po
 }
 
 // The variables of a flow graph.
-fn infos(alloc: Global, variables: Vec<Variable>) -> Result<Items<VarInfo>, LowerFault> {
+fn infos(alloc: Global, variables: Vec<Variable>) -> Result<Items<VarInfo>, LowerFault>
+    ensures { IfOk result (λ infos. infos ≡ map (λ v. v.info) variables.items) }
+{
     let mut infos = Vec::new(alloc);
     for variable in variables {
         infos.push(variable.info)?;
@@ -225,7 +253,9 @@ fn infos(alloc: Global, variables: Vec<Variable>) -> Result<Items<VarInfo>, Lowe
 }
 
 // A field again.
-fn field_again(alloc: Global, field: &FieldInfo) -> Result<FieldInfo, LowerFault> {
+fn field_again(alloc: Global, field: &FieldInfo) -> Result<FieldInfo, LowerFault>
+    ensures { IfOk result (λ again. again ≡ field.now) }
+{
     Ok(FieldInfo {
         name: field.name.copy(alloc)?,
         kind: field.kind,
@@ -233,7 +263,9 @@ fn field_again(alloc: Global, field: &FieldInfo) -> Result<FieldInfo, LowerFault
 }
 
 // A struct again.
-fn struct_again(alloc: Global, info: &StructInfo) -> Result<StructInfo, LowerFault> {
+fn struct_again(alloc: Global, info: &StructInfo) -> Result<StructInfo, LowerFault>
+    ensures { IfOk result (λ again. again ≡ info.now) }
+{
     let mut fields = Vec::new(alloc);
     for field in info.fields.as_slice() {
         fields.push(field_again(alloc, field)?)?;
@@ -245,7 +277,9 @@ fn struct_again(alloc: Global, info: &StructInfo) -> Result<StructInfo, LowerFau
 }
 
 // The same structs again.
-fn structs_again(alloc: Global, structs: &Structs) -> Result<Structs, LowerFault> {
+fn structs_again(alloc: Global, structs: &Structs) -> Result<Structs, LowerFault>
+    ensures { IfOk result (λ again. again ≡ structs.now) }
+{
     let mut list = Vec::new(alloc);
     for info in structs.list.as_slice() {
         list.push(struct_again(alloc, info)?)?;
@@ -256,7 +290,9 @@ fn structs_again(alloc: Global, structs: &Structs) -> Result<Structs, LowerFault
 }
 
 // The table of the points of labels, with which all that is known of them holds.
-fn checked_points(builder: &Builder) -> Result<Vec<usize>, LowerFault> {
+fn checked_points(builder: &Builder) -> Result<Vec<usize>, LowerFault>
+    ensures { IfOk result (λ table. AreSettled builder.now table.items) }
+{
     let marks = builder.marks.as_slice();
     let outs = builder.outs.as_slice();
     let table = points_of(builder.alloc, builder.labels, marks)?;
@@ -268,14 +304,16 @@ fn checked_points(builder: &Builder) -> Result<Vec<usize>, LowerFault> {
 }
 
 /// The flow graph with these points and variables.
-pub fn finish(builder: Builder) -> Result<Lowered, LowerFault> {
+pub fn finish(builder: Builder) -> Result<Lowered, LowerFault>
+    ensures { IfOk result (λ x. IsFinished builder x) }
+{
     let alloc = builder.alloc;
     let table = checked_points(&builder)?;
     let structs = structs_again(alloc, builder.structs)?;
     let heads = of_role(alloc, builder.points.as_slice(), Role::Head)?;
     let merges = of_role(alloc, builder.points.as_slice(), Role::Merge)?;
     let stops = of_role(alloc, builder.points.as_slice(), Role::Stop)?;
-    let thresholds = thresholds(alloc, builder.points.as_slice())?;
+    let thresholds = thresholds(alloc, table.as_slice(), builder.points.as_slice())?;
     let points = settle(alloc, table.as_slice(), builder.points)?;
     let vars = infos(alloc, builder.variables)?;
     Ok(Lowered {

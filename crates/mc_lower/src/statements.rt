@@ -1,4 +1,13 @@
 // Statements are lowered, or what they are made of is next.
+ghost use Rattle.std.specs.Prelude.{Some, ◌≡◌, ◌∷◌, IfOk, OnOk, map, option_map};
+ghost use Rattle.mc_flow.specs.declared.instr.Instr.TheVariants.{AssertEmpty as EmptinessAsserted};
+ghost use Rattle.mc_lowering.specs.Graphs.{Appends, Leaves, plain};
+ghost use Rattle.mc_lowering.specs.Lowering.{AreArguments, Lowers, LowersAll};
+ghost use Rattle.mc_resolved.specs.Programs.{assert_shape, assume_shape, block, break_loop, continue_loop, do_loop, for_loop, if_else, if_only, returns, while_loop};
+ghost use Rattle.mc_resolved.specs.Views.{argument_of, condition_of, function_of, head_of, right_of, statement_of, stmts_of};
+ghost use Rattle.mc_lower.specs.Left.{Begins, Checks, EndsDo, EndsFor, EntersFor, ExitsTo, Merges, Met, Otherwise, TurnsFor, around_of};
+ghost use Rattle.mc_lower.specs.Worlds.{Agrees, Leads, World, role_of, settled, stage_of};
+
 use crate::builder::{ABSENT, Builder, Label, LowerFault, NOWHERE, Role};
 use crate::conditions::Ways;
 use crate::tasks::{Context, Task, Turns, push};
@@ -21,7 +30,9 @@ impl<'a> Builder<'a> {
         role: Role,
         otherwise: Instr,
         occurrence: usize,
-    ) -> Result<(), LowerFault> {
+    ) -> Result<(), LowerFault>
+        ensures { OnOk result (Leads (λ w s u. Checks w.graph (w.out occurrence) (role_of role) place (settled w.at otherwise) (condition_of condition.now) s u) self.old self.new) }
+    {
         let yes = self.label()?;
         let no = self.label()?;
         self.test(occurrence, condition, Ways { yes, no })?;
@@ -36,7 +47,9 @@ impl<'a> Builder<'a> {
         &self,
         occurrence: usize,
         arguments: &[Argument],
-    ) -> Result<Items<Operand>, LowerFault> {
+    ) -> Result<Items<Operand>, LowerFault>
+        ensures { IfOk result (λ os. (w : World) → Agrees w self.now → AreArguments w.graph (w.out occurrence) (stage_of w self.now) (map argument_of arguments.now) os) }
+    {
         let mut operands = Vec::new(self.alloc);
         for at in 0..arguments.len() {
             let operand = self.argument(occurrence, arguments[at])?;
@@ -46,7 +59,10 @@ impl<'a> Builder<'a> {
     }
 
     // `assume_shape`.
-    fn assume_shape(&mut self, shape: &AssumeShape, occurrence: usize) -> Result<(), LowerFault> {
+    fn assume_shape(&mut self, shape: &AssumeShape, context: Context<'a>) -> Result<(), LowerFault>
+        ensures { OnOk result (Leads (λ w s u. Lowers w.graph (around_of w context) (assume_shape shape.now.place shape.now.predicate shape.now.variable (map argument_of shape.now.arguments.items)) s u) self.old self.new) }
+    {
+        let occurrence = context.occurrence;
         let variable = self.local(occurrence, shape.variable)?;
         let operands = self.arguments(occurrence, shape.arguments.as_slice())?;
         let next = self.label()?;
@@ -55,7 +71,10 @@ impl<'a> Builder<'a> {
     }
 
     // `assert_shape`.
-    fn assert_shape(&mut self, shape: &AssertShape, occurrence: usize) -> Result<(), LowerFault> {
+    fn assert_shape(&mut self, shape: &AssertShape, context: Context<'a>) -> Result<(), LowerFault>
+        ensures { OnOk result (Leads (λ w s u. Lowers w.graph (around_of w context) (assert_shape shape.now.place shape.now.predicate (argument_of shape.now.start) (map argument_of shape.now.arguments.items)) s u) self.old self.new) }
+    {
+        let occurrence = context.occurrence;
         let start = self.argument(occurrence, shape.start)?;
         let operands = self.arguments(occurrence, shape.arguments.as_slice())?;
         let next = self.label()?;
@@ -64,7 +83,9 @@ impl<'a> Builder<'a> {
     }
 
     // `assert_empty`.
-    fn assert_empty(&mut self, place: Place) -> Result<(), LowerFault> {
+    fn assert_empty(&mut self, place: Place) -> Result<(), LowerFault>
+        ensures { OnOk result (Leads (λ w s u. Appends w.graph plain place (λ q. EmptinessAsserted q) s u) self.old self.new) }
+    {
         let next = self.label()?;
         self.append(Role::Plain, place, Instr::AssertEmpty(next.target()), next)
     }
@@ -77,7 +98,9 @@ impl<'a> Builder<'a> {
         numbers: &'a [usize],
         statements: &'a [Statement],
         context: Context<'a>,
-    ) -> Result<(), LowerFault> {
+    ) -> Result<(), LowerFault>
+        ensures { OnOk result (Begins (λ w s m. Lowers w.graph (around_of w context) (block numbers.now (stmts_of (map statement_of statements.now))) s m) self.old tasks.old self.new tasks.new) }
+    {
         let block = self.open(numbers, context.block)?;
         push(tasks, Task::EndBlock(numbers, context.occurrence))?;
         push(tasks, Task::Statements(statements, context.in_block(block)))
@@ -91,7 +114,9 @@ impl<'a> Builder<'a> {
         condition: &Condition,
         part: &'a Statement,
         context: Context<'a>,
-    ) -> Result<(), LowerFault> {
+    ) -> Result<(), LowerFault>
+        ensures { OnOk result (Begins (λ w s m. Lowers w.graph (around_of w context) (if_only place (condition_of condition.now) (statement_of part.now)) s m) self.old tasks.old self.new tasks.new) }
+    {
         let merge = self.label()?;
         self.test_or(context.occurrence, condition, merge)?;
         push(tasks, Task::Merge(place, merge))?;
@@ -107,7 +132,9 @@ impl<'a> Builder<'a> {
         first: &'a Statement,
         second: &'a Statement,
         context: Context<'a>,
-    ) -> Result<(), LowerFault> {
+    ) -> Result<(), LowerFault>
+        ensures { OnOk result (Begins (λ w s m. Lowers w.graph (around_of w context) (if_else place (condition_of condition.now) (statement_of first.now) (statement_of second.now)) s m) self.old tasks.old self.new tasks.new) }
+    {
         let no = self.label()?;
         let merge = self.label()?;
         self.test_or(context.occurrence, condition, no)?;
@@ -118,14 +145,18 @@ impl<'a> Builder<'a> {
     }
 
     // The second part of an `if` begins.
-    fn otherwise(&mut self, no: Label, merge: Label) -> Result<(), LowerFault> {
+    fn otherwise(&mut self, no: Label, merge: Label) -> Result<(), LowerFault>
+        ensures { OnOk result (Leads (λ w s u. Otherwise (w.at no.0) (w.at merge.0) s u) self.old self.new) }
+    {
         self.meet(merge)?;
         self.goal = no;
         Ok(())
     }
 
     // The ways of an `if` meet at a Skip.
-    fn merge(&mut self, place: Place, merge: Label) -> Result<(), LowerFault> {
+    fn merge(&mut self, place: Place, merge: Label) -> Result<(), LowerFault>
+        ensures { OnOk result (Leads (λ w s u. Merges w.graph place (w.at merge.0) s u) self.old self.new) }
+    {
         self.meet(merge)?;
         self.skip(Role::Merge, place)
     }
@@ -138,7 +169,9 @@ impl<'a> Builder<'a> {
         condition: &Condition,
         body: &'a Statement,
         context: Context<'a>,
-    ) -> Result<(), LowerFault> {
+    ) -> Result<(), LowerFault>
+        ensures { OnOk result (Begins (λ w s m. Lowers w.graph (around_of w context) (while_loop place (condition_of condition.now) (statement_of body.now)) s m) self.old tasks.old self.new tasks.new) }
+    {
         let head = self.goal;
         self.skip(Role::Head, place)?;
         let exit = self.label()?;
@@ -148,7 +181,9 @@ impl<'a> Builder<'a> {
     }
 
     // The body of a `while` goes to the head.
-    fn end_while(&mut self, place: Place, head: Label, exit: Label) -> Result<(), LowerFault> {
+    fn end_while(&mut self, place: Place, head: Label, exit: Label) -> Result<(), LowerFault>
+        ensures { OnOk result (Leads (λ w s u. ExitsTo w.graph place (w.at head.0) (w.at exit.0) s u) self.old self.new) }
+    {
         self.meet(head)?;
         self.goal = exit;
         self.skip(Role::Plain, place)
@@ -162,7 +197,9 @@ impl<'a> Builder<'a> {
         body: &'a Statement,
         condition: &'a Condition,
         context: Context<'a>,
-    ) -> Result<(), LowerFault> {
+    ) -> Result<(), LowerFault>
+        ensures { OnOk result (Begins (λ w s m. Lowers w.graph (around_of w context) (do_loop place (statement_of body.now) (condition_of condition.now)) s m) self.old tasks.old self.new tasks.new) }
+    {
         let head = self.goal;
         self.skip(Role::Head, place)?;
         let turn = self.label()?;
@@ -188,7 +225,9 @@ impl<'a> Builder<'a> {
         head: Label,
         turns: Turns,
         occurrence: usize,
-    ) -> Result<(), LowerFault> {
+    ) -> Result<(), LowerFault>
+        ensures { OnOk result (Leads (λ w s u. EndsDo w.graph (w.out occurrence) place (condition_of condition.now) (w.at head.0) (w.at turns.turn.0) (w.at turns.exit.0) s u) self.old self.new) }
+    {
         self.meet(turns.turn)?;
         self.skip(Role::Plain, place)?;
         let ways = Ways {
@@ -207,7 +246,9 @@ impl<'a> Builder<'a> {
         head: &'a ForHead,
         body: &'a Statement,
         context: Context<'a>,
-    ) -> Result<(), LowerFault> {
+    ) -> Result<(), LowerFault>
+        ensures { OnOk result (Begins (λ w s m. Lowers w.graph (around_of w context) (for_loop (head_of head.now) (statement_of body.now)) s m) self.old tasks.old self.new tasks.new) }
+    {
         push(tasks, Task::For(head, body, context))?;
         match &head.start {
             ForStart::Nothing => Ok(()),
@@ -225,7 +266,9 @@ impl<'a> Builder<'a> {
         head: &'a ForHead,
         body: &'a Statement,
         context: Context<'a>,
-    ) -> Result<(), LowerFault> {
+    ) -> Result<(), LowerFault>
+        ensures { OnOk result (Begins (λ w s m. EntersFor w.graph (around_of w context) (head_of head.now) (statement_of body.now) s m) self.old tasks.old self.new tasks.new) }
+    {
         let begin = self.goal;
         self.skip(Role::Head, head.place)?;
         let turn = self.label()?;
@@ -246,7 +289,9 @@ impl<'a> Builder<'a> {
         begin: Label,
         turns: Turns,
         context: Context<'a>,
-    ) -> Result<(), LowerFault> {
+    ) -> Result<(), LowerFault>
+        ensures { OnOk result (Begins (λ w s m. TurnsFor w.graph (w.out context.occurrence) (head_of head.now) (w.at begin.0) (w.at turns.turn.0) (w.at turns.exit.0) s m) self.old tasks.old self.new tasks.new) }
+    {
         self.meet(turns.turn)?;
         self.skip(Role::Plain, head.place)?;
         push(
@@ -266,7 +311,9 @@ impl<'a> Builder<'a> {
         begin: Label,
         exit: Label,
         occurrence: usize,
-    ) -> Result<(), LowerFault> {
+    ) -> Result<(), LowerFault>
+        ensures { OnOk result (Leads (λ w s u. EndsFor w.graph (w.out occurrence) (head_of head.now) (w.at begin.0) (w.at exit.0) s u) self.old self.new) }
+    {
         self.meet(begin)?;
         self.goal = exit;
         self.skip(Role::Plain, head.place)?;
@@ -275,7 +322,9 @@ impl<'a> Builder<'a> {
 
     // ---- jumps
     // `break` and `continue`: the variables of the blocks that are left become undefined.
-    fn break_loop(&mut self, place: Place, context: Context<'a>) -> Result<(), LowerFault> {
+    fn break_loop(&mut self, place: Place, context: Context<'a>) -> Result<(), LowerFault>
+        ensures { OnOk result (Leads (λ w s u. Lowers w.graph (around_of w context) (break_loop place) s u) self.old self.new) }
+    {
         let Some(turns) = context.turns else {
             return Err(ABSENT);
         };
@@ -283,7 +332,9 @@ impl<'a> Builder<'a> {
         self.go(turns.exit)
     }
 
-    fn continue_loop(&mut self, place: Place, context: Context<'a>) -> Result<(), LowerFault> {
+    fn continue_loop(&mut self, place: Place, context: Context<'a>) -> Result<(), LowerFault>
+        ensures { OnOk result (Leads (λ w s u. Lowers w.graph (around_of w context) (continue_loop place) s u) self.old self.new) }
+    {
         let Some(turns) = context.turns else {
             return Err(ABSENT);
         };
@@ -292,8 +343,19 @@ impl<'a> Builder<'a> {
     }
 
     // `return` with a value that is no call's.
-    fn return_value(&mut self, site: Site, right: &RightSide) -> Result<(), LowerFault> {
-        let variable = self.result(site.occurrence)?;
+    fn return_value(
+        &mut self,
+        place: Place,
+        right: &RightSide,
+        context: Context<'a>,
+    ) -> Result<(), LowerFault>
+        ensures { OnOk result (Leads (λ w s u. Lowers w.graph (around_of w context) (returns place (Some (right_of right.now))) s u) self.old self.new) }
+    {
+        let site = Site {
+            occurrence: context.occurrence,
+            place,
+        };
+        let variable = self.own_result(site.occurrence)?;
         self.set_to(site, variable, right)?;
         self.go_out(site.occurrence)
     }
@@ -305,17 +367,15 @@ impl<'a> Builder<'a> {
         place: Place,
         value: Option<&'a RightSide>,
         context: Context<'a>,
-    ) -> Result<(), LowerFault> {
-        let site = Site {
-            occurrence: context.occurrence,
-            place,
-        };
+    ) -> Result<(), LowerFault>
+        ensures { OnOk result (Begins (λ w s m. Lowers w.graph (around_of w context) (returns place (option_map (λ r. right_of r.now) value)) s m) self.old tasks.old self.new tasks.new) }
+    {
         match value {
             None => self.go_out(context.occurrence),
             Some(right) => match right {
                 RightSide::Call(call) => self.call_and_return(tasks, place, call, context),
-                RightSide::Expression(_) => self.return_value(site, right),
-                RightSide::Malloc(_, _) => self.return_value(site, right),
+                RightSide::Expression(_) => self.return_value(place, right, context),
+                RightSide::Malloc(_, _) => self.return_value(place, right, context),
             },
         }
     }
@@ -326,7 +386,9 @@ impl<'a> Builder<'a> {
         tasks: &mut Stack<Task<'a>>,
         statement: &'a Statement,
         context: Context<'a>,
-    ) -> Result<(), LowerFault> {
+    ) -> Result<(), LowerFault>
+        ensures { OnOk result (Begins (λ w s m. Lowers w.graph (around_of w context) (statement_of statement.now) s m) self.old tasks.old self.new tasks.new) }
+    {
         let occurrence = context.occurrence;
         match statement {
             Statement::Declaration(place, items) => {
@@ -350,8 +412,8 @@ impl<'a> Builder<'a> {
             Statement::Assume(place, condition) => {
                 self.check(*place, condition, Role::Stop, Instr::End, occurrence)
             }
-            Statement::AssumeShape(shape) => self.assume_shape(shape, occurrence),
-            Statement::AssertShape(shape) => self.assert_shape(shape, occurrence),
+            Statement::AssumeShape(shape) => self.assume_shape(shape, context),
+            Statement::AssertShape(shape) => self.assert_shape(shape, context),
             Statement::AssertEmpty(place) => self.assert_empty(*place),
             Statement::If(place, condition, part) => {
                 self.if_only(tasks, *place, condition, part, context)
@@ -380,7 +442,9 @@ impl<'a> Builder<'a> {
         tasks: &mut Stack<Task<'a>>,
         statements: &'a [Statement],
         context: Context<'a>,
-    ) -> Result<(), LowerFault> {
+    ) -> Result<(), LowerFault>
+        ensures { OnOk result (Begins (λ w s m. LowersAll w.graph (around_of w context) (stmts_of (map statement_of statements.now)) s m) self.old tasks.old self.new tasks.new) }
+    {
         let Some((first, more)) = statements.split_first() else {
             return Ok(());
         };
@@ -389,7 +453,9 @@ impl<'a> Builder<'a> {
     }
 
     /// What is next is lowered, or what it is made of is next.
-    pub fn step(&mut self, tasks: &mut Stack<Task<'a>>, task: Task<'a>) -> Result<(), LowerFault> {
+    pub fn step(&mut self, tasks: &mut Stack<Task<'a>>, task: Task<'a>) -> Result<(), LowerFault>
+        ensures { OnOk result (Begins (λ w s m. Met w task s m) self.old tasks.old self.new tasks.new) }
+    {
         match task {
             Task::Statements(statements, context) => self.statements(tasks, statements, context),
             Task::Statement(statement, context) => self.statement(tasks, statement, context),

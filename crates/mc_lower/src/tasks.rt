@@ -1,4 +1,6 @@
 // What is still to be lowered, and where it stands.
+ghost use Rattle.std.specs.Prelude.{◌≡◌, ◌∷◌, OnOk};
+
 use crate::builder::{Label, LowerFault};
 use crate::values::Target;
 use mc_base::VarId;
@@ -81,7 +83,9 @@ pub enum Task<'a> {
 }
 
 /// A task is next.
-pub fn push<'a>(tasks: &mut Stack<Task<'a>>, task: Task<'a>) -> Result<(), LowerFault> {
+pub fn push<'a>(tasks: &mut Stack<Task<'a>>, task: Task<'a>) -> Result<(), LowerFault>
+    ensures { OnOk result (tasks.new ≡ task ∷ tasks.old) }
+{
     tasks.push(task)?;
     Ok(())
 }

@@ -1,4 +1,19 @@
 // The points that compute the values of expressions.
+ghost use Rattle.std.specs.Prelude.{List, ◌≡◌, ◌∷◌, IfOk, OnOk, map, pos};
+ghost use Rattle.mc_flow.specs.Steps.{field_count};
+ghost use Rattle.mc_flow.specs.Valid.{field_kind};
+ghost use Rattle.mc_flow.specs.declared.instr.Operand.TheVariants.{Const};
+ghost use Rattle.mc_base.specs.declared.ids.VarId.{VarId};
+ghost use Rattle.mc_flow.specs.declared.instr.Operand.{Operand};
+ghost use Rattle.mc_lowering.specs.Graphs.{Appends, Stage, plain};
+ghost use Rattle.mc_lowering.specs.Lowering.{IsArgument};
+ghost use Rattle.mc_lowering.specs.Values.{Evaluates, EvaluatesAll, IsOfKind, Takes, Walks, sets};
+ghost use Rattle.mc_resolved.specs.Programs.{value};
+ghost use Rattle.mc_resolved.specs.Views.{argument_of, expression_of, field_of, left_of};
+ghost use Rattle.mc_lower.specs.Valued.{Finishes, IsOperand, IsValue, JoinsParts, Made, joined, operation_of, target_of};
+ghost use Rattle.mc_lower.specs.Worlds.{Agrees, Leads, World, stage_of};
+ghost use Rattle.mc_lower.specs.declared.values.Work.TheVariants.{Join, Whole};
+
 use crate::builder::{ABSENT, Builder, LowerFault, Role};
 use mc_base::{Kind, PointId, StructId, VarId};
 use mc_defs::Structs;
@@ -23,7 +38,9 @@ pub struct Target<'a> {
 
 impl<'a> Target<'a> {
     /// What a left side names.
-    pub fn of(left: &'a LeftValue) -> Target<'a> {
+    pub fn of(left: &'a LeftValue) -> Target<'a>
+        ensures { target_of result ≡ left_of left.now }
+    {
         Target {
             variable: left.variable,
             fields: left.fields.as_slice(),
@@ -43,7 +60,9 @@ pub enum Operation {
 
 impl Operation {
     // The instruction that sets a variable to it.
-    fn sets(self, variable: VarId, next: PointId) -> Instr {
+    fn sets(self, variable: VarId, next: PointId) -> Instr
+        ensures { result ≡ sets (operation_of self) variable next }
+    {
         match self {
             Operation::Input => Instr::Input(variable, next),
             Operation::Field(base, field) => {
@@ -73,7 +92,9 @@ pub enum How {
 
 impl How {
     /// The operation on two operands.
-    pub fn of(self, left: Operand, right: Operand) -> Operation {
+    pub fn of(self, left: Operand, right: Operand) -> Operation
+        ensures { operation_of result ≡ joined self left right }
+    {
         match self {
             How::Times => Operation::Product(left, right),
             How::Plus => Operation::Sum(left, right),
@@ -84,7 +105,7 @@ impl How {
 
 // What is still to be evaluated: a whole expression, or what is done last with its parts.
 #[derive(Clone, Copy)]
-enum Work<'e> {
+pub enum Work<'e> {
     Whole(&'e Expression),
     Minus,
     Join(How),
@@ -96,7 +117,9 @@ fn enter_join<'e>(
     how: How,
     left: &'e Expression,
     right: &'e Expression,
-) -> Result<(), LowerFault> {
+) -> Result<(), LowerFault>
+    ensures { OnOk result (work.new ≡ Whole left.entry ∷ Whole right.entry ∷ Join how ∷ work.old) }
+{
     work.push(Work::Join(how))?;
     work.push(Work::Whole(right))?;
     work.push(Work::Whole(left))?;
@@ -104,7 +127,9 @@ fn enter_join<'e>(
 }
 
 // The operand that was made last.
-fn last_made(made: &mut Stack<Operand>) -> Result<Operand, LowerFault> {
+fn last_made(made: &mut Stack<Operand>) -> Result<Operand, LowerFault>
+    ensures { IfOk result (λ o. made.old ≡ o ∷ made.new) }
+{
     match made.pop() {
         Some(operand) => Ok(operand),
         None => Err(ABSENT),
@@ -112,23 +137,31 @@ fn last_made(made: &mut Stack<Operand>) -> Result<Operand, LowerFault> {
 }
 
 // The operand that is a number of a program.
-fn number_of(number: u32) -> Operand {
+fn number_of(number: u32) -> Operand
+    ensures { result ≡ Const (pos number) }
+{
     Operand::Const(i64::from(number))
 }
 
 /// The operand 0.
-pub fn nothing() -> Operand {
+pub fn nothing() -> Operand
+    ensures { result ≡ Const (pos 0) }
+{
     Operand::Const(0)
 }
 
 // The kind of a field.
-fn kind_of(structs: &Structs, field: FieldAt) -> Option<Kind> {
+fn kind_of(structs: &Structs, field: FieldAt) -> Option<Kind>
+    ensures { result ≡ field_kind structs.now field.shape field.field }
+{
     let info = structs.list.get(field.shape.0 as usize)?;
     info.fields.get(field.field).map(|field| field.kind)
 }
 
 // How many fields a struct has.
-fn count_of(structs: &Structs, shape: StructId) -> usize {
+fn count_of(structs: &Structs, shape: StructId) -> usize
+    ensures { result ≡ field_count structs.now shape }
+{
     match structs.list.get(shape.0 as usize) {
         Some(info) => info.fields.len(),
         None => 0,
@@ -142,7 +175,9 @@ impl<'a> Builder<'a> {
         place: Place,
         variable: VarId,
         operation: Operation,
-    ) -> Result<(), LowerFault> {
+    ) -> Result<(), LowerFault>
+        ensures { OnOk result (Leads (λ w s u. Appends w.graph plain place (λ q. sets (operation_of operation) variable q) s u) self.old self.new) }
+    {
         let next = self.label()?;
         self.append(
             Role::Plain,
@@ -159,7 +194,9 @@ impl<'a> Builder<'a> {
         kind: Kind,
         operation: Operation,
         temporaries: &mut Vec<VarId>,
-    ) -> Result<VarId, LowerFault> {
+    ) -> Result<VarId, LowerFault>
+        ensures { IfOk result (λ t. (w : World) → Agrees w self.new → Agrees w self.old × Takes w.graph place kind (operation_of operation) temporaries.old.items (stage_of w self.old) t temporaries.new.items (stage_of w self.new)) }
+    {
         let variable = self.temporary(temporaries.len(), kind)?;
         self.set(place, variable, operation)?;
         temporaries.push(variable)?;
@@ -167,7 +204,9 @@ impl<'a> Builder<'a> {
     }
 
     /// The kind of a field, which is there.
-    pub fn field_kind(&self, field: FieldAt) -> Result<Kind, LowerFault> {
+    pub fn field_kind(&self, field: FieldAt) -> Result<Kind, LowerFault>
+        ensures { IfOk result (λ kind. (w : World) → Agrees w self.now → IsOfKind w.graph (field_of field) kind) }
+    {
         match kind_of(self.structs, field) {
             Some(kind) => Ok(kind),
             None => Err(ABSENT),
@@ -175,7 +214,9 @@ impl<'a> Builder<'a> {
     }
 
     /// A struct has so many fields.
-    pub fn check_count(&self, shape: StructId, count: usize) -> Result<(), LowerFault> {
+    pub fn check_count(&self, shape: StructId, count: usize) -> Result<(), LowerFault>
+        ensures { OnOk result ((w : World) → Agrees w self.now → field_count w.graph.flow.structs shape ≡ count) }
+    {
         if count_of(self.structs, shape) == count {
             Ok(())
         } else {
@@ -190,7 +231,9 @@ impl<'a> Builder<'a> {
         start: VarId,
         fields: &[FieldAt],
         temporaries: &mut Vec<VarId>,
-    ) -> Result<(VarId, FieldAt), LowerFault> {
+    ) -> Result<(VarId, FieldAt), LowerFault>
+        ensures { IfOk result (λ r. (w : World) → Agrees w self.new → Agrees w self.old × Walks w.graph place start (map field_of fields.now) temporaries.old.items (stage_of w self.old) r.0 (field_of r.1) temporaries.new.items (stage_of w self.new)) }
+    {
         let mut base = start;
         for at in 0..fields.len() {
             if at + 1 == fields.len() {
@@ -208,7 +251,9 @@ impl<'a> Builder<'a> {
         site: Site,
         left: &LeftValue,
         temporaries: &mut Vec<VarId>,
-    ) -> Result<Value, LowerFault> {
+    ) -> Result<Value, LowerFault>
+        ensures { IfOk result (λ v. (w : World) → Agrees w self.new → Agrees w self.old × IsValue w.graph (w.out site.occurrence) site.place (value (left_of left.now)) temporaries.old.items (stage_of w self.old) v temporaries.new.items (stage_of w self.new)) }
+    {
         let variable = self.local(site.occurrence, left.variable)?;
         if left.fields.is_empty() {
             return Ok(Value::Ready(Operand::Var(variable)));
@@ -222,10 +267,12 @@ impl<'a> Builder<'a> {
     fn operand_of(
         &mut self,
         place: Place,
-        value: Value,
+        known: Value,
         temporaries: &mut Vec<VarId>,
-    ) -> Result<Operand, LowerFault> {
-        match value {
+    ) -> Result<Operand, LowerFault>
+        ensures { IfOk result (λ o. (w : World) → Agrees w self.new → Agrees w self.old × IsOperand w.graph place known temporaries.old.items (stage_of w self.old) o temporaries.new.items (stage_of w self.new)) }
+    {
+        match known {
             Value::Ready(operand) => Ok(operand),
             Value::Computed(kind, operation) => {
                 let variable = self.take(place, kind, operation, temporaries)?;
@@ -241,7 +288,9 @@ impl<'a> Builder<'a> {
         operation: Operation,
         made: &mut Stack<Operand>,
         temporaries: &mut Vec<VarId>,
-    ) -> Result<(), LowerFault> {
+    ) -> Result<(), LowerFault>
+        ensures { OnOk result ((w : World) → Agrees w self.new → Agrees w self.old × Made w.graph place (operation_of operation) temporaries.old.items (stage_of w self.old) made.old temporaries.new.items (stage_of w self.new) made.new) }
+    {
         let variable = self.take(place, Kind::Int, operation, temporaries)?;
         made.push(Operand::Var(variable))?;
         Ok(())
@@ -255,7 +304,9 @@ impl<'a> Builder<'a> {
         work: &mut Stack<Work<'e>>,
         made: &mut Stack<Operand>,
         temporaries: &mut Vec<VarId>,
-    ) -> Result<(), LowerFault> {
+    ) -> Result<(), LowerFault>
+        ensures { OnOk result ((w : World) (o : Operand) (ts : List VarId) (u : Stage) → Agrees w self.new → Finishes w.graph (w.out site.occurrence) site.place work.new made.new temporaries.new.items (stage_of w self.new) o ts u → Agrees w self.old × Finishes w.graph (w.out site.occurrence) site.place (Whole expression.entry ∷ work.old) made.old temporaries.old.items (stage_of w self.old) o ts u) }
+    {
         match expression {
             Expression::Number(number) => {
                 made.push(number_of(*number))?;
@@ -287,7 +338,9 @@ impl<'a> Builder<'a> {
         work: &mut Stack<Work<'e>>,
         made: &mut Stack<Operand>,
         temporaries: &mut Vec<VarId>,
-    ) -> Result<(), LowerFault> {
+    ) -> Result<(), LowerFault>
+        ensures { OnOk result ((w : World) (o : Operand) (ts : List VarId) (u : Stage) → Agrees w self.new → Finishes w.graph (w.out site.occurrence) site.place work.new made.new temporaries.new.items (stage_of w self.new) o ts u → Agrees w self.old × Finishes w.graph (w.out site.occurrence) site.place (next ∷ work.old) made.old temporaries.old.items (stage_of w self.old) o ts u) }
+    {
         match next {
             Work::Whole(expression) => self.enter(site, expression, work, made, temporaries),
             Work::Minus => {
@@ -309,7 +362,9 @@ impl<'a> Builder<'a> {
         site: Site,
         expression: &Expression,
         temporaries: &mut Vec<VarId>,
-    ) -> Result<Operand, LowerFault> {
+    ) -> Result<Operand, LowerFault>
+        ensures { IfOk result (λ o. (w : World) → Agrees w self.new → Agrees w self.old × Evaluates w.graph (w.out site.occurrence) site.place (expression_of expression.now) temporaries.old.items (stage_of w self.old) o temporaries.new.items (stage_of w self.new)) }
+    {
         let mut work = Stack::new(self.alloc);
         let mut made = Stack::new(self.alloc);
         work.push(Work::Whole(expression))?;
@@ -330,7 +385,9 @@ impl<'a> Builder<'a> {
         left: &Expression,
         right: &Expression,
         temporaries: &mut Vec<VarId>,
-    ) -> Result<Value, LowerFault> {
+    ) -> Result<Value, LowerFault>
+        ensures { IfOk result (λ v. (w : World) → Agrees w self.new → Agrees w self.old × JoinsParts w.graph (w.out site.occurrence) site.place how (expression_of left.now) (expression_of right.now) temporaries.old.items (stage_of w self.old) v temporaries.new.items (stage_of w self.new)) }
+    {
         let left = self.evaluate(site, left, temporaries)?;
         let right = self.evaluate(site, right, temporaries)?;
         Ok(Value::Computed(Kind::Int, how.of(left, right)))
@@ -342,7 +399,9 @@ impl<'a> Builder<'a> {
         site: Site,
         expression: &Expression,
         temporaries: &mut Vec<VarId>,
-    ) -> Result<Value, LowerFault> {
+    ) -> Result<Value, LowerFault>
+        ensures { IfOk result (λ v. (w : World) → Agrees w self.new → Agrees w self.old × IsValue w.graph (w.out site.occurrence) site.place (expression_of expression.now) temporaries.old.items (stage_of w self.old) v temporaries.new.items (stage_of w self.new)) }
+    {
         match expression {
             Expression::Number(number) => Ok(Value::Ready(number_of(*number))),
             Expression::Input => Ok(Value::Computed(Kind::Int, Operation::Input)),
@@ -370,7 +429,9 @@ impl<'a> Builder<'a> {
         site: Site,
         expressions: &[Expression],
         temporaries: &mut Vec<VarId>,
-    ) -> Result<Vec<Operand>, LowerFault> {
+    ) -> Result<Vec<Operand>, LowerFault>
+        ensures { IfOk result (λ os. (w : World) → Agrees w self.new → Agrees w self.old × EvaluatesAll w.graph (w.out site.occurrence) site.place (map expression_of expressions.now) temporaries.old.items (stage_of w self.old) os.items temporaries.new.items (stage_of w self.new)) }
+    {
         let mut operands = Vec::new(self.alloc);
         for at in 0..expressions.len() {
             let operand = self.evaluate(site, &expressions[at], temporaries)?;
@@ -380,7 +441,9 @@ impl<'a> Builder<'a> {
     }
 
     // The operand of a shape's argument.
-    pub fn argument(&self, occurrence: usize, argument: Argument) -> Result<Operand, LowerFault> {
+    pub fn argument(&self, occurrence: usize, argument: Argument) -> Result<Operand, LowerFault>
+        ensures { IfOk result (λ o. (w : World) → Agrees w self.now → IsArgument w.graph (w.out occurrence) (stage_of w self.now) (argument_of argument) o) }
+    {
         match argument {
             Argument::Variable(number) => {
                 let variable = self.local(occurrence, number)?;
