@@ -9,7 +9,7 @@ use Rattle.mc_flow.specs.declared.instr.Instr.TheVariants.{Skip, Copy}
 use Rattle.mc_resolved.specs.Programs.{Expr, Cond, Call, Simple, Initial, Head, Stmt, Stmts, for_loop}
 use Rattle.mc_resolved.specs.Views.{action_of, condition_of, function_of, head_of, initial_of, simple_of, statement_of}
 use Rattle.mc_resolved.specs.Views.{stmts_of}
-use Rattle.mc_lowering.specs.Graphs.{Graph, Role, plain, head, merge, result, nowhere, Stage, stage, IsPoint, Appends}
+use Rattle.mc_lowering.specs.Graphs.{Graph, Role, plain, merge, nowhere, Stage, stage, IsPoint, Appends}
 use Rattle.mc_lowering.specs.Graphs.{Undefines, IsMade, Leaves}
 use Rattle.mc_lowering.specs.Values.{EvaluatesAll, Tests, Puts}
 use Rattle.mc_lowering.specs.Lowering.{Around, in_body, Starts, Finishes, Calls, Performs, Declares, Lowers, LowersAll}
@@ -88,30 +88,30 @@ pub data Merges (g : Graph) (place : Place) (n : ℕ) : Stage → Stage → Type
       → Merges g place n (stage n n k) u
 
 -- the second part of an `if` begins at a point
-pub data Otherwise (no merge : ℕ) : Stage → Stage → Type 0 where
-  otherwise : {n k : ℕ} → Otherwise no merge (stage merge n k) (stage no n k)
+pub data Otherwise (other join : ℕ) : Stage → Stage → Type 0 where
+  otherwise : {n k : ℕ} → Otherwise other join (stage join n k) (stage other n k)
 
 -- the body of a loop goes to its head, and its exit follows
-pub data ExitsTo (g : Graph) (place : Place) (head exit : ℕ) : Stage → Stage → Type 0 where
+pub data ExitsTo (g : Graph) (place : Place) (begin exit : ℕ) : Stage → Stage → Type 0 where
   exits : {k : ℕ} {u : Stage} → Appends g plain place (λ q. Skip q) (stage exit exit k) u
-      → ExitsTo g place head exit (stage head exit k) u
+      → ExitsTo g place begin exit (stage begin exit k) u
 
 -- behind the body of a `do`
-pub data EndsDo (g : Graph) (out : ℕ) (place : Place) (d : Cond) (head turn exit : ℕ) : Stage → Stage → Type 0 where
+pub data EndsDo (g : Graph) (out : ℕ) (place : Place) (d : Cond) (begin turn exit : ℕ) : Stage → Stage → Type 0 where
   ends_do : {j l : ℕ} {m u : Stage} → Appends g plain place (λ q. Skip q) (stage turn turn j) m
-      → Tests g out d m head exit exit l → Appends g plain place (λ q. Skip q) (stage exit exit l) u
-      → EndsDo g out place d head turn exit (stage turn turn j) u
+      → Tests g out d m begin exit exit l → Appends g plain place (λ q. Skip q) (stage exit exit l) u
+      → EndsDo g out place d begin turn exit (stage turn turn j) u
 
 -- behind the last part of a `for`
-pub data EndsFor (g : Graph) (out : ℕ) (h : Head) (head exit : ℕ) : Stage → Stage → Type 0 where
-  ends_for : {s m u : Stage} → ExitsTo g h.place head exit s m → Leaves g out nowhere h.variables m u
-      → EndsFor g out h head exit s u
+pub data EndsFor (g : Graph) (out : ℕ) (h : Head) (begin exit : ℕ) : Stage → Stage → Type 0 where
+  ends_for : {s m u : Stage} → ExitsTo g h.place begin exit s m → Leaves g out nowhere h.variables m u
+      → EndsFor g out h begin exit s u
 
 -- behind the body of a `for`
-pub data TurnsFor (g : Graph) (out : ℕ) (h : Head) (head turn exit : ℕ) : Stage → Stage → Type 0 where
+pub data TurnsFor (g : Graph) (out : ℕ) (h : Head) (begin turn exit : ℕ) : Stage → Stage → Type 0 where
   turns_for : {j : ℕ} {m n u : Stage} → Appends g plain h.place (λ q. Skip q) (stage turn turn j) m
-      → Finishes g out h.last m n → EndsFor g out h head exit n u
-      → TurnsFor g out h head turn exit (stage turn turn j) u
+      → Finishes g out h.last m n → EndsFor g out h begin exit n u
+      → TurnsFor g out h begin turn exit (stage turn turn j) u
 
 -- behind the first part of a `for`: with that it is the whole
 abbrev pub EntersFor : Graph → Around → Head → Stmt → Stage → Stage → Type 0
@@ -127,16 +127,16 @@ Met w (Task.Simple x c) s u = Performs w.graph (w.out c.occurrence) x.now.place 
 Met w (Task.Declare place items c) s u =
     Declares w.graph (function_of c.function.now) (w.out c.occurrence) place (map initial_of items.now) s u
 Met w (Task.EndBlock xs i) s u = Leaves w.graph (w.out i) nowhere xs.now s u
-Met w (Task.Otherwise no merge) s u = Otherwise (w.at no.0) (w.at merge.0) s u
-Met w (Task.Merge place merge) s u = Merges w.graph place (w.at merge.0) s u
-Met w (Task.EndWhile place head exit) s u = ExitsTo w.graph place (w.at head.0) (w.at exit.0) s u
-Met w (Task.EndDo place d head turns i) s u =
-    EndsDo w.graph (w.out i) place (condition_of d.now) (w.at head.0) (w.at turns.turn.0) (w.at turns.exit.0) s u
+Met w (Task.Otherwise l m) s u = Otherwise (w.at l.0) (w.at m.0) s u
+Met w (Task.Merge place l) s u = Merges w.graph place (w.at l.0) s u
+Met w (Task.EndWhile place begin exit) s u = ExitsTo w.graph place (w.at begin.0) (w.at exit.0) s u
+Met w (Task.EndDo place d begin turns i) s u =
+    EndsDo w.graph (w.out i) place (condition_of d.now) (w.at begin.0) (w.at turns.turn.0) (w.at turns.exit.0) s u
 Met w (Task.For h a c) s u = EntersFor w.graph (around_of w c) (head_of h.now) (statement_of a.now) s u
-Met w (Task.ForTurn h head turns c) s u =
-    TurnsFor w.graph (w.out c.occurrence) (head_of h.now) (w.at head.0) (w.at turns.turn.0) (w.at turns.exit.0) s u
-Met w (Task.EndFor h head exit i) s u =
-    EndsFor w.graph (w.out i) (head_of h.now) (w.at head.0) (w.at exit.0) s u
+Met w (Task.ForTurn h begin turns c) s u =
+    TurnsFor w.graph (w.out c.occurrence) (head_of h.now) (w.at begin.0) (w.at turns.turn.0) (w.at turns.exit.0) s u
+Met w (Task.EndFor h begin exit i) s u =
+    EndsFor w.graph (w.out i) (head_of h.now) (w.at begin.0) (w.at exit.0) s u
 Met w (Task.EndCall place c) s u =
     EndsCall w.graph (w.out c.occurrence) place (length (function_of c.function.now).locals) s u
 Met w (Task.Take place target answer i) s u = TakesResult w.graph (w.out i) place target answer s u

@@ -28,7 +28,8 @@ impl<'a> Builder<'a> {
             place,
             Instr::Malloc(variable, shape, next.target()),
             next,
-        )
+        )?;
+        Ok(())
     }
 
     // A field of the block to which a variable points gets an operand.
@@ -53,7 +54,8 @@ impl<'a> Builder<'a> {
                 next.target(),
             ),
             next,
-        )
+        )?;
+        Ok(())
     }
 
     // A variable is set to the value of an expression: by its last instruction, or by a Copy.
@@ -67,12 +69,13 @@ impl<'a> Builder<'a> {
     {
         let mut temporaries = Vec::new(self.alloc);
         match self.compute(site, expression, &mut temporaries)? {
-            Value::Ready(operand) => self.copy(site.place, variable, operand),
+            Value::Ready(operand) => self.copy(site.place, variable, operand)?,
             Value::Computed(_, operation) => {
                 self.set(site.place, variable, operation)?;
-                self.undefine(site.place, temporaries.as_slice())
+                self.undefine(site.place, temporaries.as_slice())?;
             }
         }
+        Ok(())
     }
 
     // A variable is set to new memory.
@@ -86,7 +89,8 @@ impl<'a> Builder<'a> {
         ensures { OnOk result ((i : ℕ) → Leads (λ w s u. SetsTo w.graph (w.out i) place variable (allocation shape.0 count) s u) self.old self.new) }
     {
         self.check_count(shape, count)?;
-        self.allocate(place, variable, shape)
+        self.allocate(place, variable, shape)?;
+        Ok(())
     }
 
     /// A variable of the flow graph is set to an expression or to new memory.
@@ -99,12 +103,13 @@ impl<'a> Builder<'a> {
         ensures { OnOk result (Leads (λ w s u. SetsTo w.graph (w.out site.occurrence) site.place variable (right_of right.now) s u) self.old self.new) }
     {
         match right {
-            RightSide::Expression(expression) => self.set_to_value(site, variable, expression),
+            RightSide::Expression(expression) => self.set_to_value(site, variable, expression)?,
             RightSide::Malloc(shape, count) => {
-                self.set_to_new(site.place, variable, *shape, *count)
+                self.set_to_new(site.place, variable, *shape, *count)?;
             }
-            RightSide::Call(_) => Err(ABSENT),
+            RightSide::Call(_) => return Err(ABSENT),
         }
+        Ok(())
     }
 
     // An operand is put into a variable.
@@ -119,7 +124,8 @@ impl<'a> Builder<'a> {
     {
         let variable = self.local(site.occurrence, number)?;
         self.copy(site.place, variable, operand)?;
-        self.undefine(site.place, temporaries)
+        self.undefine(site.place, temporaries)?;
+        Ok(())
     }
 
     // An operand is put into a field.
@@ -130,12 +136,13 @@ impl<'a> Builder<'a> {
         operand: Operand,
         temporaries: &mut Vec<VarId>,
     ) -> Result<(), LowerFault>
-        ensures { OnOk result (Leads (λ w s u. Puts w.graph (w.out site.occurrence) site.place (target_of target) operand temporaries.old.items s u) self.old self.new) }
+        ensures { OnOk result (Leads (λ w s u. Puts w.graph (w.out site.occurrence) site.place (target_of target.entry) operand temporaries.old.items s u) self.old self.new) }
     {
         let variable = self.local(site.occurrence, target.variable)?;
         let (base, last) = self.walk(site.place, variable, target.fields, temporaries)?;
         self.store(site.place, base, last, operand)?;
-        self.undefine(site.place, temporaries.as_slice())
+        self.undefine(site.place, temporaries.as_slice())?;
+        Ok(())
     }
 
     /// An operand is put into a variable or a field, and the temporaries become undefined.
@@ -146,13 +153,14 @@ impl<'a> Builder<'a> {
         operand: Operand,
         temporaries: &mut Vec<VarId>,
     ) -> Result<(), LowerFault>
-        ensures { OnOk result (Leads (λ w s u. Puts w.graph (w.out site.occurrence) site.place (target_of target) operand temporaries.old.items s u) self.old self.new) }
+        ensures { OnOk result (Leads (λ w s u. Puts w.graph (w.out site.occurrence) site.place (target_of target.entry) operand temporaries.old.items s u) self.old self.new) }
     {
         if target.fields.is_empty() {
-            self.put_into_variable(site, target.variable, operand, temporaries.as_slice())
+            self.put_into_variable(site, target.variable, operand, temporaries.as_slice())?;
         } else {
-            self.put_into_field(site, target, operand, temporaries)
+            self.put_into_field(site, target, operand, temporaries)?;
         }
+        Ok(())
     }
 
     // The value of an expression is put into a field.
@@ -162,11 +170,12 @@ impl<'a> Builder<'a> {
         target: Target,
         expression: &Expression,
     ) -> Result<(), LowerFault>
-        ensures { OnOk result (Leads (λ w s u. Assigns w.graph (w.out site.occurrence) site.place (target_of target) (value_of (expression_of expression.now)) s u) self.old self.new) }
+        ensures { OnOk result (Leads (λ w s u. Assigns w.graph (w.out site.occurrence) site.place (target_of target.entry) (value_of (expression_of expression.now)) s u) self.old self.new) }
     {
         let mut temporaries = Vec::new(self.alloc);
         let operand = self.evaluate(site, expression, &mut temporaries)?;
-        self.put_into_field(site, target, operand, &mut temporaries)
+        self.put_into_field(site, target, operand, &mut temporaries)?;
+        Ok(())
     }
 
     // New memory is put into a field.
@@ -177,14 +186,15 @@ impl<'a> Builder<'a> {
         shape: StructId,
         count: usize,
     ) -> Result<(), LowerFault>
-        ensures { OnOk result (Leads (λ w s u. Assigns w.graph (w.out site.occurrence) site.place (target_of target) (allocation shape.0 count) s u) self.old self.new) }
+        ensures { OnOk result (Leads (λ w s u. Assigns w.graph (w.out site.occurrence) site.place (target_of target.entry) (allocation shape.0 count) s u) self.old self.new) }
     {
         self.check_count(shape, count)?;
         let variable = self.temporary(0, Kind::Ptr)?;
         self.allocate(site.place, variable, shape)?;
         let mut temporaries = Vec::new(self.alloc);
         temporaries.push(variable)?;
-        self.put_into_field(site, target, Operand::Var(variable), &mut temporaries)
+        self.put_into_field(site, target, Operand::Var(variable), &mut temporaries)?;
+        Ok(())
     }
 
     // A value or new memory is put into a field.
@@ -194,13 +204,14 @@ impl<'a> Builder<'a> {
         target: Target,
         right: &RightSide,
     ) -> Result<(), LowerFault>
-        ensures { OnOk result (Leads (λ w s u. Assigns w.graph (w.out site.occurrence) site.place (target_of target) (right_of right.now) s u) self.old self.new) }
+        ensures { OnOk result (Leads (λ w s u. Assigns w.graph (w.out site.occurrence) site.place (target_of target.entry) (right_of right.now) s u) self.old self.new) }
     {
         match right {
-            RightSide::Expression(expression) => self.assign_value(site, target, expression),
-            RightSide::Malloc(shape, count) => self.assign_new(site, target, *shape, *count),
-            RightSide::Call(_) => Err(ABSENT),
+            RightSide::Expression(expression) => self.assign_value(site, target, expression)?,
+            RightSide::Malloc(shape, count) => self.assign_new(site, target, *shape, *count)?,
+            RightSide::Call(_) => return Err(ABSENT),
         }
+        Ok(())
     }
 
     /// A value or new memory is put into a variable or a field.
@@ -210,14 +221,15 @@ impl<'a> Builder<'a> {
         target: Target,
         right: &RightSide,
     ) -> Result<(), LowerFault>
-        ensures { OnOk result (Leads (λ w s u. Assigns w.graph (w.out site.occurrence) site.place (target_of target) (right_of right.now) s u) self.old self.new) }
+        ensures { OnOk result (Leads (λ w s u. Assigns w.graph (w.out site.occurrence) site.place (target_of target.entry) (right_of right.now) s u) self.old self.new) }
     {
         if target.fields.is_empty() {
             let variable = self.local(site.occurrence, target.variable)?;
-            self.set_to(site, variable, right)
+            self.set_to(site, variable, right)?;
         } else {
-            self.assign_field(site, target, right)
+            self.assign_field(site, target, right)?;
         }
+        Ok(())
     }
 
     // A variable is changed by an operand.
@@ -237,7 +249,8 @@ impl<'a> Builder<'a> {
             variable,
             how.of(Operand::Var(variable), operand),
         )?;
-        self.undefine(site.place, temporaries)
+        self.undefine(site.place, temporaries)?;
+        Ok(())
     }
 
     // A field is loaded, computed and stored.
@@ -259,7 +272,8 @@ impl<'a> Builder<'a> {
         let changed = how.of(Operand::Var(old), operand);
         let new = self.take(site.place, Kind::Int, changed, temporaries)?;
         self.store(site.place, base, last, Operand::Var(new))?;
-        self.undefine(site.place, temporaries.as_slice())
+        self.undefine(site.place, temporaries.as_slice())?;
+        Ok(())
     }
 
     /// `+=` and `-=`.
@@ -275,10 +289,11 @@ impl<'a> Builder<'a> {
         let mut temporaries = Vec::new(self.alloc);
         let operand = self.evaluate(site, expression, &mut temporaries)?;
         if left.fields.is_empty() {
-            self.change_variable(site, how, left.variable, operand, temporaries.as_slice())
+            self.change_variable(site, how, left.variable, operand, temporaries.as_slice())?;
         } else {
-            self.change_field(site, how, left, operand, &mut temporaries)
+            self.change_field(site, how, left, operand, &mut temporaries)?;
         }
+        Ok(())
     }
 
     // A block is freed.
@@ -291,7 +306,8 @@ impl<'a> Builder<'a> {
             place,
             Instr::Free(operand, next.target()),
             next,
-        )
+        )?;
+        Ok(())
     }
 
     /// `free`.
@@ -301,6 +317,7 @@ impl<'a> Builder<'a> {
         let mut temporaries = Vec::new(self.alloc);
         let operand = self.evaluate(site, pointer, &mut temporaries)?;
         self.release(site.place, operand)?;
-        self.undefine(site.place, temporaries.as_slice())
+        self.undefine(site.place, temporaries.as_slice())?;
+        Ok(())
     }
 }

@@ -240,7 +240,8 @@ impl<'a> Builder<'a> {
         ensures { OnOk result (Leads (λ w s u. Appends w.graph (role_of role) place (λ q. Skip q) s u) self.old self.new) }
     {
         let next = self.label()?;
-        self.append(role, place, Instr::Skip(next.target()), next)
+        self.append(role, place, Instr::Skip(next.target()), next)?;
+        Ok(())
     }
 
     /// A Copy.
@@ -258,7 +259,8 @@ impl<'a> Builder<'a> {
             place,
             Instr::Copy(variable, operand, next.target()),
             next,
-        )
+        )?;
+        Ok(())
     }
 
     /// Variables become undefined by one point, though there may be none.
@@ -267,7 +269,8 @@ impl<'a> Builder<'a> {
     {
         let next = self.label()?;
         let list = Items::of(Vec::from_slice(self.alloc, variables)?);
-        self.append(Role::Plain, place, Instr::Undef(list, next.target()), next)
+        self.append(Role::Plain, place, Instr::Undef(list, next.target()), next)?;
+        Ok(())
     }
 
     /// Variables become undefined by one point, where there are any.
@@ -277,6 +280,7 @@ impl<'a> Builder<'a> {
         if variables.is_empty() {
             return Ok(());
         }
-        self.undefine_all(place, variables)
+        self.undefine_all(place, variables)?;
+        Ok(())
     }
 }

@@ -72,7 +72,8 @@ impl<'a> Builder<'a> {
         let mut temporaries = Vec::new(self.alloc);
         let operands = self.evaluate_all(site, call.arguments.as_slice(), &mut temporaries)?;
         self.pass(site.place, parameters, operands.as_slice())?;
-        self.undefine(site.place, temporaries.as_slice())
+        self.undefine(site.place, temporaries.as_slice())?;
+        Ok(())
     }
 
     // A variable for the result, where the function has one, undefined at the begin.
@@ -102,7 +103,7 @@ impl<'a> Builder<'a> {
         call: &Call,
         context: Context<'a>,
     ) -> Result<Entered<'a>, LowerFault>
-        ensures { IfOk result (λ e. (w : World) → Agrees w self.new → Agrees w self.old × IsEntered w place (call_of call.now) context e (stage_of w self.old) (stage_of w self.new)) }
+        ensures { IfOk result (λ e. (w : World) → Agrees w self.new → Agrees w self.old × IsEntered w place (call_of call.now) context.entry e (stage_of w self.old) (stage_of w self.new)) }
     {
         if context.depth >= self.program.functions.len() {
             return Err(ABSENT);
@@ -128,11 +129,12 @@ impl<'a> Builder<'a> {
 
     /// The body of a call is behind: its variables become undefined.
     pub fn end_call(&mut self, place: Place, callee: Context<'a>) -> Result<(), LowerFault>
-        ensures { OnOk result (Leads (λ w s u. EndsCall w.graph (w.out callee.occurrence) place (length (function_of callee.function.now).locals) s u) self.old self.new) }
+        ensures { OnOk result (Leads (λ w s u. EndsCall w.graph (w.out callee.entry.occurrence) place (length (function_of callee.entry.function.now).locals) s u) self.old self.new) }
     {
         let out = self.out(callee.occurrence)?;
         self.meet(out)?;
-        self.forget(place, callee.occurrence, callee.function.locals.len())
+        self.forget(place, callee.occurrence, callee.function.locals.len())?;
+        Ok(())
     }
 
     /// A result is put into a variable or a field.
@@ -142,14 +144,15 @@ impl<'a> Builder<'a> {
         target: Target,
         answer: Option<VarId>,
     ) -> Result<(), LowerFault>
-        ensures { OnOk result (Leads (λ w s u. TakesResult w.graph (w.out site.occurrence) site.place target answer s u) self.old self.new) }
+        ensures { OnOk result (Leads (λ w s u. TakesResult w.graph (w.out site.occurrence) site.place target.entry answer s u) self.old self.new) }
     {
         let Some(returned) = answer else {
             return Err(ABSENT);
         };
         let mut temporaries = Vec::new(self.alloc);
         self.put_into(site, target, Operand::Var(returned), &mut temporaries)?;
-        self.undefine(site.place, &[returned])
+        self.undefine(site.place, &[returned])?;
+        Ok(())
     }
 
     /// A result is returned on.
@@ -166,7 +169,8 @@ impl<'a> Builder<'a> {
         };
         self.copy(site.place, own, Operand::Var(returned))?;
         self.undefine(site.place, &[returned])?;
-        self.go_out(site.occurrence)
+        self.go_out(site.occurrence)?;
+        Ok(())
     }
 
     /// What was made goes on where `return` goes.
@@ -174,7 +178,8 @@ impl<'a> Builder<'a> {
         ensures { OnOk result (Leads (λ w s u. GoesTo (w.out occurrence) s u) self.old self.new) }
     {
         let out = self.out(occurrence)?;
-        self.go(out)
+        self.go(out)?;
+        Ok(())
     }
 }
 
@@ -184,13 +189,14 @@ fn push_body<'a>(
     place: Place,
     callee: Context<'a>,
 ) -> Result<(), LowerFault>
-    ensures { OnOk result ((w : World) (s u : Stage) → Rest w tasks.new s u → (m : Stage) × LowersAll w.graph (around_of w callee) (function_of callee.function.now).body s m × ((n : Stage) × EndsCall w.graph (w.out callee.occurrence) place (length (function_of callee.function.now).locals) m n × Rest w tasks.old n u)) }
+    ensures { OnOk result ((w : World) (s u : Stage) → Rest w tasks.new s u → (m : Stage) × LowersAll w.graph (around_of w callee.entry) (function_of callee.entry.function.now).body s m × ((n : Stage) × EndsCall w.graph (w.out callee.entry.occurrence) place (length (function_of callee.entry.function.now).locals) m n × Rest w tasks.old n u)) }
 {
     push(tasks, Task::EndCall(place, callee))?;
     push(
         tasks,
         Task::Statements(callee.function.body.as_slice(), callee),
-    )
+    )?;
+    Ok(())
 }
 
 impl<'a> Builder<'a> {
@@ -202,10 +208,11 @@ impl<'a> Builder<'a> {
         call: &Call,
         context: Context<'a>,
     ) -> Result<(), LowerFault>
-        ensures { OnOk result (Begins (λ w s m. Performs w.graph (w.out context.occurrence) place (performs_call (call_of call.now)) s m) self.old tasks.old self.new tasks.new) }
+        ensures { OnOk result (Begins (λ w s m. Performs w.graph (w.out context.entry.occurrence) place (performs_call (call_of call.now)) s m) self.old tasks.old self.new tasks.new) }
     {
         let entered = self.enter_call(place, call, context)?;
-        push_body(tasks, place, entered.callee)
+        push_body(tasks, place, entered.callee)?;
+        Ok(())
     }
 
     // A call whose result is put into a variable or a field.
@@ -217,14 +224,15 @@ impl<'a> Builder<'a> {
         call: &Call,
         context: Context<'a>,
     ) -> Result<(), LowerFault>
-        ensures { OnOk result (Begins (λ w s m. Performs w.graph (w.out context.occurrence) place (assign (target_of target) (result_of (call_of call.now))) s m) self.old tasks.old self.new tasks.new) }
+        ensures { OnOk result (Begins (λ w s m. Performs w.graph (w.out context.entry.occurrence) place (assign (target_of target.entry) (result_of (call_of call.now))) s m) self.old tasks.old self.new tasks.new) }
     {
         let entered = self.enter_call(place, call, context)?;
         push(
             tasks,
             Task::Take(place, target, entered.answer, context.occurrence),
         )?;
-        push_body(tasks, place, entered.callee)
+        push_body(tasks, place, entered.callee)?;
+        Ok(())
     }
 
     /// A call whose result is returned on.
@@ -235,7 +243,7 @@ impl<'a> Builder<'a> {
         call: &Call,
         context: Context<'a>,
     ) -> Result<(), LowerFault>
-        ensures { OnOk result (Begins (λ w s m. Lowers w.graph (around_of w context) (returns place (Some (result_of (call_of call.now)))) s m) self.old tasks.old self.new tasks.new) }
+        ensures { OnOk result (Begins (λ w s m. Lowers w.graph (around_of w context.entry) (returns place (Some (result_of (call_of call.now)))) s m) self.old tasks.old self.new tasks.new) }
     {
         let own = self.own_result(context.occurrence)?;
         let entered = self.enter_call(place, call, context)?;
@@ -243,7 +251,8 @@ impl<'a> Builder<'a> {
             tasks,
             Task::Answer(place, own, entered.answer, context.occurrence),
         )?;
-        push_body(tasks, place, entered.callee)
+        push_body(tasks, place, entered.callee)?;
+        Ok(())
     }
 
     // A value is put into a variable or a field.
@@ -255,17 +264,18 @@ impl<'a> Builder<'a> {
         right: &'a RightSide,
         context: Context<'a>,
     ) -> Result<(), LowerFault>
-        ensures { OnOk result (Begins (λ w s m. Performs w.graph (w.out context.occurrence) place (assign (target_of target) (right_of right.now)) s m) self.old tasks.old self.new tasks.new) }
+        ensures { OnOk result (Begins (λ w s m. Performs w.graph (w.out context.entry.occurrence) place (assign (target_of target.entry) (right_of right.now)) s m) self.old tasks.old self.new tasks.new) }
     {
         let site = Site {
             occurrence: context.occurrence,
             place,
         };
         match right {
-            RightSide::Call(call) => self.call_into(tasks, place, target, call, context),
-            RightSide::Expression(_) => self.assign(site, target, right),
-            RightSide::Malloc(_, _) => self.assign(site, target, right),
+            RightSide::Call(call) => self.call_into(tasks, place, target, call, context)?,
+            RightSide::Expression(_) => self.assign(site, target, right)?,
+            RightSide::Malloc(_, _) => self.assign(site, target, right)?,
         }
+        Ok(())
     }
 
     /// A simple statement.
@@ -275,7 +285,7 @@ impl<'a> Builder<'a> {
         simple: &'a Simple,
         context: Context<'a>,
     ) -> Result<(), LowerFault>
-        ensures { OnOk result (Begins (λ w s m. Performs w.graph (w.out context.occurrence) simple.now.place (action_of simple.now.action) s m) self.old tasks.old self.new tasks.new) }
+        ensures { OnOk result (Begins (λ w s m. Performs w.graph (w.out context.entry.occurrence) simple.now.place (action_of simple.now.action) s m) self.old tasks.old self.new tasks.new) }
     {
         let place = simple.place;
         let site = Site {
@@ -284,14 +294,15 @@ impl<'a> Builder<'a> {
         };
         match &simple.action {
             Action::Assign(left, right) => {
-                self.assign_right(tasks, place, Target::of(left), right, context)
+                self.assign_right(tasks, place, Target::of(left), right, context)?;
             }
-            Action::Call(call) => self.call_for_nothing(tasks, place, call, context),
-            Action::Add(left, expression) => self.change(site, How::Plus, left, expression),
+            Action::Call(call) => self.call_for_nothing(tasks, place, call, context)?,
+            Action::Add(left, expression) => self.change(site, How::Plus, left, expression)?,
             Action::Subtract(left, expression) => {
-                self.change(site, How::Difference, left, expression)
+                self.change(site, How::Difference, left, expression)?;
             }
         }
+        Ok(())
     }
 
     // A declarator makes its variable, which is undefined or gets a value.
@@ -302,19 +313,20 @@ impl<'a> Builder<'a> {
         item: &'a Initial,
         context: Context<'a>,
     ) -> Result<(), LowerFault>
-        ensures { OnOk result (Begins (λ w s m. DeclaresFirst w context place (initial_of item.now) s m) self.old tasks.old self.new tasks.new) }
+        ensures { OnOk result (Begins (λ w s m. DeclaresFirst w context.entry place (initial_of item.now) s m) self.old tasks.old self.new tasks.new) }
     {
         let variable = self.create_local(context.function, context.occurrence, item.variable)?;
         match &item.value {
-            None => self.undefine_all(place, &[variable]),
+            None => self.undefine_all(place, &[variable])?,
             Some(right) => {
                 let target = Target {
                     variable: item.variable,
                     fields: &[],
                 };
-                self.assign_right(tasks, place, target, right, context)
+                self.assign_right(tasks, place, target, right, context)?;
             }
         }
+        Ok(())
     }
 
     /// Declarators make their variables.
@@ -325,12 +337,13 @@ impl<'a> Builder<'a> {
         items: &'a [Initial],
         context: Context<'a>,
     ) -> Result<(), LowerFault>
-        ensures { OnOk result (Begins (λ w s m. Declares w.graph (function_of context.function.now) (w.out context.occurrence) place (map initial_of items.now) s m) self.old tasks.old self.new tasks.new) }
+        ensures { OnOk result (Begins (λ w s m. Declares w.graph (function_of context.entry.function.now) (w.out context.entry.occurrence) place (map initial_of items.now) s m) self.old tasks.old self.new tasks.new) }
     {
         let Some((item, more)) = items.split_first() else {
             return Ok(());
         };
         push(tasks, Task::Declare(place, more, context))?;
-        self.declare_one(tasks, place, item, context)
+        self.declare_one(tasks, place, item, context)?;
+        Ok(())
     }
 }

@@ -77,7 +77,8 @@ impl<'a> Builder<'a> {
     {
         self.goal = from;
         self.undefine(place, temporaries)?;
-        self.meet(to)
+        self.meet(to)?;
+        Ok(())
     }
 
     // Two operands are compared, and behind the test the temporaries become undefined on both ways.
@@ -97,7 +98,8 @@ impl<'a> Builder<'a> {
         let code = decides(comparison, left, right, Ways { yes, no });
         self.put(Role::Plain, place, code)?;
         self.clear(place, temporaries, yes, ways.yes)?;
-        self.clear(place, temporaries, no, ways.no)
+        self.clear(place, temporaries, no, ways.no)?;
+        Ok(())
     }
 
     // An expression is not 0 or null.
@@ -118,7 +120,8 @@ impl<'a> Builder<'a> {
             nothing(),
             temporaries.as_slice(),
             ways,
-        )
+        )?;
+        Ok(())
     }
 
     // Two expressions compare so.
@@ -142,7 +145,8 @@ impl<'a> Builder<'a> {
             right,
             temporaries.as_slice(),
             ways,
-        )
+        )?;
+        Ok(())
     }
 
     // A condition is tested from the goal on, or its parts are next.
@@ -162,21 +166,21 @@ impl<'a> Builder<'a> {
                     occurrence,
                     place: *place,
                 };
-                self.test_plain(site, expression, ways)
+                self.test_plain(site, expression, ways)?;
             }
             Condition::Compare(place, comparison, left, right) => {
                 let site = Site {
                     occurrence,
                     place: *place,
                 };
-                self.test_comparison(site, *comparison, left, right, ways)
+                self.test_comparison(site, *comparison, left, right, ways)?;
             }
             Condition::Not(part) => {
                 let swapped = Ways {
                     yes: ways.no,
                     no: ways.yes,
                 };
-                push(work, from, part, swapped)
+                push(work, from, part, swapped)?;
             }
             Condition::Both(first, second) => {
                 let middle = self.label()?;
@@ -185,7 +189,7 @@ impl<'a> Builder<'a> {
                     no: ways.no,
                 };
                 push(work, middle, second, ways)?;
-                push(work, from, first, before)
+                push(work, from, first, before)?;
             }
             Condition::Either(first, second) => {
                 let middle = self.label()?;
@@ -194,9 +198,10 @@ impl<'a> Builder<'a> {
                     no: middle,
                 };
                 push(work, middle, second, ways)?;
-                push(work, from, first, before)
+                push(work, from, first, before)?;
             }
         }
+        Ok(())
     }
 
     // What is next is tested from its label on, or its parts are next.
@@ -206,10 +211,11 @@ impl<'a> Builder<'a> {
         next: Work<'c>,
         work: &mut Stack<Work<'c>>,
     ) -> Result<(), LowerFault>
-        ensures { OnOk result ((w : World) (n k : ℕ) → Agrees w self.new → Testing w occurrence work.new (length self.new.points.items) (length self.new.variables.items) n k → Agrees w self.old × Testing w occurrence (next ∷ work.old) (length self.old.points.items) (length self.old.variables.items) n k) }
+        ensures { OnOk result ((w : World) (n k : ℕ) → Agrees w self.new → Testing w occurrence work.new (length self.new.points.items) (length self.new.variables.items) n k → Agrees w self.old × Testing w occurrence (next.entry ∷ work.old) (length self.old.points.items) (length self.old.variables.items) n k) }
     {
         self.goal = next.from;
-        self.enter_condition(occurrence, next.condition, next.ways, work)
+        self.enter_condition(occurrence, next.condition, next.ways, work)?;
+        Ok(())
     }
 
     /// A condition goes one way where it is true, else the other; a loop, so that none is too deep. The goal is none of
@@ -255,11 +261,12 @@ impl<'a> Builder<'a> {
         condition: Option<&Condition>,
         no: Label,
     ) -> Result<(), LowerFault>
-        ensures { OnOk result (Leads (λ w s u. TestsPerhapsOn w.graph (w.out occurrence) (option_map (λ c. condition_of c.now) condition) (w.at no.0) s u) self.old self.new) }
+        ensures { OnOk result (Leads (λ w s u. TestsPerhapsOn w.graph (w.out occurrence) (option_map (λ c. condition_of c.now) condition.entry) (w.at no.0) s u) self.old self.new) }
     {
         match condition {
-            Some(condition) => self.test_or(occurrence, condition, no),
-            None => Ok(()),
+            Some(condition) => self.test_or(occurrence, condition, no)?,
+            None => {}
         }
+        Ok(())
     }
 }

@@ -68,7 +68,8 @@ impl<'a> Builder<'a> {
         };
         let mut tasks = Stack::new(self.alloc);
         push(&mut tasks, Task::Statements(entry.body.as_slice(), context))?;
-        self.run(&mut tasks)
+        self.run(&mut tasks)?;
+        Ok(())
     }
 
     // Behind the body of `main` its result is 0.
@@ -88,7 +89,8 @@ impl<'a> Builder<'a> {
     {
         let out = self.out(occurrence)?;
         self.meet(out)?;
-        self.put(Role::Plain, NOWHERE, Instr::End)
+        self.put(Role::Plain, NOWHERE, Instr::End)?;
+        Ok(())
     }
 
     // A Skip, the entry, and an End.
@@ -102,7 +104,8 @@ impl<'a> Builder<'a> {
         self.begin(entry, occurrence)?;
         self.body(entry, occurrence)?;
         self.fall(entry, occurrence)?;
-        self.end(occurrence)
+        self.end(occurrence)?;
+        Ok(())
     }
 }
 

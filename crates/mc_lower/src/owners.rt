@@ -111,7 +111,8 @@ impl<'a> Builder<'a> {
             return Err(ABSENT);
         };
         let info = info_of(self.alloc, local)?;
-        self.create(Owner::Local(occurrence, number), info)
+        let variable = self.create(Owner::Local(occurrence, number), info)?;
+        Ok(variable)
     }
 
     /// Makes the result of an occurrence.
@@ -119,7 +120,8 @@ impl<'a> Builder<'a> {
         ensures { IfOk result (λ v. (w : World) → Agrees w self.new → Agrees w self.old × Creates w.graph (result_of (w.out occurrence)) (result_info kind) (stage_of w self.old) v (stage_of w self.new)) }
     {
         let name = Items::of(Vec::from_slice(self.alloc, b"$ret")?);
-        self.create(Owner::Result(occurrence), VarInfo { name, kind })
+        let variable = self.create(Owner::Result(occurrence), VarInfo { name, kind })?;
+        Ok(variable)
     }
 
     /// The temporary of this number and kind, made at its first use.
@@ -130,7 +132,8 @@ impl<'a> Builder<'a> {
             return Ok(variable);
         }
         let name = Items::new(self.alloc);
-        self.create(Owner::Temporary(number, kind), VarInfo { name, kind })
+        let variable = self.create(Owner::Temporary(number, kind), VarInfo { name, kind })?;
+        Ok(variable)
     }
 
     // Those of these variables of an occurrence that are made by now, ascending.
@@ -169,7 +172,8 @@ impl<'a> Builder<'a> {
         ensures { OnOk result (Leads (λ w s u. Leaves w.graph (w.out occurrence) place numbers.now s u) self.old self.new) }
     {
         let made = self.made_among(occurrence, numbers)?;
-        self.undefine(place, made.as_slice())
+        self.undefine(place, made.as_slice())?;
+        Ok(())
     }
 
     /// The variables of an occurrence of a function become undefined by one point.
@@ -182,7 +186,8 @@ impl<'a> Builder<'a> {
         ensures { OnOk result (Leads (λ w s u. Forgets w.graph (w.out occurrence) place count s u) self.old self.new) }
     {
         let made = self.made_below(occurrence, count)?;
-        self.undefine_all(place, made.as_slice())
+        self.undefine_all(place, made.as_slice())?;
+        Ok(())
     }
 
     // The variables of a block and of those around it in the same loop.
@@ -215,6 +220,7 @@ impl<'a> Builder<'a> {
         ensures { OnOk result (Leads (λ w s u. Leaves w.graph (w.out occurrence) place (blocks_in w block) s u) self.old self.new) }
     {
         let numbers = self.numbers_in(block)?;
-        self.leave(place, occurrence, numbers.as_slice())
+        self.leave(place, occurrence, numbers.as_slice())?;
+        Ok(())
     }
 }

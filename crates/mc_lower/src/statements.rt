@@ -60,26 +60,28 @@ impl<'a> Builder<'a> {
 
     // `assume_shape`.
     fn assume_shape(&mut self, shape: &AssumeShape, context: Context<'a>) -> Result<(), LowerFault>
-        ensures { OnOk result (Leads (λ w s u. Lowers w.graph (around_of w context) (assume_shape shape.now.place shape.now.predicate shape.now.variable (map argument_of shape.now.arguments.items)) s u) self.old self.new) }
+        ensures { OnOk result (Leads (λ w s u. Lowers w.graph (around_of w context.entry) (assume_shape shape.now.place shape.now.predicate shape.now.variable (map argument_of shape.now.arguments.items)) s u) self.old self.new) }
     {
         let occurrence = context.occurrence;
         let variable = self.local(occurrence, shape.variable)?;
         let operands = self.arguments(occurrence, shape.arguments.as_slice())?;
         let next = self.label()?;
         let code = Instr::AssumeShape(shape.predicate, variable, operands, next.target());
-        self.append(Role::Plain, shape.place, code, next)
+        self.append(Role::Plain, shape.place, code, next)?;
+        Ok(())
     }
 
     // `assert_shape`.
     fn assert_shape(&mut self, shape: &AssertShape, context: Context<'a>) -> Result<(), LowerFault>
-        ensures { OnOk result (Leads (λ w s u. Lowers w.graph (around_of w context) (assert_shape shape.now.place shape.now.predicate (argument_of shape.now.start) (map argument_of shape.now.arguments.items)) s u) self.old self.new) }
+        ensures { OnOk result (Leads (λ w s u. Lowers w.graph (around_of w context.entry) (assert_shape shape.now.place shape.now.predicate (argument_of shape.now.start) (map argument_of shape.now.arguments.items)) s u) self.old self.new) }
     {
         let occurrence = context.occurrence;
         let start = self.argument(occurrence, shape.start)?;
         let operands = self.arguments(occurrence, shape.arguments.as_slice())?;
         let next = self.label()?;
         let code = Instr::AssertShape(shape.predicate, start, operands, next.target());
-        self.append(Role::Plain, shape.place, code, next)
+        self.append(Role::Plain, shape.place, code, next)?;
+        Ok(())
     }
 
     // `assert_empty`.
@@ -87,7 +89,8 @@ impl<'a> Builder<'a> {
         ensures { OnOk result (Leads (λ w s u. Appends w.graph plain place (λ q. EmptinessAsserted q) s u) self.old self.new) }
     {
         let next = self.label()?;
-        self.append(Role::Plain, place, Instr::AssertEmpty(next.target()), next)
+        self.append(Role::Plain, place, Instr::AssertEmpty(next.target()), next)?;
+        Ok(())
     }
 
     // ---- statements with statements inside
@@ -99,11 +102,12 @@ impl<'a> Builder<'a> {
         statements: &'a [Statement],
         context: Context<'a>,
     ) -> Result<(), LowerFault>
-        ensures { OnOk result (Begins (λ w s m. Lowers w.graph (around_of w context) (block numbers.now (stmts_of (map statement_of statements.now))) s m) self.old tasks.old self.new tasks.new) }
+        ensures { OnOk result (Begins (λ w s m. Lowers w.graph (around_of w context.entry) (block numbers.now (stmts_of (map statement_of statements.now))) s m) self.old tasks.old self.new tasks.new) }
     {
         let block = self.open(numbers, context.block)?;
         push(tasks, Task::EndBlock(numbers, context.occurrence))?;
-        push(tasks, Task::Statements(statements, context.in_block(block)))
+        push(tasks, Task::Statements(statements, context.in_block(block)))?;
+        Ok(())
     }
 
     // `if` without `else`.
@@ -115,12 +119,13 @@ impl<'a> Builder<'a> {
         part: &'a Statement,
         context: Context<'a>,
     ) -> Result<(), LowerFault>
-        ensures { OnOk result (Begins (λ w s m. Lowers w.graph (around_of w context) (if_only place (condition_of condition.now) (statement_of part.now)) s m) self.old tasks.old self.new tasks.new) }
+        ensures { OnOk result (Begins (λ w s m. Lowers w.graph (around_of w context.entry) (if_only place (condition_of condition.now) (statement_of part.now)) s m) self.old tasks.old self.new tasks.new) }
     {
         let merge = self.label()?;
         self.test_or(context.occurrence, condition, merge)?;
         push(tasks, Task::Merge(place, merge))?;
-        push(tasks, Task::Statement(part, context))
+        push(tasks, Task::Statement(part, context))?;
+        Ok(())
     }
 
     // `if` with `else`.
@@ -133,7 +138,7 @@ impl<'a> Builder<'a> {
         second: &'a Statement,
         context: Context<'a>,
     ) -> Result<(), LowerFault>
-        ensures { OnOk result (Begins (λ w s m. Lowers w.graph (around_of w context) (if_else place (condition_of condition.now) (statement_of first.now) (statement_of second.now)) s m) self.old tasks.old self.new tasks.new) }
+        ensures { OnOk result (Begins (λ w s m. Lowers w.graph (around_of w context.entry) (if_else place (condition_of condition.now) (statement_of first.now) (statement_of second.now)) s m) self.old tasks.old self.new tasks.new) }
     {
         let no = self.label()?;
         let merge = self.label()?;
@@ -141,7 +146,8 @@ impl<'a> Builder<'a> {
         push(tasks, Task::Merge(place, merge))?;
         push(tasks, Task::Statement(second, context))?;
         push(tasks, Task::Otherwise(no, merge))?;
-        push(tasks, Task::Statement(first, context))
+        push(tasks, Task::Statement(first, context))?;
+        Ok(())
     }
 
     // The second part of an `if` begins.
@@ -158,7 +164,8 @@ impl<'a> Builder<'a> {
         ensures { OnOk result (Leads (λ w s u. Merges w.graph place (w.at merge.0) s u) self.old self.new) }
     {
         self.meet(merge)?;
-        self.skip(Role::Merge, place)
+        self.skip(Role::Merge, place)?;
+        Ok(())
     }
 
     // `while`.
@@ -170,14 +177,15 @@ impl<'a> Builder<'a> {
         body: &'a Statement,
         context: Context<'a>,
     ) -> Result<(), LowerFault>
-        ensures { OnOk result (Begins (λ w s m. Lowers w.graph (around_of w context) (while_loop place (condition_of condition.now) (statement_of body.now)) s m) self.old tasks.old self.new tasks.new) }
+        ensures { OnOk result (Begins (λ w s m. Lowers w.graph (around_of w context.entry) (while_loop place (condition_of condition.now) (statement_of body.now)) s m) self.old tasks.old self.new tasks.new) }
     {
         let head = self.goal;
         self.skip(Role::Head, place)?;
         let exit = self.label()?;
         self.test_or(context.occurrence, condition, exit)?;
         push(tasks, Task::EndWhile(place, head, exit))?;
-        push(tasks, Task::Statement(body, context.in_loop(exit, head)))
+        push(tasks, Task::Statement(body, context.in_loop(exit, head)))?;
+        Ok(())
     }
 
     // The body of a `while` goes to the head.
@@ -186,7 +194,8 @@ impl<'a> Builder<'a> {
     {
         self.meet(head)?;
         self.goal = exit;
-        self.skip(Role::Plain, place)
+        self.skip(Role::Plain, place)?;
+        Ok(())
     }
 
     // `do`.
@@ -198,7 +207,7 @@ impl<'a> Builder<'a> {
         condition: &'a Condition,
         context: Context<'a>,
     ) -> Result<(), LowerFault>
-        ensures { OnOk result (Begins (λ w s m. Lowers w.graph (around_of w context) (do_loop place (statement_of body.now) (condition_of condition.now)) s m) self.old tasks.old self.new tasks.new) }
+        ensures { OnOk result (Begins (λ w s m. Lowers w.graph (around_of w context.entry) (do_loop place (statement_of body.now) (condition_of condition.now)) s m) self.old tasks.old self.new tasks.new) }
     {
         let head = self.goal;
         self.skip(Role::Head, place)?;
@@ -214,7 +223,8 @@ impl<'a> Builder<'a> {
                 context.occurrence,
             ),
         )?;
-        push(tasks, Task::Statement(body, context.in_loop(exit, turn)))
+        push(tasks, Task::Statement(body, context.in_loop(exit, turn)))?;
+        Ok(())
     }
 
     // The point for `continue`, the condition, and the exit.
@@ -236,7 +246,8 @@ impl<'a> Builder<'a> {
         };
         self.test(occurrence, condition, ways)?;
         self.goal = turns.exit;
-        self.skip(Role::Plain, place)
+        self.skip(Role::Plain, place)?;
+        Ok(())
     }
 
     // `for`: its first part is next.
@@ -247,16 +258,17 @@ impl<'a> Builder<'a> {
         body: &'a Statement,
         context: Context<'a>,
     ) -> Result<(), LowerFault>
-        ensures { OnOk result (Begins (λ w s m. Lowers w.graph (around_of w context) (for_loop (head_of head.now) (statement_of body.now)) s m) self.old tasks.old self.new tasks.new) }
+        ensures { OnOk result (Begins (λ w s m. Lowers w.graph (around_of w context.entry) (for_loop (head_of head.now) (statement_of body.now)) s m) self.old tasks.old self.new tasks.new) }
     {
         push(tasks, Task::For(head, body, context))?;
         match &head.start {
-            ForStart::Nothing => Ok(()),
+            ForStart::Nothing => {}
             ForStart::Declaration(place, items) => {
-                push(tasks, Task::Declare(*place, items.as_slice(), context))
+                push(tasks, Task::Declare(*place, items.as_slice(), context))?;
             }
-            ForStart::Simple(simple) => push(tasks, Task::Simple(simple, context)),
+            ForStart::Simple(simple) => push(tasks, Task::Simple(simple, context))?,
         }
+        Ok(())
     }
 
     // The head of a `for` and its condition; its body is next.
@@ -267,7 +279,7 @@ impl<'a> Builder<'a> {
         body: &'a Statement,
         context: Context<'a>,
     ) -> Result<(), LowerFault>
-        ensures { OnOk result (Begins (λ w s m. EntersFor w.graph (around_of w context) (head_of head.now) (statement_of body.now) s m) self.old tasks.old self.new tasks.new) }
+        ensures { OnOk result (Begins (λ w s m. EntersFor w.graph (around_of w context.entry) (head_of head.now) (statement_of body.now) s m) self.old tasks.old self.new tasks.new) }
     {
         let begin = self.goal;
         self.skip(Role::Head, head.place)?;
@@ -278,7 +290,8 @@ impl<'a> Builder<'a> {
             tasks,
             Task::ForTurn(head, begin, Turns { exit, turn }, context),
         )?;
-        push(tasks, Task::Statement(body, context.in_loop(exit, turn)))
+        push(tasks, Task::Statement(body, context.in_loop(exit, turn)))?;
+        Ok(())
     }
 
     // The point for `continue`; the last part is next.
@@ -290,7 +303,7 @@ impl<'a> Builder<'a> {
         turns: Turns,
         context: Context<'a>,
     ) -> Result<(), LowerFault>
-        ensures { OnOk result (Begins (λ w s m. TurnsFor w.graph (w.out context.occurrence) (head_of head.now) (w.at begin.0) (w.at turns.turn.0) (w.at turns.exit.0) s m) self.old tasks.old self.new tasks.new) }
+        ensures { OnOk result (Begins (λ w s m. TurnsFor w.graph (w.out context.entry.occurrence) (head_of head.now) (w.at begin.0) (w.at turns.turn.0) (w.at turns.exit.0) s m) self.old tasks.old self.new tasks.new) }
     {
         self.meet(turns.turn)?;
         self.skip(Role::Plain, head.place)?;
@@ -299,9 +312,10 @@ impl<'a> Builder<'a> {
             Task::EndFor(head, begin, turns.exit, context.occurrence),
         )?;
         match &head.last {
-            None => Ok(()),
-            Some(simple) => push(tasks, Task::Simple(simple, context)),
+            None => {}
+            Some(simple) => push(tasks, Task::Simple(simple, context))?,
         }
+        Ok(())
     }
 
     // The last part goes to the head; behind the exit the variables of the head become undefined.
@@ -317,29 +331,32 @@ impl<'a> Builder<'a> {
         self.meet(begin)?;
         self.goal = exit;
         self.skip(Role::Plain, head.place)?;
-        self.leave(NOWHERE, occurrence, head.variables.as_slice())
+        self.leave(NOWHERE, occurrence, head.variables.as_slice())?;
+        Ok(())
     }
 
     // ---- jumps
     // `break` and `continue`: the variables of the blocks that are left become undefined.
     fn break_loop(&mut self, place: Place, context: Context<'a>) -> Result<(), LowerFault>
-        ensures { OnOk result (Leads (λ w s u. Lowers w.graph (around_of w context) (break_loop place) s u) self.old self.new) }
+        ensures { OnOk result (Leads (λ w s u. Lowers w.graph (around_of w context.entry) (break_loop place) s u) self.old self.new) }
     {
         let Some(turns) = context.turns else {
             return Err(ABSENT);
         };
         self.leave_blocks(place, context.occurrence, context.block)?;
-        self.go(turns.exit)
+        self.go(turns.exit)?;
+        Ok(())
     }
 
     fn continue_loop(&mut self, place: Place, context: Context<'a>) -> Result<(), LowerFault>
-        ensures { OnOk result (Leads (λ w s u. Lowers w.graph (around_of w context) (continue_loop place) s u) self.old self.new) }
+        ensures { OnOk result (Leads (λ w s u. Lowers w.graph (around_of w context.entry) (continue_loop place) s u) self.old self.new) }
     {
         let Some(turns) = context.turns else {
             return Err(ABSENT);
         };
         self.leave_blocks(place, context.occurrence, context.block)?;
-        self.go(turns.turn)
+        self.go(turns.turn)?;
+        Ok(())
     }
 
     // `return` with a value that is no call's.
@@ -349,7 +366,7 @@ impl<'a> Builder<'a> {
         right: &RightSide,
         context: Context<'a>,
     ) -> Result<(), LowerFault>
-        ensures { OnOk result (Leads (λ w s u. Lowers w.graph (around_of w context) (returns place (Some (right_of right.now))) s u) self.old self.new) }
+        ensures { OnOk result (Leads (λ w s u. Lowers w.graph (around_of w context.entry) (returns place (Some (right_of right.now))) s u) self.old self.new) }
     {
         let site = Site {
             occurrence: context.occurrence,
@@ -357,7 +374,8 @@ impl<'a> Builder<'a> {
         };
         let variable = self.own_result(site.occurrence)?;
         self.set_to(site, variable, right)?;
-        self.go_out(site.occurrence)
+        self.go_out(site.occurrence)?;
+        Ok(())
     }
 
     // `return`, perhaps with a value.
@@ -368,16 +386,17 @@ impl<'a> Builder<'a> {
         value: Option<&'a RightSide>,
         context: Context<'a>,
     ) -> Result<(), LowerFault>
-        ensures { OnOk result (Begins (λ w s m. Lowers w.graph (around_of w context) (returns place (option_map (λ r. right_of r.now) value)) s m) self.old tasks.old self.new tasks.new) }
+        ensures { OnOk result (Begins (λ w s m. Lowers w.graph (around_of w context.entry) (returns place (option_map (λ r. right_of r.now) value.entry)) s m) self.old tasks.old self.new tasks.new) }
     {
         match value {
-            None => self.go_out(context.occurrence),
+            None => self.go_out(context.occurrence)?,
             Some(right) => match right {
-                RightSide::Call(call) => self.call_and_return(tasks, place, call, context),
-                RightSide::Expression(_) => self.return_value(place, right, context),
-                RightSide::Malloc(_, _) => self.return_value(place, right, context),
+                RightSide::Call(call) => self.call_and_return(tasks, place, call, context)?,
+                RightSide::Expression(_) => self.return_value(place, right, context)?,
+                RightSide::Malloc(_, _) => self.return_value(place, right, context)?,
             },
         }
+        Ok(())
     }
 
     // A statement is lowered, or what is inside it is next.
@@ -387,53 +406,54 @@ impl<'a> Builder<'a> {
         statement: &'a Statement,
         context: Context<'a>,
     ) -> Result<(), LowerFault>
-        ensures { OnOk result (Begins (λ w s m. Lowers w.graph (around_of w context) (statement_of statement.now) s m) self.old tasks.old self.new tasks.new) }
+        ensures { OnOk result (Begins (λ w s m. Lowers w.graph (around_of w context.entry) (statement_of statement.now) s m) self.old tasks.old self.new tasks.new) }
     {
         let occurrence = context.occurrence;
         match statement {
             Statement::Declaration(place, items) => {
-                push(tasks, Task::Declare(*place, items.as_slice(), context))
+                push(tasks, Task::Declare(*place, items.as_slice(), context))?;
             }
             Statement::Block(numbers, inner) => {
-                self.block(tasks, numbers.as_slice(), inner.as_slice(), context)
+                self.block(tasks, numbers.as_slice(), inner.as_slice(), context)?;
             }
-            Statement::Empty => Ok(()),
-            Statement::Simple(simple) => push(tasks, Task::Simple(simple, context)),
+            Statement::Empty => {}
+            Statement::Simple(simple) => push(tasks, Task::Simple(simple, context))?,
             Statement::Free(place, pointer) => {
                 let site = Site {
                     occurrence,
                     place: *place,
                 };
-                self.free(site, pointer)
+                self.free(site, pointer)?;
             }
             Statement::Assert(place, condition) => {
-                self.check(*place, condition, Role::Plain, Instr::Fail, occurrence)
+                self.check(*place, condition, Role::Plain, Instr::Fail, occurrence)?;
             }
             Statement::Assume(place, condition) => {
-                self.check(*place, condition, Role::Stop, Instr::End, occurrence)
+                self.check(*place, condition, Role::Stop, Instr::End, occurrence)?;
             }
-            Statement::AssumeShape(shape) => self.assume_shape(shape, context),
-            Statement::AssertShape(shape) => self.assert_shape(shape, context),
-            Statement::AssertEmpty(place) => self.assert_empty(*place),
+            Statement::AssumeShape(shape) => self.assume_shape(shape, context)?,
+            Statement::AssertShape(shape) => self.assert_shape(shape, context)?,
+            Statement::AssertEmpty(place) => self.assert_empty(*place)?,
             Statement::If(place, condition, part) => {
-                self.if_only(tasks, *place, condition, part, context)
+                self.if_only(tasks, *place, condition, part, context)?;
             }
             Statement::IfElse(place, condition, first, second) => {
-                self.if_else(tasks, *place, condition, first, second, context)
+                self.if_else(tasks, *place, condition, first, second, context)?;
             }
             Statement::While(place, condition, body) => {
-                self.while_loop(tasks, *place, condition, body, context)
+                self.while_loop(tasks, *place, condition, body, context)?;
             }
             Statement::Do(place, body, condition) => {
-                self.do_loop(tasks, *place, body, condition, context)
+                self.do_loop(tasks, *place, body, condition, context)?;
             }
-            Statement::For(head, body) => self.for_loop(tasks, head, body, context),
-            Statement::Break(place) => self.break_loop(*place, context),
-            Statement::Continue(place) => self.continue_loop(*place, context),
+            Statement::For(head, body) => self.for_loop(tasks, head, body, context)?,
+            Statement::Break(place) => self.break_loop(*place, context)?,
+            Statement::Continue(place) => self.continue_loop(*place, context)?,
             Statement::Return(place, value) => {
-                self.returns(tasks, *place, value.as_ref(), context)
+                self.returns(tasks, *place, value.as_ref(), context)?;
             }
         }
+        Ok(())
     }
 
     // The first of these statements is next, and then the others.
@@ -443,45 +463,47 @@ impl<'a> Builder<'a> {
         statements: &'a [Statement],
         context: Context<'a>,
     ) -> Result<(), LowerFault>
-        ensures { OnOk result (Begins (λ w s m. LowersAll w.graph (around_of w context) (stmts_of (map statement_of statements.now)) s m) self.old tasks.old self.new tasks.new) }
+        ensures { OnOk result (Begins (λ w s m. LowersAll w.graph (around_of w context.entry) (stmts_of (map statement_of statements.now)) s m) self.old tasks.old self.new tasks.new) }
     {
         let Some((first, more)) = statements.split_first() else {
             return Ok(());
         };
         push(tasks, Task::Statements(more, context))?;
-        push(tasks, Task::Statement(first, context))
+        push(tasks, Task::Statement(first, context))?;
+        Ok(())
     }
 
     /// What is next is lowered, or what it is made of is next.
     pub fn step(&mut self, tasks: &mut Stack<Task<'a>>, task: Task<'a>) -> Result<(), LowerFault>
-        ensures { OnOk result (Begins (λ w s m. Met w task s m) self.old tasks.old self.new tasks.new) }
+        ensures { OnOk result (Begins (λ w s m. Met w task.entry s m) self.old tasks.old self.new tasks.new) }
     {
         match task {
-            Task::Statements(statements, context) => self.statements(tasks, statements, context),
-            Task::Statement(statement, context) => self.statement(tasks, statement, context),
-            Task::Simple(simple, context) => self.perform(tasks, simple, context),
-            Task::Declare(place, items, context) => self.declare(tasks, place, items, context),
-            Task::EndBlock(numbers, occurrence) => self.leave(NOWHERE, occurrence, numbers),
-            Task::Otherwise(no, merge) => self.otherwise(no, merge),
-            Task::Merge(place, merge) => self.merge(place, merge),
-            Task::EndWhile(place, head, exit) => self.end_while(place, head, exit),
+            Task::Statements(statements, context) => self.statements(tasks, statements, context)?,
+            Task::Statement(statement, context) => self.statement(tasks, statement, context)?,
+            Task::Simple(simple, context) => self.perform(tasks, simple, context)?,
+            Task::Declare(place, items, context) => self.declare(tasks, place, items, context)?,
+            Task::EndBlock(numbers, occurrence) => self.leave(NOWHERE, occurrence, numbers)?,
+            Task::Otherwise(no, merge) => self.otherwise(no, merge)?,
+            Task::Merge(place, merge) => self.merge(place, merge)?,
+            Task::EndWhile(place, head, exit) => self.end_while(place, head, exit)?,
             Task::EndDo(place, condition, head, turns, occurrence) => {
-                self.end_do(place, condition, head, turns, occurrence)
+                self.end_do(place, condition, head, turns, occurrence)?;
             }
-            Task::For(head, body, context) => self.enter_for(tasks, head, body, context),
+            Task::For(head, body, context) => self.enter_for(tasks, head, body, context)?,
             Task::ForTurn(head, begin, turns, context) => {
-                self.turn_for(tasks, head, begin, turns, context)
+                self.turn_for(tasks, head, begin, turns, context)?;
             }
             Task::EndFor(head, begin, exit, occurrence) => {
-                self.end_for(head, begin, exit, occurrence)
+                self.end_for(head, begin, exit, occurrence)?;
             }
-            Task::EndCall(place, callee) => self.end_call(place, callee),
+            Task::EndCall(place, callee) => self.end_call(place, callee)?,
             Task::Take(place, target, answer, occurrence) => {
-                self.take_result(Site { occurrence, place }, target, answer)
+                self.take_result(Site { occurrence, place }, target, answer)?;
             }
             Task::Answer(place, own, answer, occurrence) => {
-                self.answer_result(Site { occurrence, place }, own, answer)
+                self.answer_result(Site { occurrence, place }, own, answer)?;
             }
         }
+        Ok(())
     }
 }

@@ -84,7 +84,7 @@ pub enum Task<'a> {
 
 /// A task is next.
 pub fn push<'a>(tasks: &mut Stack<Task<'a>>, task: Task<'a>) -> Result<(), LowerFault>
-    ensures { OnOk result (tasks.new ≡ task ∷ tasks.old) }
+    ensures { OnOk result (tasks.new ≡ task.entry ∷ tasks.old) }
 {
     tasks.push(task)?;
     Ok(())

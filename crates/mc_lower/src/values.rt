@@ -184,7 +184,8 @@ impl<'a> Builder<'a> {
             place,
             operation.sets(variable, next.target()),
             next,
-        )
+        )?;
+        Ok(())
     }
 
     /// The next temporary of a statement gets what an operation comes to.
@@ -217,11 +218,10 @@ impl<'a> Builder<'a> {
     pub fn check_count(&self, shape: StructId, count: usize) -> Result<(), LowerFault>
         ensures { OnOk result ((w : World) → Agrees w self.now → field_count w.graph.flow.structs shape ≡ count) }
     {
-        if count_of(self.structs, shape) == count {
-            Ok(())
-        } else {
-            Err(ABSENT)
+        if count_of(self.structs, shape) == count {} else {
+            return Err(ABSENT);
         }
+        Ok(())
     }
 
     /// From a variable the fields but the last one are loaded: the variable that has the last one, and that field.
@@ -310,24 +310,22 @@ impl<'a> Builder<'a> {
         match expression {
             Expression::Number(number) => {
                 made.push(number_of(*number))?;
-                Ok(())
             }
-            Expression::Input => self.make(site.place, Operation::Input, made, temporaries),
+            Expression::Input => self.make(site.place, Operation::Input, made, temporaries)?,
             Expression::Value(left) => {
                 let value = self.place_value(site, left, temporaries)?;
                 let operand = self.operand_of(site.place, value, temporaries)?;
                 made.push(operand)?;
-                Ok(())
             }
             Expression::Minus(part) => {
                 work.push(Work::Minus)?;
                 work.push(Work::Whole(part))?;
-                Ok(())
             }
-            Expression::Times(left, right) => enter_join(work, How::Times, left, right),
-            Expression::Plus(left, right) => enter_join(work, How::Plus, left, right),
-            Expression::Difference(left, right) => enter_join(work, How::Difference, left, right),
+            Expression::Times(left, right) => enter_join(work, How::Times, left, right)?,
+            Expression::Plus(left, right) => enter_join(work, How::Plus, left, right)?,
+            Expression::Difference(left, right) => enter_join(work, How::Difference, left, right)?,
         }
+        Ok(())
     }
 
     // What is next is evaluated, or its parts are next.
@@ -339,21 +337,22 @@ impl<'a> Builder<'a> {
         made: &mut Stack<Operand>,
         temporaries: &mut Vec<VarId>,
     ) -> Result<(), LowerFault>
-        ensures { OnOk result ((w : World) (o : Operand) (ts : List VarId) (u : Stage) → Agrees w self.new → Finishes w.graph (w.out site.occurrence) site.place work.new made.new temporaries.new.items (stage_of w self.new) o ts u → Agrees w self.old × Finishes w.graph (w.out site.occurrence) site.place (next ∷ work.old) made.old temporaries.old.items (stage_of w self.old) o ts u) }
+        ensures { OnOk result ((w : World) (o : Operand) (ts : List VarId) (u : Stage) → Agrees w self.new → Finishes w.graph (w.out site.occurrence) site.place work.new made.new temporaries.new.items (stage_of w self.new) o ts u → Agrees w self.old × Finishes w.graph (w.out site.occurrence) site.place (next.entry ∷ work.old) made.old temporaries.old.items (stage_of w self.old) o ts u) }
     {
         match next {
-            Work::Whole(expression) => self.enter(site, expression, work, made, temporaries),
+            Work::Whole(expression) => self.enter(site, expression, work, made, temporaries)?,
             Work::Minus => {
                 let operand = last_made(made)?;
                 let operation = Operation::Difference(nothing(), operand);
-                self.make(site.place, operation, made, temporaries)
+                self.make(site.place, operation, made, temporaries)?;
             }
             Work::Join(how) => {
                 let right = last_made(made)?;
                 let left = last_made(made)?;
-                self.make(site.place, how.of(left, right), made, temporaries)
+                self.make(site.place, how.of(left, right), made, temporaries)?;
             }
         }
+        Ok(())
     }
 
     /// The value of an expression is an operand; a loop, so that none is too deep.
