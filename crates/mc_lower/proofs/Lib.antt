@@ -1,3 +1,4 @@
 pub mod Agreeing
 pub mod Owning
 pub mod Seen
+pub mod Valuing
