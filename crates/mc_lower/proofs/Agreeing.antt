@@ -113,7 +113,7 @@ met w l old new same kept =
     let points : length old.points.items ≡ length new.points.items = ap points_in kept in
     let variables : length old.variables.items ≡ length new.variables.items = ap variables_in kept in
     ap (λ a. stage a (length old.points.items) (length old.variables.items)) same
-        ∙ ap (λ n. stage (w.at l.0) n (length old.variables.items)) points ∙ ap (λ k. stage (w.at l.0) (length new.points.items) k) variables
+    ∙ ap (λ n. stage (w.at l.0) n (length old.variables.items)) points ∙ ap (λ k. stage (w.at l.0) (length new.points.items) k) variables
 
 -- what goes on to a label goes there, and what comes next stands elsewhere
 pub gone : (w : World) (l next : Label) (old new : Builder) → w.at old.goal.0 ≡ w.at l.0 → stage_of w old ≡ stage_of w new

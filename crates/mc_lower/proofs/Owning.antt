@@ -29,6 +29,6 @@ created w owner info old new n number items points goal agrees =
     subst (λ m. Creates w.graph (owner_of w.out owner) info (stage_of w old) (var m) (stage_of w new)) (sym number)
     (subst (λ u. Creates w.graph (owner_of w.out owner) info (stage_of w old) (var k) u)
     (ap (λ m. stage (w.at old.goal.0) (length old.points.items) m) (sym (one_more old.variables.items _ _ items))
-        ∙ ap (λ ps. stage (w.at old.goal.0) (length ps.items) (length new.variables.items)) (sym points)
-        ∙ ap (λ l. stage (w.at l.0) (length new.points.items) (length new.variables.items)) (sym goal))
+    ∙ ap (λ ps. stage (w.at old.goal.0) (length ps.items) (length new.variables.items)) (sym points)
+    ∙ ap (λ l. stage (w.at l.0) (length new.points.items) (length new.variables.items)) (sym goal))
     (creates there known))

@@ -49,7 +49,6 @@ plus_seen a b = ap expression_of (sym (Expression.rolls-Plus a b)) ∙ fold-roll
 pub difference_seen : (a b : Box Expression Global) → expression_of (Expression.Difference a b) ≡ difference (expression_of a.value) (expression_of b.value)
 difference_seen a b = ap expression_of (sym (Expression.rolls-Difference a b)) ∙ fold-roll-Expression Expr expression_step _
 
-
 -- ---- conditions
 pub plain_condition_seen : (p : Place) (e : Expression) → condition_of (Condition.Plain p e) ≡ plain p (expression_of e)
 plain_condition_seen p e = ap condition_of (sym (Condition.rolls-Plain p e)) ∙ fold-roll-Condition Cond condition_step _
@@ -65,7 +64,6 @@ both_condition_seen a b = ap condition_of (sym (Condition.rolls-Both a b)) ∙ f
 
 pub either_condition_seen : (a b : Box Condition Global) → condition_of (Condition.Either a b) ≡ either (condition_of a.value) (condition_of b.value)
 either_condition_seen a b = ap condition_of (sym (Condition.rolls-Either a b)) ∙ fold-roll-Condition Cond condition_step _
-
 
 -- ---- statements
 pub declaration_statement_seen : (p : Place) (items : Vec Initial Global) → statement_of (Statement.Declaration p items) ≡ declaration p (map initial_of items.items)
@@ -121,4 +119,3 @@ continue_statement_seen p = ap statement_of (sym (Statement.rolls-Continue p)) �
 
 pub return_statement_seen : (p : Place) (r : Option RightSide) → statement_of (Statement.Return p r) ≡ returns p (option_map right_of r)
 return_statement_seen p r = ap statement_of (sym (Statement.rolls-Return p r)) ∙ fold-roll-Statement Stmt statement_step _
-

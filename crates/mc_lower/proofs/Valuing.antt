@@ -20,5 +20,5 @@ settled_sets at (a_product a b) x q = refl
 pub taken : (g : Graph) (place : Place) (kind : Kind) (operation : Operation) (ts us : List VarId) (j : ℕ) (s m u : Stage) (t : VarId)
     → j ≡ length ts → us ≡ ts ++ t ∷ [] → Uses g j kind s t m → Appends g plain place (λ q. sets operation t q) m u
     → Takes g place kind operation ts s t us u
-taken g place kind operation ts us j s m u t number more uses appends =
-    subst (λ l. Takes g place kind operation ts s t l u) (sym more) (takes (subst (λ n. Uses g n kind s t m) number uses) appends)
+taken g place kind operation ts us j s m u t number more used put =
+    subst (λ l. Takes g place kind operation ts s t l u) (sym more) (takes (subst (λ n. Uses g n kind s t m) number used) put)

@@ -150,7 +150,7 @@ impl<'a> Builder<'a> {
 
     /// A new occurrence of a function.
     pub fn occur(&mut self) -> Result<usize, LowerFault>
-        ensures kept { OnOk result (Leads (λ w s u. s ≡ u) self.old self.new) }
+        ensures { OnOk result (Leads (λ w s u. s ≡ u) self.old self.new) }
     {
         let label = self.label()?;
         let occurrence = self.outs.len();

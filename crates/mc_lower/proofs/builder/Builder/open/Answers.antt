@@ -24,4 +24,4 @@ pub returns-clause-opened : goal.returns-clause-opened
 returns-clause-opened c = λ w agrees.
     let old = c.args.self.now in
     ap w.blocks (c.len-block.ensures ∙ old.blocks.ok.0)
-        ∙ at_last (λ i o. w.blocks i ≡ o.numbers.now ++ blocks_in w o.around) old.blocks.items _ _ c.in_ok-push.ensures.items agrees.blocks
+    ∙ at_last (λ i o. w.blocks i ≡ o.numbers.now ++ blocks_in w o.around) old.blocks.items _ _ c.in_ok-push.ensures.items agrees.blocks
