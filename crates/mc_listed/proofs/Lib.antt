@@ -1,0 +1,3 @@
+mod Adding
+mod Choosing
+mod Writing
