@@ -1,0 +1,6 @@
+mod Decided
+mod MadeOr
+mod Known
+mod Ranged
+mod Lacking
+mod Judging
