@@ -14,7 +14,7 @@ use Rattle.mc_pure.specs.Pure.{IsNode, Kinds}
 use Rattle.mc_state.specs.Fits.{AreNodes, HaveKinds}
 use Rattle.mc_state.specs.State.{State, with_number}
 use Rattle.mc_step.specs.Judges.{operand_nodes, with_first}
-use Rattle.mc_step.specs.Operands.{operand_node, with_operand}
+use Rattle.mc_step.specs.Operands.{operand_node, with_operand, with_operands}
 use Rattle.mc_instructions.specs.Arguments.{FitsVars, all_known}
 
 pub vars_stay : (s : State) (o : Operand) → (with_operand s o).env ≡ s.env
@@ -81,3 +81,36 @@ nodes_grow kinds more (n ∷ ns) grows there = (grows n there.0, nodes_grow kind
 pub some_of : {A : Type 0} (o : Option A) → is_some o ≡ true → (x : A) × (o ≡ Some x)
 some_of None e = absurd (cc e)
 some_of (Some x) e = (x, refl)
+
+-- ---- operands that are put one after the other
+
+-- of all operands these are left at a state, behind the nodes that were put
+pub record AreLeft (start : State) (all : List Operand) (s : State) (put : List NodeId) (rest : List Operand) : Type 0 where
+  pub nodes : option_map (λ ns. put ++ ns) (operand_nodes s rest) ≡ operand_nodes start all
+  pub state : with_operands s rest ≡ with_operands start all
+  pub known : is_some (operand_nodes s rest) ≡ true
+  pub fits : (vars : List VarInfo) × AllByRecursion (FitsVars vars) rest
+
+behind_none : (o : Option (List NodeId)) → option_map (λ ns. [] ++ ns) o ≡ o
+behind_none None = refl
+behind_none (Some ns) = refl
+
+pub all_left : (s : State) (os : List Operand) → is_some (operand_nodes s os) ≡ true → (vars : List VarInfo) × AllByRecursion (FitsVars vars) os → AreLeft s os s [] os
+all_left s os known fits = record { nodes = behind_none (operand_nodes s os); state = refl; known = known; fits = fits }
+
+pub first_left : (start : State) (all : List Operand) (s : State) (put : List NodeId) (o : Operand) (rest : List Operand) → AreLeft start all s put (o ∷ rest)
+    → (is_some (operand_node s o) ≡ true) × ((vars : List VarInfo) × FitsVars vars o)
+first_left start all s put o rest left = ((parts_known s o rest left.known).0, (left.fits.0, left.fits.1.0))
+
+pub others_left : (start : State) (all : List Operand) (s : State) (put : List NodeId) (o : Operand) (rest : List Operand) (n : NodeId) → AreLeft start all s put (o ∷ rest)
+    → operand_node s o ≡ Some n → AreLeft start all (with_operand s o) (put ++ n ∷ []) rest
+others_left start all s put o rest n left is =
+    record {
+      nodes = put_first put s o rest n is ∙ left.nodes;
+      state = left.state;
+      known = (parts_known s o rest left.known).1;
+      fits = (left.fits.0, left.fits.1.1);
+    }
+
+pub none_left : (start : State) (all : List Operand) (s : State) (put : List NodeId) → AreLeft start all s put [] → (operand_nodes start all ≡ Some put) × (s ≡ with_operands start all)
+none_left start all s put left = (sym left.nodes ∙ ap (λ (ns : List NodeId). Some ns) (append-nil put), left.state)

@@ -1,2 +1,3 @@
 pub mod Knowing
-pub mod Other
+pub mod Made
+pub mod Points
