@@ -13,7 +13,7 @@ use mc_symbolic::State;
 use std::alloc::Global;
 
 /// Whether an operand is known.
-fn is_known(s: &State, o: Operand) -> bool
+pub fn is_known(s: &State, o: Operand) -> bool
     ensures { result ≡ is_some (operand_node s.now o) }
 {
     match read(s, o) {

@@ -260,7 +260,7 @@ fn step_at(
 }
 
 /// The instruction at a point.
-fn code_at(flow: &Flow, p: PointId) -> Option<&Instr>
+pub fn code_at(flow: &Flow, p: PointId) -> Option<&Instr>
     ensures { option_copied result ≡ code_at flow.now p }
 {
     match flow.points.as_slice().get(p.0 as usize) {

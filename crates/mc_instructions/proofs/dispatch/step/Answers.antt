@@ -1,4 +1,4 @@
-use Rattle.std.proofs.Common.{◌≡◌, Option, Some, None, refl, sym, subst}
+use Rattle.std.proofs.Common.{◌≡◌, Option, None, refl, sym, subst}
 use Rattle.mc_flow.specs.declared.instr.Instr.{Instr}
 use Rattle.mc_step.specs.Judges.{stepping_code}
 use Rattle.mc_step.specs.Operands.{code_at}

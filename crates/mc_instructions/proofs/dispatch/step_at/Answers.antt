@@ -1,4 +1,4 @@
-use Rattle.std.proofs.Common.{◌≡◌, Some, sym, subst}
+use Rattle.std.proofs.Common.{Some, sym, subst}
 use Rattle.std.specs.Prelude.{Result}
 use Rattle.mc_base.specs.declared.ids.PointId.{PointId}
 use Rattle.mc_flow.specs.declared.graph.Flow.{Flow}

@@ -1,10 +1,9 @@
-use Rattle.std.proofs.Common.{◌≡◌, ◌∙◌, true, false, refl}
+use Rattle.std.proofs.Common.{◌≡◌, true, false, refl}
 use Rattle.std.specs.Prelude.{is_some}
 use Rattle.mc_base.specs.declared.plain.Kind.TheVariants.{Ptr}
 use Rattle.mc_premises.specs.Known.{is_false}
 use Rattle.mc_step.specs.Judges.{operand_nodes}
-use Rattle.mc_step.specs.Operands.{operand_node, with_operand}
-use Rattle.mc_stepping.specs.Values.{value_node}
+use Rattle.mc_step.specs.Operands.{with_operand}
 use Rattle.mc_instructions.proofs.Knowing.{each_fits, known_alike, some_of, vars_stay}
 use Rattle.mc_instructions.proofs.Made.{asserted, none_of, not_asserted}
 use Rattle.mc_instructions.proofs.shapes.assert_shape.Goals as goal

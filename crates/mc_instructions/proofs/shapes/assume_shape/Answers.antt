@@ -1,4 +1,4 @@
-use Rattle.std.proofs.Common.{◌≡◌, ◌∙◌, true, false, refl}
+use Rattle.std.proofs.Common.{◌≡◌, true, false, refl}
 use Rattle.std.specs.Prelude.{is_some}
 use Rattle.mc_premises.specs.Known.{is_false}
 use Rattle.mc_step.specs.Judges.{operand_nodes}
@@ -27,7 +27,7 @@ assume_in-requires c =
       known = known;
       fits = (fits.vars, each_fits fits.vars os params fits.kinds.1.args);
       there = λ args is.
-      are_nodes (with_operands s os).kinds params args (c.operands_fit.ensures.many fits.defs fits.vars fits.structs.list os params s args fits.made fits.kinds.1.args is).have';
+          are_nodes (with_operands s os).kinds params args (c.operands_fit.ensures.many fits.defs fits.vars fits.structs.list os params s args fits.made fits.kinds.1.args is).have';
     }
 
 pub returns-in-Ok : goal.returns-in-Ok
