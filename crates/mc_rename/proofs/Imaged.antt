@@ -1,17 +1,16 @@
 -- States with the images of their nodes.
-use Rattle.std.proofs.Common.{◌≡◌, ◌⊎◌, inl, inr, ◌<◌, ◌≤◌, ◌+◌, ◌-◌, ℕ, zero, suc, List, [], ◌∷◌, ◌++◌, Bool, true, Option, Some, None, map, option_map, drop, get_or, slice_get, replicate, length, refl, sym, ap, subst, ◌∙◌, arith}
+use Rattle.std.proofs.Common.{◌≡◌, ◌⊎◌, inl, inr, ◌<◌, ◌≤◌, ◌+◌, ◌-◌, ℕ, zero, suc, List, [], ◌∷◌, Bool, true, Option, Some, None, map, option_map, drop, get_or, slice_get, length, refl, sym, ap, subst, ◌∙◌, arith}
 use Rattle.std.specs.List.{AllByRecursion}
 use Rattle.std.proofs.lemmas.List.{drop_more}
 use Rattle.mc_base.specs.declared.ids.EdgeId.{EdgeId}
 use Rattle.mc_base.specs.declared.ids.NodeId.{NodeId}
 use Rattle.mc_base.specs.declared.plain.Atom.{Atom}
-use Rattle.mc_base.specs.declared.plain.Kind.{Kind}
 use Rattle.mc_base.specs.declared.plain.Kind.TheVariants.{Int}
 use Rattle.mc_base.specs.Atoms.{moved_atom}
 use Rattle.mc_base.specs.Nodes.{null, moved}
 use Rattle.mc_graph.specs.declared.edge.Edge.{Edge}
 use Rattle.mc_graph.specs.Edges.{known_nodes, nodes_of, moved_edge}
-use Rattle.mc_graph.specs.Graph.{Graph, Edges, moved_graph, block_starts, no_edges}
+use Rattle.mc_graph.specs.Graph.{moved_graph, block_starts}
 use Rattle.mc_pure.specs.Pure.{Kinds, Pure, IsNode, IsWellFormed}
 use Rattle.mc_pure.specs.Known.{IsFit}
 use Rattle.mc_pure.specs.Nodes.{RiseFrom}

@@ -1,13 +1,13 @@
 -- Edges that are put in by their ids, and ids that pass.
-use Rattle.std.proofs.Common.{◌≡◌, ◌≢◌, inl, inr, ◌⊎◌, ◌<◌, ◌≤◌, ◌+◌, ℕ, zero, suc, List, [], ◌∷◌, ◌++◌, Bool, true, false, Option, Some, None, map, length, eqb, append_assoc, append-nil, refl, sym, ap, subst, ◌∙◌, arith}
+use Rattle.std.proofs.Common.{◌≡◌, ◌≢◌, inl, inr, ◌<◌, ◌≤◌, ◌+◌, ℕ, suc, List, [], ◌∷◌, ◌++◌, Bool, true, false, Option, Some, None, map, eqb, append_assoc, append-nil, refl, sym, ap, subst, ◌∙◌, arith}
 use Rattle.std.specs.Prelude.{if◌then◌else◌}
 use Rattle.std.specs.List.{AllByRecursion}
-use Rattle.std.proofs.lemmas.Bool.{eqb-true, eq-eqb}
+use Rattle.std.proofs.lemmas.Bool.{eq-eqb}
 use Rattle.std.proofs.lemmas.Bool.Decides.{eqb_tells}
 use Rattle.mc_base.specs.declared.ids.EdgeId.{EdgeId}
 use Rattle.mc_graph.specs.declared.edge.Edge.{Edge}
 use Rattle.mc_graph.specs.Edges.{moved_edge}
-use Rattle.mc_graph.specs.Graph.{Graph, Edges, IdsAscend, with_new, without, edge_with, numbered, no_edges, moved_graph}
+use Rattle.mc_graph.specs.Graph.{Graph, Edges, IdsAscend, without, edge_with, no_edges, moved_graph}
 use Rattle.mc_state.specs.State.{State, with_edges, with_only_edges}
 use Rattle.mc_state.proofs.Ids.{ids_append}
 use Rattle.mc_rename.specs.Renamed.{with_next_id, with_image}

@@ -1,12 +1,11 @@
 -- Edges that get their images one after the other.
-use Rattle.std.proofs.Common.{◌≡◌, inl, inr, ◌<◌, ◌≤◌, ◌+◌, ℕ, zero, suc, List, [], ◌∷◌, ◌++◌, Bool, true, false, get_or, take, drop, map, length, eqb, refl, sym, ap, ◌∙◌, arith}
-use Rattle.std.specs.Prelude.{if◌then◌else◌}
+use Rattle.std.proofs.Common.{◌≡◌, inl, inr, ◌<◌, ◌≤◌, ◌+◌, ℕ, zero, suc, [], ◌∷◌, ◌++◌, false, get_or, take, drop, map, length, eqb, refl, sym, ap, ◌∙◌, arith}
 use Rattle.std.proofs.lemmas.Bool.{eq-eqb}
 use Rattle.std.proofs.lemmas.Bool.Decides.{eqb_tells}
 use Rattle.mc_base.specs.declared.ids.EdgeId.{EdgeId}
 use Rattle.mc_graph.specs.declared.edge.Edge.{Edge}
 use Rattle.mc_graph.specs.Edges.{moved_edge}
-use Rattle.mc_graph.specs.Graph.{Graph, Edges, IdsAscend, with_only, replaced, moved_graph}
+use Rattle.mc_graph.specs.Graph.{Graph, Edges, IdsAscend, with_only, replaced}
 
 pub other_number : (m n : ℕ) → m < n → eqb m n ≡ false
 other_number m n l = elim (eqb_tells m n) [ inl t ↦ absurd (let same : m ≡ n = t.1 in omega arith) | inr f ↦ f.0 ]

@@ -1,7 +1,4 @@
-use Rattle.std.proofs.Common.{◌≡◌, ◌<◌, ◌≤◌, ◌+◌, ◌-◌, length, refl, sym, arith, get_or, Some, slice_get, subst, ap, List}
-use Rattle.std.proofs.lemmas.Option.{slice_get_within, slice_get-get_or}
-use Rattle.mc_base.specs.declared.ids.NodeId.{NodeId}
-use Rattle.mc_rename.specs.Found.{named, with_led, Searches}
+use Rattle.std.proofs.Common.{◌<◌, ◌≤◌, length, arith}
 use Rattle.mc_rename.proofs.Walked.{searches_start, searches_step, item_at, longer, all_found, at_most}
 use Rattle.mc_rename.proofs.leading.reachable.Goals as goal
 

@@ -1,4 +1,4 @@
-use Rattle.std.proofs.Common.{◌≡◌, ◌≤◌, ◌-◌, length}
+use Rattle.std.proofs.Common.{◌≤◌, ◌-◌, length}
 use Rattle.mc_rename.specs.Found.{named, Searches}
 use Rattle.mc_rename.proofs.leading.reachable.Given as goal
 
