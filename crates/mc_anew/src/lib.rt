@@ -4,4 +4,5 @@
 mod edges;
 mod numbered;
 
-pub use numbered::{Renewed, anew};
+pub use edges::edge_of;
+pub use numbered::{Renewed, anew, put_vars, put_whole};

@@ -48,7 +48,7 @@ fn nodes_anew(alloc: Global, state: &State) -> Result<Renewed, NoMemory>
 }
 
 /// Gives the variables the images of nodes.
-fn put_vars(fresh: &mut State, env: &[Option<NodeId>], renaming: &Renaming)
+pub fn put_vars(fresh: &mut State, env: &[Option<NodeId>], renaming: &Renaming)
     requires long { length fresh.old.env ≡ length env.now }
     requires there { AreNodes fresh.old.kinds (map (moved (image renaming.now)) (known_nodes env.now)) }
     ensures { fresh.new ≡ record fresh.old { env = map (option_map (moved (image renaming.now))) env.now } }
@@ -98,7 +98,7 @@ fn put_edges(
 }
 
 /// Says whether the edges are all that is allocated.
-fn put_whole(fresh: &mut State, whole: bool)
+pub fn put_whole(fresh: &mut State, whole: bool)
     requires { fresh.old.whole ≡ true }
     ensures { fresh.new ≡ record fresh.old { whole = whole } }
 {
