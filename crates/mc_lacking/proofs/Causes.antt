@@ -56,17 +56,17 @@ module _ (defs : List Def) (s : State) where
   -- another instruction lacks none
   pub no_shape : (code : Instr) → ((pred : PredId) (o : Operand) (os : List Operand) (q : PointId) → code ≡ AssertShape pred o os q → ⊥)
       → (gap : Gap) → (None ≡ Some gap) ↔ IsShapeGap defs code s gap
-  no_shape code no gap = (λ e. absurd (cc e), λ l. absurd (none gap l))
+  no_shape code differs gap = (λ e. absurd (cc e), λ l. absurd (none gap l))
     where
       other : (code : Instr) → ((pred : PredId) (o : Operand) (os : List Operand) (q : PointId) → code ≡ AssertShape pred o os q → ⊥) → (pred : PredId) (n : NodeId) → Lacks defs code s (NoShape pred n) → ⊥
-      other (AssertShape pred o os q) no own n l = no pred o os q refl
-      other code no own n l = l
+      other (AssertShape pred o os q) differs own n l = differs pred o os q refl
+      other code differs own n l = l
 
       none : (gap : Gap) → IsShapeGap defs code s gap → ⊥
       none (Uninit x) l = l.1
       none (NoBlock n) l = l.1
       none Reached l = l.1
-      none (NoShape pred n) l = other code no pred n l.0.1
+      none (NoShape pred n) l = other code differs pred n l.0.1
       none (UninitField n f) l = l.1
       none (NotEmpty flag) l = l.1
 
@@ -82,14 +82,14 @@ module _ (flow : Flow) (defs : List Def) (p : PointId) (s : State) where
 
   -- where none is told, what is unmet lacks a shape
   pub shape_left : (own : Option Gap) → ((gap : Gap) → (own ≡ Some gap) ↔ (IsUnmet flow defs p s gap × IsNoShape gap)) → own ≡ None → (gap : Gap) → IsUnmet flow defs p s gap → IsShape gap
-  shape_left own tells is gap u = elim (kind_of gap) [ inl shape ↦ shape | inr no ↦ absurd (let there = (tells gap).1 (u, no) in cc) ]
+  shape_left own tells is gap u = elim (kind_of gap) [ inl shape ↦ shape | inr plain ↦ absurd (let there = (tells gap).1 (u, plain) in cc) ]
 
   pub shapes_left : (own : Option Gap) → ((gap : Gap) → (own ≡ Some gap) ↔ (IsUnmet flow defs p s gap × IsNoShape gap)) → own ≡ None
       → (found : Option Gap) → ((gap : Gap) → (found ≡ Some gap) ↔ (IsUnmet flow defs p s gap × IsShape gap)) → (gap : Gap) → (found ≡ Some gap) ↔ IsUnmet flow defs p s gap
   shapes_left own tells is found shapes gap = (λ e. ((shapes gap).0 e).0, λ u. (shapes gap).1 (u, shape_left own tells is gap u))
 
   pub none_at_false : IsFalse s → (gap : Gap) → (None ≡ Some gap) ↔ (IsUnmet flow defs p s gap × IsShape gap)
-  none_at_false false gap = (λ e. absurd (cc e), λ u. absurd (u.0.consistent false))
+  none_at_false contradicts gap = (λ e. absurd (cc e), λ u. absurd (u.0.consistent contradicts))
 
   pub none_at_no_point : code_at flow p ≡ None → (gap : Gap) → (None ≡ Some gap) ↔ (IsUnmet flow defs p s gap × IsShape gap)
   none_at_no_point is gap = (λ e. absurd (cc e), λ u. absurd (let at = u.0.at in cc))

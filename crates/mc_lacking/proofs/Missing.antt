@@ -56,7 +56,7 @@ edges_stay s os = ap (λ g. g.edges) (graphs_stay s os)
 module _ (defs : List Def) (s : State) (pred : PredId) (o : Operand) (os : List Operand) where
   -- operands that are not known ask for nothing
   pub unknown : all_known s (o ∷ os) ≡ false → (m : NodeId) → (None ≡ Some m) ↔ (AreKnown s (o ∷ os) × LacksShape defs s pred o os pred m)
-  unknown no m = (λ e. absurd (cc e), λ h. absurd (let yes = known_to s (o ∷ os) h.0 in cc))
+  unknown lacks m = (λ e. absurd (cc e), λ h. absurd (let yes = known_to s (o ∷ os) h.0 in cc))
 
   module _ (n : NodeId) (args : List NodeId) (is : operand_node s o ≡ Some n) (are : operand_nodes (with_operand s o) os ≡ Some args) where
     same_edges : (with_operands (with_operand s o) os).graph.edges ≡ s.graph.edges
