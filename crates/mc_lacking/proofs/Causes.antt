@@ -1,5 +1,5 @@
 -- Shapes among gaps.
-use Rattle.std.proofs.Common.{◌≡◌, ◌∙◌, List, ◌∷◌, Bool, true, false, Option, Some, None, refl, sym, subst, ap, ◌⊎◌, inl, inr}
+use Rattle.std.proofs.Common.{◌≡◌, ◌∙◌, List, ◌∷◌, Option, Some, None, refl, sym, subst, ap, ◌⊎◌, inl, inr}
 use Rattle.std.specs.Prelude.{◌↔◌, option_map}
 use Rattle.mc_base.specs.declared.ids.NodeId.{NodeId}
 use Rattle.mc_base.specs.declared.ids.PointId.{PointId}

@@ -1,5 +1,5 @@
 -- There is no cover where no first one is found.
-use Rattle.std.proofs.Common.{◌≡◌, ◌∙◌, ℕ, List, [], Bool, true, false, Option, Some, None, map, refl, sym, ap}
+use Rattle.std.proofs.Common.{◌≡◌, ◌∙◌, ℕ, List, Bool, true, false, Option, Some, None, map, refl, sym, ap}
 use Rattle.std.specs.Prelude.{◌↔◌, not, is_some, option_map}
 use Rattle.mc_base.specs.declared.ids.NodeId.{NodeId}
 use Rattle.mc_base.specs.declared.ids.PredId.{PredId}

@@ -1,4 +1,4 @@
-use Rattle.std.proofs.Common.{◌≡◌, true, false, sym}
+use Rattle.std.proofs.Common.{sym}
 use Rattle.mc_state.specs.Facts.{IsFalse}
 use Rattle.mc_step.proofs.Moving.{fits_at}
 use Rattle.mc_lacking.proofs.Causes.{none_at_false, none_at_no_point, shape_at}

@@ -3,7 +3,6 @@ use Rattle.std.specs.Prelude.{◌↔◌}
 use Rattle.mc_base.specs.declared.ids.NodeId.{NodeId}
 use Rattle.mc_state.specs.Facts.{IsFalse}
 use Rattle.mc_state.specs.State.{State}
-use Rattle.mc_step.specs.Operands.{with_operand, with_operands}
 use Rattle.mc_step.specs.Unmet.{AreKnown, LacksShape}
 use Rattle.mc_instructions.specs.Arguments.{all_known}
 use Rattle.mc_instructions.proofs.Knowing.{each_fits}
