@@ -22,7 +22,7 @@ abbrev pub HasNoCover : List Def → State → PredId → NodeId → List NodeId
 HasNoCover defs s pred n args = (left : Edges) → Cover defs s pred (plain n) (map plain args) s.graph.edges left → ⊥
 
 -- the operands fit some variables, each by a kind
-pub record HaveKinds (os : List Operand) : Type 0 where
+pub record AreOperands (os : List Operand) : Type 0 where
   pub vars : List VarInfo
   pub kinds : List Kind
   pub fit : ArgsFit vars os kinds

@@ -7,7 +7,7 @@ ghost use Rattle.mc_step.specs.Judges.{operand_nodes};
 ghost use Rattle.mc_step.specs.Operands.{operand_node, with_operand, with_operands};
 ghost use Rattle.mc_step.specs.Unmet.{AreKnown, LacksShape};
 ghost use Rattle.mc_instructions.specs.Arguments.{FitsVars, all_known};
-ghost use Rattle.mc_lacking.specs.Lacking.{HaveKinds};
+ghost use Rattle.mc_lacking.specs.Lacking.{AreOperands};
 
 use crate::covers::has_no_cover;
 use mc_base::{Args, NoMemory, NodeId, PredId};
@@ -64,7 +64,7 @@ pub fn lacked_shape(
     os: &[Operand],
 ) -> Result<Option<NodeId>, NoMemory>
     requires sound { IsFalse s.now → ⊥ }
-    requires fits { HaveKinds (o ∷ os.now) }
+    requires fits { AreOperands (o ∷ os.now) }
     ensures { IfOk result (λ found. (n : NodeId) → (found ≡ Some n)
         ↔ (AreKnown s.now (o ∷ os.now) × LacksShape defs.now s.now pred o os.now pred n)) }
 {

@@ -7,7 +7,7 @@ use Rattle.mc_flow.specs.declared.instr.Operand.{Operand}
 use Rattle.mc_flow.specs.Valid.{FitsKinds}
 use Rattle.mc_step.specs.declared.gap.Gap.{Gap}
 use Rattle.mc_step.specs.declared.gap.Gap.TheVariants.{NoShape}
-use Rattle.mc_lacking.specs.Lacking.{HaveKinds, IsShapeGap}
+use Rattle.mc_lacking.specs.Lacking.{AreOperands, IsShapeGap}
 use Rattle.mc_lacking.proofs.Causes.{no_shape, shape_told}
 use Rattle.mc_lacking.proofs.gap.shape_gap.Goals as goal
 
@@ -16,7 +16,7 @@ lacked_shape-requires-clause-fits c =
     let fits = c.requires.fits in
     let kinds = subst (FitsKinds fits.vars fits.structs c.args.defs.now) c.in-AssertShape.is fits.kinds in
     let own : c.as_slice.result.now ≡ c.in-AssertShape.os = search rules in
-    subst (λ (os : List Operand). HaveKinds (c.in-AssertShape.o ∷ os)) (sym own) (record { vars = fits.vars; kinds = Ptr ∷ kinds.1.def.params; fit = (kinds.0, kinds.1.args) })
+    subst (λ (os : List Operand). AreOperands (c.in-AssertShape.o ∷ os)) (sym own) (record { vars = fits.vars; kinds = Ptr ∷ kinds.1.def.params; fit = (kinds.0, kinds.1.args) })
 
 pub returns-in_ok-node-in-AssertShape : goal.returns-in_ok-node-in-AssertShape
 returns-in_ok-node-in-AssertShape c = λ gap.
