@@ -117,23 +117,50 @@ fn agrees(
     }
 }
 
+/// Whether a line gives at a state what is wanted.
+fn is_right<L: Line + 'static>(
+    alloc: Global,
+    defs: &Defs,
+    structs: &Structs,
+    state: &State,
+    line: &L,
+    answer: &Answer,
+) -> Result<bool, NoMemory>
+    requires { IsMadeFor defs.now state.now }
+{
+    let given = line.given(alloc, defs, state)?;
+    agrees(alloc, defs, structs, &given, answer, state.is_whole())
+}
+
 /// The name of the first line at a state that gives something else.
+fn first_wrong_of<L: Line + 'static>(
+    alloc: Global,
+    defs: &Defs,
+    structs: &Structs,
+    state: &State,
+    tries: &[(&'static str, L, Answer)],
+) -> Result<Option<&'static str>, NoMemory>
+    requires { IsMadeFor defs.now state.now }
+{
+    for (name, line, answer) in tries {
+        if !is_right(alloc, defs, structs, state, line, answer)? {
+            return Ok(Some(*name));
+        }
+    }
+    Ok(None)
+}
+
+/// The same, at a state that is made first.
 fn first_wrong_at<L: Line + 'static>(
     alloc: Global,
     defs: &Defs,
     structs: &Structs,
     case: &Case<L>,
 ) -> Result<Option<&'static str>, NoMemory> {
-    let Some(state) = made(alloc, defs, structs, &case.state)? else {
-        return Ok(Some("the state"));
-    };
-    for (name, line, answer) in case.tries {
-        let given = line.given(alloc, defs, &state)?;
-        if !agrees(alloc, defs, structs, &given, answer, state.is_whole())? {
-            return Ok(Some(*name));
-        }
+    match made(alloc, defs, structs, &case.state)? {
+        Some(state) => first_wrong_of(alloc, defs, structs, &state, case.tries),
+        None => Ok(Some("the state")),
     }
-    Ok(None)
 }
 
 /// The name of the first line that gives something else.

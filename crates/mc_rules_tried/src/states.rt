@@ -112,6 +112,7 @@ pub fn vars(alloc: Global) -> Result<Vec<VarInfo>, NoMemory> {
 }
 
 /// The state. None where it is not well formed, or the definitions do not fit the structs.
+#[tactic(auto, using(crate::proofs::Made::made_for))]
 pub fn made(
     alloc: Global,
     defs: &Defs,
