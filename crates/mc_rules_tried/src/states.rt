@@ -1,6 +1,7 @@
 // Small states. Node 0 is followed by three pointers, 1 to 3, and two numbers, 4 and 5; the one variable, `p`, is a
 // pointer.
 ghost use Rattle.std.specs.Prelude.{IfOk, IfSome};
+ghost use Rattle.mc_defs.specs.Conditions.{DefsFit};
 ghost use Rattle.mc_rule.specs.Made.{IsMadeFor};
 
 use crate::tables::name_of;
@@ -111,8 +112,24 @@ pub fn vars(alloc: Global) -> Result<Vec<VarInfo>, NoMemory> {
     Ok(vars)
 }
 
+/// The state that a document writes. None where it is not well formed.
+fn written(
+    alloc: Global,
+    defs: &Defs,
+    structs: &Structs,
+    vars: &[VarInfo],
+    raw: &RawState,
+) -> Result<Option<State>, NoMemory>
+    requires { DefsFit structs.now.list defs.now }
+    ensures { IfOk result (λ found. IfSome found (λ s. IsMadeFor defs.now s)) }
+{
+    match state_of(alloc, defs.as_slice(), vars, structs.list.as_slice(), raw)? {
+        Some(state) => Ok(Some(state)),
+        None => Ok(None),
+    }
+}
+
 /// The state. None where it is not well formed, or the definitions do not fit the structs.
-#[tactic(auto, using(crate::proofs::Made::made_for))]
 pub fn made(
     alloc: Global,
     defs: &Defs,
@@ -126,12 +143,6 @@ pub fn made(
     }
     let raw = raw_of(alloc, small)?;
     let vars = vars(alloc)?;
-    let found = state_of(
-        alloc,
-        defs.as_slice(),
-        vars.as_slice(),
-        structs.list.as_slice(),
-        &raw,
-    )?;
+    let found = written(alloc, defs, structs, vars.as_slice(), &raw)?;
     Ok(found)
 }
