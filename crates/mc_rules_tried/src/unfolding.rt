@@ -1,5 +1,5 @@
 // What edges become that are unfolded: L1, L2 and L15.
-use crate::definitions::{BACK, FORK, LEN, LIST, NODE, PASS, SPINE, TREE, UP};
+use crate::definitions::{BACK, LEN, LIST, NODE, PASS, SPINE, TREE, UP};
 use crate::lines::Answer::{Gives, Unmet};
 use crate::lines::{Case, Given, Line, first_wrong};
 use crate::states::Part::{Block, Ind, Seg};
