@@ -6,8 +6,6 @@ mod definitions;
 #[cfg(test)]
 mod folding;
 #[cfg(test)]
-mod jumps;
-#[cfg(test)]
 mod lines;
 #[cfg(test)]
 mod nodes;
