@@ -1,0 +1,441 @@
+// S1 to S4, S17 and S18: skips, copies, variables that become unknown, inputs and ends.
+use crate::program::{Code, P, Q, X, Y};
+use crate::rows::{Row, Wanted, first_wrong};
+use crate::states::{N1, N2, N3, N4, Plain, Written};
+use mc_base::Atom;
+use mc_flow::Operand;
+use std::test::Fail;
+
+static SKIPS: [Row; 4] = [
+    Row {
+        name: "a Skip",
+        code: Code::Skip,
+        state: Written {
+            vars: &[Some(N3), Some(N4), Some(N1), Some(N2)],
+            edges: &[],
+            atoms: &[],
+            whole: true,
+        },
+        want: Wanted::Moves(b"x=n3 y=n4 p=n1 q=n2; -; -"),
+    },
+    Row {
+        name: "a Skip keeps edges and atoms",
+        code: Code::Skip,
+        state: Written {
+            vars: &[Some(N3), Some(N4), Some(N1), Some(N2)],
+            edges: &[Plain::Node(1, Some(N3), None), Plain::List(2)],
+            atoms: &[Atom::In(N3, 0, 9), Atom::Eq(N4, N3, 1)],
+            whole: true,
+        },
+        want: Wanted::Moves(
+            b"x=n3 y=n4 p=n1 q=n2; n1 -> node{data:n3,next:?}, list(n2); n1 in [1,4611686018427387903], n3 in [0,9], n4 in [1,10], n4=n3+1",
+        ),
+    },
+    Row {
+        name: "a Skip of a false state",
+        code: Code::Skip,
+        state: Written {
+            vars: &[Some(N3), Some(N4), Some(N1), Some(N2)],
+            edges: &[],
+            atoms: &[Atom::In(N3, 5, 4)],
+            whole: true,
+        },
+        want: Wanted::Premise(2),
+    },
+    Row {
+        name: "a Skip where blocks share a start",
+        code: Code::Skip,
+        state: Written {
+            vars: &[Some(N3), Some(N4), Some(N1), Some(N2)],
+            edges: &[Plain::Node(1, None, None), Plain::Pair(1)],
+            atoms: &[],
+            whole: true,
+        },
+        want: Wanted::Premise(2),
+    },
+];
+
+static COPIES: [Row; 13] = [
+    Row {
+        name: "a Copy of a variable",
+        code: Code::Copy(X, Operand::Var(Y)),
+        state: Written {
+            vars: &[Some(N3), Some(N4), Some(N1), Some(N2)],
+            edges: &[],
+            atoms: &[],
+            whole: true,
+        },
+        want: Wanted::Moves(b"x=n4 y=n4 p=n1 q=n2; -; -"),
+    },
+    Row {
+        name: "a Copy of a pointer",
+        code: Code::Copy(P, Operand::Var(Q)),
+        state: Written {
+            vars: &[Some(N3), Some(N4), Some(N1), Some(N2)],
+            edges: &[],
+            atoms: &[],
+            whole: true,
+        },
+        want: Wanted::Moves(b"x=n3 y=n4 p=n2 q=n2; -; -"),
+    },
+    Row {
+        name: "a Copy of a variable to itself",
+        code: Code::Copy(X, Operand::Var(X)),
+        state: Written {
+            vars: &[Some(N3), Some(N4), Some(N1), Some(N2)],
+            edges: &[],
+            atoms: &[],
+            whole: true,
+        },
+        want: Wanted::Moves(b"x=n3 y=n4 p=n1 q=n2; -; -"),
+    },
+    Row {
+        name: "a Copy to an unknown variable",
+        code: Code::Copy(X, Operand::Var(Y)),
+        state: Written {
+            vars: &[None, Some(N4), None, None],
+            edges: &[],
+            atoms: &[],
+            whole: true,
+        },
+        want: Wanted::Moves(b"x=n4 y=n4; -; -"),
+    },
+    Row {
+        name: "a Copy of null",
+        code: Code::Copy(P, Operand::Const(0)),
+        state: Written {
+            vars: &[Some(N3), Some(N4), Some(N1), Some(N2)],
+            edges: &[],
+            atoms: &[],
+            whole: true,
+        },
+        want: Wanted::Moves(b"x=n3 y=n4 p=0 q=n2; -; -"),
+    },
+    Row {
+        name: "a Copy of zero",
+        code: Code::Copy(X, Operand::Const(0)),
+        state: Written {
+            vars: &[Some(N3), Some(N4), Some(N1), Some(N2)],
+            edges: &[],
+            atoms: &[],
+            whole: true,
+        },
+        want: Wanted::Moves(b"x=0 y=n4 p=n1 q=n2; -; -"),
+    },
+    Row {
+        name: "a Copy of a number",
+        code: Code::Copy(X, Operand::Const(7)),
+        state: Written {
+            vars: &[Some(N3), Some(N4), Some(N1), Some(N2)],
+            edges: &[],
+            atoms: &[],
+            whole: true,
+        },
+        want: Wanted::Moves(b"x=n5 y=n4 p=n1 q=n2; -; n5 in [7,7]"),
+    },
+    Row {
+        name: "a Copy of the least number",
+        code: Code::Copy(Y, Operand::Const(-2147483648)),
+        state: Written {
+            vars: &[None, None, None, None],
+            edges: &[],
+            atoms: &[],
+            whole: true,
+        },
+        want: Wanted::Moves(b"y=n5; -; n5 in [-2147483648,-2147483648]"),
+    },
+    Row {
+        name: "a Copy of the greatest number",
+        code: Code::Copy(Y, Operand::Const(2147483647)),
+        state: Written {
+            vars: &[None, None, None, None],
+            edges: &[],
+            atoms: &[],
+            whole: true,
+        },
+        want: Wanted::Moves(b"y=n5; -; n5 in [2147483647,2147483647]"),
+    },
+    Row {
+        name: "a Copy of a variable that is unknown",
+        code: Code::Copy(X, Operand::Var(Y)),
+        state: Written {
+            vars: &[Some(N3), None, Some(N1), Some(N2)],
+            edges: &[],
+            atoms: &[],
+            whole: true,
+        },
+        want: Wanted::Premise(3),
+    },
+    Row {
+        name: "a Copy of a variable to itself, unknown",
+        code: Code::Copy(X, Operand::Var(X)),
+        state: Written {
+            vars: &[None, None, None, None],
+            edges: &[],
+            atoms: &[],
+            whole: true,
+        },
+        want: Wanted::Premise(3),
+    },
+    Row {
+        name: "a Copy of a number at a false state",
+        code: Code::Copy(X, Operand::Const(7)),
+        state: Written {
+            vars: &[Some(N3), Some(N4), Some(N1), Some(N2)],
+            edges: &[],
+            atoms: &[Atom::In(N3, 5, 4)],
+            whole: true,
+        },
+        want: Wanted::Premise(2),
+    },
+    Row {
+        name: "an unknown Copy at a false state",
+        code: Code::Copy(X, Operand::Var(Y)),
+        state: Written {
+            vars: &[Some(N3), None, Some(N1), Some(N2)],
+            edges: &[],
+            atoms: &[Atom::In(N3, 5, 4)],
+            whole: true,
+        },
+        want: Wanted::Premise(2),
+    },
+];
+
+static UNDEFS: [Row; 5] = [
+    Row {
+        name: "an Undef of two",
+        code: Code::Undef(&[P, X]),
+        state: Written {
+            vars: &[Some(N3), Some(N4), Some(N1), Some(N2)],
+            edges: &[],
+            atoms: &[],
+            whole: true,
+        },
+        want: Wanted::Moves(b"y=n4 q=n2; -; -"),
+    },
+    Row {
+        name: "an Undef of none",
+        code: Code::Undef(&[]),
+        state: Written {
+            vars: &[Some(N3), Some(N4), Some(N1), Some(N2)],
+            edges: &[],
+            atoms: &[],
+            whole: true,
+        },
+        want: Wanted::Moves(b"x=n3 y=n4 p=n1 q=n2; -; -"),
+    },
+    Row {
+        name: "an Undef of what is unknown",
+        code: Code::Undef(&[Y]),
+        state: Written {
+            vars: &[None, None, None, None],
+            edges: &[],
+            atoms: &[],
+            whole: true,
+        },
+        want: Wanted::Moves(b"-; -; -"),
+    },
+    Row {
+        name: "an Undef keeps edges and atoms",
+        code: Code::Undef(&[X, Y, P, Q]),
+        state: Written {
+            vars: &[Some(N3), Some(N4), Some(N1), Some(N2)],
+            edges: &[Plain::Node(1, Some(N3), None), Plain::List(2)],
+            atoms: &[Atom::In(N3, 0, 9), Atom::Eq(N4, N3, 1)],
+            whole: true,
+        },
+        want: Wanted::Moves(
+            b"-; n1 -> node{data:n3,next:?}, list(n2); n1 in [1,4611686018427387903], n3 in [0,9], n4 in [1,10], n4=n3+1",
+        ),
+    },
+    Row {
+        name: "an Undef at a false state",
+        code: Code::Undef(&[X]),
+        state: Written {
+            vars: &[Some(N3), Some(N4), Some(N1), Some(N2)],
+            edges: &[],
+            atoms: &[Atom::In(N3, 5, 4)],
+            whole: true,
+        },
+        want: Wanted::Premise(2),
+    },
+];
+
+static INPUTS: [Row; 3] = [
+    Row {
+        name: "an Input",
+        code: Code::Input(X),
+        state: Written {
+            vars: &[Some(N3), Some(N4), Some(N1), Some(N2)],
+            edges: &[],
+            atoms: &[],
+            whole: true,
+        },
+        want: Wanted::Moves(b"x=n5 y=n4 p=n1 q=n2; -; -"),
+    },
+    Row {
+        name: "an Input to an unknown variable",
+        code: Code::Input(Y),
+        state: Written {
+            vars: &[None, None, None, None],
+            edges: &[],
+            atoms: &[Atom::In(N3, 0, 9)],
+            whole: true,
+        },
+        want: Wanted::Moves(b"y=n5; -; n3 in [0,9]"),
+    },
+    Row {
+        name: "an Input at a false state",
+        code: Code::Input(X),
+        state: Written {
+            vars: &[Some(N3), Some(N4), Some(N1), Some(N2)],
+            edges: &[],
+            atoms: &[Atom::In(N3, 5, 4)],
+            whole: true,
+        },
+        want: Wanted::Premise(2),
+    },
+];
+
+static ENDS: [Row; 10] = [
+    Row {
+        name: "an End",
+        code: Code::End,
+        state: Written {
+            vars: &[Some(N3), Some(N4), Some(N1), Some(N2)],
+            edges: &[],
+            atoms: &[],
+            whole: true,
+        },
+        want: Wanted::Ends,
+    },
+    Row {
+        name: "an End where something is allocated",
+        code: Code::End,
+        state: Written {
+            vars: &[None, None, None, None],
+            edges: &[Plain::Node(1, None, None)],
+            atoms: &[],
+            whole: false,
+        },
+        want: Wanted::Ends,
+    },
+    Row {
+        name: "an End at a false state",
+        code: Code::End,
+        state: Written {
+            vars: &[Some(N3), Some(N4), Some(N1), Some(N2)],
+            edges: &[],
+            atoms: &[Atom::In(N3, 5, 4)],
+            whole: true,
+        },
+        want: Wanted::Premise(2),
+    },
+    Row {
+        name: "an AssertEmpty",
+        code: Code::AssertEmpty,
+        state: Written {
+            vars: &[Some(N3), Some(N4), Some(N1), Some(N2)],
+            edges: &[],
+            atoms: &[Atom::In(N3, 0, 9)],
+            whole: true,
+        },
+        want: Wanted::Moves(b"x=n3 y=n4 p=n1 q=n2; -; n3 in [0,9]"),
+    },
+    Row {
+        name: "an AssertEmpty beside other memory",
+        code: Code::AssertEmpty,
+        state: Written {
+            vars: &[Some(N3), Some(N4), Some(N1), Some(N2)],
+            edges: &[],
+            atoms: &[],
+            whole: false,
+        },
+        want: Wanted::Premise(3),
+    },
+    Row {
+        name: "an AssertEmpty beside a block and other memory",
+        code: Code::AssertEmpty,
+        state: Written {
+            vars: &[Some(N3), Some(N4), Some(N1), Some(N2)],
+            edges: &[Plain::Node(1, None, None)],
+            atoms: &[],
+            whole: false,
+        },
+        want: Wanted::Premise(3),
+    },
+    Row {
+        name: "an AssertEmpty beside a block",
+        code: Code::AssertEmpty,
+        state: Written {
+            vars: &[Some(N3), Some(N4), Some(N1), Some(N2)],
+            edges: &[Plain::Node(1, None, None)],
+            atoms: &[],
+            whole: true,
+        },
+        want: Wanted::Premise(4),
+    },
+    Row {
+        name: "an AssertEmpty beside a list",
+        code: Code::AssertEmpty,
+        state: Written {
+            vars: &[Some(N3), Some(N4), Some(N1), Some(N2)],
+            edges: &[Plain::List(1)],
+            atoms: &[],
+            whole: true,
+        },
+        want: Wanted::Premise(4),
+    },
+    Row {
+        name: "an AssertEmpty beside an empty segment",
+        code: Code::AssertEmpty,
+        state: Written {
+            vars: &[Some(N3), Some(N4), Some(N1), Some(N2)],
+            edges: &[Plain::Seg(1, 1)],
+            atoms: &[],
+            whole: true,
+        },
+        want: Wanted::Premise(4),
+    },
+    Row {
+        name: "an AssertEmpty at a false state",
+        code: Code::AssertEmpty,
+        state: Written {
+            vars: &[Some(N3), Some(N4), Some(N1), Some(N2)],
+            edges: &[Plain::List(1)],
+            atoms: &[Atom::In(N3, 5, 4)],
+            whole: false,
+        },
+        want: Wanted::Premise(2),
+    },
+];
+
+#[test]
+fn a_skip_keeps_the_state(rt: HostRuntime) -> Result<(), Fail> {
+    assert_eq!(rt; first_wrong(rt.alloc(), &SKIPS)?, None);
+    Ok(())
+}
+
+#[test]
+fn a_copy_gives_the_operands_node(rt: HostRuntime) -> Result<(), Fail> {
+    assert_eq!(rt; first_wrong(rt.alloc(), &COPIES)?, None);
+    Ok(())
+}
+
+#[test]
+fn an_undef_makes_variables_unknown(rt: HostRuntime) -> Result<(), Fail> {
+    assert_eq!(rt; first_wrong(rt.alloc(), &UNDEFS)?, None);
+    Ok(())
+}
+
+#[test]
+fn an_input_is_a_new_number(rt: HostRuntime) -> Result<(), Fail> {
+    assert_eq!(rt; first_wrong(rt.alloc(), &INPUTS)?, None);
+    Ok(())
+}
+
+#[test]
+fn ends_ask_what_is_allocated(rt: HostRuntime) -> Result<(), Fail> {
+    assert_eq!(rt; first_wrong(rt.alloc(), &ENDS)?, None);
+    Ok(())
+}
