@@ -107,21 +107,24 @@ fn vars(alloc: Global) -> Result<Items<VarInfo>, NoMemory> {
     Ok(Items::of(vars))
 }
 
-/// What is computed of two operands.
+/// What is done with two operands: they are computed into `x`, or tested.
 #[derive(Clone, Copy)]
 pub enum Op {
     Sum,
     Difference,
     Product,
+    Equal,
+    AtMost,
 }
 
 /// An instruction at point 0, which goes on to point 1, and from a test also to point 2.
+#[derive(Clone, Copy)]
 pub enum Code {
     Skip,
     Copy(VarId, Operand),
     Undef(&'static [VarId]),
     Input(VarId),
-    Compute(Op, VarId, Operand, Operand),
+    Both(Op, Operand, Operand),
     Load(VarId, VarId, StructId, u64),
     Store(VarId, StructId, u64, Operand),
     Malloc(VarId, StructId),
@@ -129,8 +132,6 @@ pub enum Code {
     FreeNull(Operand),
     /// A Free, of which the rule of a block is asked.
     FreeBlock(Operand),
-    TestEq(Operand, Operand),
-    TestLe(Operand, Operand),
     AssertEmpty,
     End,
 }
@@ -146,11 +147,13 @@ const NEXT: PointId = PointId(1);
 
 const ELSE: PointId = PointId(2);
 
-fn computed(op: Op, x: VarId, left: Operand, right: Operand) -> Instr {
+fn both(op: Op, left: Operand, right: Operand) -> Instr {
     match op {
-        Op::Sum => Instr::Add(x, left, right, NEXT),
-        Op::Difference => Instr::Sub(x, left, right, NEXT),
-        Op::Product => Instr::Mul(x, left, right, NEXT),
+        Op::Sum => Instr::Add(X, left, right, NEXT),
+        Op::Difference => Instr::Sub(X, left, right, NEXT),
+        Op::Product => Instr::Mul(X, left, right, NEXT),
+        Op::Equal => Instr::TestEq(left, right, NEXT, ELSE),
+        Op::AtMost => Instr::TestLe(left, right, NEXT, ELSE),
     }
 }
 
@@ -164,14 +167,12 @@ fn instr(alloc: Global, code: &Code) -> Result<Instr, NoMemory> {
         Code::Copy(x, from) => Ok(Instr::Copy(*x, *from, NEXT)),
         Code::Undef(xs) => undef(alloc, *xs),
         Code::Input(x) => Ok(Instr::Input(*x, NEXT)),
-        Code::Compute(op, x, left, right) => Ok(computed(*op, *x, *left, *right)),
+        Code::Both(op, left, right) => Ok(both(*op, *left, *right)),
         Code::Load(x, y, shape, f) => Ok(Instr::Load(*x, *y, *shape, *f, NEXT)),
         Code::Store(y, shape, f, from) => Ok(Instr::Store(*y, *shape, *f, *from, NEXT)),
         Code::Malloc(x, shape) => Ok(Instr::Malloc(*x, *shape, NEXT)),
         Code::FreeNull(from) => Ok(Instr::Free(*from, NEXT)),
         Code::FreeBlock(from) => Ok(Instr::Free(*from, NEXT)),
-        Code::TestEq(left, right) => Ok(Instr::TestEq(*left, *right, NEXT, ELSE)),
-        Code::TestLe(left, right) => Ok(Instr::TestLe(*left, *right, NEXT, ELSE)),
         Code::AssertEmpty => Ok(Instr::AssertEmpty(NEXT)),
         Code::End => Ok(Instr::End),
     }

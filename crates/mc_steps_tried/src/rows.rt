@@ -1,10 +1,10 @@
 // Instructions at states, and what comes of them.
 use crate::dispatch::step;
-use crate::program::{Code, definitions, flow};
-use crate::states::{Written, state};
-use mc_base::{NoMemory, PointId};
+use crate::program::{Code, Op, definitions, flow};
+use crate::states::{N3, N4, Plain, Written, state};
+use mc_base::{Atom, NoMemory, NodeId, PointId};
 use mc_defs::Defs;
-use mc_flow::{Flow, valid};
+use mc_flow::{Flow, Operand, valid};
 use mc_state_text::print;
 use mc_stepping::{Next, Refused, Stepped};
 use std::alloc::Global;
@@ -21,13 +21,28 @@ pub enum Wanted {
     Splits(&'static [u8], u64, &'static [u8]),
 }
 
-/// An instruction at a state.
+/// An instruction at a state: the nodes of `x`, `y`, `p` and `q`, edges, atoms, and whether the edges are all that is
+/// allocated.
 pub struct Row {
     pub name: &'static str,
     pub code: Code,
-    pub state: Written,
+    pub vars: &'static [Option<NodeId>],
+    pub edges: &'static [Plain],
+    pub atoms: &'static [Atom],
+    pub whole: bool,
     pub want: Wanted,
 }
+
+/// An operation on two operands at a state in which `x` is n3 and `y` is n4, and no other variable is known.
+pub struct Case {
+    pub name: &'static str,
+    pub of: (Operand, Operand),
+    pub atoms: &'static [Atom],
+    pub want: Wanted,
+}
+
+/// The nodes of the variables of a case.
+static NUMBERS: [Option<NodeId>; 4] = [Some(N3), Some(N4), None, None];
 
 /// Whether a branch goes on at a point with the state of a text, and has nothing to show.
 fn is_next(
@@ -92,32 +107,71 @@ fn is_premise(number: u8, want: &Wanted) -> bool {
     }
 }
 
-/// Whether the row's instruction gives at its state what is wanted. No row has a program that is not valid or a state that
-/// is not well formed.
-fn is_right(alloc: Global, defs: &Defs, row: &Row) -> Result<bool, NoMemory> {
-    let flow = flow(alloc, &row.code)?;
+/// Whether an instruction gives at a state what is wanted. No program here is not valid, and no state is not well formed.
+fn is_right(
+    alloc: Global,
+    defs: &Defs,
+    code: &Code,
+    written: &Written,
+    want: &Wanted,
+) -> Result<bool, NoMemory> {
+    let flow = flow(alloc, code)?;
     if !valid(&flow, defs) {
         return Ok(false);
     }
-    let Some(state) = state(alloc, &flow, defs, &row.state)? else {
+    let Some(state) = state(alloc, &flow, defs, written)? else {
         return Ok(false);
     };
-    match step(alloc, &flow, defs, row.code.is_of_null(), state) {
-        Ok(answer) => is_wanted(alloc, &flow, defs, &answer, &row.want),
-        Err(Refused::Premise(number, _)) => Ok(is_premise(number, &row.want)),
+    match step(alloc, &flow, defs, code.is_of_null(), state) {
+        Ok(answer) => is_wanted(alloc, &flow, defs, &answer, want),
+        Err(Refused::Premise(number, _)) => Ok(is_premise(number, want)),
         Err(Refused::NoMemory) => Ok(false),
     }
 }
 
+/// Whether what is wanted comes of a row.
+fn is_row_right(alloc: Global, defs: &Defs, row: &Row) -> Result<bool, NoMemory> {
+    let written = Written {
+        vars: row.vars,
+        edges: row.edges,
+        atoms: row.atoms,
+        whole: row.whole,
+    };
+    is_right(alloc, defs, &row.code, &written, &row.want)
+}
+
+/// Whether what is wanted comes of a case.
+fn is_case_right(alloc: Global, defs: &Defs, op: Op, case: &Case) -> Result<bool, NoMemory> {
+    let written = Written {
+        vars: &NUMBERS,
+        edges: &[],
+        atoms: case.atoms,
+        whole: true,
+    };
+    let code = Code::Both(op, case.of.0, case.of.1);
+    is_right(alloc, defs, &code, &written, &case.want)
+}
+
 /// The first row that is wrong.
-fn first_wrong_of(
+fn wrong_row(alloc: Global, defs: &Defs, rows: &[Row]) -> Result<Option<&'static str>, NoMemory> {
+    for row in rows {
+        if !is_row_right(alloc, defs, row)? {
+            return Ok(Some(row.name));
+        }
+    }
+    Ok(None)
+}
+
+/// The first case that is wrong.
+fn wrong_case(
     alloc: Global,
     defs: &Defs,
-    rows: &[Row],
+    op: Op,
+    cases: &[Case],
 ) -> Result<Option<&'static str>, NoMemory> {
-    for row in rows {
-        if !is_right(alloc, defs, row)? {
-            return Ok(Some(row.name));
+    for case in cases {
+        if !is_case_right(alloc, defs, op, case)? {
+            return Ok(Some(case.name));
         }
     }
     Ok(None)
@@ -127,6 +181,18 @@ fn first_wrong_of(
 pub fn first_wrong(alloc: Global, rows: &[Row]) -> Result<Option<&'static str>, NoMemory> {
     match definitions(alloc)? {
         None => Ok(Some("the definitions")),
-        Some(defs) => first_wrong_of(alloc, &defs, rows),
+        Some(defs) => wrong_row(alloc, &defs, rows),
+    }
+}
+
+/// The name of the first case of which something else comes.
+pub fn first_wrong_case(
+    alloc: Global,
+    op: Op,
+    cases: &[Case],
+) -> Result<Option<&'static str>, NoMemory> {
+    match definitions(alloc)? {
+        None => Ok(Some("the definitions")),
+        Some(defs) => wrong_case(alloc, &defs, op, cases),
     }
 }

@@ -43,6 +43,7 @@ pub enum Plain {
 }
 
 /// The nodes of `x`, `y`, `p` and `q`, edges, atoms, and whether the edges are all that is allocated.
+#[derive(Clone, Copy)]
 pub struct Written {
     pub vars: &'static [Option<NodeId>],
     pub edges: &'static [Plain],
