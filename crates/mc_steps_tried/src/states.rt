@@ -107,13 +107,14 @@ fn raw(alloc: Global, written: &Written) -> Result<RawState, NoMemory> {
 }
 
 /// The state. None where it is not well formed.
+#[tactic(auto, using(crate::proofs::Made::made_from))]
 pub fn state(
     alloc: Global,
     flow: &Flow,
     defs: &Defs,
     written: &Written,
 ) -> Result<Option<State>, NoMemory>
-    ensures { IfOk result (IfSome (IsWellMade defs.now flow.now.vars flow.now.structs.list)) }
+    ensures { IfOk result (λ found. IfSome found (IsWellMade defs.now flow.now.vars flow.now.structs.list)) }
 {
     let raw = raw(alloc, written)?;
     let structs = flow.structs.list.as_slice();
