@@ -4,11 +4,13 @@ use crate::rows::{Row, Wanted, first_wrong};
 use crate::states::{N1, N2, N3, N4, NULL, Plain};
 use mc_base::Atom;
 use mc_flow::Operand;
+use mc_instructions::InstrRule;
 use std::test::Fail;
 
 static LOADS: [Row; 17] = [
     Row {
         name: "a number is loaded",
+        rule: InstrRule::S8,
         code: Code::Load(X, P, NODE, 0),
         vars: &[None, None, Some(N1), None],
         edges: &[Plain::Node(1, Some(N4), Some(N2))],
@@ -20,6 +22,7 @@ static LOADS: [Row; 17] = [
     },
     Row {
         name: "a pointer is loaded",
+        rule: InstrRule::S8,
         code: Code::Load(Q, P, NODE, 1),
         vars: &[None, None, Some(N1), None],
         edges: &[Plain::Node(1, Some(N4), Some(N2))],
@@ -31,6 +34,7 @@ static LOADS: [Row; 17] = [
     },
     Row {
         name: "null is loaded",
+        rule: InstrRule::S8,
         code: Code::Load(Q, P, NODE, 1),
         vars: &[None, None, Some(N1), None],
         edges: &[Plain::Node(1, None, Some(NULL))],
@@ -40,6 +44,7 @@ static LOADS: [Row; 17] = [
     },
     Row {
         name: "the base is loaded anew",
+        rule: InstrRule::S8,
         code: Code::Load(P, P, NODE, 1),
         vars: &[None, None, Some(N1), Some(N2)],
         edges: &[Plain::Node(1, Some(N4), Some(N2))],
@@ -51,6 +56,7 @@ static LOADS: [Row; 17] = [
     },
     Row {
         name: "the base is an equal node",
+        rule: InstrRule::S8,
         code: Code::Load(X, P, NODE, 0),
         vars: &[None, None, Some(N1), None],
         edges: &[Plain::Node(2, Some(N4), None)],
@@ -62,6 +68,7 @@ static LOADS: [Row; 17] = [
     },
     Row {
         name: "the second block is loaded from",
+        rule: InstrRule::S8,
         code: Code::Load(X, P, NODE, 0),
         vars: &[None, None, Some(N1), None],
         edges: &[
@@ -76,6 +83,7 @@ static LOADS: [Row; 17] = [
     },
     Row {
         name: "a Load at a false state",
+        rule: InstrRule::S8,
         code: Code::Load(X, P, NODE, 0),
         vars: &[None, None, None, None],
         edges: &[],
@@ -85,6 +93,7 @@ static LOADS: [Row; 17] = [
     },
     Row {
         name: "a Load through an unknown base",
+        rule: InstrRule::S8,
         code: Code::Load(X, P, NODE, 0),
         vars: &[Some(N3), Some(N4), None, Some(N2)],
         edges: &[Plain::Node(1, Some(N4), Some(N2))],
@@ -94,6 +103,7 @@ static LOADS: [Row; 17] = [
     },
     Row {
         name: "a Load where nothing is known",
+        rule: InstrRule::S8,
         code: Code::Load(X, P, NODE, 0),
         vars: &[None, None, Some(N1), None],
         edges: &[],
@@ -103,6 +113,7 @@ static LOADS: [Row; 17] = [
     },
     Row {
         name: "a Load through null",
+        rule: InstrRule::S8,
         code: Code::Load(X, P, NODE, 0),
         vars: &[None, None, Some(NULL), None],
         edges: &[Plain::Node(1, Some(N4), Some(N2))],
@@ -112,6 +123,7 @@ static LOADS: [Row; 17] = [
     },
     Row {
         name: "a Load from another struct",
+        rule: InstrRule::S8,
         code: Code::Load(X, P, NODE, 0),
         vars: &[None, None, Some(N1), None],
         edges: &[Plain::Pair(1)],
@@ -121,6 +133,7 @@ static LOADS: [Row; 17] = [
     },
     Row {
         name: "a Load beside a block",
+        rule: InstrRule::S8,
         code: Code::Load(X, P, NODE, 0),
         vars: &[None, None, Some(N1), None],
         edges: &[Plain::Node(2, Some(N4), None)],
@@ -130,6 +143,7 @@ static LOADS: [Row; 17] = [
     },
     Row {
         name: "a Load beside a block one behind",
+        rule: InstrRule::S8,
         code: Code::Load(X, P, NODE, 0),
         vars: &[None, None, Some(N1), None],
         edges: &[Plain::Node(2, Some(N4), None)],
@@ -139,6 +153,7 @@ static LOADS: [Row; 17] = [
     },
     Row {
         name: "a Load from a list",
+        rule: InstrRule::S8,
         code: Code::Load(X, P, NODE, 0),
         vars: &[None, None, Some(N1), None],
         edges: &[Plain::List(1)],
@@ -148,6 +163,7 @@ static LOADS: [Row; 17] = [
     },
     Row {
         name: "a Load from a segment",
+        rule: InstrRule::S8,
         code: Code::Load(X, P, NODE, 0),
         vars: &[None, None, Some(N1), None],
         edges: &[Plain::Seg(1, 2)],
@@ -157,6 +173,7 @@ static LOADS: [Row; 17] = [
     },
     Row {
         name: "a Load of an unknown field",
+        rule: InstrRule::S8,
         code: Code::Load(X, P, NODE, 0),
         vars: &[None, None, Some(N1), None],
         edges: &[Plain::Node(1, None, Some(N2))],
@@ -166,6 +183,7 @@ static LOADS: [Row; 17] = [
     },
     Row {
         name: "a Load of an unknown pointer",
+        rule: InstrRule::S8,
         code: Code::Load(Q, P, NODE, 1),
         vars: &[None, None, Some(N1), None],
         edges: &[Plain::Node(1, Some(N4), None)],
@@ -178,6 +196,7 @@ static LOADS: [Row; 17] = [
 static STORES: [Row; 19] = [
     Row {
         name: "a number is stored",
+        rule: InstrRule::S9,
         code: Code::Store(P, NODE, 0, Operand::Var(X)),
         vars: &[Some(N3), Some(N4), Some(N1), Some(N2)],
         edges: &[Plain::Node(1, None, None)],
@@ -189,6 +208,7 @@ static STORES: [Row; 19] = [
     },
     Row {
         name: "a pointer is stored",
+        rule: InstrRule::S9,
         code: Code::Store(P, NODE, 1, Operand::Var(Q)),
         vars: &[Some(N3), Some(N4), Some(N1), Some(N2)],
         edges: &[Plain::Node(1, None, None)],
@@ -200,6 +220,7 @@ static STORES: [Row; 19] = [
     },
     Row {
         name: "null is stored",
+        rule: InstrRule::S9,
         code: Code::Store(P, NODE, 1, Operand::Const(0)),
         vars: &[None, None, Some(N1), None],
         edges: &[Plain::Node(1, Some(N4), Some(N2))],
@@ -209,6 +230,7 @@ static STORES: [Row; 19] = [
     },
     Row {
         name: "zero is stored",
+        rule: InstrRule::S9,
         code: Code::Store(P, NODE, 0, Operand::Const(0)),
         vars: &[None, None, Some(N1), None],
         edges: &[Plain::Node(1, Some(N4), Some(N2))],
@@ -218,6 +240,7 @@ static STORES: [Row; 19] = [
     },
     Row {
         name: "a constant is stored",
+        rule: InstrRule::S9,
         code: Code::Store(P, NODE, 0, Operand::Const(-7)),
         vars: &[None, None, Some(N1), None],
         edges: &[Plain::Node(1, Some(N4), Some(N2))],
@@ -229,6 +252,7 @@ static STORES: [Row; 19] = [
     },
     Row {
         name: "a block points to itself",
+        rule: InstrRule::S9,
         code: Code::Store(P, NODE, 1, Operand::Var(P)),
         vars: &[None, None, Some(N1), None],
         edges: &[Plain::Node(1, None, None)],
@@ -238,6 +262,7 @@ static STORES: [Row; 19] = [
     },
     Row {
         name: "a Store through an equal node",
+        rule: InstrRule::S9,
         code: Code::Store(P, NODE, 0, Operand::Var(X)),
         vars: &[Some(N3), None, Some(N1), None],
         edges: &[Plain::Node(2, None, Some(NULL))],
@@ -249,6 +274,7 @@ static STORES: [Row; 19] = [
     },
     Row {
         name: "the second block is stored to",
+        rule: InstrRule::S9,
         code: Code::Store(P, NODE, 0, Operand::Var(X)),
         vars: &[Some(N3), None, Some(N1), None],
         edges: &[
@@ -263,6 +289,7 @@ static STORES: [Row; 19] = [
     },
     Row {
         name: "another struct is stored to",
+        rule: InstrRule::S9,
         code: Code::Store(P, PAIR, 1, Operand::Var(Q)),
         vars: &[None, None, Some(N1), Some(N2)],
         edges: &[Plain::Pair(1)],
@@ -272,6 +299,7 @@ static STORES: [Row; 19] = [
     },
     Row {
         name: "a Store at a false state",
+        rule: InstrRule::S9,
         code: Code::Store(P, NODE, 0, Operand::Var(X)),
         vars: &[None, None, None, None],
         edges: &[],
@@ -281,6 +309,7 @@ static STORES: [Row; 19] = [
     },
     Row {
         name: "a Store of what is unknown",
+        rule: InstrRule::S9,
         code: Code::Store(P, NODE, 0, Operand::Var(X)),
         vars: &[None, Some(N4), Some(N1), Some(N2)],
         edges: &[Plain::Node(1, None, None)],
@@ -290,6 +319,7 @@ static STORES: [Row; 19] = [
     },
     Row {
         name: "a Store of what is unknown through an unknown base",
+        rule: InstrRule::S9,
         code: Code::Store(P, NODE, 0, Operand::Var(X)),
         vars: &[None, None, None, None],
         edges: &[],
@@ -299,6 +329,7 @@ static STORES: [Row; 19] = [
     },
     Row {
         name: "a Store through an unknown base",
+        rule: InstrRule::S9,
         code: Code::Store(P, NODE, 0, Operand::Var(X)),
         vars: &[Some(N3), Some(N4), None, Some(N2)],
         edges: &[Plain::Node(1, None, None)],
@@ -308,6 +339,7 @@ static STORES: [Row; 19] = [
     },
     Row {
         name: "a Store of a constant through an unknown base",
+        rule: InstrRule::S9,
         code: Code::Store(P, NODE, 0, Operand::Const(7)),
         vars: &[None, None, None, None],
         edges: &[],
@@ -317,6 +349,7 @@ static STORES: [Row; 19] = [
     },
     Row {
         name: "a Store where nothing is known",
+        rule: InstrRule::S9,
         code: Code::Store(P, NODE, 0, Operand::Var(X)),
         vars: &[Some(N3), Some(N4), Some(N1), Some(N2)],
         edges: &[],
@@ -326,6 +359,7 @@ static STORES: [Row; 19] = [
     },
     Row {
         name: "a Store through null",
+        rule: InstrRule::S9,
         code: Code::Store(P, NODE, 0, Operand::Var(X)),
         vars: &[Some(N3), None, Some(NULL), None],
         edges: &[Plain::Node(1, None, None)],
@@ -335,6 +369,7 @@ static STORES: [Row; 19] = [
     },
     Row {
         name: "a Store to another struct",
+        rule: InstrRule::S9,
         code: Code::Store(P, NODE, 0, Operand::Var(X)),
         vars: &[Some(N3), Some(N4), Some(N1), Some(N2)],
         edges: &[Plain::Pair(1)],
@@ -344,6 +379,7 @@ static STORES: [Row; 19] = [
     },
     Row {
         name: "a Store beside a block",
+        rule: InstrRule::S9,
         code: Code::Store(P, NODE, 0, Operand::Var(X)),
         vars: &[Some(N3), Some(N4), Some(N1), Some(N2)],
         edges: &[Plain::Node(2, None, None)],
@@ -353,6 +389,7 @@ static STORES: [Row; 19] = [
     },
     Row {
         name: "a Store to a list",
+        rule: InstrRule::S9,
         code: Code::Store(P, NODE, 0, Operand::Var(X)),
         vars: &[Some(N3), Some(N4), Some(N1), Some(N2)],
         edges: &[Plain::List(1)],
@@ -365,6 +402,7 @@ static STORES: [Row; 19] = [
 static MALLOCS: [Row; 4] = [
     Row {
         name: "a Malloc",
+        rule: InstrRule::S10,
         code: Code::Malloc(P, NODE),
         vars: &[Some(N3), Some(N4), Some(N1), Some(N2)],
         edges: &[],
@@ -378,6 +416,7 @@ static MALLOCS: [Row; 4] = [
     },
     Row {
         name: "a Malloc beside a block",
+        rule: InstrRule::S10,
         code: Code::Malloc(Q, PAIR),
         vars: &[None, None, None, None],
         edges: &[Plain::Node(1, Some(N4), None)],
@@ -391,6 +430,7 @@ static MALLOCS: [Row; 4] = [
     },
     Row {
         name: "a Malloc behind a list",
+        rule: InstrRule::S10,
         code: Code::Malloc(P, NODE),
         vars: &[None, None, Some(N1), None],
         edges: &[Plain::List(1)],
@@ -404,6 +444,7 @@ static MALLOCS: [Row; 4] = [
     },
     Row {
         name: "a Malloc at a false state",
+        rule: InstrRule::S10,
         code: Code::Malloc(P, NODE),
         vars: &[Some(N3), Some(N4), Some(N1), Some(N2)],
         edges: &[],
@@ -416,7 +457,8 @@ static MALLOCS: [Row; 4] = [
 static NULLS: [Row; 9] = [
     Row {
         name: "a Free of the constant null",
-        code: Code::FreeNull(Operand::Const(0)),
+        rule: InstrRule::S11,
+        code: Code::Free(Operand::Const(0)),
         vars: &[Some(N3), Some(N4), Some(N1), Some(N2)],
         edges: &[Plain::Node(1, None, None)],
         atoms: &[],
@@ -427,7 +469,8 @@ static NULLS: [Row; 9] = [
     },
     Row {
         name: "a Free of a variable at null",
-        code: Code::FreeNull(Operand::Var(P)),
+        rule: InstrRule::S11,
+        code: Code::Free(Operand::Var(P)),
         vars: &[None, None, Some(NULL), None],
         edges: &[],
         atoms: &[],
@@ -436,7 +479,8 @@ static NULLS: [Row; 9] = [
     },
     Row {
         name: "a Free of what equals null",
-        code: Code::FreeNull(Operand::Var(P)),
+        rule: InstrRule::S11,
+        code: Code::Free(Operand::Var(P)),
         vars: &[None, None, Some(N1), None],
         edges: &[],
         atoms: &[Atom::Eq(N1, NULL, 0)],
@@ -445,7 +489,8 @@ static NULLS: [Row; 9] = [
     },
     Row {
         name: "a Free of what lies at zero",
-        code: Code::FreeNull(Operand::Var(P)),
+        rule: InstrRule::S11,
+        code: Code::Free(Operand::Var(P)),
         vars: &[None, None, Some(N1), None],
         edges: &[],
         atoms: &[Atom::In(N1, -1, 0)],
@@ -454,7 +499,8 @@ static NULLS: [Row; 9] = [
     },
     Row {
         name: "a Free of null at a false state",
-        code: Code::FreeNull(Operand::Var(P)),
+        rule: InstrRule::S11,
+        code: Code::Free(Operand::Var(P)),
         vars: &[None, None, None, None],
         edges: &[],
         atoms: &[Atom::In(N3, 5, 4)],
@@ -463,7 +509,8 @@ static NULLS: [Row; 9] = [
     },
     Row {
         name: "a Free of null, unknown",
-        code: Code::FreeNull(Operand::Var(P)),
+        rule: InstrRule::S11,
+        code: Code::Free(Operand::Var(P)),
         vars: &[Some(N3), Some(N4), None, Some(N2)],
         edges: &[],
         atoms: &[],
@@ -472,7 +519,8 @@ static NULLS: [Row; 9] = [
     },
     Row {
         name: "a Free of null where it may be another",
-        code: Code::FreeNull(Operand::Var(P)),
+        rule: InstrRule::S11,
+        code: Code::Free(Operand::Var(P)),
         vars: &[None, None, Some(N1), None],
         edges: &[],
         atoms: &[],
@@ -481,7 +529,8 @@ static NULLS: [Row; 9] = [
     },
     Row {
         name: "a Free of null where there is a block",
-        code: Code::FreeNull(Operand::Var(P)),
+        rule: InstrRule::S11,
+        code: Code::Free(Operand::Var(P)),
         vars: &[None, None, Some(N1), None],
         edges: &[Plain::Node(1, None, None)],
         atoms: &[],
@@ -490,7 +539,8 @@ static NULLS: [Row; 9] = [
     },
     Row {
         name: "a Free of null where it is an address",
-        code: Code::FreeNull(Operand::Var(P)),
+        rule: InstrRule::S11,
+        code: Code::Free(Operand::Var(P)),
         vars: &[None, None, Some(N1), None],
         edges: &[],
         atoms: &[Atom::In(N1, 1, 4611686018427387903)],
@@ -502,7 +552,8 @@ static NULLS: [Row; 9] = [
 static FREES: [Row; 14] = [
     Row {
         name: "a block is freed",
-        code: Code::FreeBlock(Operand::Var(P)),
+        rule: InstrRule::S12,
+        code: Code::Free(Operand::Var(P)),
         vars: &[Some(N3), Some(N4), Some(N1), Some(N2)],
         edges: &[Plain::Node(1, Some(N3), Some(N2))],
         atoms: &[],
@@ -511,7 +562,8 @@ static FREES: [Row; 14] = [
     },
     Row {
         name: "a block of another struct is freed",
-        code: Code::FreeBlock(Operand::Var(P)),
+        rule: InstrRule::S12,
+        code: Code::Free(Operand::Var(P)),
         vars: &[None, None, Some(N1), None],
         edges: &[Plain::Pair(1)],
         atoms: &[],
@@ -520,7 +572,8 @@ static FREES: [Row; 14] = [
     },
     Row {
         name: "a block at an equal node is freed",
-        code: Code::FreeBlock(Operand::Var(P)),
+        rule: InstrRule::S12,
+        code: Code::Free(Operand::Var(P)),
         vars: &[None, None, Some(N2), None],
         edges: &[Plain::Node(1, None, None)],
         atoms: &[Atom::Eq(N2, N1, 0)],
@@ -531,7 +584,8 @@ static FREES: [Row; 14] = [
     },
     Row {
         name: "the first of two blocks is freed",
-        code: Code::FreeBlock(Operand::Var(P)),
+        rule: InstrRule::S12,
+        code: Code::Free(Operand::Var(P)),
         vars: &[None, None, Some(N1), None],
         edges: &[Plain::Node(1, None, None), Plain::Pair(2)],
         atoms: &[],
@@ -542,7 +596,8 @@ static FREES: [Row; 14] = [
     },
     Row {
         name: "the second of two blocks is freed",
-        code: Code::FreeBlock(Operand::Var(P)),
+        rule: InstrRule::S12,
+        code: Code::Free(Operand::Var(P)),
         vars: &[None, None, Some(N2), None],
         edges: &[Plain::Node(1, None, None), Plain::Node(2, None, None)],
         atoms: &[],
@@ -553,7 +608,8 @@ static FREES: [Row; 14] = [
     },
     Row {
         name: "a block beside a list is freed",
-        code: Code::FreeBlock(Operand::Var(P)),
+        rule: InstrRule::S12,
+        code: Code::Free(Operand::Var(P)),
         vars: &[None, None, Some(N1), None],
         edges: &[Plain::Node(1, None, Some(N2)), Plain::List(2)],
         atoms: &[],
@@ -562,7 +618,8 @@ static FREES: [Row; 14] = [
     },
     Row {
         name: "a block behind a segment is freed",
-        code: Code::FreeBlock(Operand::Var(P)),
+        rule: InstrRule::S12,
+        code: Code::Free(Operand::Var(P)),
         vars: &[None, None, Some(N2), None],
         edges: &[Plain::Seg(1, 2), Plain::Node(2, None, Some(N1))],
         atoms: &[],
@@ -571,7 +628,8 @@ static FREES: [Row; 14] = [
     },
     Row {
         name: "a Free of a block at a false state",
-        code: Code::FreeBlock(Operand::Var(P)),
+        rule: InstrRule::S12,
+        code: Code::Free(Operand::Var(P)),
         vars: &[None, None, None, None],
         edges: &[],
         atoms: &[Atom::In(N3, 5, 4)],
@@ -580,7 +638,8 @@ static FREES: [Row; 14] = [
     },
     Row {
         name: "a Free of a block, unknown",
-        code: Code::FreeBlock(Operand::Var(P)),
+        rule: InstrRule::S12,
+        code: Code::Free(Operand::Var(P)),
         vars: &[Some(N3), Some(N4), None, Some(N2)],
         edges: &[Plain::Node(1, None, None)],
         atoms: &[],
@@ -589,7 +648,8 @@ static FREES: [Row; 14] = [
     },
     Row {
         name: "a Free where there is no block",
-        code: Code::FreeBlock(Operand::Var(P)),
+        rule: InstrRule::S12,
+        code: Code::Free(Operand::Var(P)),
         vars: &[None, None, Some(N1), None],
         edges: &[],
         atoms: &[],
@@ -598,7 +658,8 @@ static FREES: [Row; 14] = [
     },
     Row {
         name: "a Free of the constant null as a block",
-        code: Code::FreeBlock(Operand::Const(0)),
+        rule: InstrRule::S12,
+        code: Code::Free(Operand::Const(0)),
         vars: &[None, None, Some(N1), None],
         edges: &[Plain::Node(1, None, None)],
         atoms: &[],
@@ -607,7 +668,8 @@ static FREES: [Row; 14] = [
     },
     Row {
         name: "a Free beside a block",
-        code: Code::FreeBlock(Operand::Var(P)),
+        rule: InstrRule::S12,
+        code: Code::Free(Operand::Var(P)),
         vars: &[None, None, Some(N1), None],
         edges: &[Plain::Node(2, None, None)],
         atoms: &[],
@@ -616,7 +678,8 @@ static FREES: [Row; 14] = [
     },
     Row {
         name: "a Free of a list",
-        code: Code::FreeBlock(Operand::Var(P)),
+        rule: InstrRule::S12,
+        code: Code::Free(Operand::Var(P)),
         vars: &[None, None, Some(N1), None],
         edges: &[Plain::List(1)],
         atoms: &[],
@@ -625,7 +688,8 @@ static FREES: [Row; 14] = [
     },
     Row {
         name: "a Free of what was freed",
-        code: Code::FreeBlock(Operand::Var(P)),
+        rule: InstrRule::S12,
+        code: Code::Free(Operand::Var(P)),
         vars: &[None, None, Some(N1), None],
         edges: &[],
         atoms: &[Atom::In(N1, 1, 4611686018427387903)],

@@ -4,6 +4,7 @@ use crate::rows::{Case, Row, Wanted, first_wrong, first_wrong_case};
 use crate::states::{N1, N2, N3, N4, Plain};
 use mc_base::Atom;
 use mc_flow::Operand;
+use mc_instructions::InstrRule;
 use std::test::Fail;
 
 static NUMBERS: [Case; 19] = [
@@ -174,6 +175,7 @@ static NUMBERS: [Case; 19] = [
 static POINTERS: [Row; 4] = [
     Row {
         name: "two pointers",
+        rule: InstrRule::S13,
         code: Code::Both(Op::Equal, Operand::Var(P), Operand::Var(Q)),
         vars: &[None, None, Some(N1), Some(N2)],
         edges: &[],
@@ -183,6 +185,7 @@ static POINTERS: [Row; 4] = [
     },
     Row {
         name: "a pointer and null",
+        rule: InstrRule::S13,
         code: Code::Both(Op::Equal, Operand::Var(P), Operand::Const(0)),
         vars: &[None, None, Some(N1), None],
         edges: &[],
@@ -196,6 +199,7 @@ static POINTERS: [Row; 4] = [
     },
     Row {
         name: "a block and null",
+        rule: InstrRule::S13,
         code: Code::Both(Op::Equal, Operand::Var(P), Operand::Const(0)),
         vars: &[None, None, Some(N1), None],
         edges: &[Plain::Node(1, None, None)],
@@ -209,6 +213,7 @@ static POINTERS: [Row; 4] = [
     },
     Row {
         name: "two blocks",
+        rule: InstrRule::S13,
         code: Code::Both(Op::Equal, Operand::Var(P), Operand::Var(Q)),
         vars: &[None, None, Some(N1), Some(N2)],
         edges: &[Plain::Node(1, None, None), Plain::Pair(2)],
@@ -225,6 +230,7 @@ static POINTERS: [Row; 4] = [
 static PREMISES: [Row; 6] = [
     Row {
         name: "a comparison at a false state",
+        rule: InstrRule::S13,
         code: Code::Both(Op::Equal, Operand::Var(X), Operand::Var(Y)),
         vars: &[None, None, None, None],
         edges: &[],
@@ -234,6 +240,7 @@ static PREMISES: [Row; 6] = [
     },
     Row {
         name: "a left operand that is unknown",
+        rule: InstrRule::S13,
         code: Code::Both(Op::Equal, Operand::Var(X), Operand::Var(Y)),
         vars: &[None, Some(N4), Some(N1), Some(N2)],
         edges: &[],
@@ -243,6 +250,7 @@ static PREMISES: [Row; 6] = [
     },
     Row {
         name: "both unknown",
+        rule: InstrRule::S13,
         code: Code::Both(Op::Equal, Operand::Var(X), Operand::Var(Y)),
         vars: &[None, None, None, None],
         edges: &[],
@@ -252,6 +260,7 @@ static PREMISES: [Row; 6] = [
     },
     Row {
         name: "a left operand that is unknown, and a constant",
+        rule: InstrRule::S13,
         code: Code::Both(Op::Equal, Operand::Var(X), Operand::Const(5)),
         vars: &[None, None, None, None],
         edges: &[],
@@ -261,6 +270,7 @@ static PREMISES: [Row; 6] = [
     },
     Row {
         name: "a right operand that is unknown",
+        rule: InstrRule::S13,
         code: Code::Both(Op::Equal, Operand::Var(X), Operand::Var(Y)),
         vars: &[Some(N3), None, Some(N1), Some(N2)],
         edges: &[],
@@ -270,6 +280,7 @@ static PREMISES: [Row; 6] = [
     },
     Row {
         name: "a constant, and a right operand that is unknown",
+        rule: InstrRule::S13,
         code: Code::Both(Op::Equal, Operand::Const(5), Operand::Var(Y)),
         vars: &[None, None, None, None],
         edges: &[],

@@ -4,6 +4,7 @@ use crate::rows::{Case, Row, Wanted, first_wrong, first_wrong_case};
 use crate::states::{N1, N2, N3, N4};
 use mc_base::Atom;
 use mc_flow::Operand;
+use mc_instructions::InstrRule;
 use std::test::Fail;
 
 static CONSTANTS: [Case; 9] = [
@@ -244,6 +245,7 @@ static RANGES: [Case; 12] = [
 static PREMISES: [Row; 6] = [
     Row {
         name: "a difference at a false state",
+        rule: InstrRule::S6,
         code: Code::Both(Op::Difference, Operand::Var(X), Operand::Var(Y)),
         vars: &[None, None, None, None],
         edges: &[],
@@ -253,6 +255,7 @@ static PREMISES: [Row; 6] = [
     },
     Row {
         name: "a left operand that is unknown",
+        rule: InstrRule::S6,
         code: Code::Both(Op::Difference, Operand::Var(X), Operand::Var(Y)),
         vars: &[None, Some(N4), Some(N1), Some(N2)],
         edges: &[],
@@ -262,6 +265,7 @@ static PREMISES: [Row; 6] = [
     },
     Row {
         name: "both unknown",
+        rule: InstrRule::S6,
         code: Code::Both(Op::Difference, Operand::Var(X), Operand::Var(Y)),
         vars: &[None, None, None, None],
         edges: &[],
@@ -271,6 +275,7 @@ static PREMISES: [Row; 6] = [
     },
     Row {
         name: "a left operand that is unknown, and a constant",
+        rule: InstrRule::S6,
         code: Code::Both(Op::Difference, Operand::Var(X), Operand::Const(5)),
         vars: &[None, None, None, None],
         edges: &[],
@@ -280,6 +285,7 @@ static PREMISES: [Row; 6] = [
     },
     Row {
         name: "a right operand that is unknown",
+        rule: InstrRule::S6,
         code: Code::Both(Op::Difference, Operand::Var(X), Operand::Var(Y)),
         vars: &[Some(N3), None, Some(N1), Some(N2)],
         edges: &[],
@@ -289,6 +295,7 @@ static PREMISES: [Row; 6] = [
     },
     Row {
         name: "a constant, and a right operand that is unknown",
+        rule: InstrRule::S6,
         code: Code::Both(Op::Difference, Operand::Const(5), Operand::Var(Y)),
         vars: &[None, None, None, None],
         edges: &[],

@@ -8,17 +8,19 @@ mod comparisons;
 #[cfg(test)]
 mod differences;
 #[cfg(test)]
-mod dispatch;
-#[cfg(test)]
 mod moves;
 #[cfg(test)]
 mod order;
+#[cfg(test)]
+mod others;
 #[cfg(test)]
 mod products;
 #[cfg(test)]
 mod program;
 #[cfg(test)]
 mod rows;
+#[cfg(test)]
+mod shapes;
 #[cfg(test)]
 mod states;
 #[cfg(test)]

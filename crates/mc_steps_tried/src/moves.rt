@@ -4,11 +4,13 @@ use crate::rows::{Row, Wanted, first_wrong};
 use crate::states::{N1, N2, N3, N4, Plain};
 use mc_base::Atom;
 use mc_flow::Operand;
+use mc_instructions::InstrRule;
 use std::test::Fail;
 
 static SKIPS: [Row; 4] = [
     Row {
         name: "a Skip",
+        rule: InstrRule::S1,
         code: Code::Skip,
         vars: &[Some(N3), Some(N4), Some(N1), Some(N2)],
         edges: &[],
@@ -18,6 +20,7 @@ static SKIPS: [Row; 4] = [
     },
     Row {
         name: "a Skip keeps edges and atoms",
+        rule: InstrRule::S1,
         code: Code::Skip,
         vars: &[Some(N3), Some(N4), Some(N1), Some(N2)],
         edges: &[Plain::Node(1, Some(N3), None), Plain::List(2)],
@@ -29,6 +32,7 @@ static SKIPS: [Row; 4] = [
     },
     Row {
         name: "a Skip of a false state",
+        rule: InstrRule::S1,
         code: Code::Skip,
         vars: &[Some(N3), Some(N4), Some(N1), Some(N2)],
         edges: &[],
@@ -38,6 +42,7 @@ static SKIPS: [Row; 4] = [
     },
     Row {
         name: "a Skip where blocks share a start",
+        rule: InstrRule::S1,
         code: Code::Skip,
         vars: &[Some(N3), Some(N4), Some(N1), Some(N2)],
         edges: &[Plain::Node(1, None, None), Plain::Pair(1)],
@@ -50,6 +55,7 @@ static SKIPS: [Row; 4] = [
 static COPIES: [Row; 13] = [
     Row {
         name: "a Copy of a variable",
+        rule: InstrRule::S2,
         code: Code::Copy(X, Operand::Var(Y)),
         vars: &[Some(N3), Some(N4), Some(N1), Some(N2)],
         edges: &[],
@@ -59,6 +65,7 @@ static COPIES: [Row; 13] = [
     },
     Row {
         name: "a Copy of a pointer",
+        rule: InstrRule::S2,
         code: Code::Copy(P, Operand::Var(Q)),
         vars: &[Some(N3), Some(N4), Some(N1), Some(N2)],
         edges: &[],
@@ -68,6 +75,7 @@ static COPIES: [Row; 13] = [
     },
     Row {
         name: "a Copy of a variable to itself",
+        rule: InstrRule::S2,
         code: Code::Copy(X, Operand::Var(X)),
         vars: &[Some(N3), Some(N4), Some(N1), Some(N2)],
         edges: &[],
@@ -77,6 +85,7 @@ static COPIES: [Row; 13] = [
     },
     Row {
         name: "a Copy to an unknown variable",
+        rule: InstrRule::S2,
         code: Code::Copy(X, Operand::Var(Y)),
         vars: &[None, Some(N4), None, None],
         edges: &[],
@@ -86,6 +95,7 @@ static COPIES: [Row; 13] = [
     },
     Row {
         name: "a Copy of null",
+        rule: InstrRule::S2,
         code: Code::Copy(P, Operand::Const(0)),
         vars: &[Some(N3), Some(N4), Some(N1), Some(N2)],
         edges: &[],
@@ -95,6 +105,7 @@ static COPIES: [Row; 13] = [
     },
     Row {
         name: "a Copy of zero",
+        rule: InstrRule::S2,
         code: Code::Copy(X, Operand::Const(0)),
         vars: &[Some(N3), Some(N4), Some(N1), Some(N2)],
         edges: &[],
@@ -104,6 +115,7 @@ static COPIES: [Row; 13] = [
     },
     Row {
         name: "a Copy of a number",
+        rule: InstrRule::S2,
         code: Code::Copy(X, Operand::Const(7)),
         vars: &[Some(N3), Some(N4), Some(N1), Some(N2)],
         edges: &[],
@@ -113,6 +125,7 @@ static COPIES: [Row; 13] = [
     },
     Row {
         name: "a Copy of the least number",
+        rule: InstrRule::S2,
         code: Code::Copy(Y, Operand::Const(-2147483648)),
         vars: &[None, None, None, None],
         edges: &[],
@@ -122,6 +135,7 @@ static COPIES: [Row; 13] = [
     },
     Row {
         name: "a Copy of the greatest number",
+        rule: InstrRule::S2,
         code: Code::Copy(Y, Operand::Const(2147483647)),
         vars: &[None, None, None, None],
         edges: &[],
@@ -131,6 +145,7 @@ static COPIES: [Row; 13] = [
     },
     Row {
         name: "a Copy of a variable that is unknown",
+        rule: InstrRule::S2,
         code: Code::Copy(X, Operand::Var(Y)),
         vars: &[Some(N3), None, Some(N1), Some(N2)],
         edges: &[],
@@ -140,6 +155,7 @@ static COPIES: [Row; 13] = [
     },
     Row {
         name: "a Copy of a variable to itself, unknown",
+        rule: InstrRule::S2,
         code: Code::Copy(X, Operand::Var(X)),
         vars: &[None, None, None, None],
         edges: &[],
@@ -149,6 +165,7 @@ static COPIES: [Row; 13] = [
     },
     Row {
         name: "a Copy of a number at a false state",
+        rule: InstrRule::S2,
         code: Code::Copy(X, Operand::Const(7)),
         vars: &[Some(N3), Some(N4), Some(N1), Some(N2)],
         edges: &[],
@@ -158,6 +175,7 @@ static COPIES: [Row; 13] = [
     },
     Row {
         name: "an unknown Copy at a false state",
+        rule: InstrRule::S2,
         code: Code::Copy(X, Operand::Var(Y)),
         vars: &[Some(N3), None, Some(N1), Some(N2)],
         edges: &[],
@@ -170,6 +188,7 @@ static COPIES: [Row; 13] = [
 static UNDEFS: [Row; 5] = [
     Row {
         name: "an Undef of two",
+        rule: InstrRule::S3,
         code: Code::Undef(&[P, X]),
         vars: &[Some(N3), Some(N4), Some(N1), Some(N2)],
         edges: &[],
@@ -179,6 +198,7 @@ static UNDEFS: [Row; 5] = [
     },
     Row {
         name: "an Undef of none",
+        rule: InstrRule::S3,
         code: Code::Undef(&[]),
         vars: &[Some(N3), Some(N4), Some(N1), Some(N2)],
         edges: &[],
@@ -188,6 +208,7 @@ static UNDEFS: [Row; 5] = [
     },
     Row {
         name: "an Undef of what is unknown",
+        rule: InstrRule::S3,
         code: Code::Undef(&[Y]),
         vars: &[None, None, None, None],
         edges: &[],
@@ -197,6 +218,7 @@ static UNDEFS: [Row; 5] = [
     },
     Row {
         name: "an Undef keeps edges and atoms",
+        rule: InstrRule::S3,
         code: Code::Undef(&[X, Y, P, Q]),
         vars: &[Some(N3), Some(N4), Some(N1), Some(N2)],
         edges: &[Plain::Node(1, Some(N3), None), Plain::List(2)],
@@ -208,6 +230,7 @@ static UNDEFS: [Row; 5] = [
     },
     Row {
         name: "an Undef at a false state",
+        rule: InstrRule::S3,
         code: Code::Undef(&[X]),
         vars: &[Some(N3), Some(N4), Some(N1), Some(N2)],
         edges: &[],
@@ -220,6 +243,7 @@ static UNDEFS: [Row; 5] = [
 static INPUTS: [Row; 3] = [
     Row {
         name: "an Input",
+        rule: InstrRule::S4,
         code: Code::Input(X),
         vars: &[Some(N3), Some(N4), Some(N1), Some(N2)],
         edges: &[],
@@ -229,6 +253,7 @@ static INPUTS: [Row; 3] = [
     },
     Row {
         name: "an Input to an unknown variable",
+        rule: InstrRule::S4,
         code: Code::Input(Y),
         vars: &[None, None, None, None],
         edges: &[],
@@ -238,6 +263,7 @@ static INPUTS: [Row; 3] = [
     },
     Row {
         name: "an Input at a false state",
+        rule: InstrRule::S4,
         code: Code::Input(X),
         vars: &[Some(N3), Some(N4), Some(N1), Some(N2)],
         edges: &[],
@@ -250,6 +276,7 @@ static INPUTS: [Row; 3] = [
 static ENDS: [Row; 10] = [
     Row {
         name: "an End",
+        rule: InstrRule::S17,
         code: Code::End,
         vars: &[Some(N3), Some(N4), Some(N1), Some(N2)],
         edges: &[],
@@ -259,6 +286,7 @@ static ENDS: [Row; 10] = [
     },
     Row {
         name: "an End where something is allocated",
+        rule: InstrRule::S17,
         code: Code::End,
         vars: &[None, None, None, None],
         edges: &[Plain::Node(1, None, None)],
@@ -268,6 +296,7 @@ static ENDS: [Row; 10] = [
     },
     Row {
         name: "an End at a false state",
+        rule: InstrRule::S17,
         code: Code::End,
         vars: &[Some(N3), Some(N4), Some(N1), Some(N2)],
         edges: &[],
@@ -277,6 +306,7 @@ static ENDS: [Row; 10] = [
     },
     Row {
         name: "an AssertEmpty",
+        rule: InstrRule::S18,
         code: Code::AssertEmpty,
         vars: &[Some(N3), Some(N4), Some(N1), Some(N2)],
         edges: &[],
@@ -286,6 +316,7 @@ static ENDS: [Row; 10] = [
     },
     Row {
         name: "an AssertEmpty beside other memory",
+        rule: InstrRule::S18,
         code: Code::AssertEmpty,
         vars: &[Some(N3), Some(N4), Some(N1), Some(N2)],
         edges: &[],
@@ -295,6 +326,7 @@ static ENDS: [Row; 10] = [
     },
     Row {
         name: "an AssertEmpty beside a block and other memory",
+        rule: InstrRule::S18,
         code: Code::AssertEmpty,
         vars: &[Some(N3), Some(N4), Some(N1), Some(N2)],
         edges: &[Plain::Node(1, None, None)],
@@ -304,6 +336,7 @@ static ENDS: [Row; 10] = [
     },
     Row {
         name: "an AssertEmpty beside a block",
+        rule: InstrRule::S18,
         code: Code::AssertEmpty,
         vars: &[Some(N3), Some(N4), Some(N1), Some(N2)],
         edges: &[Plain::Node(1, None, None)],
@@ -313,6 +346,7 @@ static ENDS: [Row; 10] = [
     },
     Row {
         name: "an AssertEmpty beside a list",
+        rule: InstrRule::S18,
         code: Code::AssertEmpty,
         vars: &[Some(N3), Some(N4), Some(N1), Some(N2)],
         edges: &[Plain::List(1)],
@@ -322,6 +356,7 @@ static ENDS: [Row; 10] = [
     },
     Row {
         name: "an AssertEmpty beside an empty segment",
+        rule: InstrRule::S18,
         code: Code::AssertEmpty,
         vars: &[Some(N3), Some(N4), Some(N1), Some(N2)],
         edges: &[Plain::Seg(1, 1)],
@@ -331,6 +366,7 @@ static ENDS: [Row; 10] = [
     },
     Row {
         name: "an AssertEmpty at a false state",
+        rule: InstrRule::S18,
         code: Code::AssertEmpty,
         vars: &[Some(N3), Some(N4), Some(N1), Some(N2)],
         edges: &[Plain::List(1)],

@@ -4,6 +4,7 @@ use crate::rows::{Case, Row, Wanted, first_wrong, first_wrong_case};
 use crate::states::{N1, N2, N3, N4};
 use mc_base::Atom;
 use mc_flow::Operand;
+use mc_instructions::InstrRule;
 use std::test::Fail;
 
 static VARIABLES: [Case; 17] = [
@@ -287,6 +288,7 @@ static CONSTANTS: [Case; 11] = [
 static PREMISES: [Row; 6] = [
     Row {
         name: "an order at a false state",
+        rule: InstrRule::S14,
         code: Code::Both(Op::AtMost, Operand::Var(X), Operand::Var(Y)),
         vars: &[None, None, None, None],
         edges: &[],
@@ -296,6 +298,7 @@ static PREMISES: [Row; 6] = [
     },
     Row {
         name: "a left operand that is unknown",
+        rule: InstrRule::S14,
         code: Code::Both(Op::AtMost, Operand::Var(X), Operand::Var(Y)),
         vars: &[None, Some(N4), Some(N1), Some(N2)],
         edges: &[],
@@ -305,6 +308,7 @@ static PREMISES: [Row; 6] = [
     },
     Row {
         name: "both unknown",
+        rule: InstrRule::S14,
         code: Code::Both(Op::AtMost, Operand::Var(X), Operand::Var(Y)),
         vars: &[None, None, None, None],
         edges: &[],
@@ -314,6 +318,7 @@ static PREMISES: [Row; 6] = [
     },
     Row {
         name: "a left operand that is unknown, and a constant",
+        rule: InstrRule::S14,
         code: Code::Both(Op::AtMost, Operand::Var(X), Operand::Const(5)),
         vars: &[None, None, None, None],
         edges: &[],
@@ -323,6 +328,7 @@ static PREMISES: [Row; 6] = [
     },
     Row {
         name: "a right operand that is unknown",
+        rule: InstrRule::S14,
         code: Code::Both(Op::AtMost, Operand::Var(X), Operand::Var(Y)),
         vars: &[Some(N3), None, Some(N1), Some(N2)],
         edges: &[],
@@ -332,6 +338,7 @@ static PREMISES: [Row; 6] = [
     },
     Row {
         name: "a constant, and a right operand that is unknown",
+        rule: InstrRule::S14,
         code: Code::Both(Op::AtMost, Operand::Const(5), Operand::Var(Y)),
         vars: &[None, None, None, None],
         edges: &[],

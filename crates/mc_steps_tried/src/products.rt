@@ -4,6 +4,7 @@ use crate::rows::{Case, Row, Wanted, first_wrong, first_wrong_case};
 use crate::states::{N1, N2, N3, N4};
 use mc_base::Atom;
 use mc_flow::Operand;
+use mc_instructions::InstrRule;
 use std::test::Fail;
 
 static CONSTANTS: [Case; 11] = [
@@ -246,6 +247,7 @@ static RANGES: [Case; 14] = [
 static PREMISES: [Row; 6] = [
     Row {
         name: "a product at a false state",
+        rule: InstrRule::S7,
         code: Code::Both(Op::Product, Operand::Var(X), Operand::Var(Y)),
         vars: &[None, None, None, None],
         edges: &[],
@@ -255,6 +257,7 @@ static PREMISES: [Row; 6] = [
     },
     Row {
         name: "a left operand that is unknown",
+        rule: InstrRule::S7,
         code: Code::Both(Op::Product, Operand::Var(X), Operand::Var(Y)),
         vars: &[None, Some(N4), Some(N1), Some(N2)],
         edges: &[],
@@ -264,6 +267,7 @@ static PREMISES: [Row; 6] = [
     },
     Row {
         name: "both unknown",
+        rule: InstrRule::S7,
         code: Code::Both(Op::Product, Operand::Var(X), Operand::Var(Y)),
         vars: &[None, None, None, None],
         edges: &[],
@@ -273,6 +277,7 @@ static PREMISES: [Row; 6] = [
     },
     Row {
         name: "a left operand that is unknown, and a constant",
+        rule: InstrRule::S7,
         code: Code::Both(Op::Product, Operand::Var(X), Operand::Const(5)),
         vars: &[None, None, None, None],
         edges: &[],
@@ -282,6 +287,7 @@ static PREMISES: [Row; 6] = [
     },
     Row {
         name: "a right operand that is unknown",
+        rule: InstrRule::S7,
         code: Code::Both(Op::Product, Operand::Var(X), Operand::Var(Y)),
         vars: &[Some(N3), None, Some(N1), Some(N2)],
         edges: &[],
@@ -291,6 +297,7 @@ static PREMISES: [Row; 6] = [
     },
     Row {
         name: "a constant, and a right operand that is unknown",
+        rule: InstrRule::S7,
         code: Code::Both(Op::Product, Operand::Const(5), Operand::Var(Y)),
         vars: &[None, None, None, None],
         edges: &[],

@@ -1,7 +1,9 @@
-// The program: two numbers `x` and `y`, two pointers `p` and `q`, the structs `node` and `pair`, and the predicate `list`.
+// The program: two numbers `x` and `y`, two pointers `p` and `q`, the structs `node` and `pair`, and the predicates `list`
+// and `sorted`.
 use mc_base::{Items, Kind, NoMemory, PointId, PredId, StructId, VarId, VarInfo};
 use mc_defs::{Def, Defs, FieldInfo, Rule, StructInfo, Structs};
 use mc_flow::{Flow, Instr, Operand, Point};
+use mc_instructions::InstrRule;
 use mc_text::Place;
 use std::alloc::Global;
 
@@ -19,7 +21,11 @@ pub const NODE: StructId = StructId(0);
 /// `pair { ptr l; ptr r; }`
 pub const PAIR: StructId = StructId(1);
 
+/// `list(this)`
 pub const LIST: PredId = PredId(0);
+
+/// `sorted(this, int from, int to)`
+pub const SORTED: PredId = PredId(1);
 
 /// Bytes as a name.
 fn name(alloc: Global, bytes: &[u8]) -> Result<Items<u8>, NoMemory> {
@@ -63,23 +69,29 @@ fn structs(alloc: Global) -> Result<Structs, NoMemory> {
     })
 }
 
-/// A rule of a pointer alone, which says nothing.
-fn rule(alloc: Global) -> Result<Rule, NoMemory> {
+/// A rule of `this` and the parameters, which says nothing.
+fn rule(alloc: Global, names: &[Kind]) -> Result<Rule, NoMemory> {
     Ok(Rule {
         block: None,
         contents: Items::new(alloc),
-        names: Items::of(vec![in alloc; Kind::Ptr]?),
+        names: Items::of(Vec::from_slice(alloc, names)?),
         calls: Items::new(alloc),
         atoms: Items::new(alloc),
     })
 }
 
-fn list(alloc: Global) -> Result<Def, NoMemory> {
+/// A predicate of such a rule.
+fn predicate(
+    alloc: Global,
+    bytes: &[u8],
+    params: &[Kind],
+    names: &[Kind],
+) -> Result<Def, NoMemory> {
     let mut rules = Vec::new(alloc);
-    rules.push(rule(alloc)?)?;
+    rules.push(rule(alloc, names)?)?;
     Ok(Def {
-        name: name(alloc, b"list")?,
-        params: Items::new(alloc),
+        name: name(alloc, bytes)?,
+        params: Items::of(Vec::from_slice(alloc, params)?),
         rules: Items::of(rules),
     })
 }
@@ -87,7 +99,9 @@ fn list(alloc: Global) -> Result<Def, NoMemory> {
 /// The definitions. None where they fit no structs.
 pub fn definitions(alloc: Global) -> Result<Option<Defs>, NoMemory> {
     let mut defs = Vec::new(alloc);
-    defs.push(list(alloc)?)?;
+    let sorted = [Kind::Ptr, Kind::Int, Kind::Int];
+    defs.push(predicate(alloc, b"list", &[], &[Kind::Ptr])?)?;
+    defs.push(predicate(alloc, b"sorted", &[Kind::Int, Kind::Int], &sorted)?)?;
     Ok(Defs::of(Items::of(defs)))
 }
 
@@ -117,6 +131,19 @@ pub enum Op {
     AtMost,
 }
 
+impl Op {
+    /// The rule of the instruction that does it.
+    pub fn rule(self) -> InstrRule {
+        match self {
+            Op::Sum => InstrRule::S5,
+            Op::Difference => InstrRule::S6,
+            Op::Product => InstrRule::S7,
+            Op::Equal => InstrRule::S13,
+            Op::AtMost => InstrRule::S14,
+        }
+    }
+}
+
 /// An instruction at point 0, which goes on to point 1, and from a test also to point 2.
 #[derive(Clone, Copy)]
 pub enum Code {
@@ -128,19 +155,12 @@ pub enum Code {
     Load(VarId, VarId, StructId, u64),
     Store(VarId, StructId, u64, Operand),
     Malloc(VarId, StructId),
-    /// A Free, of which the rule of null is asked.
-    FreeNull(Operand),
-    /// A Free, of which the rule of a block is asked.
-    FreeBlock(Operand),
+    Free(Operand),
+    Assume(PredId, VarId, &'static [Operand]),
+    Assert(PredId, Operand, &'static [Operand]),
     AssertEmpty,
     End,
-}
-
-impl Code {
-    /// Whether it is a Free of which the rule of null is asked.
-    pub fn is_of_null(&self) -> bool {
-        matches!(self, Code::FreeNull(_))
-    }
+    Fail,
 }
 
 const NEXT: PointId = PointId(1);
@@ -161,6 +181,21 @@ fn undef(alloc: Global, xs: &[VarId]) -> Result<Instr, NoMemory> {
     Ok(Instr::Undef(Items::of(Vec::from_slice(alloc, xs)?), NEXT))
 }
 
+fn assume(alloc: Global, pred: PredId, x: VarId, args: &[Operand]) -> Result<Instr, NoMemory> {
+    let args = Items::of(Vec::from_slice(alloc, args)?);
+    Ok(Instr::AssumeShape(pred, x, args, NEXT))
+}
+
+fn assert_shape(
+    alloc: Global,
+    pred: PredId,
+    at: Operand,
+    args: &[Operand],
+) -> Result<Instr, NoMemory> {
+    let args = Items::of(Vec::from_slice(alloc, args)?);
+    Ok(Instr::AssertShape(pred, at, args, NEXT))
+}
+
 fn instr(alloc: Global, code: &Code) -> Result<Instr, NoMemory> {
     match code {
         Code::Skip => Ok(Instr::Skip(NEXT)),
@@ -171,10 +206,12 @@ fn instr(alloc: Global, code: &Code) -> Result<Instr, NoMemory> {
         Code::Load(x, y, shape, f) => Ok(Instr::Load(*x, *y, *shape, *f, NEXT)),
         Code::Store(y, shape, f, from) => Ok(Instr::Store(*y, *shape, *f, *from, NEXT)),
         Code::Malloc(x, shape) => Ok(Instr::Malloc(*x, *shape, NEXT)),
-        Code::FreeNull(from) => Ok(Instr::Free(*from, NEXT)),
-        Code::FreeBlock(from) => Ok(Instr::Free(*from, NEXT)),
+        Code::Free(from) => Ok(Instr::Free(*from, NEXT)),
+        Code::Assume(pred, x, args) => assume(alloc, *pred, *x, *args),
+        Code::Assert(pred, at, args) => assert_shape(alloc, *pred, *at, *args),
         Code::AssertEmpty => Ok(Instr::AssertEmpty(NEXT)),
         Code::End => Ok(Instr::End),
+        Code::Fail => Ok(Instr::Fail),
     }
 }
 

@@ -1,12 +1,14 @@
 // Instructions at states, and what comes of them.
-use crate::dispatch::step;
 use crate::program::{Code, Op, definitions, flow};
 use crate::states::{N3, N4, Plain, Written, state};
-use mc_base::{Atom, NoMemory, NodeId, PointId};
+use mc_base::{Atom, NoMemory, NodeId, PointId, PredId};
 use mc_defs::Defs;
 use mc_flow::{Flow, Operand, valid};
+use mc_instructions::{InstrRule, step};
+use mc_state::Goal;
 use mc_state_text::print;
 use mc_stepping::{Next, Refused, Stepped};
+use mc_symbolic::State;
 use std::alloc::Global;
 
 /// What comes of an instruction.
@@ -19,12 +21,15 @@ pub enum Wanted {
     Moves(&'static [u8]),
     /// Two branches: one at point 1, and one at the point that is named.
     Splits(&'static [u8], u64, &'static [u8]),
+    /// A side branch that has to show a predicate at a node with arguments, and one that goes on at point 1.
+    Asserts((PredId, NodeId, &'static [NodeId]), &'static [u8], &'static [u8]),
 }
 
-/// An instruction at a state: the nodes of `x`, `y`, `p` and `q`, edges, atoms, and whether the edges are all that is
+/// A rule at an instruction at a state: the nodes of `x`, `y`, `p` and `q`, edges, atoms, and whether the edges are all that is
 /// allocated.
 pub struct Row {
     pub name: &'static str,
+    pub rule: InstrRule,
     pub code: Code,
     pub vars: &'static [Option<NodeId>],
     pub edges: &'static [Plain],
@@ -44,6 +49,20 @@ pub struct Case {
 /// The nodes of the variables of a case.
 static NUMBERS: [Option<NodeId>; 4] = [Some(N3), Some(N4), None, None];
 
+/// Whether a state has this text.
+fn is_shown(
+    alloc: Global,
+    flow: &Flow,
+    defs: &Defs,
+    state: &State,
+    text: &[u8],
+) -> Result<bool, NoMemory> {
+    let vars = flow.vars.as_slice();
+    let structs = flow.structs.list.as_slice();
+    let shown = print(alloc, state, vars, defs.as_slice(), structs)?;
+    Ok(shown.as_slice() == text)
+}
+
 /// Whether a branch goes on at a point with the state of a text, and has nothing to show.
 fn is_next(
     alloc: Global,
@@ -56,10 +75,30 @@ fn is_next(
     if next.point != PointId(point) || next.goal.is_some() {
         return Ok(false);
     }
-    let vars = flow.vars.as_slice();
-    let structs = flow.structs.list.as_slice();
-    let shown = print(alloc, &next.state, vars, defs.as_slice(), structs)?;
-    Ok(shown.as_slice() == text)
+    is_shown(alloc, flow, defs, &next.state, text)
+}
+
+/// Whether a side branch has to show this.
+fn is_goal(goal: &Option<Goal>, pred: PredId, at: NodeId, args: &[NodeId]) -> bool {
+    match goal {
+        Some(goal) => goal.pred == pred && goal.at == at && goal.args.as_slice() == args,
+        None => false,
+    }
+}
+
+/// Whether a branch stays at point 0 with the state of a text, and has to show a predicate.
+fn is_side(
+    alloc: Global,
+    flow: &Flow,
+    defs: &Defs,
+    next: &Next,
+    goal: &(PredId, NodeId, &'static [NodeId]),
+    text: &[u8],
+) -> Result<bool, NoMemory> {
+    if next.point != PointId(0) || !is_goal(&next.goal, goal.0, goal.1, goal.2) {
+        return Ok(false);
+    }
+    is_shown(alloc, flow, defs, &next.state, text)
 }
 
 /// Whether two branches go on as they have to.
@@ -75,6 +114,11 @@ fn are_next(
         Wanted::Splits(one, point, other) => {
             let first_is = is_next(alloc, flow, defs, first, 1, *one)?;
             let second_is = is_next(alloc, flow, defs, second, *point, *other)?;
+            Ok(first_is && second_is)
+        }
+        Wanted::Asserts(goal, one, other) => {
+            let first_is = is_side(alloc, flow, defs, first, goal, *one)?;
+            let second_is = is_next(alloc, flow, defs, second, 1, *other)?;
             Ok(first_is && second_is)
         }
         _ => Ok(false),
@@ -107,10 +151,11 @@ fn is_premise(number: u8, want: &Wanted) -> bool {
     }
 }
 
-/// Whether an instruction gives at a state what is wanted. No program here is not valid, and no state is not well formed.
+/// Whether a rule gives at an instruction at a state what is wanted. No program here is not valid, and no state is not well formed.
 fn is_right(
     alloc: Global,
     defs: &Defs,
+    rule: InstrRule,
     code: &Code,
     written: &Written,
     want: &Wanted,
@@ -122,7 +167,7 @@ fn is_right(
     let Some(state) = state(alloc, &flow, defs, written)? else {
         return Ok(false);
     };
-    match step(alloc, &flow, defs, code.is_of_null(), state) {
+    match step(alloc, &flow, defs, rule, PointId(0), state) {
         Ok(answer) => is_wanted(alloc, &flow, defs, &answer, want),
         Err(Refused::Premise(number, _)) => Ok(is_premise(number, want)),
         Err(Refused::NoMemory) => Ok(false),
@@ -137,7 +182,7 @@ fn is_row_right(alloc: Global, defs: &Defs, row: &Row) -> Result<bool, NoMemory>
         atoms: row.atoms,
         whole: row.whole,
     };
-    is_right(alloc, defs, &row.code, &written, &row.want)
+    is_right(alloc, defs, row.rule, &row.code, &written, &row.want)
 }
 
 /// Whether what is wanted comes of a case.
@@ -149,7 +194,7 @@ fn is_case_right(alloc: Global, defs: &Defs, op: Op, case: &Case) -> Result<bool
         whole: true,
     };
     let code = Code::Both(op, case.of.0, case.of.1);
-    is_right(alloc, defs, &code, &written, &case.want)
+    is_right(alloc, defs, op.rule(), &code, &written, &case.want)
 }
 
 /// The first row that is wrong.
@@ -194,5 +239,21 @@ pub fn first_wrong_case(
     match definitions(alloc)? {
         None => Ok(Some("the definitions")),
         Some(defs) => wrong_case(alloc, &defs, op, cases),
+    }
+}
+
+/// The state in which a rule is tried that is not the instruction's: it is false, and nothing is known.
+static NOTHING: Written = Written {
+    vars: &[None, None, None, None],
+    edges: &[],
+    atoms: &[Atom::In(N3, 5, 4)],
+    whole: false,
+};
+
+/// Whether a rule is not that of an instruction.
+pub fn is_refused(alloc: Global, rule: InstrRule, code: &Code) -> Result<bool, NoMemory> {
+    match definitions(alloc)? {
+        None => Ok(false),
+        Some(defs) => is_right(alloc, &defs, rule, code, &NOTHING, &Wanted::Premise(1)),
     }
 }

@@ -4,6 +4,7 @@ use crate::rows::{Case, Row, Wanted, first_wrong, first_wrong_case};
 use crate::states::{N1, N2, N3, N4};
 use mc_base::Atom;
 use mc_flow::Operand;
+use mc_instructions::InstrRule;
 use std::test::Fail;
 
 static CONSTANTS: [Case; 10] = [
@@ -281,6 +282,7 @@ static RANGES: [Case; 14] = [
 static PREMISES: [Row; 6] = [
     Row {
         name: "a sum at a false state",
+        rule: InstrRule::S5,
         code: Code::Both(Op::Sum, Operand::Var(X), Operand::Var(Y)),
         vars: &[None, None, None, None],
         edges: &[],
@@ -290,6 +292,7 @@ static PREMISES: [Row; 6] = [
     },
     Row {
         name: "a left operand that is unknown",
+        rule: InstrRule::S5,
         code: Code::Both(Op::Sum, Operand::Var(X), Operand::Var(Y)),
         vars: &[None, Some(N4), Some(N1), Some(N2)],
         edges: &[],
@@ -299,6 +302,7 @@ static PREMISES: [Row; 6] = [
     },
     Row {
         name: "both unknown",
+        rule: InstrRule::S5,
         code: Code::Both(Op::Sum, Operand::Var(X), Operand::Var(Y)),
         vars: &[None, None, None, None],
         edges: &[],
@@ -308,6 +312,7 @@ static PREMISES: [Row; 6] = [
     },
     Row {
         name: "a left operand that is unknown, and a constant",
+        rule: InstrRule::S5,
         code: Code::Both(Op::Sum, Operand::Var(X), Operand::Const(5)),
         vars: &[None, None, None, None],
         edges: &[],
@@ -317,6 +322,7 @@ static PREMISES: [Row; 6] = [
     },
     Row {
         name: "a right operand that is unknown",
+        rule: InstrRule::S5,
         code: Code::Both(Op::Sum, Operand::Var(X), Operand::Var(Y)),
         vars: &[Some(N3), None, Some(N1), Some(N2)],
         edges: &[],
@@ -326,6 +332,7 @@ static PREMISES: [Row; 6] = [
     },
     Row {
         name: "a constant, and a right operand that is unknown",
+        rule: InstrRule::S5,
         code: Code::Both(Op::Sum, Operand::Const(5), Operand::Var(Y)),
         vars: &[None, None, None, None],
         edges: &[],
