@@ -1,0 +1,17 @@
+//! Covers of small states, worked out by hand.
+#![tactic(auto)]
+
+#[cfg(test)]
+mod cases;
+#[cfg(test)]
+mod long;
+#[cfg(test)]
+mod predicates;
+#[cfg(test)]
+mod segments;
+#[cfg(test)]
+mod states;
+#[cfg(test)]
+mod tables;
+#[cfg(test)]
+mod whole;
