@@ -1,3 +1,5 @@
 pub mod Read
-pub mod First
+pub mod Advanced
 pub mod Stages
+pub mod Last
+pub mod Roots

@@ -1,7 +1,9 @@
 // The branches that a reading begins with.
-ghost use Rattle.std.specs.Prelude.{◌≡◌, IfOk, map};
+ghost use Rattle.std.specs.Prelude.{◌≡◌, IfOk, List, map};
+ghost use Rattle.mc_defs.specs.declared.rules.Def.{Def};
 ghost use Rattle.mc_judging.specs.Judging.{head_of, path};
 ghost use Rattle.mc_kernel.specs.Branches.{begins, entry_path, roots};
+ghost use Rattle.mc_proof.specs.Stacks.{AreMade, HeadsAreMade};
 
 use crate::stack::Stack;
 use mc_base::{NoMemory, PointId};
@@ -44,10 +46,13 @@ fn listed(alloc: Global, flow: &Flow, heads: &[Head]) -> Result<Vec<Branch>, NoM
     Ok(list)
 }
 
-/// The branches that a reading begins with.
+/// The branches that a reading begins with. Their states are well made where those of heads are.
 pub fn roots(alloc: Global, flow: &Flow, heads: &[Head]) -> Result<Stack, NoMemory>
-    ensures { IfOk result (λ stack. stack ≡ roots flow.now (map head_of heads.now)) }
+    ensures are { IfOk result (λ stack. stack ≡ roots flow.now (map head_of heads.now)) }
+    ensures made { IfOk result (λ stack. (defs : List Def) → HeadsAreMade flow.now defs (map head_of heads.now) → AreMade flow.now defs stack) }
 {
+    // For the proof alone: the state of the entry is well made.
+    mc_state::numbers_stay_bounded();
     let list = listed(alloc, flow, heads)?;
     Ok(Stack::of(list))
 }

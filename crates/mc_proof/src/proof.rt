@@ -164,7 +164,8 @@ impl<'f> Proof<'f> {
         if !self.may_pass() {
             return Err(ApplyFault::Premise(1));
         }
-        if !is_cutting(self.stage) {
+        let is_first = is_cutting(self.stage);
+        if !is_first {
             return Err(ApplyFault::Premise(3));
         }
         self.branches = roots(self.alloc, self.flow, &[])?;
