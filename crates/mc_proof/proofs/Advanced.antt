@@ -34,9 +34,10 @@ module _ (flow : Flow) (defs : List Def) (g : Setting) (l : Line) (old new rest 
       → ((k : Knowledge) → IsAsked k flow defs b → (judged_line k flow defs g l b ≡ Err premise) × (same ≡ b)) → new ≡ same ∷ rest
       → (k : Knowledge) → AnswersAll k flow defs → (advanced k flow defs g l old ≡ Err premise) × (new ≡ old)
   comes_refused premise same told e k all =
-      let is = told k (all b both_made.0) in
-      (ap (advanced k flow defs g l) popped ∙ ap (then_give (λ (n : List Path). n ++ rest)) is.0,
-      e ∙ ap (λ (p : Path). p ∷ rest) is.1 ∙ sym popped)
+      let is = told k (all b both_made.0) in (
+        ap (advanced k flow defs g l) popped ∙ ap (then_give (λ (n : List Path). n ++ rest)) is.0,
+        e ∙ ap (λ (p : Path). p ∷ rest) is.1 ∙ sym popped,
+      )
 
   module _ (judged : LinesAreJudged) (makes : LinesMakeWellMade) (there : JudgesAreThere) (valid : IsValid flow defs) where
     -- what comes of it is made

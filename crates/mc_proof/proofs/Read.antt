@@ -1,7 +1,8 @@
 -- A document is read where it stands.
 use Rattle.std.proofs.Common.{◌≡◌, ◌+◌, ◌∙◌, ℕ, suc, List, [], ◌∷◌, ◌++◌, Bool, true, false, Option, Some, None, length, map, refl, ap, sym, subst, length-append}
 use Rattle.std.specs.Prelude.{◌&&◌, Result, Ok, Err, if◌then◌else◌}
-use Rattle.std.proofs.lemmas.List.{map-append}
+use Rattle.mc_state.specs.RawStates.{state_of}
+use Rattle.mc_state.specs.declared.line.Version.{Version}
 use Rattle.mc_base.specs.declared.ids.PointId.{PointId}
 use Rattle.mc_cert.specs.declared.line.Line.{Line}
 use Rattle.mc_cert.specs.declared.line.Line.TheVariants as line
@@ -61,10 +62,21 @@ module _ (flow : Flow) (defs : List Def) where
   stands_same (h ∷ []) p = refl
   stands_same (h ∷ i ∷ heads) p = stands_same (i ∷ heads) p
 
+  heads_push : (heads : List WrittenHead) (h : WrittenHead) → states_of heads ++ (h.0, state_of h.1) ∷ [] ≡ states_of (heads ++ h ∷ [])
+  heads_push [] h = refl
+  heads_push (i ∷ heads) h = ap (λ (hs : List Head). (i.0, state_of i.1) ∷ hs) (heads_push heads h)
+
+  abbrev head_made : (RawState → Bool) → PointId → RawState → Reading → Bool → Bool → List Head → Judged Position
+  head_made well p raw r may behind hs =
+      need 1 may (need 3 (is_cut r.cuts p && behind) (need 4 (well raw) (Ok (record (at r) { stage = heading; heads = hs }))))
+
   head_same : (well : RawState → Bool) (p : PointId) (raw : RawState) (r : Reading) → heading_at well p raw (at r) ≡ then_give at (reading_head well flow p raw r)
   head_same well p raw r =
-      rw (may_head_same r r.stage, stands_same r.heads p, sym (map-append _ r.heads ((p, raw) ∷ [])))
-      (three at 1 3 4 (may_head flow r r.stage) (is_cut r.cuts p && stands_after r.heads p) (well raw) (record r { stage = heading; heads = r.heads ++ (p, raw) ∷ [] }))
+      let hs : List Head = states_of r.heads ++ (p, state_of raw) ∷ [] in
+      ap (λ (b : Bool). head_made well p raw r b (stands_behind (states_of r.heads) p) hs) (may_head_same r r.stage)
+      ∙ ap (λ (b : Bool). head_made well p raw r (may_head flow r r.stage) b hs) (stands_same r.heads p)
+      ∙ ap (λ (hs : List Head). head_made well p raw r (may_head flow r r.stage) (stands_after r.heads p) hs) (heads_push r.heads (p, raw))
+      ∙ three at 1 3 4 (may_head flow r r.stage) (is_cut r.cuts p && stands_after r.heads p) (well raw) (record r { stage = heading; heads = r.heads ++ (p, raw) ∷ [] })
 
   -- ---- passes
 
@@ -129,9 +141,9 @@ module _ (flow : Flow) (defs : List Def) where
 
     branch_same : (t : Reading) (first : Option (Path × List Path))
         → then_give (λ branches. record (at t) { branches = branches; stuck = length t.stuck + marks l })
-            (have 1 first (λ b. then_give (λ next. next ++ b.1) (judged_line k flow defs (setting_of t) l b.0)))
+        (have 1 first (λ b. then_give (λ next. next ++ b.1) (judged_line k flow defs (setting_of t) l b.0)))
         ≡ then_give at (have 1 first (λ b. then_give (λ next. record t { branches = next ++ b.1; stuck = t.stuck ++ marked l b.0 })
-            (judged_line k flow defs (setting_of t) l b.0)))
+        (judged_line k flow defs (setting_of t) l b.0)))
     branch_same t None = refl
     branch_same t (Some b) = given_same t b (judged_line k flow defs (setting_of t) l b.0)
 
@@ -139,7 +151,7 @@ module _ (flow : Flow) (defs : List Def) where
     rule_same r =
         ready_same
         (λ t. have 1 (first_branch t.branches) (λ b. then_give (λ next. record t { branches = next ++ b.1; stuck = t.stuck ++ marked l b.0 })
-            (judged_line k flow defs (setting_of t) l b.0)))
+        (judged_line k flow defs (setting_of t) l b.0)))
         (ruling_at k l) (λ t. branch_same t (first_branch t.branches)) r r.stage
 
 -- ---- what is applied
@@ -157,7 +169,7 @@ reads_rule k well flow defs other r e = refl
 -- the line is read where the document stands, and that is what comes of it
 module _ (l : Line) (old new : Position) (judge : (k : Knowledge) × (well : RawState → Bool) × IsJudge k well old.flow old.defs) (read : Knowledge → (RawState → Bool) → Position → Judged Position)
     (same : (k : Knowledge) (well : RawState → Bool) (r : Reading)
-        → read k well (position_of old.flow old.defs r) ≡ then_give (position_of old.flow old.defs) (reading_line k well old.flow old.defs l r)) where
+    → read k well (position_of old.flow old.defs r) ≡ then_give (position_of old.flow old.defs) (reading_line k well old.flow old.defs l r)) where
   read_here : (k : Knowledge) (well : RawState → Bool) (r : Reading) → Stands k well r old
       → read k well old ≡ then_give (position_of old.flow old.defs) (reading_line k well old.flow old.defs l r)
   read_here k well r s =
@@ -169,9 +181,10 @@ module _ (l : Line) (old new : Position) (judge : (k : Knowledge) × (well : Raw
   applied (Ok done) told = λ k well r s.
       let given = then_ok (position_of old.flow old.defs) (reading_line k well old.flow old.defs l r) new (sym (read_here k well r s) ∙ told k well s.judge) in
       (given.0, given.1, sym given.2)
-  applied (Err (Premise i)) told =
-      ((λ k well r s. then_err (position_of old.flow old.defs) (reading_line k well old.flow old.defs l r) i (sym (read_here k well r s) ∙ (told k well s.judge).0)),
-      (told judge.0 judge.1 judge.2).1)
+  applied (Err (Premise i)) told = (
+    (λ k well r s. then_err (position_of old.flow old.defs) (reading_line k well old.flow old.defs l r) i (sym (read_here k well r s) ∙ (told k well s.judge).0)),
+    (told judge.0 judge.1 judge.2).1,
+  )
   applied (Err NoMemory) told = tt
 
 module _ (old new : Position) (judge : (k : Knowledge) × (well : RawState → Bool) × IsJudge k well old.flow old.defs) (result : Result Unit ApplyFault) where
@@ -197,3 +210,15 @@ module _ (old new : Position) (judge : (k : Knowledge) × (well : RawState → B
       applied l old new judge (λ k well. rule_at k l)
       (λ k well r. rule_same old.flow old.defs k l r ∙ ap (then_give (position_of old.flow old.defs)) (reads_rule k well old.flow old.defs l r rule))
       result (λ k well right. told k right.asked)
+
+-- a line that is none of the others is a rule's
+pub rest_is_rule : (l : Line)
+    → ((version : Version) (form : Form) → l ≡ line.Header version form → ⊥) → ((p : PointId) → l ≡ line.Cut p → ⊥)
+    → ((p : PointId) (raw : RawState) → l ≡ line.Head p raw → ⊥) → (l ≡ line.Pass → ⊥) → (l ≡ line.End → ⊥)
+    → is_rule l ≡ true
+rest_is_rule (line.Header version form) a b c d e = absurd (a version form refl)
+rest_is_rule (line.Cut p) a b c d e = absurd (b p refl)
+rest_is_rule (line.Head p raw) a b c d e = absurd (c p raw refl)
+rest_is_rule line.Pass a b c d e = absurd (d refl)
+rest_is_rule line.End a b c d e = absurd (e refl)
+rest_is_rule other a b c d e = refl

@@ -6,7 +6,6 @@ mod fault;
 mod first;
 mod places;
 mod proof;
-
 mod stack;
 mod stage;
 

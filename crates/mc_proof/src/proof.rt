@@ -7,11 +7,13 @@ ghost use Rattle.mc_kernel.specs.Judges.{Knowledge};
 ghost use Rattle.mc_kernel.specs.Readings.{begun, finished, first_branch, has_all_heads};
 ghost use Rattle.mc_proof.specs.Lines.{AnswersAll, ComesTo, TellsFormed, cutting_at, ending_at, heading_at, is_ready_at, marks, may_head_at, may_pass_at, passing_at, rule_at, ruled_at, ruling_at};
 ghost use Rattle.mc_proof.specs.Positions.{Applies, IsComplete, position_of};
+ghost use Rattle.mc_state.specs.Fits.{IsWellMade};
 ghost use Rattle.mc_state.specs.RawStates.{state_of};
+ghost use Rattle.mc_state.specs.State.{State as Symbolic};
 
+use crate::beginning::roots;
 use crate::first::advance;
 use crate::places::{comes_after, has_all_heads, is_chain, is_cut, is_skip, marks, stands_behind};
-use crate::beginning::roots;
 use crate::stack::Stack;
 use crate::stage::{Stage, is_cutting, is_ruling};
 use crate::{ApplyFault, Complete};
@@ -116,6 +118,8 @@ impl<'f> Proof<'f> {
     fn written(&self, raw: &RawState) -> Result<Option<State>, AllocError>
         ensures told { IfOk result (λ found. (well : RawState → Bool) → TellsFormed well self.now.flow self.now.defs
             → found ≡ (if well raw.now then Some (state_of raw.now) else None)) }
+        ensures made { IfOk result (λ found. (s : Symbolic) → found ≡ Some s
+            → IsWellMade self.now.defs self.now.flow.vars self.now.flow.structs.list s) }
     {
         mc_raw::state_of(
             self.alloc,
@@ -219,16 +223,20 @@ impl<'f> Proof<'f> {
             cuts: self.cuts.as_slice(),
             heads: self.heads.as_slice(),
         };
-        advance(
+        match advance(
             self.alloc,
             self.flow,
             self.defs,
             setting,
             line,
             &mut self.branches,
-        )?;
-        self.stuck = stuck;
-        Ok(())
+        ) {
+            Ok(()) => {
+                self.stuck = stuck;
+                Ok(())
+            }
+            Err(fault) => Err(fault),
+        }
     }
 
     /// The line of a rule, where rule lines may begin. A refused line does not begin them.
@@ -243,11 +251,22 @@ impl<'f> Proof<'f> {
             cuts: self.cuts.as_slice(),
             heads: self.heads.as_slice(),
         };
-        advance(self.alloc, self.flow, self.defs, setting, line, &mut branches)?;
-        self.branches = branches;
-        self.stage = Stage::Ruling;
-        self.stuck = stuck;
-        Ok(())
+        match advance(
+            self.alloc,
+            self.flow,
+            self.defs,
+            setting,
+            line,
+            &mut branches,
+        ) {
+            Ok(()) => {
+                self.branches = branches;
+                self.stage = Stage::Ruling;
+                self.stuck = stuck;
+                Ok(())
+            }
+            Err(fault) => Err(fault),
+        }
     }
 
     /// The line of a rule.
