@@ -1,0 +1,14 @@
+//! The open document of a certificate or a chain, to which lines are applied one after the other.
+#![tactic(auto)]
+
+mod beginning;
+mod fault;
+mod first;
+mod places;
+mod proof;
+mod stack;
+mod stage;
+
+pub use fault::{ApplyFault, Complete};
+pub use mc_judging::Branch;
+pub use proof::Proof;
