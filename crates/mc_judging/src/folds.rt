@@ -1,5 +1,5 @@
 // Lines of the rules that fold.
-ghost use Rattle.std.specs.Prelude.{◌≡◌, ◌∷◌, [], IfOk};
+ghost use Rattle.std.specs.Prelude.{◌≡◌, ◌∷◌, [], IfOk, List};
 ghost use Rattle.mc_fold.specs.ChangeJudges.{naming_spare};
 ghost use Rattle.mc_fold.specs.Judges.{closing_seg, folding_ind, folding_seg, joining_segs, making_seg};
 ghost use Rattle.mc_forget.specs.Left.{IsMade};
@@ -145,8 +145,8 @@ pub fn join(
     folded(setting, done, branch)
 }
 
-/// A Seg from a node to an equal one, with lists of its own.
-fn empty_seg(
+/// The entries of L7, with lists of their own.
+pub fn empty_seg(
     alloc: Global,
     pred: PredId,
     at: NodeId,
@@ -179,6 +179,17 @@ pub fn make(
 {
     let done = make_seg(alloc, &mut branch.state, defs, seg);
     folded(setting, done, branch)
+}
+
+/// The entries of L8.
+pub fn spare_node(node: NodeId, add: &i64, kind: Kind) -> SpareNode
+    ensures { result ≡ record { node = node; add = add.now; kind = kind } }
+{
+    SpareNode {
+        node,
+        add: *add,
+        kind,
+    }
 }
 
 /// L8: names a node and a number more.

@@ -6,10 +6,18 @@ ghost use Rattle.mc_kernel.specs.JudgedLaws.{IsAsked};
 ghost use Rattle.mc_kernel.specs.Judges.{Knowledge, judged_line};
 ghost use Rattle.mc_state.specs.Fits.{IsWellMade};
 
+use crate::folds::{close, empty_seg, join, make, name, spare_node, to_ind, to_seg};
+use crate::jumps::jump;
+use crate::logic::{drop, end_false, end_side, forget, merge};
+use crate::steps::step;
+use crate::stuck::stick;
+use crate::unfolds::{back, ind, seg};
 use crate::{Branch, Next, Refused, Setting};
 use mc_cert::Line;
 use mc_defs::Defs;
 use mc_flow::Flow;
+use mc_folding::NamedRule;
+use mc_instructions::InstrRule;
 use std::alloc::Global;
 
 /// Judges a line at a branch: the branches that come of it, in order, or its first premise that is unmet, with the branch
@@ -27,6 +35,65 @@ pub fn judge(
     ensures { (k : Knowledge) → IsAsked k flow.now defs.now (path branch) → IsLineAnswer
         (judged_line k flow.now defs.now (setting_of setting.entry) line.now (path branch)) (path branch) result }
 {
-    let _later = (alloc, flow, defs, setting, line, branch);
-    Err(Refused::NoMemory)
+    match line {
+        Line::S1 => step(alloc, flow, defs, setting, InstrRule::S1, branch),
+        Line::S2 => step(alloc, flow, defs, setting, InstrRule::S2, branch),
+        Line::S3 => step(alloc, flow, defs, setting, InstrRule::S3, branch),
+        Line::S4 => step(alloc, flow, defs, setting, InstrRule::S4, branch),
+        Line::S5 => step(alloc, flow, defs, setting, InstrRule::S5, branch),
+        Line::S6 => step(alloc, flow, defs, setting, InstrRule::S6, branch),
+        Line::S7 => step(alloc, flow, defs, setting, InstrRule::S7, branch),
+        Line::S8 => step(alloc, flow, defs, setting, InstrRule::S8, branch),
+        Line::S9 => step(alloc, flow, defs, setting, InstrRule::S9, branch),
+        Line::S10 => step(alloc, flow, defs, setting, InstrRule::S10, branch),
+        Line::S11 => step(alloc, flow, defs, setting, InstrRule::S11, branch),
+        Line::S12 => step(alloc, flow, defs, setting, InstrRule::S12, branch),
+        Line::S13 => step(alloc, flow, defs, setting, InstrRule::S13, branch),
+        Line::S14 => step(alloc, flow, defs, setting, InstrRule::S14, branch),
+        Line::S15 => step(alloc, flow, defs, setting, InstrRule::S15, branch),
+        Line::S16 => step(alloc, flow, defs, setting, InstrRule::S16, branch),
+        Line::S17 => step(alloc, flow, defs, setting, InstrRule::S17, branch),
+        Line::S18 => step(alloc, flow, defs, setting, InstrRule::S18, branch),
+        Line::L1(edge) => ind(alloc, flow, defs, *edge, branch),
+        Line::L2(edge) => seg(alloc, flow, defs, *edge, branch),
+        Line::L3(pred, rule, names, block, edges) => {
+            let named = NamedRule {
+                pred: *pred,
+                rule: *rule,
+                names: names.as_slice(),
+            };
+            to_ind(alloc, defs, setting, &named, *block, edges.as_slice(), branch)
+        }
+        Line::L4(pred, rule, names, block, edges, call) => {
+            let named = NamedRule {
+                pred: *pred,
+                rule: *rule,
+                names: names.as_slice(),
+            };
+            to_seg(alloc, defs, setting, &named, *block, edges.as_slice(), *call, branch)
+        }
+        Line::L5(first, second) => close(alloc, setting, *first, *second, branch),
+        Line::L6(first, second) => join(alloc, setting, *first, *second, branch),
+        Line::L7(pred, at, args, end, end_args) => {
+            match empty_seg(alloc, *pred, *at, args, *end, end_args) {
+                Ok(rule) => make(alloc, defs, setting, &rule, branch),
+                Err(_) => Err(Refused::NoMemory),
+            }
+        }
+        Line::L8(node, add, kind) => name(setting, &spare_node(*node, add, *kind), branch),
+        Line::L9(keep, gone) => merge(alloc, *keep, *gone, branch),
+        Line::L10(edge) => drop(alloc, *edge, branch),
+        Line::L11(node) => forget(alloc, *node, branch),
+        Line::L12 => end_false(branch),
+        Line::L13(number, images, edges) => {
+            jump(setting, *number, images.as_slice(), edges.as_slice(), branch)
+        }
+        Line::L14(edge) => end_side(*edge, branch),
+        Line::L15(edge) => back(alloc, flow, defs, *edge, branch),
+        Line::C1 => stick(alloc, flow, defs, setting, branch),
+        Line::Header(_, _) | Line::Cut(_) | Line::Head(_, _) | Line::Pass | Line::End => {
+            Err(Refused::Premise(1, branch))
+        }
+        Line::C2(_) | Line::C3(_, _) => Err(Refused::Premise(1, branch)),
+    }
 }

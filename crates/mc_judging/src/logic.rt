@@ -1,5 +1,5 @@
 // Lines of other rules of logic.
-ghost use Rattle.std.specs.Prelude.{◌≡◌, ◌∷◌, [], IfOk, List, Err, Some, not, option_map, false, map};
+ghost use Rattle.std.specs.Prelude.{◌≡◌, ◌==◌, ◌&&◌, ◌∷◌, [], IfOk, List, Err, Some, not, option_map, false, map};
 ghost use Rattle.std.specs.List.{list_any};
 ghost use Rattle.mc_base.specs.declared.plain.Atom.{Atom as Fact};
 ghost use Rattle.mc_base.specs.Nodes.{moved};
@@ -129,6 +129,7 @@ fn goal_is_free(node: NodeId, goal: &Option<Goal>) -> bool
 }
 
 /// Whether the node is there.
+#[tactic(auto, unfolding(mc_fold::specs::ChangeJudges::is_there))]
 fn is_there(s: &State, node: NodeId) -> bool
     ensures { result ≡ is_there s.now.kinds node }
 {
@@ -141,6 +142,13 @@ fn is_there(s: &State, node: NodeId) -> bool
     }
 }
 
+/// Whether the node is there and is not node 0.
+fn is_another(s: &State, node: NodeId) -> bool
+    ensures { result ≡ (is_there s.now.kinds node && not (node.0 == 0)) }
+{
+    is_there(s, node) && !(node.0 == 0)
+}
+
 /// The first unmet premise of L11 where a goal names the node.
 fn first_unmet(s: &State, node: NodeId) -> u8
     ensures { (know : Test) (atoms : List Fact) → Tells know s.now
@@ -149,7 +157,7 @@ fn first_unmet(s: &State, node: NodeId) -> u8
     if s.is_false() {
         return 2;
     }
-    if node.0 == 0 || !is_there(s, node) {
+    if !is_another(s, node) {
         return 3;
     }
     4

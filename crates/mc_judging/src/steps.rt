@@ -1,26 +1,92 @@
 // Lines of instructions.
-ghost use Rattle.std.specs.Prelude.{◌≡◌};
+ghost use Rattle.std.specs.Prelude.{◌≡◌, map};
 ghost use Rattle.mc_flow.specs.Valid.{IsValid};
-ghost use Rattle.mc_judging.specs.Judging.{IsLineAnswer, path, setting_of};
+ghost use Rattle.mc_instructions.specs.Named.{named};
+ghost use Rattle.mc_judging.specs.Judging.{IsLineAnswer, path, paths, setting_of};
+ghost use Rattle.mc_kernel.specs.Branches.{path_of};
 ghost use Rattle.mc_kernel.specs.JudgedLaws.{IsAsked};
 ghost use Rattle.mc_kernel.specs.Judges.{Knowledge, by_step};
 ghost use Rattle.mc_state.specs.Fits.{IsWellMade};
+ghost use Rattle.mc_stepping.specs.Stepped.{seen, successors};
 
 use crate::places::may_step;
 use crate::{Branch, Next, Refused, Setting};
-use mc_base::PointId;
 use mc_defs::Defs;
 use mc_flow::Flow;
-use mc_state::Goal;
+use mc_instructions::InstrRule;
+use mc_stepping::{Next as Successor, Refused as NoStep, Stepped};
 use std::alloc::Global;
 
-/// A line of an instruction: what the rule gives at the branch's point, where it may stand.
+/// The branch that comes of an instruction: it has moved, or is a side branch.
+fn branch_of(next: Successor) -> Branch
+    ensures { path result ≡ path_of (seen next) }
+{
+    let Successor { point, goal, state } = next;
+    match goal {
+        Some(goal) => Branch {
+            point,
+            state,
+            goal: Some(goal),
+            moved: false,
+            closing: false,
+        },
+        None => Branch {
+            point,
+            state,
+            goal: None,
+            moved: true,
+            closing: false,
+        },
+    }
+}
+
+/// The branches that come of an instruction.
+fn next_of(stepped: Stepped) -> Next
+    ensures { paths result ≡ map path_of (successors stepped) }
+{
+    match stepped {
+        Stepped::Ended => Next::Ended,
+        Stepped::Moved(next) => Next::One(branch_of(next)),
+        Stepped::Branched(first, second) => Next::Two(branch_of(first), branch_of(second)),
+    }
+}
+
+/// A line of an instruction: what its rule gives at the branch's point, where it may stand.
 pub fn step(
     alloc: Global,
     flow: &Flow,
     defs: &Defs,
     setting: Setting<'_>,
+    rule: InstrRule,
     branch: Branch,
-) -> Result<Next, Refused> {
-    Err(Refused::NoMemory)
+) -> Result<Next, Refused>
+    requires valid { IsValid flow.now defs.now }
+    requires made { IsWellMade defs.now flow.now.vars flow.now.structs.list branch.state }
+    ensures { (k : Knowledge) → IsAsked k flow.now defs.now (path branch) → IsLineAnswer
+        (by_step k flow.now (setting_of setting.entry) (named rule) (path branch)) (path branch) result }
+{
+    if !may_step(setting, &branch) {
+        return Err(Refused::Premise(1, branch));
+    }
+    let Branch {
+        point,
+        state,
+        goal,
+        moved,
+        closing,
+    } = branch;
+    match mc_instructions::step(alloc, flow, defs, rule, point, state) {
+        Ok(stepped) => Ok(next_of(stepped)),
+        Err(NoStep::Premise(k, state)) => {
+            let same = Branch {
+                point,
+                state,
+                goal,
+                moved,
+                closing,
+            };
+            Err(Refused::Premise(k, same))
+        }
+        Err(NoStep::NoMemory) => Err(Refused::NoMemory),
+    }
 }

@@ -21,7 +21,6 @@ fn gap(alloc: Global, flow: &Flow, defs: &Defs, branch: &Branch) -> Result<Optio
     ensures { (k : Knowledge) → IsAsked k flow.now defs.now (path branch.now)
         → IfOk result (λ gap. gap ≡ k.gap branch.now.point branch.now.state) }
 {
-    let _later = (alloc, flow, defs, branch);
     Err(AllocError)
 }
 
