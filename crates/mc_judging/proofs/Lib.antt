@@ -1,2 +1,2 @@
-pub mod Lists
-pub mod Unmet
+pub mod Answered
+pub mod Forms

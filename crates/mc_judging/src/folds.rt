@@ -12,7 +12,7 @@ ghost use Rattle.mc_state.specs.State.{State as Symbolic};
 
 use crate::unfolds::with_states;
 use crate::{Branch, Next, Refused, Setting};
-use mc_base::{Args, EdgeId, Kind, NoMemory, NodeId, PredId};
+use mc_base::{Args, EdgeId, Items, Kind, NoMemory, NodeId, PredId};
 use mc_changing::{EmptySeg, SpareNode, close_seg, join_segs, make_seg, name_spare};
 use mc_defs::Defs;
 use mc_folding::{NamedRule, fold_ind, fold_seg};
@@ -79,7 +79,7 @@ fn folded_to(
 }
 
 /// L3: folds a rule's block and calls into an Ind.
-pub fn to_ind(
+fn to_ind(
     alloc: Global,
     defs: &Defs,
     setting: Setting<'_>,
@@ -97,7 +97,7 @@ pub fn to_ind(
 }
 
 /// L4: folds a rule's block and calls without one into a Seg to that call.
-pub fn to_seg(
+fn to_seg(
     alloc: Global,
     defs: &Defs,
     setting: Setting<'_>,
@@ -113,6 +113,73 @@ pub fn to_seg(
 {
     let given = fold_seg(alloc, &branch.state, defs, named, block, edges, call);
     folded_to(alloc, setting, given, branch)
+}
+
+/// The entries of L3.
+#[derive(Clone, Copy)]
+pub struct IndLine<'a> {
+    pub pred: PredId,
+    pub rule: u64,
+    pub names: &'a Items<NodeId>,
+    pub block: Option<EdgeId>,
+    pub edges: &'a Items<EdgeId>,
+}
+
+/// L3 with the entries of a line.
+pub fn fold_to_ind(
+    alloc: Global,
+    defs: &Defs,
+    setting: Setting<'_>,
+    line: &IndLine<'_>,
+    branch: Branch,
+) -> Result<Next, Refused>
+    ensures { (know : Test) → Tells know branch.state → IsLineAnswer (by_folding
+        (folding_ind know defs.now line.now.pred line.now.rule line.now.names.now line.now.block line.now.edges.now
+        branch.state) (setting_of setting.entry) (path branch)) (path branch) result }
+{
+    let names = line.names.as_slice();
+    let edges = line.edges.as_slice();
+    let named = NamedRule {
+        pred: line.pred,
+        rule: line.rule,
+        names,
+    };
+    to_ind(alloc, defs, setting, &named, line.block, edges, branch)
+}
+
+/// The entries of L4.
+#[derive(Clone, Copy)]
+pub struct SegLine<'a> {
+    pub pred: PredId,
+    pub rule: u64,
+    pub names: &'a Items<NodeId>,
+    pub block: EdgeId,
+    pub edges: &'a Items<EdgeId>,
+    pub call: u64,
+}
+
+/// L4 with the entries of a line.
+pub fn fold_to_seg(
+    alloc: Global,
+    defs: &Defs,
+    setting: Setting<'_>,
+    line: &SegLine<'_>,
+    branch: Branch,
+) -> Result<Next, Refused>
+    ensures { (know : Test) → Tells know branch.state → IsLineAnswer (by_folding
+        (folding_seg know defs.now line.now.pred line.now.rule line.now.names.now line.now.block line.now.edges.now
+        line.now.call branch.state) (setting_of setting.entry) (path branch)) (path branch) result }
+{
+    let names = line.names.as_slice();
+    let edges = line.edges.as_slice();
+    let named = NamedRule {
+        pred: line.pred,
+        rule: line.rule,
+        names,
+    };
+    to_seg(
+        alloc, defs, setting, &named, line.block, edges, line.call, branch,
+    )
 }
 
 /// L5: folds a Seg and an Ind at its end.
@@ -145,28 +212,37 @@ pub fn join(
     folded(setting, done, branch)
 }
 
-/// The entries of L7, with lists of their own.
-pub fn empty_seg(
-    alloc: Global,
-    pred: PredId,
-    at: NodeId,
-    args: &Args<NodeId>,
-    end: NodeId,
-    end_args: &Args<NodeId>,
-) -> Result<EmptySeg, NoMemory>
-    ensures { IfOk result (λ seg. seg ≡ record { pred = pred; at = at; args = args.now; end = end; end_args = end_args.now }) }
+/// The entries of L7.
+#[derive(Clone, Copy)]
+pub struct EmptyLine<'a> {
+    pub pred: PredId,
+    pub at: NodeId,
+    pub args: &'a Args<NodeId>,
+    pub end: NodeId,
+    pub end_args: &'a Args<NodeId>,
+}
+
+/// The Seg that L7 makes.
+fn empty_seg(alloc: Global, line: &EmptyLine<'_>) -> Result<EmptySeg, NoMemory>
+    ensures { IfOk result (λ seg. seg ≡ record {
+      pred = line.now.pred;
+      at = line.now.at;
+      args = line.now.args.now;
+      end = line.now.end;
+      end_args = line.now.end_args.now;
+    }) }
 {
     Ok(EmptySeg {
-        pred,
-        at,
-        args: args.copy(alloc)?,
-        end,
-        end_args: end_args.copy(alloc)?,
+        pred: line.pred,
+        at: line.at,
+        args: line.args.copy(alloc)?,
+        end: line.end,
+        end_args: line.end_args.copy(alloc)?,
     })
 }
 
-/// L7: makes a Seg from a node to an equal one.
-pub fn make(
+/// L7 with lists of its own.
+fn make_from(
     alloc: Global,
     defs: &Defs,
     setting: Setting<'_>,
@@ -181,8 +257,26 @@ pub fn make(
     folded(setting, done, branch)
 }
 
+/// L7: makes a Seg from a node to an equal one.
+pub fn make(
+    alloc: Global,
+    defs: &Defs,
+    setting: Setting<'_>,
+    line: &EmptyLine<'_>,
+    branch: Branch,
+) -> Result<Next, Refused>
+    ensures { (know : Test) → Tells know branch.state → IsLineAnswer (by_folding
+        (making_seg know defs.now line.now.pred line.now.at line.now.args.now line.now.end line.now.end_args.now
+        branch.state) (setting_of setting.entry) (path branch)) (path branch) result }
+{
+    match empty_seg(alloc, line) {
+        Ok(seg) => make_from(alloc, defs, setting, &seg, branch),
+        Err(_) => Err(Refused::NoMemory),
+    }
+}
+
 /// The entries of L8.
-pub fn spare_node(node: NodeId, add: &i64, kind: Kind) -> SpareNode
+fn spare_node(node: NodeId, add: &i64, kind: Kind) -> SpareNode
     ensures { result ≡ record { node = node; add = add.now; kind = kind } }
 {
     SpareNode {
@@ -193,7 +287,7 @@ pub fn spare_node(node: NodeId, add: &i64, kind: Kind) -> SpareNode
 }
 
 /// L8: names a node and a number more.
-pub fn name(setting: Setting<'_>, spare: &SpareNode, mut branch: Branch) -> Result<Next, Refused>
+fn name(setting: Setting<'_>, spare: &SpareNode, mut branch: Branch) -> Result<Next, Refused>
     requires { IsMade branch.state }
     ensures { (know : Test) → Tells know branch.state → IsLineAnswer (by_folding
         (naming_spare know spare.now.node spare.now.add spare.now.kind branch.state) (setting_of setting.entry)
@@ -201,4 +295,20 @@ pub fn name(setting: Setting<'_>, spare: &SpareNode, mut branch: Branch) -> Resu
 {
     let done = name_spare(&mut branch.state, spare);
     folded(setting, done, branch)
+}
+
+/// L8 with the entries of a line.
+pub fn name_node(
+    setting: Setting<'_>,
+    node: NodeId,
+    add: &i64,
+    kind: Kind,
+    branch: Branch,
+) -> Result<Next, Refused>
+    requires { IsMade branch.state }
+    ensures { (know : Test) → Tells know branch.state → IsLineAnswer (by_folding
+        (naming_spare know node add.now kind branch.state) (setting_of setting.entry) (path branch)) (path branch) result }
+{
+    let spare = spare_node(node, add, kind);
+    name(setting, &spare, branch)
 }

@@ -1,15 +1,16 @@
 // Lines that jump.
 ghost use Rattle.std.specs.Prelude.{◌≡◌, map, slice_get};
 ghost use Rattle.std.specs.Option.{option_copied};
+ghost use Rattle.mc_fits.specs.Fitting.{unmet};
 ghost use Rattle.mc_judging.specs.Judging.{IsLineAnswer, head_of, path, setting_of};
 ghost use Rattle.mc_kernel.specs.Branches.{states_at};
-ghost use Rattle.mc_kernel.specs.Judges.{jumping_to, may_cut};
+ghost use Rattle.mc_kernel.specs.Judges.{ends, jumping_to, may_cut};
 ghost use Rattle.mc_premises.specs.Known.{Test, Tells};
-ghost use Rattle.mc_premises.specs.Premises.{need};
+ghost use Rattle.mc_premises.specs.Premises.{Judged, need, then_give};
 
 use crate::places::may_cut;
 use crate::{Branch, Head, Next, Refused, Setting};
-use mc_base::{EdgeId, NodeId, PointId};
+use mc_base::{EdgeId, Items, NodeId, PointId};
 use mc_fits::{fits, jumps_are_fits};
 use mc_symbolic::State;
 
@@ -29,9 +30,20 @@ fn state_at(heads: &[Head], point: PointId, number: u64) -> Option<&State>
     None
 }
 
+/// What comes of a branch that has or has not an unmet premise of fitting.
+fn landed(unfit: Option<u8>, branch: Branch) -> Result<Next, Refused>
+    ensures { (judged : Judged (Unit {0})) → unfit ≡ unmet judged
+        → IsLineAnswer (then_give ends judged) (path branch) result }
+{
+    match unfit {
+        None => Ok(Next::Ended),
+        Some(k) => Err(Refused::Premise(k, branch)),
+    }
+}
+
 /// L13: jumps to a state of the cut, by its number, with an image for each of its nodes and an edge for each of its
 /// edges.
-pub fn jump(
+fn jump(
     setting: Setting<'_>,
     number: u64,
     images: &[NodeId],
@@ -54,8 +66,24 @@ pub fn jump(
     let Some(target) = state_at(setting.heads, branch.point, number) else {
         return Err(Refused::Premise(3, branch));
     };
-    match fits(&branch.state, target, images, edges) {
-        None => Ok(Next::Ended),
-        Some(unmet) => Err(Refused::Premise(unmet, branch)),
-    }
+    let unfit = fits(&branch.state, target, images, edges);
+    landed(unfit, branch)
+}
+
+/// L13 with the entries of a line.
+pub fn jump_to(
+    setting: Setting<'_>,
+    number: u64,
+    images: &Items<NodeId>,
+    edges: &Items<EdgeId>,
+    branch: Branch,
+) -> Result<Next, Refused>
+    ensures { (know : Test) → Tells know branch.state → IsLineAnswer
+        (need 1 (may_cut (setting_of setting.entry) (path branch)) (jumping_to know
+        (states_at branch.point (setting_of setting.entry).heads) number images.now edges.now branch.state))
+        (path branch) result }
+{
+    let nodes = images.as_slice();
+    let ids = edges.as_slice();
+    jump(setting, number, nodes, ids, branch)
 }

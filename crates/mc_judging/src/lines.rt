@@ -6,8 +6,10 @@ ghost use Rattle.mc_kernel.specs.JudgedLaws.{IsAsked};
 ghost use Rattle.mc_kernel.specs.Judges.{Knowledge, judged_line};
 ghost use Rattle.mc_state.specs.Fits.{IsWellMade};
 
-use crate::folds::{close, empty_seg, join, make, name, spare_node, to_ind, to_seg};
-use crate::jumps::jump;
+use crate::folds::{
+    EmptyLine, IndLine, SegLine, close, fold_to_ind, fold_to_seg, join, make, name_node,
+};
+use crate::jumps::jump_to;
 use crate::logic::{drop, end_false, end_side, forget, merge};
 use crate::steps::step;
 use crate::stuck::stick;
@@ -16,7 +18,6 @@ use crate::{Branch, Next, Refused, Setting};
 use mc_cert::Line;
 use mc_defs::Defs;
 use mc_flow::Flow;
-use mc_folding::NamedRule;
 use mc_instructions::InstrRule;
 use std::alloc::Global;
 
@@ -57,37 +58,44 @@ pub fn judge(
         Line::L1(edge) => ind(alloc, flow, defs, *edge, branch),
         Line::L2(edge) => seg(alloc, flow, defs, *edge, branch),
         Line::L3(pred, rule, names, block, edges) => {
-            let named = NamedRule {
+            let fold = IndLine {
                 pred: *pred,
                 rule: *rule,
-                names: names.as_slice(),
+                names,
+                block: *block,
+                edges,
             };
-            to_ind(alloc, defs, setting, &named, *block, edges.as_slice(), branch)
+            fold_to_ind(alloc, defs, setting, &fold, branch)
         }
         Line::L4(pred, rule, names, block, edges, call) => {
-            let named = NamedRule {
+            let fold = SegLine {
                 pred: *pred,
                 rule: *rule,
-                names: names.as_slice(),
+                names,
+                block: *block,
+                edges,
+                call: *call,
             };
-            to_seg(alloc, defs, setting, &named, *block, edges.as_slice(), *call, branch)
+            fold_to_seg(alloc, defs, setting, &fold, branch)
         }
         Line::L5(first, second) => close(alloc, setting, *first, *second, branch),
         Line::L6(first, second) => join(alloc, setting, *first, *second, branch),
         Line::L7(pred, at, args, end, end_args) => {
-            match empty_seg(alloc, *pred, *at, args, *end, end_args) {
-                Ok(rule) => make(alloc, defs, setting, &rule, branch),
-                Err(_) => Err(Refused::NoMemory),
-            }
+            let empty = EmptyLine {
+                pred: *pred,
+                at: *at,
+                args,
+                end: *end,
+                end_args,
+            };
+            make(alloc, defs, setting, &empty, branch)
         }
-        Line::L8(node, add, kind) => name(setting, &spare_node(*node, add, *kind), branch),
+        Line::L8(node, add, kind) => name_node(setting, *node, add, *kind, branch),
         Line::L9(keep, gone) => merge(alloc, *keep, *gone, branch),
         Line::L10(edge) => drop(alloc, *edge, branch),
         Line::L11(node) => forget(alloc, *node, branch),
         Line::L12 => end_false(branch),
-        Line::L13(number, images, edges) => {
-            jump(setting, *number, images.as_slice(), edges.as_slice(), branch)
-        }
+        Line::L13(number, images, edges) => jump_to(setting, *number, images, edges, branch),
         Line::L14(edge) => end_side(*edge, branch),
         Line::L15(edge) => back(alloc, flow, defs, *edge, branch),
         Line::C1 => stick(alloc, flow, defs, setting, branch),

@@ -12,7 +12,7 @@ ghost use Rattle.mc_judging.specs.Judging.{IsLineAnswer, path};
 ghost use Rattle.mc_kernel.specs.Branches.{merged_goal, with_state};
 ghost use Rattle.mc_kernel.specs.Judges.{and_need, by_forgetting, by_logic, by_merging, ending_false, ends, goal_is_free, is_one_of};
 ghost use Rattle.mc_premises.specs.Known.{Test, Tells};
-ghost use Rattle.mc_premises.specs.Premises.{Judged, have, then_give};
+ghost use Rattle.mc_premises.specs.Premises.{Changes, Judged, have, then_give};
 ghost use Rattle.mc_state.specs.Facts.{instead};
 ghost use Rattle.mc_state.specs.State.{State as Symbolic};
 
@@ -79,19 +79,34 @@ fn with_merged_goal(
     Ok(branch)
 }
 
-/// L9: puts a node in place of an equal one, in the goal of a side branch too.
-pub fn merge(alloc: Global, keep: NodeId, gone: NodeId, mut branch: Branch) -> Result<Next, Refused>
-    ensures { (know : Test) → Tells know branch.state → IsLineAnswer (by_merging
-        (merging_nodes know keep gone branch.state) keep gone (path branch)) (path branch) result }
+/// What comes of a branch whose state L9 changed, or its first premise that is unmet.
+fn merged(
+    alloc: Global,
+    keep: NodeId,
+    gone: NodeId,
+    done: Result<(), LogicFault>,
+    branch: Branch,
+) -> Result<Next, Refused>
+    ensures { (judged : Judged (List Symbolic)) (old : Symbolic) → Changes judged (old ∷ []) (branch.state ∷ []) done
+        → IsLineAnswer (by_merging judged keep gone (with_state (path branch) old)) (with_state (path branch) old) result }
 {
-    match merge_nodes(alloc, &mut branch.state, keep, gone) {
+    match done {
         Ok(()) => match with_merged_goal(alloc, keep, gone, branch) {
-            Ok(merged) => Ok(Next::One(merged)),
+            Ok(next) => Ok(Next::One(next)),
             Err(_) => Err(Refused::NoMemory),
         },
         Err(LogicFault::Premise(k)) => Err(Refused::Premise(k, branch)),
         Err(LogicFault::NoMemory) => Err(Refused::NoMemory),
     }
+}
+
+/// L9: puts a node in place of an equal one, in the goal of a side branch too.
+pub fn merge(alloc: Global, keep: NodeId, gone: NodeId, mut branch: Branch) -> Result<Next, Refused>
+    ensures { (know : Test) → Tells know branch.state → IsLineAnswer (by_merging
+        (merging_nodes know keep gone branch.state) keep gone (path branch)) (path branch) result }
+{
+    let done = merge_nodes(alloc, &mut branch.state, keep, gone);
+    merged(alloc, keep, gone, done, branch)
 }
 
 /// L10: drops an edge.
@@ -163,6 +178,18 @@ fn first_unmet(s: &State, node: NodeId) -> u8
     4
 }
 
+/// What comes of a branch whose state a rule changed, or the rule's first premise that is unmet.
+fn changed(done: Result<(), LogicFault>, branch: Branch) -> Result<Next, Refused>
+    ensures { (judged : Judged (List Symbolic)) (old : Symbolic) → Changes judged (old ∷ []) (branch.state ∷ []) done
+        → IsLineAnswer (by_logic judged (with_state (path branch) old)) (with_state (path branch) old) result }
+{
+    match done {
+        Ok(()) => Ok(Next::One(branch)),
+        Err(LogicFault::Premise(k)) => Err(Refused::Premise(k, branch)),
+        Err(LogicFault::NoMemory) => Err(Refused::NoMemory),
+    }
+}
+
 /// L11: forgets a node.
 pub fn forget(alloc: Global, node: NodeId, mut branch: Branch) -> Result<Next, Refused>
     requires { IsMade branch.state }
@@ -174,11 +201,8 @@ pub fn forget(alloc: Global, node: NodeId, mut branch: Branch) -> Result<Next, R
         let unmet = first_unmet(&branch.state, node);
         return Err(Refused::Premise(unmet, branch));
     }
-    match forget_node(alloc, &mut branch.state, node) {
-        Ok(()) => Ok(Next::One(branch)),
-        Err(LogicFault::Premise(k)) => Err(Refused::Premise(k, branch)),
-        Err(LogicFault::NoMemory) => Err(Refused::NoMemory),
-    }
+    let done = forget_node(alloc, &mut branch.state, node);
+    changed(done, branch)
 }
 
 /// L12: the state is false, and the branch ends.
