@@ -57,12 +57,12 @@ pub jumps_fit : JumpsAreFits → (know : Test) (heads : List State) (j : ℕ) (i
     (answer : Result Next Refused) (may : Bool) (t : State) → may ≡ true → is_false know ≡ false → slice_get heads j ≡ Some t
     → IsLineAnswer (then_give ends (fitting_to know t images ids b.state)) b answer
     → IsLineAnswer (need 1 may (jumping_to know heads j images ids b.state)) b answer
-jumps_fit law know heads j images ids b answer may t met no there h =
+jumps_fit law know heads j images ids b answer may t stood told there h =
     let s = b.state in
     let rest : State → Judged (List Path) = λ t. then_give ends (fitting_to know t images ids s) in
     let same : need 1 may (jumping_to know heads j images ids s) ≡ rest t =
-    ap (λ m. need 1 m (jumping_to know heads j images ids s)) met
+    ap (λ m. need 1 m (jumping_to know heads j images ids s)) stood
     ∙ law know heads j images ids s
-    ∙ ap (λ f. need 2 (not f) (have 3 (slice_get heads j) rest)) no
+    ∙ ap (λ f. need 2 (not f) (have 3 (slice_get heads j) rest)) told
     ∙ ap (λ o. have 3 o rest) there in
     subst (λ judged. IsLineAnswer judged b answer) (sym same) h
