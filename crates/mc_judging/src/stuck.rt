@@ -4,24 +4,26 @@ ghost use Rattle.mc_flow.specs.Valid.{IsValid};
 ghost use Rattle.mc_judging.specs.Judging.{IsLineAnswer, path, setting_of};
 ghost use Rattle.mc_kernel.specs.JudgedLaws.{IsAsked};
 ghost use Rattle.mc_kernel.specs.Judges.{Knowledge, stuck_at};
-ghost use Rattle.mc_state.specs.Fits.{IsWellMade};
 
 use crate::places::may_stick;
 use crate::{Branch, Next, Refused, Setting};
 use mc_base::NoMemory;
 use mc_defs::Defs;
 use mc_flow::Flow;
+use mc_lacking::lacking_at;
 use mc_step::Gap;
-use std::alloc::{AllocError, Global};
+use std::alloc::Global;
 
 /// What the instruction at a branch's point lacks.
 fn gap(alloc: Global, flow: &Flow, defs: &Defs, branch: &Branch) -> Result<Option<Gap>, NoMemory>
-    requires valid { IsValid flow.now defs.now }
-    requires made { IsWellMade defs.now flow.now.vars flow.now.structs.list branch.now.state }
+    requires { IsValid flow.now defs.now }
     ensures { (k : Knowledge) → IsAsked k flow.now defs.now (path branch.now)
         → IfOk result (λ gap. gap ≡ k.gap branch.now.point branch.now.state) }
 {
-    Err(AllocError)
+    match lacking_at(alloc, flow, defs, branch.point, &branch.state) {
+        Ok(found) => Ok(found),
+        Err(full) => Err(full),
+    }
 }
 
 /// C1: the instruction lacks something, and the branch ends.
@@ -32,8 +34,7 @@ pub fn stick(
     setting: Setting<'_>,
     branch: Branch,
 ) -> Result<Next, Refused>
-    requires valid { IsValid flow.now defs.now }
-    requires made { IsWellMade defs.now flow.now.vars flow.now.structs.list branch.state }
+    requires { IsValid flow.now defs.now }
     ensures { (k : Knowledge) → IsAsked k flow.now defs.now (path branch)
         → IsLineAnswer (stuck_at k (setting_of setting.entry) (path branch)) (path branch) result }
 {
