@@ -1,5 +1,5 @@
 -- What a line answers, beside what is judged.
-use Rattle.std.specs.Prelude.{◌≡◌, ℕ, List, [], ◌∷◌, Result, Ok, Err, map}
+use Rattle.std.specs.Prelude.{◌≡◌, List, [], ◌∷◌, Result, Ok, Err, map}
 use Rattle.mc_premises.specs.Premises.{Judged}
 use Rattle.mc_kernel.specs.Branches.{Path, Setting, Head}
 use Rattle.mc_judging.specs.declared.branch.Branch.{Branch}

@@ -1,4 +1,3 @@
-use Rattle.mc_step.specs.declared.gap.Gap.{Gap}
 use Rattle.mc_step.specs.Unmet.{IsUnmet}
 use Rattle.mc_judging.proofs.Gaps.{same_gap}
 use Rattle.mc_judging.proofs.stuck.gap.Goals as goal
