@@ -1,0 +1,8 @@
+//! The arguments with which a predicate may hold where a symbolic state has its memory, guessed.
+#![tactic(auto)]
+
+mod edges;
+mod names;
+
+pub use edges::summary;
+pub use names::{begin, settle, take_guess, taken_by_parameters};
