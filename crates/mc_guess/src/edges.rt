@@ -117,9 +117,9 @@ pub fn summary(
         if is_used(used, entry.0) {
             continue;
         }
-        let found = summary_at(alloc, state, pred, at, &entry.1)?;
-        if found.is_some() {
-            return Ok(found);
+        match summary_at(alloc, state, pred, at, &entry.1)? {
+            Some(terms) => return Ok(Some(terms)),
+            None => {}
         }
     }
     Ok(None)
