@@ -16,7 +16,7 @@ use mc_symbolic::State;
 use std::alloc::Global;
 
 /// Whether the edge is one of the used ones.
-fn is_used(used: &[EdgeId], id: EdgeId) -> bool
+pub fn is_used(used: &[EdgeId], id: EdgeId) -> bool
     ensures { result ≡ is_among id used.now }
 {
     for other in used {
