@@ -4,7 +4,8 @@
 mod blocks;
 mod edges;
 mod names;
+mod rules;
 
-pub use blocks::block;
-pub use edges::summary;
 pub use names::{begin, settle, take_guess, taken_by_parameters};
+pub use rules::{BlockFor, first_block, first_empty};
+pub use edges::summary;
