@@ -3,9 +3,8 @@
 
 mod blocks;
 mod edges;
+mod guesses;
 mod names;
 mod rules;
 
-pub use names::{begin, settle, take_guess, taken_by_parameters};
-pub use rules::{BlockFor, first_block, first_empty};
-pub use edges::summary;
+pub use guesses::guess;

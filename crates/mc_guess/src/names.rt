@@ -24,7 +24,7 @@ pub fn plain(node: NodeId) -> Term
 
 /// The term of a name, if it has one.
 #[tactic(auto, using(crate::proofs::Given::given_at))]
-fn given(names: &[Option<Term>], name: u64) -> Option<Term>
+pub fn given(names: &[Option<Term>], name: u64) -> Option<Term>
     ensures { result ≡ given names.now name }
 {
     names.get(name as usize).copied().flatten()
