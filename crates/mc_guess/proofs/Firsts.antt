@@ -1,11 +1,11 @@
 -- The first edge that gives something, among edges that are not used.
-use Rattle.std.proofs.Common.{◌≡◌, ◌<◌, ◌≤◌, ◌+◌, ℕ, zero, suc, List, [], ◌∷◌, Bool, true, false, Option, Some, None, option_map, drop, get_or, length, refl, sym, ap, ◌∙◌, arith}
+use Rattle.std.proofs.Common.{◌≡◌, ◌<◌, ◌≤◌, ◌+◌, ℕ, zero, suc, List, [], ◌∷◌, ◌++◌, Bool, true, false, Option, Some, None, option_map, drop, get_or, length, refl, sym, ap, ◌∙◌, arith}
 use Rattle.std.specs.Prelude.{not}
 use Rattle.std.specs.List.{filter}
 use Rattle.std.proofs.lemmas.List.{drop_more}
 use Rattle.mc_base.specs.declared.ids.EdgeId.{EdgeId}
 use Rattle.mc_graph.specs.declared.edge.Edge.{Edge}
-use Rattle.mc_graph.specs.Graph.{Edges, IdsAscend}
+use Rattle.mc_graph.specs.Graph.{Edges, IdsAscend, without}
 use Rattle.mc_premises.specs.Named.{others, is_among}
 use Rattle.mc_cover.specs.Guessed.{or_else, first_edge}
 use Rattle.mc_covering.specs.Setting.{is_unused}
@@ -16,6 +16,16 @@ drop_none [] zero l = refl
 drop_none [] (suc i) l = refl
 drop_none (x ∷ xs) zero l = absurd (omega arith)
 drop_none (x ∷ xs) (suc i) l = drop_none xs i (omega arith)
+
+pub others_push : (es : Edges) (used : List EdgeId) (id : EdgeId) → others es (used ++ id ∷ []) ≡ without (others es used) id
+others_push es [] id = refl
+others_push es (other ∷ used) id = others_push (without es other) used id
+
+pub count_end : (used : List EdgeId) (es : Edges) (high i count : ℕ) → IdsAscend 0 es high → length es ≤ i → count + length (filter (is_unused used) (drop i es)) ≡ length (filter (is_unused used) es) → count ≡ length (others es used)
+count_end used es high i count a l h =
+    let none : length (filter (is_unused used) (drop i es)) ≡ 0 = ap (λ (z : Edges). length (filter (is_unused used) z)) (drop_none es i l) in
+    let are : length (others es used) ≡ length (filter (is_unused used) es) = ap (λ (z : Edges). length z) (others_are es high used a) in
+    omega arith
 
 module _ {X : Type 0} (used : List EdgeId) (f : Edge → Option X) where
   -- of those that are not used

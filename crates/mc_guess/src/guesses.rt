@@ -12,7 +12,7 @@ use mc_base::{EdgeId, Items, NoMemory, NodeId, PredId};
 use mc_defs::{Def, Defs, Rule};
 use mc_state::Term;
 use mc_symbolic::State;
-use std::alloc::Global;
+use std::alloc::{AllocError, Global};
 
 /// The stop's arguments, where it is reached.
 fn by_stop(
@@ -81,11 +81,13 @@ fn given_by_rule(
         }
     }
     settle(&mut names, rule.atoms.as_slice());
-    taken_by_parameters(alloc, names.as_slice(), def.params.len())
+    let terms = taken_by_parameters(alloc, names.as_slice(), def.params.len())?;
+    Ok(terms)
 }
 
 /// The guess, with at most so many guesses one within the other.
 #[cycle(guess)]
+#[tactic(auto, using(crate::proofs::Firsts::others_push))]
 fn guess_at(
     alloc: Global,
     state: &State,
@@ -115,24 +117,41 @@ fn guess_at(
     if let Some(found) = first_block(alloc, state, used, &at, rules)? {
         let taken = with_used(alloc, used, found.id)?;
         let contents = found.contents.as_slice();
-        return given_by_rule(
+        let terms = given_by_rule(
             alloc, state, defs, stop, left, &taken, pred, def, found.rule, at, contents,
-        );
+        )?;
+        return Ok(terms);
     }
     match first_empty(rules) {
-        Some(rule) => given_by_rule(
-            alloc, state, defs, stop, left, used, pred, def, rule, at, &[],
-        ),
-        None => zeros(alloc, def.params.len()),
+        Some(rule) => {
+            let terms = given_by_rule(
+                alloc,
+                state,
+                defs,
+                stop,
+                left,
+                used,
+                pred,
+                def,
+                rule,
+                at,
+                &[],
+            )?;
+            Ok(terms)
+        }
+        None => {
+            let terms = zeros(alloc, def.params.len())?;
+            Ok(terms)
+        }
     }
 }
 
-/// How many edges are not used, and one more.
+/// How many edges are not used.
 fn depth(state: &State, used: &[EdgeId]) -> u64
-    ensures { result ≡ suc (length (free_edges state.now used.now)) }
+    ensures { result ≡ length (free_edges state.now used.now) }
 {
     state.is_bounded();
-    let mut count = 1;
+    let mut count = 0;
     for entry in state.edges() {
         if !is_used(used, entry.0) {
             count += 1;
@@ -155,7 +174,9 @@ pub fn guess(
 ) -> Result<Vec<Term>, NoMemory>
     ensures { IfOk result (λ terms. (know : Test) → Tells know state.now → terms.items ≡ guess know defs.now pred at stop.now (free_edges state.now used.now)) }
 {
-    let left = depth(state, used);
+    let Some(left) = depth(state, used).checked_add(1) else {
+        return Err(AllocError);
+    };
     let terms = guess_at(alloc, state, defs.as_slice(), stop, left, used, pred, at)?;
     Ok(terms)
 }

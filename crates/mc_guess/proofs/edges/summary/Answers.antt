@@ -1,4 +1,4 @@
-use Rattle.std.proofs.Common.{◌≡◌, ◌<◌, ◌≤◌, None, Option, List, Vec, Global,  option_map, length, get_or, sym, ap, ◌∙◌}
+use Rattle.std.proofs.Common.{◌≡◌, ◌<◌, ◌≤◌, None, Option, List, Vec, Global, option_map, length, get_or, sym, ap, ◌∙◌}
 use Rattle.mc_state.specs.declared.terms.Term.{Term}
 use Rattle.mc_guess.proofs.Summaries.{summary_first, summary_none, summary_some}
 use Rattle.mc_guess.proofs.edges.summary.Goals as goal
