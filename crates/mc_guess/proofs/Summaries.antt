@@ -1,5 +1,5 @@
 -- The first summary among edges that are not used.
-use Rattle.std.proofs.Common.{◌≡◌, ◌<◌, ◌≤◌, ◌+◌, ℕ, zero, suc, List, [], ◌∷◌, Bool, true, false, Option, Some, None, map, option_map, drop, get_or, length, refl, sym, ap, ◌∙◌, arith}
+use Rattle.std.proofs.Common.{◌≡◌, ◌<◌, ◌≤◌, ◌+◌, ℕ, zero, suc, List, [], ◌∷◌, true, false, Option, Some, None, map, option_map, drop, get_or, length, refl, sym, ap, ◌∙◌, arith}
 use Rattle.std.specs.Prelude.{not}
 use Rattle.std.specs.List.{filter}
 use Rattle.std.proofs.lemmas.List.{drop_more}
@@ -12,7 +12,7 @@ use Rattle.mc_state.specs.declared.terms.Term.{Term}
 use Rattle.mc_state.specs.Terms.{plain}
 use Rattle.mc_premises.specs.Known.{Test}
 use Rattle.mc_premises.specs.Named.{others, is_among}
-use Rattle.mc_cover.specs.Guessed.{or_else, first_edge, summary_of, by_summary}
+use Rattle.mc_cover.specs.Guessed.{or_else, summary_of, by_summary}
 use Rattle.mc_covering.specs.Setting.{is_unused}
 use Rattle.mc_covering.proofs.Left.{others_are}
 
