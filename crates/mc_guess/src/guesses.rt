@@ -124,18 +124,9 @@ fn guess_at(
     }
     match first_empty(rules) {
         Some(rule) => {
+            let contents = &[];
             let terms = given_by_rule(
-                alloc,
-                state,
-                defs,
-                stop,
-                left,
-                used,
-                pred,
-                def,
-                rule,
-                at,
-                &[],
+                alloc, state, defs, stop, left, used, pred, def, rule, at, contents,
             )?;
             Ok(terms)
         }
