@@ -1,0 +1,4 @@
+pub mod Given
+pub mod Firsts
+pub mod Summaries
+pub mod Chosen

@@ -1,0 +1,10 @@
+//! The arguments with which a predicate may hold where a symbolic state has its memory, guessed.
+#![tactic(auto)]
+
+mod blocks;
+mod edges;
+mod guesses;
+mod names;
+mod rules;
+
+pub use guesses::guess;
