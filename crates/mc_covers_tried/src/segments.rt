@@ -7,7 +7,7 @@ use mc_cover::Mark;
 use mc_state::NodeKind;
 use std::test::Fail;
 
-static CASES: [Case; 32] = [
+static ENDS: [Case; 9] = [
     Case {
         name: "it ends where it begins",
         kinds: &[NodeKind::Zero, NodeKind::Ptr],
@@ -45,66 +45,6 @@ static CASES: [Case; 32] = [
         want: None,
     },
     Case {
-        name: "a segment of one block",
-        kinds: &[NodeKind::Zero, NodeKind::Ptr, NodeKind::Int, NodeKind::Ptr],
-        edges: &[PlainEdge::Block(1, NODE, &[Some(NodeId(2)), Some(NodeId(3))])],
-        atoms: &[],
-        used: &[],
-        pred: LIST,
-        at: (1, 0),
-        args: &[],
-        stop: Some(((3, 0), &[])),
-        want: Some(&[
-            Mark::ByCall {
-                place: 1,
-                block: Some(EdgeId(0)),
-                call: 0,
-            },
-            Mark::AtEnd,
-        ]),
-    },
-    Case {
-        name: "a Seg",
-        kinds: &[NodeKind::Zero, NodeKind::Ptr, NodeKind::Ptr],
-        edges: &[PlainEdge::Seg(1, &[], LIST, 2, &[])],
-        atoms: &[],
-        used: &[],
-        pred: LIST,
-        at: (1, 0),
-        args: &[],
-        stop: Some(((2, 0), &[])),
-        want: Some(&[Mark::BySeg(EdgeId(0)), Mark::AtEnd]),
-    },
-    Case {
-        name: "a Seg and a block",
-        kinds: &[
-            NodeKind::Zero,
-            NodeKind::Ptr,
-            NodeKind::Ptr,
-            NodeKind::Int,
-            NodeKind::Ptr,
-        ],
-        edges: &[
-            PlainEdge::Block(2, NODE, &[Some(NodeId(3)), Some(NodeId(4))]),
-            PlainEdge::Seg(1, &[], LIST, 2, &[]),
-        ],
-        atoms: &[],
-        used: &[],
-        pred: LIST,
-        at: (1, 0),
-        args: &[],
-        stop: Some(((4, 0), &[])),
-        want: Some(&[
-            Mark::BySeg(EdgeId(1)),
-            Mark::ByCall {
-                place: 1,
-                block: Some(EdgeId(0)),
-                call: 0,
-            },
-            Mark::AtEnd,
-        ]),
-    },
-    Case {
         name: "an Ind is no segment",
         kinds: &[NodeKind::Zero, NodeKind::Ptr, NodeKind::Ptr],
         edges: &[PlainEdge::Ind(1, LIST, &[])],
@@ -126,119 +66,6 @@ static CASES: [Case; 32] = [
         at: (0, 0),
         args: &[],
         stop: Some(((1, 0), &[])),
-        want: None,
-    },
-    Case {
-        name: "an edge that may not be used",
-        kinds: &[NodeKind::Zero, NodeKind::Ptr, NodeKind::Ptr],
-        edges: &[PlainEdge::Seg(1, &[], LIST, 2, &[])],
-        atoms: &[],
-        used: &[EdgeId(0)],
-        pred: LIST,
-        at: (1, 0),
-        args: &[],
-        stop: Some(((2, 0), &[])),
-        want: None,
-    },
-    Case {
-        name: "through the first call of a tree",
-        kinds: &[NodeKind::Zero, NodeKind::Ptr, NodeKind::Ptr, NodeKind::Ptr],
-        edges: &[
-            PlainEdge::Block(1, PAIR, &[Some(NodeId(2)), Some(NodeId(3))]),
-            PlainEdge::Ind(3, TREE, &[]),
-        ],
-        atoms: &[],
-        used: &[],
-        pred: TREE,
-        at: (1, 0),
-        args: &[],
-        stop: Some(((2, 0), &[])),
-        want: Some(&[
-            Mark::ByCall {
-                place: 1,
-                block: Some(EdgeId(0)),
-                call: 0,
-            },
-            Mark::AtEnd,
-            Mark::ByInd(EdgeId(1)),
-        ]),
-    },
-    Case {
-        name: "through the second call of a tree",
-        kinds: &[NodeKind::Zero, NodeKind::Ptr, NodeKind::Ptr, NodeKind::Ptr],
-        edges: &[
-            PlainEdge::Block(1, PAIR, &[Some(NodeId(2)), Some(NodeId(3))]),
-            PlainEdge::Ind(2, TREE, &[]),
-        ],
-        atoms: &[],
-        used: &[],
-        pred: TREE,
-        at: (1, 0),
-        args: &[],
-        stop: Some(((3, 0), &[])),
-        want: Some(&[
-            Mark::ByCall {
-                place: 1,
-                block: Some(EdgeId(0)),
-                call: 1,
-            },
-            Mark::ByInd(EdgeId(1)),
-            Mark::AtEnd,
-        ]),
-    },
-    Case {
-        name: "lengths that differ by one",
-        kinds: &[
-            NodeKind::Zero,
-            NodeKind::Ptr,
-            NodeKind::Int,
-            NodeKind::Ptr,
-            NodeKind::Int,
-        ],
-        edges: &[PlainEdge::Block(1, NODE, &[Some(NodeId(2)), Some(NodeId(3))])],
-        atoms: &[Atom::In(NodeId(4), 0, 100)],
-        used: &[],
-        pred: LENLIST,
-        at: (1, 0),
-        args: &[(4, 1)],
-        stop: Some(((3, 0), &[(4, 0)])),
-        want: Some(&[
-            Mark::ByCall {
-                place: 1,
-                block: Some(EdgeId(0)),
-                call: 0,
-            },
-            Mark::AtEnd,
-        ]),
-    },
-    Case {
-        name: "lengths that differ by more",
-        kinds: &[
-            NodeKind::Zero,
-            NodeKind::Ptr,
-            NodeKind::Int,
-            NodeKind::Ptr,
-            NodeKind::Int,
-        ],
-        edges: &[PlainEdge::Block(1, NODE, &[Some(NodeId(2)), Some(NodeId(3))])],
-        atoms: &[Atom::In(NodeId(4), 0, 100)],
-        used: &[],
-        pred: LENLIST,
-        at: (1, 0),
-        args: &[(4, 1)],
-        stop: Some(((3, 0), &[(0, 5)])),
-        want: None,
-    },
-    Case {
-        name: "a length that may be no int",
-        kinds: &[NodeKind::Zero, NodeKind::Ptr, NodeKind::Int],
-        edges: &[],
-        atoms: &[],
-        used: &[],
-        pred: LENLIST,
-        at: (1, 0),
-        args: &[(2, 1)],
-        stop: Some(((1, 0), &[(2, 1)])),
         want: None,
     },
     Case {
@@ -287,6 +114,62 @@ static CASES: [Case; 32] = [
         at: (1, 0),
         args: &[(3, 0)],
         stop: Some(((1, 0), &[(2, 0)])),
+        want: None,
+    },
+];
+
+static SEGS: [Case; 12] = [
+    Case {
+        name: "a Seg",
+        kinds: &[NodeKind::Zero, NodeKind::Ptr, NodeKind::Ptr],
+        edges: &[PlainEdge::Seg(1, &[], LIST, 2, &[])],
+        atoms: &[],
+        used: &[],
+        pred: LIST,
+        at: (1, 0),
+        args: &[],
+        stop: Some(((2, 0), &[])),
+        want: Some(&[Mark::BySeg(EdgeId(0)), Mark::AtEnd]),
+    },
+    Case {
+        name: "a Seg and a block",
+        kinds: &[
+            NodeKind::Zero,
+            NodeKind::Ptr,
+            NodeKind::Ptr,
+            NodeKind::Int,
+            NodeKind::Ptr,
+        ],
+        edges: &[
+            PlainEdge::Block(2, NODE, &[Some(NodeId(3)), Some(NodeId(4))]),
+            PlainEdge::Seg(1, &[], LIST, 2, &[]),
+        ],
+        atoms: &[],
+        used: &[],
+        pred: LIST,
+        at: (1, 0),
+        args: &[],
+        stop: Some(((4, 0), &[])),
+        want: Some(&[
+            Mark::BySeg(EdgeId(1)),
+            Mark::ByCall {
+                place: 1,
+                block: Some(EdgeId(0)),
+                call: 0,
+            },
+            Mark::AtEnd,
+        ]),
+    },
+    Case {
+        name: "an edge that may not be used",
+        kinds: &[NodeKind::Zero, NodeKind::Ptr, NodeKind::Ptr],
+        edges: &[PlainEdge::Seg(1, &[], LIST, 2, &[])],
+        atoms: &[],
+        used: &[EdgeId(0)],
+        pred: LIST,
+        at: (1, 0),
+        args: &[],
+        stop: Some(((2, 0), &[])),
         want: None,
     },
     Case {
@@ -421,6 +304,129 @@ static CASES: [Case; 32] = [
         stop: Some(((2, 0), &[(3, 0)])),
         want: None,
     },
+];
+
+static CALLS: [Case; 11] = [
+    Case {
+        name: "a segment of one block",
+        kinds: &[NodeKind::Zero, NodeKind::Ptr, NodeKind::Int, NodeKind::Ptr],
+        edges: &[PlainEdge::Block(1, NODE, &[Some(NodeId(2)), Some(NodeId(3))])],
+        atoms: &[],
+        used: &[],
+        pred: LIST,
+        at: (1, 0),
+        args: &[],
+        stop: Some(((3, 0), &[])),
+        want: Some(&[
+            Mark::ByCall {
+                place: 1,
+                block: Some(EdgeId(0)),
+                call: 0,
+            },
+            Mark::AtEnd,
+        ]),
+    },
+    Case {
+        name: "through the first call of a tree",
+        kinds: &[NodeKind::Zero, NodeKind::Ptr, NodeKind::Ptr, NodeKind::Ptr],
+        edges: &[
+            PlainEdge::Block(1, PAIR, &[Some(NodeId(2)), Some(NodeId(3))]),
+            PlainEdge::Ind(3, TREE, &[]),
+        ],
+        atoms: &[],
+        used: &[],
+        pred: TREE,
+        at: (1, 0),
+        args: &[],
+        stop: Some(((2, 0), &[])),
+        want: Some(&[
+            Mark::ByCall {
+                place: 1,
+                block: Some(EdgeId(0)),
+                call: 0,
+            },
+            Mark::AtEnd,
+            Mark::ByInd(EdgeId(1)),
+        ]),
+    },
+    Case {
+        name: "through the second call of a tree",
+        kinds: &[NodeKind::Zero, NodeKind::Ptr, NodeKind::Ptr, NodeKind::Ptr],
+        edges: &[
+            PlainEdge::Block(1, PAIR, &[Some(NodeId(2)), Some(NodeId(3))]),
+            PlainEdge::Ind(2, TREE, &[]),
+        ],
+        atoms: &[],
+        used: &[],
+        pred: TREE,
+        at: (1, 0),
+        args: &[],
+        stop: Some(((3, 0), &[])),
+        want: Some(&[
+            Mark::ByCall {
+                place: 1,
+                block: Some(EdgeId(0)),
+                call: 1,
+            },
+            Mark::ByInd(EdgeId(1)),
+            Mark::AtEnd,
+        ]),
+    },
+    Case {
+        name: "lengths that differ by one",
+        kinds: &[
+            NodeKind::Zero,
+            NodeKind::Ptr,
+            NodeKind::Int,
+            NodeKind::Ptr,
+            NodeKind::Int,
+        ],
+        edges: &[PlainEdge::Block(1, NODE, &[Some(NodeId(2)), Some(NodeId(3))])],
+        atoms: &[Atom::In(NodeId(4), 0, 100)],
+        used: &[],
+        pred: LENLIST,
+        at: (1, 0),
+        args: &[(4, 1)],
+        stop: Some(((3, 0), &[(4, 0)])),
+        want: Some(&[
+            Mark::ByCall {
+                place: 1,
+                block: Some(EdgeId(0)),
+                call: 0,
+            },
+            Mark::AtEnd,
+        ]),
+    },
+    Case {
+        name: "lengths that differ by more",
+        kinds: &[
+            NodeKind::Zero,
+            NodeKind::Ptr,
+            NodeKind::Int,
+            NodeKind::Ptr,
+            NodeKind::Int,
+        ],
+        edges: &[PlainEdge::Block(1, NODE, &[Some(NodeId(2)), Some(NodeId(3))])],
+        atoms: &[Atom::In(NodeId(4), 0, 100)],
+        used: &[],
+        pred: LENLIST,
+        at: (1, 0),
+        args: &[(4, 1)],
+        stop: Some(((3, 0), &[(0, 5)])),
+        want: None,
+    },
+    Case {
+        name: "a length that may be no int",
+        kinds: &[NodeKind::Zero, NodeKind::Ptr, NodeKind::Int],
+        edges: &[],
+        atoms: &[],
+        used: &[],
+        pred: LENLIST,
+        at: (1, 0),
+        args: &[(2, 1)],
+        stop: Some(((1, 0), &[(2, 1)])),
+        want: None,
+    },
     Case {
         name: "a block of which a field is not known",
         kinds: &[NodeKind::Zero, NodeKind::Ptr, NodeKind::Ptr, NodeKind::Ptr],
@@ -525,8 +531,19 @@ static CASES: [Case; 32] = [
 ];
 
 #[test]
-fn segment_covers_are_found(rt: HostRuntime) -> Result<(), Fail> {
-    let wrong = first_wrong(rt.alloc(), &CASES)?;
-    assert_eq!(rt; wrong, None);
+fn a_segment_may_be_empty(rt: HostRuntime) -> Result<(), Fail> {
+    assert_eq!(rt; first_wrong(rt.alloc(), &ENDS)?, None);
+    Ok(())
+}
+
+#[test]
+fn a_segment_begins_with_an_edge(rt: HostRuntime) -> Result<(), Fail> {
+    assert_eq!(rt; first_wrong(rt.alloc(), &SEGS)?, None);
+    Ok(())
+}
+
+#[test]
+fn one_call_goes_on(rt: HostRuntime) -> Result<(), Fail> {
+    assert_eq!(rt; first_wrong(rt.alloc(), &CALLS)?, None);
     Ok(())
 }

@@ -1,13 +1,13 @@
-// Covers of predicates.
+// Covers by rules of predicates.
 use crate::cases::{Case, first_wrong};
-use crate::predicates::{LENLIST, LIST, NODE, PAIR, TREE, TWO, UNKNOWN};
+use crate::predicates::{LENLIST, LIST, NODE, PAIR, TREE, TWO};
 use crate::states::PlainEdge;
 use mc_base::{Atom, EdgeId, NodeId};
 use mc_cover::Mark;
 use mc_state::NodeKind;
 use std::test::Fail;
 
-static CASES: [Case; 52] = [
+static BLOCKS: [Case; 11] = [
     Case {
         name: "null",
         kinds: &[NodeKind::Zero],
@@ -49,109 +49,6 @@ static CASES: [Case; 52] = [
         args: &[],
         stop: None,
         want: None,
-    },
-    Case {
-        name: "an Ind",
-        kinds: &[NodeKind::Zero, NodeKind::Ptr],
-        edges: &[PlainEdge::Ind(1, LIST, &[])],
-        atoms: &[],
-        used: &[],
-        pred: LIST,
-        at: (1, 0),
-        args: &[],
-        stop: None,
-        want: Some(&[Mark::ByInd(EdgeId(0))]),
-    },
-    Case {
-        name: "an Ind at an equal node",
-        kinds: &[NodeKind::Zero, NodeKind::Ptr, NodeKind::Ptr],
-        edges: &[PlainEdge::Ind(2, LIST, &[])],
-        atoms: &[Atom::Eq(NodeId(1), NodeId(2), 0)],
-        used: &[],
-        pred: LIST,
-        at: (1, 0),
-        args: &[],
-        stop: None,
-        want: Some(&[Mark::ByInd(EdgeId(0))]),
-    },
-    Case {
-        name: "an Ind at another node",
-        kinds: &[NodeKind::Zero, NodeKind::Ptr, NodeKind::Ptr],
-        edges: &[PlainEdge::Ind(2, LIST, &[])],
-        atoms: &[],
-        used: &[],
-        pred: LIST,
-        at: (1, 0),
-        args: &[],
-        stop: None,
-        want: None,
-    },
-    Case {
-        name: "an Ind of another predicate",
-        kinds: &[NodeKind::Zero, NodeKind::Ptr],
-        edges: &[PlainEdge::Ind(1, TREE, &[])],
-        atoms: &[],
-        used: &[],
-        pred: LIST,
-        at: (1, 0),
-        args: &[],
-        stop: None,
-        want: None,
-    },
-    Case {
-        name: "a Seg and what is at its end",
-        kinds: &[NodeKind::Zero, NodeKind::Ptr, NodeKind::Ptr],
-        edges: &[
-            PlainEdge::Seg(1, &[], LIST, 2, &[]),
-            PlainEdge::Ind(2, LIST, &[]),
-        ],
-        atoms: &[],
-        used: &[],
-        pred: LIST,
-        at: (1, 0),
-        args: &[],
-        stop: None,
-        want: Some(&[Mark::BySeg(EdgeId(0)), Mark::ByInd(EdgeId(1))]),
-    },
-    Case {
-        name: "a Seg and nothing at its end",
-        kinds: &[NodeKind::Zero, NodeKind::Ptr, NodeKind::Ptr],
-        edges: &[PlainEdge::Seg(1, &[], LIST, 2, &[])],
-        atoms: &[],
-        used: &[],
-        pred: LIST,
-        at: (1, 0),
-        args: &[],
-        stop: None,
-        want: None,
-    },
-    Case {
-        name: "an Ind before a Seg",
-        kinds: &[NodeKind::Zero, NodeKind::Ptr, NodeKind::Ptr],
-        edges: &[
-            PlainEdge::Seg(1, &[], LIST, 2, &[]),
-            PlainEdge::Ind(1, LIST, &[]),
-            PlainEdge::Ind(2, LIST, &[]),
-        ],
-        atoms: &[],
-        used: &[],
-        pred: LIST,
-        at: (1, 0),
-        args: &[],
-        stop: None,
-        want: Some(&[Mark::ByInd(EdgeId(1))]),
-    },
-    Case {
-        name: "the first of two Inds",
-        kinds: &[NodeKind::Zero, NodeKind::Ptr, NodeKind::Ptr],
-        edges: &[PlainEdge::Ind(2, LIST, &[]), PlainEdge::Ind(1, LIST, &[])],
-        atoms: &[Atom::Eq(NodeId(1), NodeId(2), 0)],
-        used: &[],
-        pred: LIST,
-        at: (1, 0),
-        args: &[],
-        stop: None,
-        want: Some(&[Mark::ByInd(EdgeId(0))]),
     },
     Case {
         name: "a block and an Ind",
@@ -245,14 +142,14 @@ static CASES: [Case; 52] = [
         want: None,
     },
     Case {
-        name: "an edge that may not be used",
+        name: "a block that may not be used",
         kinds: &[NodeKind::Zero, NodeKind::Ptr, NodeKind::Int, NodeKind::Ptr],
         edges: &[
             PlainEdge::Block(1, NODE, &[Some(NodeId(2)), Some(NodeId(3))]),
             PlainEdge::Ind(3, LIST, &[]),
         ],
         atoms: &[],
-        used: &[EdgeId(1)],
+        used: &[EdgeId(0)],
         pred: LIST,
         at: (1, 0),
         args: &[],
@@ -260,15 +157,11 @@ static CASES: [Case; 52] = [
         want: None,
     },
     Case {
-        name: "another in its place",
+        name: "a block at an equal node",
         kinds: &[NodeKind::Zero, NodeKind::Ptr, NodeKind::Int, NodeKind::Ptr],
-        edges: &[
-            PlainEdge::Block(1, NODE, &[Some(NodeId(2)), Some(NodeId(3))]),
-            PlainEdge::Ind(3, LIST, &[]),
-            PlainEdge::Ind(3, LIST, &[]),
-        ],
-        atoms: &[],
-        used: &[EdgeId(1)],
+        edges: &[PlainEdge::Block(3, NODE, &[Some(NodeId(2)), Some(NodeId(0))])],
+        atoms: &[Atom::Eq(NodeId(3), NodeId(1), 0)],
+        used: &[],
         pred: LIST,
         at: (1, 0),
         args: &[],
@@ -278,33 +171,27 @@ static CASES: [Case; 52] = [
                 place: 1,
                 block: Some(EdgeId(0)),
             },
-            Mark::ByInd(EdgeId(2)),
+            Mark::ByRule {
+                place: 0,
+                block: None,
+            },
         ]),
     },
     Case {
-        name: "a predicate that is not defined",
-        kinds: &[NodeKind::Zero, NodeKind::Ptr],
-        edges: &[PlainEdge::Ind(1, LIST, &[])],
+        name: "a pointer that is not known",
+        kinds: &[NodeKind::Zero, NodeKind::Ptr, NodeKind::Int],
+        edges: &[PlainEdge::Block(1, NODE, &[Some(NodeId(2)), None])],
         atoms: &[],
         used: &[],
-        pred: UNKNOWN,
+        pred: LIST,
         at: (1, 0),
         args: &[],
         stop: None,
         want: None,
     },
-    Case {
-        name: "too many arguments",
-        kinds: &[NodeKind::Zero, NodeKind::Ptr],
-        edges: &[],
-        atoms: &[Atom::Eq(NodeId(1), NodeId(0), 0)],
-        used: &[],
-        pred: LIST,
-        at: (1, 0),
-        args: &[(0, 0)],
-        stop: None,
-        want: None,
-    },
+];
+
+static LENGTHS: [Case; 8] = [
     Case {
         name: "no length at null",
         kinds: &[NodeKind::Zero],
@@ -465,6 +352,9 @@ static CASES: [Case; 52] = [
         stop: None,
         want: None,
     },
+];
+
+static CALLS: [Case; 8] = [
     Case {
         name: "a tree of two",
         kinds: &[NodeKind::Zero, NodeKind::Ptr, NodeKind::Ptr, NodeKind::Ptr],
@@ -502,6 +392,31 @@ static CASES: [Case; 52] = [
         args: &[],
         stop: None,
         want: None,
+    },
+    Case {
+        name: "a tree that is shared at null",
+        kinds: &[NodeKind::Zero, NodeKind::Ptr, NodeKind::Ptr],
+        edges: &[
+            PlainEdge::Block(1, PAIR, &[Some(NodeId(2)), Some(NodeId(2))]),
+            PlainEdge::Ind(2, TREE, &[]),
+        ],
+        atoms: &[Atom::Eq(NodeId(2), NodeId(0), 0)],
+        used: &[],
+        pred: TREE,
+        at: (1, 0),
+        args: &[],
+        stop: None,
+        want: Some(&[
+            Mark::ByRule {
+                place: 1,
+                block: Some(EdgeId(0)),
+            },
+            Mark::ByInd(EdgeId(1)),
+            Mark::ByRule {
+                place: 0,
+                block: None,
+            },
+        ]),
     },
     Case {
         name: "the second rule after the first failed late",
@@ -569,291 +484,6 @@ static CASES: [Case; 52] = [
                 block: None,
             },
             Mark::ByInd(EdgeId(2)),
-        ]),
-    },
-    Case {
-        name: "an Ind of the length",
-        kinds: &[NodeKind::Zero, NodeKind::Ptr, NodeKind::Int],
-        edges: &[PlainEdge::Ind(1, LENLIST, &[2])],
-        atoms: &[],
-        used: &[],
-        pred: LENLIST,
-        at: (1, 0),
-        args: &[(2, 0)],
-        stop: None,
-        want: Some(&[Mark::ByInd(EdgeId(0))]),
-    },
-    Case {
-        name: "an Ind of an equal length",
-        kinds: &[NodeKind::Zero, NodeKind::Ptr, NodeKind::Int, NodeKind::Int],
-        edges: &[PlainEdge::Ind(1, LENLIST, &[2])],
-        atoms: &[Atom::Eq(NodeId(3), NodeId(2), 0)],
-        used: &[],
-        pred: LENLIST,
-        at: (1, 0),
-        args: &[(3, 0)],
-        stop: None,
-        want: Some(&[Mark::ByInd(EdgeId(0))]),
-    },
-    Case {
-        name: "an Ind of another length",
-        kinds: &[NodeKind::Zero, NodeKind::Ptr, NodeKind::Int, NodeKind::Int],
-        edges: &[PlainEdge::Ind(1, LENLIST, &[2])],
-        atoms: &[Atom::Eq(NodeId(3), NodeId(2), 1)],
-        used: &[],
-        pred: LENLIST,
-        at: (1, 0),
-        args: &[(3, 0)],
-        stop: None,
-        want: None,
-    },
-    Case {
-        name: "an Ind of a length that is a term",
-        kinds: &[NodeKind::Zero, NodeKind::Ptr, NodeKind::Int, NodeKind::Int],
-        edges: &[PlainEdge::Ind(1, LENLIST, &[2])],
-        atoms: &[Atom::Eq(NodeId(2), NodeId(3), 1)],
-        used: &[],
-        pred: LENLIST,
-        at: (1, 0),
-        args: &[(3, 1)],
-        stop: None,
-        want: Some(&[Mark::ByInd(EdgeId(0))]),
-    },
-    Case {
-        name: "a Seg of another predicate",
-        kinds: &[NodeKind::Zero, NodeKind::Ptr, NodeKind::Ptr],
-        edges: &[
-            PlainEdge::Seg(1, &[], TREE, 2, &[]),
-            PlainEdge::Ind(2, LIST, &[]),
-        ],
-        atoms: &[],
-        used: &[],
-        pred: LIST,
-        at: (1, 0),
-        args: &[],
-        stop: None,
-        want: None,
-    },
-    Case {
-        name: "a Seg at another node",
-        kinds: &[NodeKind::Zero, NodeKind::Ptr, NodeKind::Ptr, NodeKind::Ptr],
-        edges: &[
-            PlainEdge::Seg(3, &[], LIST, 2, &[]),
-            PlainEdge::Ind(2, LIST, &[]),
-        ],
-        atoms: &[],
-        used: &[],
-        pred: LIST,
-        at: (1, 0),
-        args: &[],
-        stop: None,
-        want: None,
-    },
-    Case {
-        name: "the first of two Segs",
-        kinds: &[NodeKind::Zero, NodeKind::Ptr, NodeKind::Ptr, NodeKind::Ptr],
-        edges: &[
-            PlainEdge::Seg(1, &[], LIST, 2, &[]),
-            PlainEdge::Seg(1, &[], LIST, 3, &[]),
-            PlainEdge::Ind(2, LIST, &[]),
-            PlainEdge::Ind(3, LIST, &[]),
-        ],
-        atoms: &[],
-        used: &[],
-        pred: LIST,
-        at: (1, 0),
-        args: &[],
-        stop: None,
-        want: Some(&[Mark::BySeg(EdgeId(0)), Mark::ByInd(EdgeId(2))]),
-    },
-    Case {
-        name: "the second of two Segs",
-        kinds: &[NodeKind::Zero, NodeKind::Ptr, NodeKind::Ptr, NodeKind::Ptr],
-        edges: &[
-            PlainEdge::Seg(1, &[], LIST, 2, &[]),
-            PlainEdge::Seg(1, &[], LIST, 3, &[]),
-            PlainEdge::Ind(3, LIST, &[]),
-        ],
-        atoms: &[],
-        used: &[],
-        pred: LIST,
-        at: (1, 0),
-        args: &[],
-        stop: None,
-        want: Some(&[Mark::BySeg(EdgeId(1)), Mark::ByInd(EdgeId(2))]),
-    },
-    Case {
-        name: "a Seg of lengths",
-        kinds: &[
-            NodeKind::Zero,
-            NodeKind::Ptr,
-            NodeKind::Ptr,
-            NodeKind::Int,
-            NodeKind::Int,
-        ],
-        edges: &[
-            PlainEdge::Seg(1, &[3], LENLIST, 2, &[4]),
-            PlainEdge::Ind(2, LENLIST, &[4]),
-        ],
-        atoms: &[],
-        used: &[],
-        pred: LENLIST,
-        at: (1, 0),
-        args: &[(3, 0)],
-        stop: None,
-        want: Some(&[Mark::BySeg(EdgeId(0)), Mark::ByInd(EdgeId(1))]),
-    },
-    Case {
-        name: "a Seg that begins with another length",
-        kinds: &[
-            NodeKind::Zero,
-            NodeKind::Ptr,
-            NodeKind::Ptr,
-            NodeKind::Int,
-            NodeKind::Int,
-        ],
-        edges: &[
-            PlainEdge::Seg(1, &[3], LENLIST, 2, &[4]),
-            PlainEdge::Ind(2, LENLIST, &[4]),
-        ],
-        atoms: &[],
-        used: &[],
-        pred: LENLIST,
-        at: (1, 0),
-        args: &[(4, 0)],
-        stop: None,
-        want: None,
-    },
-    Case {
-        name: "a Seg that ends with another length",
-        kinds: &[
-            NodeKind::Zero,
-            NodeKind::Ptr,
-            NodeKind::Ptr,
-            NodeKind::Int,
-            NodeKind::Int,
-        ],
-        edges: &[
-            PlainEdge::Seg(1, &[3], LENLIST, 2, &[4]),
-            PlainEdge::Ind(2, LENLIST, &[3]),
-        ],
-        atoms: &[],
-        used: &[],
-        pred: LENLIST,
-        at: (1, 0),
-        args: &[(3, 0)],
-        stop: None,
-        want: None,
-    },
-    Case {
-        name: "a Seg before a rule",
-        kinds: &[NodeKind::Zero, NodeKind::Ptr, NodeKind::Int, NodeKind::Ptr],
-        edges: &[
-            PlainEdge::Block(1, NODE, &[Some(NodeId(2)), Some(NodeId(3))]),
-            PlainEdge::Seg(1, &[], LIST, 3, &[]),
-            PlainEdge::Ind(3, LIST, &[]),
-        ],
-        atoms: &[],
-        used: &[],
-        pred: LIST,
-        at: (1, 0),
-        args: &[],
-        stop: None,
-        want: Some(&[Mark::BySeg(EdgeId(1)), Mark::ByInd(EdgeId(2))]),
-    },
-    Case {
-        name: "a Seg that may not be used",
-        kinds: &[NodeKind::Zero, NodeKind::Ptr, NodeKind::Int, NodeKind::Ptr],
-        edges: &[
-            PlainEdge::Block(1, NODE, &[Some(NodeId(2)), Some(NodeId(3))]),
-            PlainEdge::Seg(1, &[], LIST, 3, &[]),
-            PlainEdge::Ind(3, LIST, &[]),
-        ],
-        atoms: &[],
-        used: &[EdgeId(1)],
-        pred: LIST,
-        at: (1, 0),
-        args: &[],
-        stop: None,
-        want: Some(&[
-            Mark::ByRule {
-                place: 1,
-                block: Some(EdgeId(0)),
-            },
-            Mark::ByInd(EdgeId(2)),
-        ]),
-    },
-    Case {
-        name: "a block that may not be used",
-        kinds: &[NodeKind::Zero, NodeKind::Ptr, NodeKind::Int, NodeKind::Ptr],
-        edges: &[
-            PlainEdge::Block(1, NODE, &[Some(NodeId(2)), Some(NodeId(3))]),
-            PlainEdge::Ind(3, LIST, &[]),
-        ],
-        atoms: &[],
-        used: &[EdgeId(0)],
-        pred: LIST,
-        at: (1, 0),
-        args: &[],
-        stop: None,
-        want: None,
-    },
-    Case {
-        name: "a block at an equal node",
-        kinds: &[NodeKind::Zero, NodeKind::Ptr, NodeKind::Int, NodeKind::Ptr],
-        edges: &[PlainEdge::Block(3, NODE, &[Some(NodeId(2)), Some(NodeId(0))])],
-        atoms: &[Atom::Eq(NodeId(3), NodeId(1), 0)],
-        used: &[],
-        pred: LIST,
-        at: (1, 0),
-        args: &[],
-        stop: None,
-        want: Some(&[
-            Mark::ByRule {
-                place: 1,
-                block: Some(EdgeId(0)),
-            },
-            Mark::ByRule {
-                place: 0,
-                block: None,
-            },
-        ]),
-    },
-    Case {
-        name: "a pointer that is not known",
-        kinds: &[NodeKind::Zero, NodeKind::Ptr, NodeKind::Int],
-        edges: &[PlainEdge::Block(1, NODE, &[Some(NodeId(2)), None])],
-        atoms: &[],
-        used: &[],
-        pred: LIST,
-        at: (1, 0),
-        args: &[],
-        stop: None,
-        want: None,
-    },
-    Case {
-        name: "a tree that is shared at null",
-        kinds: &[NodeKind::Zero, NodeKind::Ptr, NodeKind::Ptr],
-        edges: &[
-            PlainEdge::Block(1, PAIR, &[Some(NodeId(2)), Some(NodeId(2))]),
-            PlainEdge::Ind(2, TREE, &[]),
-        ],
-        atoms: &[Atom::Eq(NodeId(2), NodeId(0), 0)],
-        used: &[],
-        pred: TREE,
-        at: (1, 0),
-        args: &[],
-        stop: None,
-        want: Some(&[
-            Mark::ByRule {
-                place: 1,
-                block: Some(EdgeId(0)),
-            },
-            Mark::ByInd(EdgeId(1)),
-            Mark::ByRule {
-                place: 0,
-                block: None,
-            },
         ]),
     },
     Case {
@@ -937,8 +567,19 @@ static CASES: [Case; 52] = [
 ];
 
 #[test]
-fn covers_are_found(rt: HostRuntime) -> Result<(), Fail> {
-    let wrong = first_wrong(rt.alloc(), &CASES)?;
-    assert_eq!(rt; wrong, None);
+fn a_rule_takes_its_block(rt: HostRuntime) -> Result<(), Fail> {
+    assert_eq!(rt; first_wrong(rt.alloc(), &BLOCKS)?, None);
+    Ok(())
+}
+
+#[test]
+fn a_rule_asks_for_its_atoms(rt: HostRuntime) -> Result<(), Fail> {
+    assert_eq!(rt; first_wrong(rt.alloc(), &LENGTHS)?, None);
+    Ok(())
+}
+
+#[test]
+fn all_calls_are_covered(rt: HostRuntime) -> Result<(), Fail> {
+    assert_eq!(rt; first_wrong(rt.alloc(), &CALLS)?, None);
     Ok(())
 }
