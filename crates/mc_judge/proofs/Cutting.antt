@@ -10,7 +10,7 @@ use Rattle.mc_judge.specs.Cuts.{HasNoFeed, IsCut, with_feeds}
 yes : (a b : ℕ) → a ≡ b → nat_eq a b ≡ true
 yes a b e = grind (arith, nat_tests)
 
-no : (a b : ℕ) → a ≢ b → nat_eq a b ≡ false
+pub no : (a b : ℕ) → a ≢ b → nat_eq a b ≡ false
 no a b e = grind (arith, nat_tests)
 
 same_or : (a b : ℕ) → (a ≡ b) ⊎ (a ≢ b)
@@ -18,20 +18,20 @@ same_or a b = grind arith
 
 -- ---- line feeds
 
-none_has : HasNoFeed []
+pub none_has : HasNoFeed []
 none_has c = let less = c.1 in omega arith
 
-first_has : (b : ℕ) (bs : List ℕ) → b ≢ 10 → HasNoFeed bs → HasNoFeed (b ∷ bs)
+pub first_has : (b : ℕ) (bs : List ℕ) → b ≢ 10 → HasNoFeed bs → HasNoFeed (b ∷ bs)
 first_has b bs ne none c = at c.0 c.1 c.2
   where
     at : (k : ℕ) → k < length (b ∷ bs) → get_or (b ∷ bs) k 10 ≡ 10 → ⊥
     at zero less e = ne e
     at (suc k) less e = none (k, omega arith, e)
 
-begins_otherwise : (b : ℕ) (bs : List ℕ) → HasNoFeed (b ∷ bs) → b ≢ 10
+pub begins_otherwise : (b : ℕ) (bs : List ℕ) → HasNoFeed (b ∷ bs) → b ≢ 10
 begins_otherwise b bs none e = none (0, omega arith, e)
 
-rest_has : (b : ℕ) (bs : List ℕ) → HasNoFeed (b ∷ bs) → HasNoFeed bs
+pub rest_has : (b : ℕ) (bs : List ℕ) → HasNoFeed (b ∷ bs) → HasNoFeed bs
 rest_has b bs none c = let less = c.1 in none (suc c.0, omega arith, c.2)
 
 len_there : (b : ℕ) (bs : List ℕ) → b ≡ 10 → line_len (b ∷ bs) ≡ 0

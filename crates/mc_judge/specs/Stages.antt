@@ -48,7 +48,7 @@ needs_more Spent = false
 
 -- the judge is one of the same flow graph and definitions
 abbrev pub StaysFor : (old new : Judge) → Type 0
-StaysFor old new = (new.flow ≡ old.flow) × (new.defs ≡ old.defs)
+StaysFor old new = (new.flow.now ≡ old.flow.now) × (new.defs.now ≡ old.defs.now)
 
 -- the judge has heard the text: its whole lines are judged, and the open one is held
 pub record HasHeard (k : Knowledge) (well : RawState → Bool) (text : List ℕ) (judge : Judge) : Type 0 where

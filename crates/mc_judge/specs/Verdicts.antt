@@ -1,11 +1,12 @@
 -- What is said of documents: of the lines that were read, and of the whole.
-use Rattle.std.specs.Prelude.{◌≡◌, ◌≢◌, ◌⊎◌, ◌++◌, ℕ, suc, Bool, List, [], ◌∷◌, Ok, Err, length}
+use Rattle.std.specs.Prelude.{◌≡◌, ◌≢◌, ◌⊎◌, ◌↔◌, ◌<◌, ◌++◌, ℕ, suc, Bool, List, [], ◌∷◌, Ok, Err, length}
 use Rattle.serde_json.specs.Data.{Data}
 use Rattle.mc_cert.specs.declared.fault.LineFault.TheVariants.{NoMemory}
 use Rattle.mc_cert.specs.declared.line.Line.{Line}
 use Rattle.mc_cert.specs.declared.line.Line.TheVariants.{Header}
 use Rattle.mc_cert.specs.Document.{ReadsAs, Spells, data_of}
 use Rattle.mc_cert.specs.Entries.{named_data}
+use Rattle.mc_cert.specs.Lines.{lines_of}
 use Rattle.mc_defs.specs.declared.rules.Def.{Def}
 use Rattle.mc_flow.specs.declared.graph.Flow.{Flow}
 use Rattle.mc_state.specs.declared.line.Form.{Form}
@@ -14,9 +15,10 @@ use Rattle.mc_state.specs.declared.line.Version.{Version}
 use Rattle.mc_state.specs.declared.line.Version.TheVariants.{One}
 use Rattle.mc_state.specs.declared.raw_state.RawState.{RawState}
 use Rattle.mc_kernel.specs.Branches.{Path}
+use Rattle.mc_kernel.specs.Certificates.{IsValidCertificate}
 use Rattle.mc_kernel.specs.Judges.{Knowledge}
 use Rattle.mc_kernel.specs.Readings.{Reading, finished, reading_line}
-use Rattle.mc_reading.specs.Documents.{reading_document}
+use Rattle.mc_reading.specs.Documents.{IsShortChain, reading_document}
 use Rattle.mc_judge.specs.declared.verdict.Refusal.{Refusal}
 use Rattle.mc_judge.specs.declared.verdict.Refusal.TheVariants as refusal
 use Rattle.mc_judge.specs.declared.verdict.Verdict.{Verdict}
@@ -93,3 +95,24 @@ IsVerdict k well flow defs texts verdict =
     HasEnded k well flow defs texts verdict
     ⊎ ((GoesOn k well flow defs texts × (verdict ≡ Refused refusal.EndsEarly))
     ⊎ ((cause : Refusal) × IsRefusal k well flow defs texts cause × (verdict ≡ Refused cause)))
+
+-- ---- verdicts on texts, without a judge
+
+-- the text spells a valid certificate
+pub record IsCertificate (flow : Flow) (defs : List Def) (text : List ℕ) : Type 0 where
+  pub lines : List Line
+  pub spelled : SpellAll (lines_of text) lines
+  pub valid : IsValidCertificate flow defs lines
+
+-- the text spells a chain of one pass with these stuck branches
+pub record IsChain (flow : Flow) (defs : List Def) (text : List ℕ) (stuck : List Path) : Type 0 where
+  pub lines : List Line
+  pub spelled : SpellAll (lines_of text) lines
+  pub short : IsShortChain flow defs lines stuck
+
+-- safe exactly where the text spells a valid certificate, and so many alarms exactly where it spells a chain of one
+-- pass with so many stuck branches
+pub record Tells (flow : Flow) (defs : List Def) (text : List ℕ) (verdict : Verdict) : Type 0 where
+  pub safe : (verdict ≡ Safe) ↔ IsCertificate flow defs text
+  pub alarms : (count : ℕ)
+      → (verdict ≡ Alarms count) ↔ ((stuck : List Path) × IsChain flow defs text stuck × (count ≡ length stuck) × (0 < count))

@@ -8,7 +8,7 @@ ghost use Rattle.mc_judge.specs.Cuts.{HasNoFeed, IsCut};
 ghost use Rattle.mc_judge.specs.declared.stage.Stage.TheVariants.{Spent};
 ghost use Rattle.mc_judge.specs.declared.verdict.Refusal.{Refusal as Cause};
 ghost use Rattle.mc_judge.specs.Stages.{HasHeard, Hears, IsAt, StaysFor};
-ghost use Rattle.mc_judge.specs.Verdicts.{IsRefusal, IsVerdict, said_of};
+ghost use Rattle.mc_judge.specs.Verdicts.{IsRefusal, IsVerdict, Tells, said_of};
 ghost use Rattle.mc_kernel.specs.Branches.{Path};
 ghost use Rattle.mc_kernel.specs.Judges.{Knowledge};
 ghost use Rattle.mc_reading.specs.Documents.{IsJudge};
@@ -18,8 +18,10 @@ use crate::pieces::whole_line;
 use crate::stage::{Stage, next_stage};
 use crate::{Refusal, Verdict};
 use mc_base::NoMemory;
+use mc_cert::{line_is_spelled_once, spelled_lines_are_read};
 use mc_flow::{Defs, Flow};
 use mc_proof::Complete;
+use mc_reading::{documents_are_read, refusals_are_one};
 use mc_state::Form;
 use std::alloc::{AllocError, Global};
 use std::mem;
@@ -58,6 +60,7 @@ impl<'f> Judge<'f> {
         requires { IsValid self.old.flow.now self.old.defs.now }
         ensures heard { OnOk result (Hears piece.now self.old self.new) }
         ensures spent { OnErr result (self.new.stage ≡ Spent) }
+        ensures same { StaysFor self.old self.new }
     {
         let mut rest = piece;
         while let Some((line, more)) = whole_line(rest) {
@@ -109,25 +112,39 @@ impl<'f> Judge<'f> {
 
     /// Why the first of the whole lines is refused that is; None exactly where none of them is.
     pub fn refused(&self) -> Option<&Refusal>
-        requires { self.now.stage ≢ Spent }
         ensures { (k : Knowledge) (well : RawState → Bool) (text : List ℕ) (texts : List (List ℕ)) (rest : List ℕ)
             → IsJudge k well self.now.flow.now self.now.defs.now → HasHeard k well text self.now → IsCut text texts rest
             → MatchOption result ((cause : Cause) → IsRefusal k well self.now.flow.now self.now.defs.now texts cause → ⊥)
             (λ cause. IsRefusal k well self.now.flow.now self.now.defs.now texts cause.now) }
     {
+        // For the proof alone: what is refused is never read.
+        line_is_spelled_once();
+        spelled_lines_are_read();
+        refusals_are_one();
         match &self.stage {
             Stage::Refused(cause) => Some(cause),
-            _ => None,
+            Stage::Unbegun => None,
+            Stage::Open(_) => None,
+            Stage::Ended(_) => None,
+            Stage::Spent => None,
         }
     }
 
     /// The verdict on the document, however it was cut into pieces. No memory also where a piece found none.
     pub fn finish(self) -> Result<Verdict, NoMemory>
         requires { IsValid self.entry.flow.now self.entry.defs.now }
-        ensures { (k : Knowledge) (well : RawState → Bool) (text : List ℕ)
+        ensures verdict { (k : Knowledge) (well : RawState → Bool) (text : List ℕ)
             → IsJudge k well self.entry.flow.now self.entry.defs.now → HasHeard k well text self.entry
             → IfOk result (IsVerdict k well self.entry.flow.now self.entry.defs.now (lines_of text)) }
+        ensures tells { (k : Knowledge) (well : RawState → Bool) (text : List ℕ)
+            → IsJudge k well self.entry.flow.now self.entry.defs.now → HasHeard k well text self.entry
+            → IfOk result (Tells self.entry.flow.now self.entry.defs.now text) }
     {
+        // For the proof alone: which documents are read is told without a judge.
+        line_is_spelled_once();
+        spelled_lines_are_read();
+        refusals_are_one();
+        documents_are_read();
         let Judge {
             alloc,
             flow,
