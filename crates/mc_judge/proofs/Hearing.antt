@@ -1,5 +1,7 @@
 -- What a judge of documents has heard.
 use Rattle.std.proofs.Common.{◌≡◌, ◌≢◌, ◌+◌, ℕ, suc, List, [], ◌∷◌, ◌++◌, Bool, true, false, length, refl, sym, ◌∙◌, ap, subst, arith, append_assoc}
+use Rattle.std.specs.Prelude.{Result, Ok, Err, OnOk, ◌==◌}
+use Rattle.std.specs.declared.alloc.AllocError.{AllocError}
 use Rattle.mc_cert.specs.Lines.{lines_of}
 use Rattle.mc_defs.specs.declared.rules.Def.{Def}
 use Rattle.mc_flow.specs.declared.graph.Flow.{Flow}
@@ -19,6 +21,11 @@ use Rattle.mc_judge.specs.Verdicts.{IsRefusal}
 use Rattle.mc_judge.proofs.Documents.{AreRead, Once, not_refused, nothing_refused}
 use Rattle.mc_judge.proofs.Growing.{cut_line, cut_more, cuts_are_one}
 use Rattle.mc_judge.proofs.Standing.{at_end, at_end_open, holds_more, holds_nothing, line_at, move}
+
+-- what follows where a call succeeds
+pub on_ok : (A B : Type 0) (r : Result Unit AllocError) → OnOk r A → (A → B) → OnOk r B
+on_ok A B (Ok done) a f = f a
+on_ok A B (Err e) a f = a
 
 length_end : (texts : List (List ℕ)) (t : List ℕ) → length (texts ++ t ∷ []) ≡ suc (length texts)
 length_end [] t = refl
@@ -142,6 +149,14 @@ fed_all piece rest old mid new fed heard =
     subst (λ (bs : List ℕ). Hears bs old new) (sym fed.spelled) (hears_then fed.before rest old mid new fed.heard fed.same heard)
 
 -- ---- the end of a text
+
+pub no_bytes : (bytes : List ℕ) → (length bytes == 0) ≡ true → bytes ≡ []
+no_bytes [] e = refl
+no_bytes (b ∷ bytes) e = absurd (cc e)
+
+pub some_bytes : (bytes : List ℕ) → (length bytes == 0) ≡ false → bytes ≢ []
+some_bytes [] e f = cc e
+some_bytes (b ∷ bytes) e f = cc f
 
 pub finished_closed : (k : Knowledge) (well : RawState → Bool) (text : List ℕ) (judge : Judge) → HasHeard k well text judge → judge.open.items ≡ []
     → IsAt k well judge.flow.now judge.defs.now (lines_of text) judge.stage

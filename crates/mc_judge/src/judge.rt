@@ -132,7 +132,7 @@ impl<'f> Judge<'f> {
 
     /// The verdict on the document, however it was cut into pieces. No memory also where a piece found none.
     pub fn finish(self) -> Result<Verdict, NoMemory>
-        requires { IsValid self.entry.flow.now self.entry.defs.now }
+        requires { IsValid self.flow.now self.defs.now }
         ensures verdict { (k : Knowledge) (well : RawState → Bool) (text : List ℕ)
             → IsJudge k well self.entry.flow.now self.entry.defs.now → HasHeard k well text self.entry
             → IfOk result (IsVerdict k well self.entry.flow.now self.entry.defs.now (lines_of text)) }
@@ -153,11 +153,12 @@ impl<'f> Judge<'f> {
             lines,
             open,
         } = self;
-        if open.is_empty() {
+        let bytes = open.as_slice();
+        if bytes.is_empty() {
             return verdict(&stage);
         }
         let number = next_number(lines)?;
-        let last = next_stage(alloc, flow, defs, stage, number, open.as_slice());
+        let last = next_stage(alloc, flow, defs, stage, number, bytes);
         verdict(&last)
     }
 }
