@@ -99,7 +99,7 @@ fn applied<'f>(proof: Proof<'f>) -> Stage<'f>
 
 /// The refusal of a line that is not applied; nothing where there was no memory to apply it.
 fn unmet<'f>(number: u64, name: &'static str, fault: ApplyFault) -> Stage<'f>
-    ensures premise { (premise : ℕ) → fault ≡ Premise premise → result ≡ Refused (Rule number name premise) }
+    ensures premise { (premise : ℕ) → fault ≡ Premise premise → result ≡ Refused (Rule number name.entry premise) }
     ensures memory { fault ≡ NoMemory → result ≡ Spent }
 {
     match fault {
