@@ -1,5 +1,5 @@
 -- What a judge of documents has heard.
-use Rattle.std.proofs.Common.{◌≡◌, ◌≢◌, ◌+◌, ℕ, suc, List, [], ◌∷◌, ◌++◌, Bool, true, false, length, refl, sym, ◌∙◌, ap, subst, arith, append_assoc}
+use Rattle.std.proofs.Common.{◌≡◌, ◌≢◌, ◌+◌, ℕ, suc, List, [], ◌∷◌, ◌++◌, Bool, true, false, nat_eq, length, refl, sym, ◌∙◌, ap, subst, arith, append_assoc}
 use Rattle.std.specs.Prelude.{Result, Ok, Err, OnOk, ◌==◌}
 use Rattle.std.specs.declared.alloc.AllocError.{AllocError}
 use Rattle.mc_cert.specs.Lines.{lines_of}
@@ -19,6 +19,7 @@ use Rattle.mc_judge.specs.Stages.{HasHeard, Hears, Holds, IsAt, Leads, StaysFor,
 use Rattle.mc_reading.specs.Laws.{ReadIsNotRefused}
 use Rattle.mc_judge.specs.Verdicts.{IsRefusal}
 use Rattle.mc_judge.proofs.Documents.{AreRead, Once, not_refused, nothing_refused}
+use Rattle.mc_judge.proofs.Cutting.{no}
 use Rattle.mc_judge.proofs.Growing.{cut_line, cut_more, cuts_are_one}
 use Rattle.mc_judge.proofs.Standing.{at_end, at_end_open, holds_more, holds_nothing, line_at, move}
 
@@ -150,9 +151,15 @@ fed_all piece rest old mid new fed heard =
 
 -- ---- the end of a text
 
+not_none : (n : ℕ) → suc n ≢ 0
+not_none n e = cc e
+
 pub no_bytes : (bytes : List ℕ) → (length bytes == 0) ≡ true → bytes ≡ []
 no_bytes [] e = refl
-no_bytes (b ∷ bytes) e = absurd (cc e)
+no_bytes (b ∷ bytes) e =
+    let none : nat_eq (length (b ∷ bytes)) 0 ≡ false = no (length (b ∷ bytes)) 0 (not_none (length bytes)) in
+    let clash : false ≡ true = sym none ∙ e in
+    absurd (cc clash)
 
 pub some_bytes : (bytes : List ℕ) → (length bytes == 0) ≡ false → bytes ≢ []
 some_bytes [] e f = cc e
