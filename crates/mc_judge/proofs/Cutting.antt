@@ -1,11 +1,9 @@
 -- Texts cut into lines.
-use Rattle.std.proofs.Common.{◌≡◌, ◌≢◌, ◌⊎◌, inl, inr, ℕ, zero, suc, ◌+◌, ◌-◌, ◌<◌, ◌≤◌, Bool, true, false, nat_eq, List, [], ◌∷◌, ◌++◌, take, drop, length, get_or, Contains, refl, sym, ◌∙◌, ap, subst, arith}
-use Rattle.std.specs.Prelude.{if◌then◌else◌}
+use Rattle.std.proofs.Common.{◌≡◌, ◌≢◌, ◌⊎◌, inl, inr, ℕ, zero, suc, ◌+◌, ◌-◌, ◌<◌, ◌≤◌, true, false, nat_eq, List, [], ◌∷◌, ◌++◌, take, drop, length, get_or, refl, sym, ap, subst, arith}
 use Rattle.std.proofs.lemmas.Bool.Decides.{nat_tests}
 use Rattle.std.proofs.lemmas.List.{take_all, length-drop}
-use Rattle.std.specs.List.{AllByRecursion}
-use Rattle.mc_cert.specs.Lines.{line_len, lines_of, onto_first}
-use Rattle.mc_judge.specs.Cuts.{HasNoFeed, IsCut, with_feeds}
+use Rattle.mc_cert.specs.Lines.{line_len}
+use Rattle.mc_judge.specs.Cuts.{HasNoFeed}
 
 yes : (a b : ℕ) → a ≡ b → nat_eq a b ≡ true
 yes a b e = grind (arith, nat_tests)

@@ -1,5 +1,5 @@
 -- Documents of which some lines are spelled and read.
-use Rattle.std.proofs.Common.{◌≡◌, ◌≢◌, ◌⊎◌, inl, inr, ◌+◌, ℕ, suc, List, [], ◌∷◌, ◌++◌, Bool, length, refl, sym, ◌∙◌, ap, subst, arith}
+use Rattle.std.proofs.Common.{◌≡◌, ◌≢◌, ◌⊎◌, inl, inr, ◌+◌, ℕ, List, [], ◌∷◌, ◌++◌, Bool, length, refl, sym, ◌∙◌, ap, subst}
 use Rattle.std.specs.Prelude.{Result, Ok, Err}
 use Rattle.mc_cert.specs.declared.fault.LineFault.{LineFault}
 use Rattle.mc_cert.specs.declared.fault.LineFault.TheVariants as faults
@@ -14,8 +14,8 @@ use Rattle.mc_state.specs.declared.line.Form.{Form}
 use Rattle.mc_state.specs.declared.line.Version.TheVariants.{One}
 use Rattle.mc_state.specs.declared.raw_state.RawState.{RawState}
 use Rattle.mc_kernel.specs.Judges.{Knowledge}
-use Rattle.mc_kernel.specs.Readings.{Reading, Stage, begun, behind, finished, is_cutting, may_head, may_pass, ready, reading_line}
-use Rattle.mc_reading.specs.Documents.{IsRefused, reading_document}
+use Rattle.mc_kernel.specs.Readings.{Reading, Stage, begun, behind, finished, reading_line}
+use Rattle.mc_reading.specs.Documents.{reading_document}
 use Rattle.mc_reading.specs.Laws.{LinesAreAdded, ReadIsNotRefused}
 use Rattle.mc_reading.proofs.Lists.{append_twice}
 use Rattle.mc_judge.specs.declared.verdict.Refusal.{Refusal}

@@ -6,7 +6,7 @@ use Rattle.mc_cert.specs.declared.line.Line.TheVariants.{Header, Cut, Head, Pass
 use Rattle.mc_cert.specs.declared.line.Line.TheVariants.{S8, S9, S10, S11, S12, S13, S14, S15, S16, S17, S18, L1}
 use Rattle.mc_cert.specs.declared.line.Line.TheVariants.{L2, L3, L4, L5, L6, L7, L8, L9, L10, L11, L12, L13, L14}
 use Rattle.mc_cert.specs.declared.line.Line.TheVariants.{L15, C1, C2, C3}
-use Rattle.mc_cert.specs.Entries.{IsSigned, StateFits, count_data, edge_id_data, form_data, kind_data, list_data}
+use Rattle.mc_cert.specs.Entries.{count_data, edge_id_data, form_data, kind_data, list_data}
 use Rattle.mc_cert.specs.Entries.{named_data, node_data, option_data, point_data, pred_data, signed_data}
 use Rattle.mc_cert.specs.Entries.{state_data, step_data, version_data}
 use Rattle.mc_cert.specs.Document.{data_of}

@@ -1,12 +1,10 @@
 -- Where a judge of documents stands by one line more.
 use Rattle.std.proofs.Common.{◌≡◌, ◌≢◌, ℕ, suc, List, [], ◌∷◌, ◌++◌, Bool, length, refl, sym, ◌∙◌, ap, subst}
-use Rattle.std.specs.Prelude.{Result, Ok, Err}
+use Rattle.std.specs.Prelude.{Ok, Err}
 use Rattle.std.specs.Borrow.{Bor}
-use Rattle.mc_cert.specs.declared.fault.LineFault.{LineFault}
-use Rattle.mc_cert.specs.declared.fault.LineFault.TheVariants.{NoMemory}
 use Rattle.mc_cert.specs.declared.line.Line.{Line}
 use Rattle.mc_cert.specs.declared.line.Line.TheVariants.{Header}
-use Rattle.mc_cert.specs.Document.{ReadsAs, Spells}
+use Rattle.mc_cert.specs.Document.{Spells}
 use Rattle.mc_cert.specs.Lines.{lines_of}
 use Rattle.mc_defs.specs.declared.rules.Def.{Def}
 use Rattle.mc_flow.specs.declared.graph.Flow.{Flow}
@@ -15,7 +13,7 @@ use Rattle.mc_state.specs.declared.line.Form.{Form}
 use Rattle.mc_state.specs.declared.line.Version.TheVariants.{One}
 use Rattle.mc_state.specs.declared.raw_state.RawState.{RawState}
 use Rattle.mc_kernel.specs.Judges.{Knowledge}
-use Rattle.mc_kernel.specs.Readings.{Reading, Stage as Part, begun, cutting, finished, reading_line}
+use Rattle.mc_kernel.specs.Readings.{Reading, begun, cutting, finished, reading_line}
 use Rattle.mc_proof.specs.declared.fault.ApplyFault.{ApplyFault}
 use Rattle.mc_proof.specs.declared.fault.ApplyFault.TheVariants as apply
 use Rattle.mc_proof.specs.declared.fault.ApplyFault.TheVariants.{Premise}
@@ -28,7 +26,7 @@ use Rattle.mc_judge.specs.declared.stage.Stage.TheVariants.{Unbegun, Open, Ended
 use Rattle.mc_judge.specs.declared.verdict.Refusal.{Refusal}
 use Rattle.mc_judge.specs.declared.verdict.Refusal.TheVariants as refusal
 use Rattle.mc_judge.specs.Stages.{Holds, IsAt, Leads}
-use Rattle.mc_judge.specs.Verdicts.{GoesOn, IsNamed, IsReading, IsRefusal}
+use Rattle.mc_judge.specs.Verdicts.{IsNamed, IsReading, IsRefusal}
 use Rattle.mc_judge.proofs.Documents.{header_reads, more_reads, refusal_more, refused_end, unmet_behind}
 use Rattle.mc_judge.proofs.Growing.{lines_closed, lines_first, lines_open}
 

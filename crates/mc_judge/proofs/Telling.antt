@@ -1,5 +1,5 @@
 -- Verdicts on texts, without a judge.
-use Rattle.std.proofs.Common.{◌≡◌, ◌≢◌, ◌⊎◌, ◌↔◌, inl, inr, ◌<◌, ℕ, suc, List, [], ◌∷◌, ◌++◌, Bool, true, false, Some, None, length, refl, sym, ◌∙◌, ap, subst, arith}
+use Rattle.std.proofs.Common.{◌≡◌, ◌≢◌, inl, inr, ◌<◌, ℕ, suc, List, [], ◌∷◌, ◌++◌, Bool, true, false, Some, None, length, refl, sym, ◌∙◌, ap, subst, arith}
 use Rattle.std.specs.Prelude.{Result, Ok, Err, IfOk, ◌&&◌, if◌then◌else◌}
 use Rattle.std.specs.declared.alloc.AllocError.{AllocError}
 use Rattle.mc_cert.specs.declared.line.Line.{Line}
@@ -27,7 +27,7 @@ use Rattle.mc_judge.specs.declared.verdict.Refusal.{Refusal}
 use Rattle.mc_judge.specs.declared.verdict.Refusal.TheVariants as refusal
 use Rattle.mc_judge.specs.declared.verdict.Verdict.{Verdict}
 use Rattle.mc_judge.specs.declared.verdict.Verdict.TheVariants.{Safe, Alarms, Refused}
-use Rattle.mc_judge.specs.Verdicts.{GoesOn, IsCertificate, IsChain, IsReading, IsRefusal, IsVerdict, SpellAll, Tells, said_of}
+use Rattle.mc_judge.specs.Verdicts.{GoesOn, IsCertificate, IsChain, IsReading, IsVerdict, SpellAll, Tells, said_of}
 use Rattle.mc_judge.proofs.Documents.{AreRead, Once, not_refused, same_document}
 
 -- ---- what is said of forms and stuck branches
@@ -210,9 +210,9 @@ module _ (laws : Laws) (k : Knowledge) (well : RawState → Bool) (flow : Flow) 
         e.3 ∙ ap (λ (r : Reading). said_of r.form r.stuck) same
         ∙ ap (λ (f : Form). said_of f h.last.stuck) h.formed ∙ ap (λ (s : List Path). said_of form s) h.stuck_are)
     | inr other ↦ absurd (elim other [
-        | inl on ↦ not_open texts h.last h.reading h.ended on.0
-        | inr bad ↦ not_refused k well flow defs laws.once laws.apart laws.are_read texts h.last bad.0 h.reading bad.1
-      ])
+      | inl on ↦ not_open texts h.last h.reading h.ended on.0
+      | inr bad ↦ not_refused k well flow defs laws.once laws.apart laws.are_read texts h.last bad.0 h.reading bad.1
+    ])
   ]
 
   -- what is said of a document with an end
@@ -227,9 +227,9 @@ module _ (laws : Laws) (k : Knowledge) (well : RawState → Bool) (flow : Flow) 
   has_said texts verdict never is = elim is [
     | inl e ↦ record { last = e.0; reading = e.1; ended = e.2; said = e.3 }
     | inr other ↦ absurd (elim other [
-        | inl on ↦ never refusal.EndsEarly on.1
-        | inr bad ↦ never bad.0 bad.2
-      ])
+      | inl on ↦ never refusal.EndsEarly on.1
+      | inr bad ↦ never bad.0 bad.2
+    ])
   ]
 
   safe_never : (verdict : Verdict) → verdict ≡ Safe → (cause : Refusal) → verdict ≢ Refused cause

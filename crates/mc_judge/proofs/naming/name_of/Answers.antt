@@ -1,4 +1,4 @@
-use Rattle.std.proofs.Common.{◌≡◌, refl}
+use Rattle.std.proofs.Common.{refl}
 use Rattle.mc_judge.proofs.Entries.{named}
 use Rattle.mc_judge.proofs.naming.name_of.Goals as goal
 

@@ -1,4 +1,3 @@
-use Rattle.std.proofs.Common.{◌≡◌}
 use Rattle.mc_judge.proofs.Cutting.{all_has_none, whole}
 use Rattle.mc_judge.proofs.pieces.whole_line.Goals as goal
 

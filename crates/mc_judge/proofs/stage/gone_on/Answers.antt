@@ -1,4 +1,3 @@
-use Rattle.std.proofs.Common.{◌≡◌}
 use Rattle.mc_judge.proofs.Documents.{goes_on}
 use Rattle.mc_judge.proofs.stage.gone_on.Goals as goal
 

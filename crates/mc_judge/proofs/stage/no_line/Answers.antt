@@ -1,11 +1,8 @@
-use Rattle.std.proofs.Common.{◌≡◌, ℕ, List, sym, subst}
+use Rattle.std.proofs.Common.{subst}
 use Rattle.std.specs.Prelude.{Err}
-use Rattle.mc_cert.specs.declared.fault.LineFault.TheVariants.{Form, NotJson, Version}
 use Rattle.mc_cert.specs.declared.fault.LineFault.{LineFault}
 use Rattle.mc_cert.specs.Document.{ReadsAs}
 use Rattle.mc_judge.proofs.Documents.{refused_end}
-use Rattle.mc_judge.proofs.Standing.{line_at}
-use Rattle.mc_judge.proofs.Telling.{tells}
 use Rattle.mc_judge.proofs.stage.no_line.Goals as goal
 
 pub returns-in-NotJson : goal.returns-in-NotJson

@@ -1,4 +1,4 @@
-use Rattle.std.proofs.Common.{◌≡◌, ◌∷◌, ◌++◌, []}
+use Rattle.std.proofs.Common.{◌∷◌, ◌++◌, []}
 use Rattle.mc_proof.specs.Positions.{IsApplied}
 use Rattle.mc_judge.proofs.Standing.{applied_more, not_applied}
 use Rattle.mc_judge.proofs.stage.taken.Goals as goal

@@ -1,4 +1,4 @@
-use Rattle.std.proofs.Common.{◌≡◌, ◌∙◌, ℕ, List, refl, subst}
+use Rattle.std.proofs.Common.{◌∙◌, ℕ, List, refl, subst}
 use Rattle.mc_judge.specs.declared.stage.Stage.{Stage}
 use Rattle.mc_judge.specs.Stages.{Leads}
 use Rattle.mc_judge.proofs.Hearing.{line_heard, on_ok}

@@ -1,4 +1,4 @@
-use Rattle.std.proofs.Common.{◌≡◌, ◌≢◌, ◌∙◌, ℕ, List, [], true, false, length, suc, sym, subst}
+use Rattle.std.proofs.Common.{◌≡◌, ◌∙◌, ℕ, List, true, false, length, suc, sym, subst}
 use Rattle.std.specs.Prelude.{◌==◌}
 use Rattle.mc_cert.specs.Lines.{lines_of}
 use Rattle.mc_judge.specs.Stages.{IsAt, Leads}
@@ -36,7 +36,7 @@ returns-clause-verdict c = λ k well text judge heard.
     let some : (length c.args.self.open.items == 0) ≡ false =
     subst (λ (bs : List ℕ). (length bs == 0) ≡ false) c.as_slice-bytes.ensures.value (sym c.is_empty.ensures ∙ c.if-is_empty.false) in
     let leads : (texts : List (List ℕ)) → c.in_ok-number.number ≡ suc (length texts)
-        → Leads c.args.self.flow.now c.args.self.defs.now c.args.self.open.items texts c.args.self.stage c.next_stage-last.result =
+    → Leads c.args.self.flow.now c.args.self.defs.now c.args.self.open.items texts c.args.self.stage c.next_stage-last.result =
     λ texts counted. subst (λ (bs : List ℕ). Leads c.args.self.flow.now c.args.self.defs.now bs texts c.args.self.stage c.next_stage-last.result)
     c.as_slice-bytes.ensures.value (c.next_stage-last.ensures.leads texts counted) in
     let at : IsAt k well c.args.self.flow.now c.args.self.defs.now (lines_of text) c.next_stage-last.result =
@@ -49,7 +49,7 @@ returns-clause-tells c = λ k well text judge heard.
     let some : (length c.args.self.open.items == 0) ≡ false =
     subst (λ (bs : List ℕ). (length bs == 0) ≡ false) c.as_slice-bytes.ensures.value (sym c.is_empty.ensures ∙ c.if-is_empty.false) in
     let leads : (texts : List (List ℕ)) → c.in_ok-number.number ≡ suc (length texts)
-        → Leads c.args.self.flow.now c.args.self.defs.now c.args.self.open.items texts c.args.self.stage c.next_stage-last.result =
+    → Leads c.args.self.flow.now c.args.self.defs.now c.args.self.open.items texts c.args.self.stage c.next_stage-last.result =
     λ texts counted. subst (λ (bs : List ℕ). Leads c.args.self.flow.now c.args.self.defs.now bs texts c.args.self.stage c.next_stage-last.result)
     c.as_slice-bytes.ensures.value (c.next_stage-last.ensures.leads texts counted) in
     let at : IsAt k well c.args.self.flow.now c.args.self.defs.now (lines_of text) c.next_stage-last.result =

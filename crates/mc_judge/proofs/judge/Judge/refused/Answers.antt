@@ -1,4 +1,4 @@
-use Rattle.std.proofs.Common.{◌≡◌, ◌∙◌, sym, subst}
+use Rattle.std.proofs.Common.{◌∙◌, sym, subst}
 use Rattle.mc_judge.specs.declared.stage.Stage.{Stage}
 use Rattle.mc_judge.specs.Stages.{IsAt}
 use Rattle.mc_judge.proofs.Hearing.{Refusing, at_texts, never_refused}
