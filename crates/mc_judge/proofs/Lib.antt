@@ -1,0 +1,7 @@
+mod Cutting
+mod Entries
+mod Documents
+mod Growing
+mod Standing
+mod Telling
+mod Hearing
