@@ -1,0 +1,235 @@
+// A block that is freed twice: a chain of one pass.
+//
+//     struct node { int data; struct node *next; };
+//     int main() {
+//       struct node *p = malloc(sizeof(struct node));
+//       free(p);
+//       free(p);
+//       return 0;
+//     }
+use crate::documents::Answer::{AfterTheEnd, EndsEarly, Premise, Whole};
+use crate::documents::{Change, first_wrong};
+use crate::flows::Code::{Copy, End, Free, Malloc, Skip};
+use crate::flows::{Code, NODE, Program};
+use mc_base::Kind::{Int, Ptr};
+use mc_base::VarId;
+use mc_flow::Operand::{Const, Var};
+use std::test::Fail;
+
+const RET: VarId = VarId(0);
+
+const P: VarId = VarId(1);
+
+static POINTS: [Code; 7] = [
+    Skip(1),
+    Malloc(P, 2),
+    Free(Var(P), 3),
+    Free(Var(P), 4),
+    Copy(RET, Const(0), 6),
+    Copy(RET, Const(0), 6),
+    End,
+];
+
+static PROGRAM: Program = Program {
+    shape: &NODE,
+    definitions: "",
+    vars: &[("$ret", Int), ("p", Ptr)],
+    points: &POINTS,
+    heads: &[],
+    merges: &[],
+    thresholds: &[0],
+};
+
+static DOCUMENT: [&str; 11] = [
+    r#"["memcad",1,"chain"]"#,
+    r#"["pass"]"#,
+    r#"["S1"]"#,
+    r#"["S10"]"#,
+    r#"["S11"]"#,
+    r#"["S11"]"#,
+    r#"["S2"]"#,
+    r#"["S17"]"#,
+    r#"["S12"]"#,
+    r#"["C1"]"#,
+    r#"["end"]"#,
+];
+
+static CHANGES: [Change; 28] = [
+    Change {
+        kept: 0,
+        dropped: 0,
+        put: &[],
+        answer: Whole(1),
+    },
+    Change {
+        kept: 0,
+        dropped: 2,
+        put: &[r#"["memcad",1,"certificate"]"#],
+        answer: Premise(9, 1),
+    },
+    Change {
+        kept: 0,
+        dropped: 1,
+        put: &[r#"["memcad",1,"certificate"]"#],
+        answer: Premise(2, 1),
+    },
+    Change {
+        kept: 1,
+        dropped: 1,
+        put: &[],
+        answer: Premise(2, 1),
+    },
+    Change {
+        kept: 8,
+        dropped: 0,
+        put: &[r#"["C1"]"#],
+        answer: Premise(9, 3),
+    },
+    Change {
+        kept: 4,
+        dropped: 0,
+        put: &[r#"["C1"]"#],
+        answer: Premise(5, 3),
+    },
+    Change {
+        kept: 10,
+        dropped: 0,
+        put: &[r#"["pass"]"#],
+        answer: Premise(11, 3),
+    },
+    Change {
+        kept: 9,
+        dropped: 0,
+        put: &[r#"["pass"]"#],
+        answer: Premise(10, 3),
+    },
+    Change {
+        kept: 2,
+        dropped: 0,
+        put: &[r#"["pass"]"#],
+        answer: Premise(3, 3),
+    },
+    Change {
+        kept: 9,
+        dropped: 1,
+        put: &[r#"["S12"]"#],
+        answer: Premise(10, 4),
+    },
+    Change {
+        kept: 9,
+        dropped: 1,
+        put: &[r#"["S11"]"#],
+        answer: Premise(10, 4),
+    },
+    Change {
+        kept: 9,
+        dropped: 1,
+        put: &[r#"["L12"]"#],
+        answer: Premise(10, 2),
+    },
+    Change {
+        kept: 9,
+        dropped: 1,
+        put: &[r#"["end"]"#],
+        answer: Premise(10, 3),
+    },
+    Change {
+        kept: 9,
+        dropped: 1,
+        put: &[r#"["L8",0,0,"i"]"#, r#"["C1"]"#],
+        answer: Premise(11, 1),
+    },
+    Change {
+        kept: 9,
+        dropped: 1,
+        put: &[r#"["L8",0,0,"i"]"#, r#"["L12"]"#],
+        answer: Premise(11, 1),
+    },
+    Change {
+        kept: 2,
+        dropped: 0,
+        put: &[r#"["L8",0,0,"i"]"#],
+        answer: Premise(4, 1),
+    },
+    Change {
+        kept: 2,
+        dropped: 0,
+        put: &[r#"["L8",0,0,"i"]"#, r#"["L1",0]"#],
+        answer: Premise(4, 1),
+    },
+    Change {
+        kept: 2,
+        dropped: 0,
+        put: &[r#"["L8",0,0,"i"]"#, r#"["L11",1]"#],
+        answer: Premise(5, 1),
+    },
+    Change {
+        kept: 2,
+        dropped: 0,
+        put: &[r#"["L8",0,0,"i"]"#, r#"["L9",0,1]"#],
+        answer: Premise(5, 1),
+    },
+    Change {
+        kept: 2,
+        dropped: 0,
+        put: &[r#"["L8",0,0,"i"]"#, r#"["L8",1,0,"i"]"#, r#"["L10",0]"#],
+        answer: Premise(5, 3),
+    },
+    Change {
+        kept: 1,
+        dropped: 0,
+        put: &[r#"["head",0,[[null,null],["0"],[],[]]]"#],
+        answer: Premise(2, 1),
+    },
+    Change {
+        kept: 2,
+        dropped: 0,
+        put: &[r#"["cut",0]"#],
+        answer: Premise(3, 1),
+    },
+    Change {
+        kept: 1,
+        dropped: 0,
+        put: &[r#"["cut",0]"#],
+        answer: Whole(1),
+    },
+    Change {
+        kept: 11,
+        dropped: 0,
+        put: &[r#"["C1"]"#],
+        answer: AfterTheEnd(12),
+    },
+    Change {
+        kept: 10,
+        dropped: 1,
+        put: &[],
+        answer: EndsEarly,
+    },
+    Change {
+        kept: 2,
+        dropped: 0,
+        put: &[r#"["L14",0]"#],
+        answer: Premise(3, 1),
+    },
+    Change {
+        kept: 2,
+        dropped: 0,
+        put: &[r#"["L13",0,[0],[]]"#],
+        answer: Premise(3, 1),
+    },
+    Change {
+        kept: 2,
+        dropped: 0,
+        put: &[r#"["L11",0]"#],
+        answer: Premise(3, 3),
+    },
+];
+
+#[test]
+fn blocks_are_not_freed_twice(rt: HostRuntime) -> Result<(), Fail> {
+    assert_eq!(rt;
+        first_wrong(rt.alloc(), &PROGRAM, &DOCUMENT, &CHANGES)?,
+        None
+    );
+    Ok(())
+}
