@@ -14,7 +14,7 @@
 use crate::documents::Answer::{EndsEarly, Form, NotJson, Premise, Version, Whole};
 use crate::documents::{Change, first_wrong};
 use crate::flows::Code::{Assume, Copy, End, Input, Skip, TestEq, Undef};
-use crate::flows::{Code, NODE, Program};
+use crate::flows::{Program, Shape};
 use mc_base::Kind::{Int, Ptr};
 use mc_base::VarId;
 use mc_flow::Operand::{Const, Var};
@@ -26,28 +26,26 @@ const L: VarId = VarId(1);
 
 const READ: VarId = VarId(2);
 
-static POINTS: [Code; 14] = [
-    Skip(1),
-    Undef(&[L], 2),
-    Skip(3),
-    Input(READ, 4),
-    TestEq(Var(READ), Const(0), 6, 5),
-    Undef(&[READ], 7),
-    Undef(&[READ], 10),
-    Assume(L, &[], 8),
-    TestEq(Var(L), Const(0), 9, 10),
-    Skip(2),
-    Skip(11),
-    Copy(RET, Const(0), 13),
-    Copy(RET, Const(0), 13),
-    End,
-];
-
 static PROGRAM: Program = Program {
-    shape: &NODE,
+    shape: Shape::Node,
     definitions: "def list(this) { rule { this = 0; } rule { this -> node { data: _, next: n }; list(n); } }",
     vars: &[("$ret", Int), ("l", Ptr), ("", Int)],
-    points: &POINTS,
+    points: &[
+        Skip(1),
+        Undef(&[L], 2),
+        Skip(3),
+        Input(READ, 4),
+        TestEq(Var(READ), Const(0), 6, 5),
+        Undef(&[READ], 7),
+        Undef(&[READ], 10),
+        Assume(L, &[], 8),
+        TestEq(Var(L), Const(0), 9, 10),
+        Skip(2),
+        Skip(11),
+        Copy(RET, Const(0), 13),
+        Copy(RET, Const(0), 13),
+        End,
+    ],
     heads: &[2],
     merges: &[9],
     thresholds: &[0],

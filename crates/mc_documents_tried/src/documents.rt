@@ -39,7 +39,7 @@ pub struct Change {
 
 /// What comes of a line.
 #[derive(Clone, Copy)]
-enum Taken {
+enum Outcome {
     On,
     Ended,
     Not(Answer),
@@ -75,22 +75,27 @@ fn unread(number: u64, fault: LineFault) -> Result<Answer, NoMemory> {
 }
 
 /// What comes of a line that is read.
-fn applied(proof: &mut Proof<'_>, number: u64, line: &Line) -> Result<Taken, NoMemory> {
+fn applied(proof: &mut Proof<'_>, number: u64, line: &Line) -> Result<Outcome, NoMemory> {
     match proof.apply(line) {
         Ok(()) => match line {
-            Line::End => Ok(Taken::Ended),
-            _ => Ok(Taken::On),
+            Line::End => Ok(Outcome::Ended),
+            _ => Ok(Outcome::On),
         },
-        Err(ApplyFault::Premise(premise)) => Ok(Taken::Not(Answer::Premise(number, premise))),
+        Err(ApplyFault::Premise(premise)) => Ok(Outcome::Not(Answer::Premise(number, premise))),
         Err(ApplyFault::NoMemory) => Err(AllocError),
     }
 }
 
 /// What comes of a line's text.
-fn taken(alloc: Global, proof: &mut Proof<'_>, number: u64, text: &str) -> Result<Taken, NoMemory> {
+fn taken(
+    alloc: Global,
+    proof: &mut Proof<'_>,
+    number: u64,
+    text: &str,
+) -> Result<Outcome, NoMemory> {
     match line_of(alloc, text.as_bytes()) {
         Ok(line) => applied(proof, number, &line),
-        Err(fault) => Ok(Taken::Not(unread(number, fault)?)),
+        Err(fault) => Ok(Outcome::Not(unread(number, fault)?)),
     }
 }
 
@@ -111,9 +116,9 @@ fn judged(alloc: Global, mut proof: Proof<'_>, lines: &[&'static str]) -> Result
             return Ok(Answer::AfterTheEnd(number));
         }
         match taken(alloc, &mut proof, number, *text)? {
-            Taken::On => {}
-            Taken::Ended => ended = true,
-            Taken::Not(answer) => return Ok(answer),
+            Outcome::On => {}
+            Outcome::Ended => ended = true,
+            Outcome::Not(answer) => return Ok(answer),
         }
     }
     Ok(finished(proof))

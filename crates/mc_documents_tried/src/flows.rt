@@ -29,15 +29,18 @@ pub enum Code {
     Fail,
 }
 
-/// A struct: its name, and the names and kinds of its fields.
-pub struct Shape {
-    pub name: &'static str,
-    pub fields: [(&'static str, Kind); 2],
+/// The struct of a program.
+#[derive(Clone, Copy)]
+pub enum Shape {
+    /// `node`, of a number `data` and a pointer `next`.
+    Node,
+    /// `t`, of two pointers `l` and `r`.
+    Fork,
 }
 
 /// A program's flow graph, and the text of its definitions.
 pub struct Program {
-    pub shape: &'static Shape,
+    pub shape: Shape,
     pub definitions: &'static str,
     /// The variables; temporaries have no name.
     pub vars: &'static [(&'static str, Kind)],
@@ -46,18 +49,6 @@ pub struct Program {
     pub merges: &'static [u64],
     pub thresholds: &'static [i64],
 }
-
-/// A struct `node` of a number and a pointer.
-pub static NODE: Shape = Shape {
-    name: "node",
-    fields: [("data", Kind::Int), ("next", Kind::Ptr)],
-};
-
-/// A struct `t` of two pointers.
-pub static FORK: Shape = Shape {
-    name: "t",
-    fields: [("l", Kind::Ptr), ("r", Kind::Ptr)],
-};
 
 const STRUCT: StructId = StructId(0);
 
@@ -138,23 +129,47 @@ fn vars_of(alloc: Global, table: &[(&'static str, Kind)]) -> Result<Items<VarInf
     Ok(vars)
 }
 
-fn field_of(alloc: Global, field: &(&'static str, Kind)) -> Result<FieldInfo, NoMemory> {
+fn field_of(alloc: Global, name: &str, kind: Kind) -> Result<FieldInfo, NoMemory> {
     Ok(FieldInfo {
-        name: name_of(alloc, field.0)?,
-        kind: field.1,
+        name: name_of(alloc, name)?,
+        kind,
     })
 }
 
-/// The struct.
-fn structs_of(alloc: Global, shape: &Shape) -> Result<Structs, NoMemory> {
+/// A struct of two fields.
+fn struct_of(
+    alloc: Global,
+    name: &str,
+    first: FieldInfo,
+    second: FieldInfo,
+) -> Result<StructInfo, NoMemory> {
     let mut fields = Items::new(alloc);
-    fields.push(field_of(alloc, &shape.fields[0])?)?;
-    fields.push(field_of(alloc, &shape.fields[1])?)?;
-    let mut list = Items::new(alloc);
-    list.push(StructInfo {
-        name: name_of(alloc, shape.name)?,
+    fields.push(first)?;
+    fields.push(second)?;
+    Ok(StructInfo {
+        name: name_of(alloc, name)?,
         fields,
-    })?;
+    })
+}
+
+fn shape_of(alloc: Global, shape: Shape) -> Result<StructInfo, NoMemory> {
+    match shape {
+        Shape::Node => {
+            let data = field_of(alloc, "data", Kind::Int)?;
+            let next = field_of(alloc, "next", Kind::Ptr)?;
+            struct_of(alloc, "node", data, next)
+        }
+        Shape::Fork => {
+            let left = field_of(alloc, "l", Kind::Ptr)?;
+            let right = field_of(alloc, "r", Kind::Ptr)?;
+            struct_of(alloc, "t", left, right)
+        }
+    }
+}
+
+fn structs_of(alloc: Global, shape: Shape) -> Result<Structs, NoMemory> {
+    let mut list = Items::new(alloc);
+    list.push(shape_of(alloc, shape)?)?;
     Ok(Structs { list })
 }
 

@@ -11,7 +11,7 @@
 use crate::documents::Answer::{AfterTheEnd, EndsEarly, Form, NotJson, Premise, Version, Whole};
 use crate::documents::{Change, first_wrong};
 use crate::flows::Code::{Copy, End, Free, Malloc, Skip, Store, TestEq};
-use crate::flows::{Code, NODE, Program};
+use crate::flows::{Program, Shape};
 use mc_base::Kind::{Int, Ptr};
 use mc_base::VarId;
 use mc_flow::Operand::{Const, Var};
@@ -21,24 +21,22 @@ const RET: VarId = VarId(0);
 
 const P: VarId = VarId(1);
 
-static POINTS: [Code; 10] = [
-    Skip(1),
-    Malloc(P, 2),
-    TestEq(Var(P), Const(0), 3, 4),
-    Copy(RET, Const(0), 9),
-    Skip(5),
-    Store(P, 0, Const(1), 6),
-    Free(Var(P), 7),
-    Copy(RET, Const(0), 9),
-    Copy(RET, Const(0), 9),
-    End,
-];
-
 static PROGRAM: Program = Program {
-    shape: &NODE,
+    shape: Shape::Node,
     definitions: "",
     vars: &[("$ret", Int), ("p", Ptr)],
-    points: &POINTS,
+    points: &[
+        Skip(1),
+        Malloc(P, 2),
+        TestEq(Var(P), Const(0), 3, 4),
+        Copy(RET, Const(0), 9),
+        Skip(5),
+        Store(P, 0, Const(1), 6),
+        Free(Var(P), 7),
+        Copy(RET, Const(0), 9),
+        Copy(RET, Const(0), 9),
+        End,
+    ],
     heads: &[],
     merges: &[4],
     thresholds: &[0, 1],

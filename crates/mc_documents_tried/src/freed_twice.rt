@@ -10,7 +10,7 @@
 use crate::documents::Answer::{AfterTheEnd, EndsEarly, Premise, Whole};
 use crate::documents::{Change, first_wrong};
 use crate::flows::Code::{Copy, End, Free, Malloc, Skip};
-use crate::flows::{Code, NODE, Program};
+use crate::flows::{Program, Shape};
 use mc_base::Kind::{Int, Ptr};
 use mc_base::VarId;
 use mc_flow::Operand::{Const, Var};
@@ -20,21 +20,19 @@ const RET: VarId = VarId(0);
 
 const P: VarId = VarId(1);
 
-static POINTS: [Code; 7] = [
-    Skip(1),
-    Malloc(P, 2),
-    Free(Var(P), 3),
-    Free(Var(P), 4),
-    Copy(RET, Const(0), 6),
-    Copy(RET, Const(0), 6),
-    End,
-];
-
 static PROGRAM: Program = Program {
-    shape: &NODE,
+    shape: Shape::Node,
     definitions: "",
     vars: &[("$ret", Int), ("p", Ptr)],
-    points: &POINTS,
+    points: &[
+        Skip(1),
+        Malloc(P, 2),
+        Free(Var(P), 3),
+        Free(Var(P), 4),
+        Copy(RET, Const(0), 6),
+        Copy(RET, Const(0), 6),
+        End,
+    ],
     heads: &[],
     merges: &[],
     thresholds: &[0],

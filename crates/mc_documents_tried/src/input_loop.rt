@@ -4,7 +4,7 @@
 use crate::documents::Answer::{Premise, Whole};
 use crate::documents::{Change, first_wrong};
 use crate::flows::Code::{Copy, End, Input, Skip, TestEq, Undef};
-use crate::flows::{Code, NODE, Program};
+use crate::flows::{Program, Shape};
 use mc_base::Kind::Int;
 use mc_base::VarId;
 use mc_flow::Operand::{Const, Var};
@@ -14,24 +14,22 @@ const RET: VarId = VarId(0);
 
 const READ: VarId = VarId(1);
 
-static POINTS: [Code; 10] = [
-    Skip(1),
-    Skip(2),
-    Input(READ, 3),
-    TestEq(Var(READ), Const(0), 5, 4),
-    Undef(&[READ], 1),
-    Undef(&[READ], 6),
-    Skip(7),
-    Copy(RET, Const(0), 9),
-    Copy(RET, Const(0), 9),
-    End,
-];
-
 static PROGRAM: Program = Program {
-    shape: &NODE,
+    shape: Shape::Node,
     definitions: "",
     vars: &[("$ret", Int), ("", Int)],
-    points: &POINTS,
+    points: &[
+        Skip(1),
+        Skip(2),
+        Input(READ, 3),
+        TestEq(Var(READ), Const(0), 5, 4),
+        Undef(&[READ], 1),
+        Undef(&[READ], 6),
+        Skip(7),
+        Copy(RET, Const(0), 9),
+        Copy(RET, Const(0), 9),
+        End,
+    ],
     heads: &[1],
     merges: &[],
     thresholds: &[0],

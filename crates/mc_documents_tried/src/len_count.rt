@@ -17,8 +17,8 @@
 //     }
 use crate::documents::Answer::{Premise, Whole};
 use crate::documents::{Change, first_wrong};
-use crate::flows::Code::{Assert, Assume, Copy, End, Fail, Input, Load, Skip, Sub, TestEq, Undef};
-use crate::flows::{Code, NODE, Program};
+use crate::flows::Code::{Assert, Assume, Copy, End, Input, Load, Skip, Sub, TestEq, Undef};
+use crate::flows::{Code, Program, Shape};
 use mc_base::Kind::{Int, Ptr};
 use mc_base::VarId;
 use mc_flow::Operand::{Const, Var};
@@ -34,29 +34,8 @@ const N: VarId = VarId(3);
 
 const M: VarId = VarId(4);
 
-static POINTS: [Code; 18] = [
-    Skip(1),
-    Undef(&[L], 2),
-    Undef(&[C], 3),
-    Input(N, 4),
-    Copy(M, Var(N), 5),
-    Assume(L, &[Var(N)], 6),
-    Copy(C, Var(L), 7),
-    Skip(8),
-    TestEq(Var(C), Const(0), 11, 9),
-    Load(C, C, 1, 10),
-    Sub(M, Var(M), Const(1), 7),
-    Skip(12),
-    TestEq(Var(M), Const(0), 14, 13),
-    Fail,
-    Assert(Var(L), &[Var(N)], 15),
-    Copy(RET, Const(0), 17),
-    Copy(RET, Const(0), 17),
-    End,
-];
-
 static PROGRAM: Program = Program {
-    shape: &NODE,
+    shape: Shape::Node,
     definitions: "def lenlist(this, int k) { rule { this = 0; k = 0; } rule { this -> node { data: _, next: n }; int m = k - 1; k >= 1; lenlist(n, m); } }",
     vars: &[
         ("$ret", Int),
@@ -65,7 +44,26 @@ static PROGRAM: Program = Program {
         ("n", Int),
         ("m", Int),
     ],
-    points: &POINTS,
+    points: &[
+        Skip(1),
+        Undef(&[L], 2),
+        Undef(&[C], 3),
+        Input(N, 4),
+        Copy(M, Var(N), 5),
+        Assume(L, &[Var(N)], 6),
+        Copy(C, Var(L), 7),
+        Skip(8),
+        TestEq(Var(C), Const(0), 11, 9),
+        Load(C, C, 1, 10),
+        Sub(M, Var(M), Const(1), 7),
+        Skip(12),
+        TestEq(Var(M), Const(0), 14, 13),
+        Code::Fail,
+        Assert(Var(L), &[Var(N)], 15),
+        Copy(RET, Const(0), 17),
+        Copy(RET, Const(0), 17),
+        End,
+    ],
     heads: &[7],
     merges: &[],
     thresholds: &[0, 1],

@@ -24,7 +24,7 @@ use crate::documents::{Change, first_wrong};
 use crate::flows::Code::{
     Add, Assert, Assume, Copy, End, Input, Malloc, Skip, Store, TestEq, TestLe, Undef,
 };
-use crate::flows::{Code, NODE, Program};
+use crate::flows::{Program, Shape};
 use mc_base::Kind::{Int, Ptr};
 use mc_base::VarId;
 use mc_flow::Operand::{Const, Var};
@@ -38,34 +38,32 @@ const E: VarId = VarId(2);
 
 const N: VarId = VarId(3);
 
-static POINTS: [Code; 20] = [
-    Skip(1),
-    Undef(&[L], 2),
-    Undef(&[E], 3),
-    Input(N, 4),
-    Assume(L, &[Var(N)], 5),
-    Malloc(E, 6),
-    TestEq(Var(E), Const(0), 7, 8),
-    Copy(RET, Const(0), 19),
-    Skip(9),
-    Store(E, 0, Const(0), 10),
-    Store(E, 1, Var(L), 11),
-    TestLe(Const(100), Var(N), 16, 12),
-    TestLe(Const(0), Var(N), 14, 13),
-    End,
-    Add(N, Var(N), Const(1), 15),
-    Assert(Var(E), &[Var(N)], 16),
-    Skip(17),
-    Copy(RET, Const(0), 19),
-    Copy(RET, Const(0), 19),
-    End,
-];
-
 static PROGRAM: Program = Program {
-    shape: &NODE,
+    shape: Shape::Node,
     definitions: "def lenlist(this, int k) { rule { this = 0; k = 0; } rule { this -> node { data: _, next: n }; int m = k - 1; k >= 1; lenlist(n, m); } }",
     vars: &[("$ret", Int), ("l", Ptr), ("e", Ptr), ("n", Int)],
-    points: &POINTS,
+    points: &[
+        Skip(1),
+        Undef(&[L], 2),
+        Undef(&[E], 3),
+        Input(N, 4),
+        Assume(L, &[Var(N)], 5),
+        Malloc(E, 6),
+        TestEq(Var(E), Const(0), 7, 8),
+        Copy(RET, Const(0), 19),
+        Skip(9),
+        Store(E, 0, Const(0), 10),
+        Store(E, 1, Var(L), 11),
+        TestLe(Const(100), Var(N), 16, 12),
+        TestLe(Const(0), Var(N), 14, 13),
+        End,
+        Add(N, Var(N), Const(1), 15),
+        Assert(Var(E), &[Var(N)], 16),
+        Skip(17),
+        Copy(RET, Const(0), 19),
+        Copy(RET, Const(0), 19),
+        End,
+    ],
     heads: &[],
     merges: &[8, 16],
     thresholds: &[0, 1, 100],

@@ -25,7 +25,7 @@ use crate::documents::{Change, first_wrong};
 use crate::flows::Code::{
     AssertEmpty, Copy, End, Free, Input, Load, Malloc, Skip, Store, TestEq, Undef,
 };
-use crate::flows::{Code, NODE, Program};
+use crate::flows::{Program, Shape};
 use mc_base::Kind::{Int, Ptr};
 use mc_base::VarId;
 use mc_flow::Operand::{Const, Var};
@@ -41,43 +41,41 @@ const C: VarId = VarId(3);
 
 const T: VarId = VarId(4);
 
-static POINTS: [Code; 29] = [
-    Skip(1),
-    Copy(L, Const(0), 2),
-    Skip(3),
-    Input(READ, 4),
-    TestEq(Var(READ), Const(0), 6, 5),
-    Undef(&[READ], 7),
-    Undef(&[READ], 17),
-    Malloc(C, 8),
-    TestEq(Var(C), Const(0), 9, 10),
-    Undef(&[C], 17),
-    Skip(11),
-    Input(READ, 12),
-    Store(C, 0, Var(READ), 13),
-    Undef(&[READ], 14),
-    Store(C, 1, Var(L), 15),
-    Copy(L, Var(C), 16),
-    Undef(&[C], 2),
-    Skip(18),
-    Skip(19),
-    TestEq(Var(L), Const(0), 24, 20),
-    Load(T, L, 1, 21),
-    Free(Var(L), 22),
-    Copy(L, Var(T), 23),
-    Undef(&[T], 18),
-    Skip(25),
-    AssertEmpty(26),
-    Copy(RET, Const(0), 28),
-    Copy(RET, Const(0), 28),
-    End,
-];
-
 static PROGRAM: Program = Program {
-    shape: &NODE,
+    shape: Shape::Node,
     definitions: "def list(this) { rule { this = 0; } rule { this -> node { data: _, next: n }; list(n); } }",
     vars: &[("$ret", Int), ("l", Ptr), ("", Int), ("c", Ptr), ("t", Ptr)],
-    points: &POINTS,
+    points: &[
+        Skip(1),
+        Copy(L, Const(0), 2),
+        Skip(3),
+        Input(READ, 4),
+        TestEq(Var(READ), Const(0), 6, 5),
+        Undef(&[READ], 7),
+        Undef(&[READ], 17),
+        Malloc(C, 8),
+        TestEq(Var(C), Const(0), 9, 10),
+        Undef(&[C], 17),
+        Skip(11),
+        Input(READ, 12),
+        Store(C, 0, Var(READ), 13),
+        Undef(&[READ], 14),
+        Store(C, 1, Var(L), 15),
+        Copy(L, Var(C), 16),
+        Undef(&[C], 2),
+        Skip(18),
+        Skip(19),
+        TestEq(Var(L), Const(0), 24, 20),
+        Load(T, L, 1, 21),
+        Free(Var(L), 22),
+        Copy(L, Var(T), 23),
+        Undef(&[T], 18),
+        Skip(25),
+        AssertEmpty(26),
+        Copy(RET, Const(0), 28),
+        Copy(RET, Const(0), 28),
+        End,
+    ],
     heads: &[2, 18],
     merges: &[10],
     thresholds: &[0],

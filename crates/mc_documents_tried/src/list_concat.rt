@@ -24,7 +24,7 @@
 use crate::documents::Answer::{Premise, Whole};
 use crate::documents::{Change, first_wrong};
 use crate::flows::Code::{Assert, Assume, Copy, End, Load, Skip, Store, TestEq, Undef};
-use crate::flows::{Code, NODE, Program};
+use crate::flows::{Program, Shape};
 use mc_base::Kind::{Int, Ptr};
 use mc_base::VarId;
 use mc_flow::Operand::{Const, Var};
@@ -48,41 +48,8 @@ const C: VarId = VarId(7);
 
 const TMP: VarId = VarId(8);
 
-static POINTS: [Code; 30] = [
-    Skip(1),
-    Undef(&[A], 2),
-    Undef(&[B], 3),
-    Undef(&[R], 4),
-    Assume(A, &[], 5),
-    Assume(B, &[], 6),
-    Copy(LEFT, Var(A), 7),
-    Copy(RIGHT, Var(B), 8),
-    Undef(&[MADE], 9),
-    Undef(&[C], 10),
-    TestEq(Var(LEFT), Const(0), 11, 12),
-    Copy(MADE, Var(RIGHT), 23),
-    Skip(13),
-    Copy(C, Var(LEFT), 14),
-    Skip(15),
-    Load(TMP, C, 1, 16),
-    TestEq(Var(TMP), Const(0), 18, 17),
-    Undef(&[TMP], 19),
-    Undef(&[TMP], 20),
-    Load(C, C, 1, 14),
-    Skip(21),
-    Store(C, 1, Var(RIGHT), 22),
-    Copy(MADE, Var(LEFT), 23),
-    Undef(&[LEFT, RIGHT, C], 24),
-    Copy(R, Var(MADE), 25),
-    Undef(&[MADE], 26),
-    Assert(Var(R), &[], 27),
-    Copy(RET, Const(0), 29),
-    Copy(RET, Const(0), 29),
-    End,
-];
-
 static PROGRAM: Program = Program {
-    shape: &NODE,
+    shape: Shape::Node,
     definitions: "def list(this) { rule { this = 0; } rule { this -> node { data: _, next: n }; list(n); } }",
     vars: &[
         ("$ret", Int),
@@ -95,7 +62,38 @@ static PROGRAM: Program = Program {
         ("c", Ptr),
         ("", Ptr),
     ],
-    points: &POINTS,
+    points: &[
+        Skip(1),
+        Undef(&[A], 2),
+        Undef(&[B], 3),
+        Undef(&[R], 4),
+        Assume(A, &[], 5),
+        Assume(B, &[], 6),
+        Copy(LEFT, Var(A), 7),
+        Copy(RIGHT, Var(B), 8),
+        Undef(&[MADE], 9),
+        Undef(&[C], 10),
+        TestEq(Var(LEFT), Const(0), 11, 12),
+        Copy(MADE, Var(RIGHT), 23),
+        Skip(13),
+        Copy(C, Var(LEFT), 14),
+        Skip(15),
+        Load(TMP, C, 1, 16),
+        TestEq(Var(TMP), Const(0), 18, 17),
+        Undef(&[TMP], 19),
+        Undef(&[TMP], 20),
+        Load(C, C, 1, 14),
+        Skip(21),
+        Store(C, 1, Var(RIGHT), 22),
+        Copy(MADE, Var(LEFT), 23),
+        Undef(&[LEFT, RIGHT, C], 24),
+        Copy(R, Var(MADE), 25),
+        Undef(&[MADE], 26),
+        Assert(Var(R), &[], 27),
+        Copy(RET, Const(0), 29),
+        Copy(RET, Const(0), 29),
+        End,
+    ],
     heads: &[14],
     merges: &[12],
     thresholds: &[0],

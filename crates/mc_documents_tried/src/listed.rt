@@ -10,7 +10,7 @@
 use crate::documents::Answer::{Premise, Whole};
 use crate::documents::{Change, first_wrong};
 use crate::flows::Code::{Assert, Assume, Copy, End, Skip, Undef};
-use crate::flows::{Code, NODE, Program};
+use crate::flows::{Program, Shape};
 use mc_base::Kind::{Int, Ptr};
 use mc_base::VarId;
 use mc_flow::Operand::{Const, Var};
@@ -20,21 +20,19 @@ const RET: VarId = VarId(0);
 
 const L: VarId = VarId(1);
 
-static POINTS: [Code; 7] = [
-    Skip(1),
-    Undef(&[L], 2),
-    Assume(L, &[], 3),
-    Assert(Var(L), &[], 4),
-    Copy(RET, Const(0), 6),
-    Copy(RET, Const(0), 6),
-    End,
-];
-
 static PROGRAM: Program = Program {
-    shape: &NODE,
+    shape: Shape::Node,
     definitions: "def list(this) { rule { this = 0; } rule { this -> node { data: _, next: n }; list(n); } }",
     vars: &[("$ret", Int), ("l", Ptr)],
-    points: &POINTS,
+    points: &[
+        Skip(1),
+        Undef(&[L], 2),
+        Assume(L, &[], 3),
+        Assert(Var(L), &[], 4),
+        Copy(RET, Const(0), 6),
+        Copy(RET, Const(0), 6),
+        End,
+    ],
     heads: &[],
     merges: &[],
     thresholds: &[0],

@@ -15,7 +15,7 @@
 use crate::documents::Answer::{EndsEarly, Premise};
 use crate::documents::{Change, first_wrong};
 use crate::flows::Code::{Assert, Assume, Copy, End, Malloc, Skip, Store, TestEq, Undef};
-use crate::flows::{Code, FORK, Program};
+use crate::flows::{Program, Shape};
 use mc_base::Kind::{Int, Ptr};
 use mc_base::VarId;
 use mc_flow::Operand::{Const, Var};
@@ -27,28 +27,26 @@ const A: VarId = VarId(1);
 
 const B: VarId = VarId(2);
 
-static POINTS: [Code; 14] = [
-    Skip(1),
-    Undef(&[A], 2),
-    Undef(&[B], 3),
-    Assume(A, &[], 4),
-    Malloc(B, 5),
-    TestEq(Var(B), Const(0), 6, 7),
-    Copy(RET, Const(0), 13),
-    Skip(8),
-    Store(B, 0, Var(A), 9),
-    Store(B, 1, Var(A), 10),
-    Assert(Var(B), &[], 11),
-    Copy(RET, Const(0), 13),
-    Copy(RET, Const(0), 13),
-    End,
-];
-
 static PROGRAM: Program = Program {
-    shape: &FORK,
+    shape: Shape::Fork,
     definitions: "def tree(this) { rule { this = 0; } rule { this -> t { l: x, r: y }; tree(x); tree(y); } }",
     vars: &[("$ret", Int), ("a", Ptr), ("b", Ptr)],
-    points: &POINTS,
+    points: &[
+        Skip(1),
+        Undef(&[A], 2),
+        Undef(&[B], 3),
+        Assume(A, &[], 4),
+        Malloc(B, 5),
+        TestEq(Var(B), Const(0), 6, 7),
+        Copy(RET, Const(0), 13),
+        Skip(8),
+        Store(B, 0, Var(A), 9),
+        Store(B, 1, Var(A), 10),
+        Assert(Var(B), &[], 11),
+        Copy(RET, Const(0), 13),
+        Copy(RET, Const(0), 13),
+        End,
+    ],
     heads: &[],
     merges: &[7],
     thresholds: &[0],

@@ -17,7 +17,7 @@
 use crate::documents::Answer::{Premise, Whole};
 use crate::documents::{Change, first_wrong};
 use crate::flows::Code::{Assert, Assume, Copy, End, Load, Skip, Store, TestEq, Undef};
-use crate::flows::{Code, FORK, Program};
+use crate::flows::{Program, Shape};
 use mc_base::Kind::{Int, Ptr};
 use mc_base::VarId;
 use mc_flow::Operand::{Const, Var};
@@ -31,34 +31,32 @@ const B: VarId = VarId(2);
 
 const TMP: VarId = VarId(3);
 
-static POINTS: [Code; 20] = [
-    Skip(1),
-    Undef(&[A], 2),
-    Undef(&[B], 3),
-    Assume(A, &[], 4),
-    TestEq(Var(A), Const(0), 9, 5),
-    Load(TMP, A, 0, 6),
-    TestEq(Var(TMP), Const(0), 7, 8),
-    Undef(&[TMP], 9),
-    Undef(&[TMP], 10),
-    Copy(RET, Const(0), 19),
-    Skip(11),
-    Load(B, A, 0, 12),
-    Load(TMP, B, 1, 13),
-    Store(A, 0, Var(TMP), 14),
-    Undef(&[TMP], 15),
-    Store(B, 1, Var(A), 16),
-    Assert(Var(B), &[], 17),
-    Copy(RET, Const(0), 19),
-    Copy(RET, Const(0), 19),
-    End,
-];
-
 static PROGRAM: Program = Program {
-    shape: &FORK,
+    shape: Shape::Fork,
     definitions: "def tree(this) { rule { this = 0; } rule { this -> t { l: x, r: y }; tree(x); tree(y); } }",
     vars: &[("$ret", Int), ("a", Ptr), ("b", Ptr), ("", Ptr)],
-    points: &POINTS,
+    points: &[
+        Skip(1),
+        Undef(&[A], 2),
+        Undef(&[B], 3),
+        Assume(A, &[], 4),
+        TestEq(Var(A), Const(0), 9, 5),
+        Load(TMP, A, 0, 6),
+        TestEq(Var(TMP), Const(0), 7, 8),
+        Undef(&[TMP], 9),
+        Undef(&[TMP], 10),
+        Copy(RET, Const(0), 19),
+        Skip(11),
+        Load(B, A, 0, 12),
+        Load(TMP, B, 1, 13),
+        Store(A, 0, Var(TMP), 14),
+        Undef(&[TMP], 15),
+        Store(B, 1, Var(A), 16),
+        Assert(Var(B), &[], 17),
+        Copy(RET, Const(0), 19),
+        Copy(RET, Const(0), 19),
+        End,
+    ],
     heads: &[],
     merges: &[10],
     thresholds: &[0],

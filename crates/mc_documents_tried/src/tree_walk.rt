@@ -15,7 +15,7 @@
 use crate::documents::Answer::{Premise, Whole};
 use crate::documents::{Change, first_wrong};
 use crate::flows::Code::{Assert, Assume, Copy, End, Input, Load, Skip, TestEq, Undef};
-use crate::flows::{Code, FORK, Program};
+use crate::flows::{Program, Shape};
 use mc_base::Kind::{Int, Ptr};
 use mc_base::VarId;
 use mc_flow::Operand::{Const, Var};
@@ -29,33 +29,31 @@ const C: VarId = VarId(2);
 
 const TMP: VarId = VarId(3);
 
-static POINTS: [Code; 19] = [
-    Skip(1),
-    Undef(&[A], 2),
-    Undef(&[C], 3),
-    Assume(A, &[], 4),
-    Copy(C, Var(A), 5),
-    Skip(6),
-    TestEq(Var(C), Const(0), 14, 7),
-    Input(TMP, 8),
-    TestEq(Var(TMP), Const(0), 10, 9),
-    Undef(&[TMP], 11),
-    Undef(&[TMP], 12),
-    Load(C, C, 0, 13),
-    Load(C, C, 1, 13),
-    Skip(5),
-    Skip(15),
-    Assert(Var(A), &[], 16),
-    Copy(RET, Const(0), 18),
-    Copy(RET, Const(0), 18),
-    End,
-];
-
 static PROGRAM: Program = Program {
-    shape: &FORK,
+    shape: Shape::Fork,
     definitions: "def tree(this) { rule { this = 0; } rule { this -> t { l: x, r: y }; tree(x); tree(y); } }",
     vars: &[("$ret", Int), ("a", Ptr), ("c", Ptr), ("", Int)],
-    points: &POINTS,
+    points: &[
+        Skip(1),
+        Undef(&[A], 2),
+        Undef(&[C], 3),
+        Assume(A, &[], 4),
+        Copy(C, Var(A), 5),
+        Skip(6),
+        TestEq(Var(C), Const(0), 14, 7),
+        Input(TMP, 8),
+        TestEq(Var(TMP), Const(0), 10, 9),
+        Undef(&[TMP], 11),
+        Undef(&[TMP], 12),
+        Load(C, C, 0, 13),
+        Load(C, C, 1, 13),
+        Skip(5),
+        Skip(15),
+        Assert(Var(A), &[], 16),
+        Copy(RET, Const(0), 18),
+        Copy(RET, Const(0), 18),
+        End,
+    ],
     heads: &[5],
     merges: &[13],
     thresholds: &[0],

@@ -11,7 +11,7 @@
 use crate::documents::Answer::{Premise, Whole};
 use crate::documents::{Change, first_wrong};
 use crate::flows::Code::{Assume, Copy, End, Input, Skip, Undef};
-use crate::flows::{Code, NODE, Program};
+use crate::flows::{Program, Shape};
 use mc_base::Kind::{Int, Ptr};
 use mc_base::VarId;
 use mc_flow::Operand::{Const, Var};
@@ -25,22 +25,20 @@ const K: VarId = VarId(2);
 
 const B: VarId = VarId(3);
 
-static POINTS: [Code; 8] = [
-    Skip(1),
-    Input(N, 2),
-    Input(K, 3),
-    Undef(&[B], 4),
-    Assume(B, &[Var(K)], 5),
-    Copy(RET, Const(0), 7),
-    Copy(RET, Const(0), 7),
-    End,
-];
-
 static PROGRAM: Program = Program {
-    shape: &NODE,
+    shape: Shape::Node,
     definitions: "def lenlist(this, int k) { rule { this = 0; k = 0; } rule { this -> node { data: _, next: n }; int m = k - 1; k >= 1; lenlist(n, m); } }",
     vars: &[("$ret", Int), ("n", Int), ("k", Int), ("b", Ptr)],
-    points: &POINTS,
+    points: &[
+        Skip(1),
+        Input(N, 2),
+        Input(K, 3),
+        Undef(&[B], 4),
+        Assume(B, &[Var(K)], 5),
+        Copy(RET, Const(0), 7),
+        Copy(RET, Const(0), 7),
+        End,
+    ],
     heads: &[],
     merges: &[],
     thresholds: &[0],
