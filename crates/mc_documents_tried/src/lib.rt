@@ -6,6 +6,10 @@ mod documents;
 #[cfg(test)]
 mod flows;
 #[cfg(test)]
+mod freed;
+#[cfg(test)]
 mod listed;
+#[cfg(test)]
+mod shared;
 #[cfg(test)]
 mod two_lengths;
