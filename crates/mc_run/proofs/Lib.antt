@@ -1,0 +1,13 @@
+pub mod Determined
+pub mod Alone
+pub mod Using
+pub mod Passing
+pub mod Changing
+pub mod Allocating
+pub mod Deciding
+pub mod Blocks
+pub mod Filling
+pub mod Mapped
+pub mod Leaving
+pub mod NotEnded
+pub mod Running
