@@ -76,11 +76,11 @@ value_used structs h e place go v steps.Stuck c old new i f = (
 
 -- ---- a step that goes on with a value and then takes choices
 -- what asks behind a value
-abbrev AsksAt : (List Choice → Type 0) → Evaluated → Type 0
+abbrev pub AsksAt : (List Choice → Type 0) → Evaluated → Type 0
 AsksAt Asks (fault_of kind) = ⊥
 AsksAt Asks (value_of v rest) = Asks rest
 
-abbrev AsksThen : Here → Expr → (List Choice → List Choice → Type 0) → List Choice → Request → List Choice → Type 0
+abbrev pub AsksThen : Here → Expr → (List Choice → List Choice → Type 0) → List Choice → Request → List Choice → Type 0
 AsksThen h e Asks choices request left =
     (request ≡ an_input) × (ValueAsks h.values h.heap e choices left ⊎ AsksBehind h.values h.heap e choices (λ rest. Asks rest left))
 

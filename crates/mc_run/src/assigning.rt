@@ -126,8 +126,7 @@ fn assign_block<'a>(
         fields,
     )? {
         Allocated::Address(address) => {
-            let change = assign(machine, goal, pointer_at(address));
-            Ok(settled(change, place))
+            Ok(settled(assign(machine, goal, pointer_at(address)), place))
         }
         Allocated::Unanswered(why) => Ok(Stepped::Unanswered(why)),
     }

@@ -4,7 +4,7 @@ ghost use Rattle.std.specs.Prelude.{◌↔◌, IfOk, IsTrue, List, map as map_li
 ghost use Rattle.mc_heap.specs.Adding.{AreFree, part_of};
 ghost use Rattle.mc_defs.specs.Meaning.{Sat};
 ghost use Rattle.mc_script.specs.Models.{block};
-ghost use Rattle.mc_run.specs.Shapes.{IsAdded};
+ghost use Rattle.mc_run.specs.Adding.{IsAdded};
 ghost use Rattle.mc_heap.specs.Choices.{Choice as ChoiceModel};
 ghost use Rattle.mc_resolved.specs.Steps.{Executes};
 ghost use Rattle.mc_resolved.specs.Programs.{Program as ProgramModel, assert_empty, assert_shape, assume_shape};
