@@ -49,8 +49,8 @@ module _ (structs : List StructInfo) (before after : Heap) (shape fields : ℕ) 
     λ rest. (
       λ r does. f rest r (allocates_back before after shape fields at go rest r i.2 does),
       λ w. (
-        let P : List Choice → Type 0 = λ left. IsUnanswered (an_address before) left in
-        let never : IsUnanswered (an_address before) (malloc at ∷ rest) = subst P w.asks.1 (unanswered_by w.request (an_address before) w.left w.asks.0 w.unanswered) in
-        never i.1),
+          let P : List Choice → Type 0 = λ left. IsUnanswered (an_address before) left in
+          let never : IsUnanswered (an_address before) (malloc at ∷ rest) = subst P w.asks.1 (unanswered_by w.request (an_address before) w.left w.asks.0 w.unanswered) in
+          never i.1),
     ),
   )

@@ -1,15 +1,16 @@
 -- A run, step by step.
-use Rattle.std.proofs.Common.{◌≡◌, ◌∙◌, ◌⊎◌, ◌++◌, ◌+◌, ◌-◌, ◌≤◌, ◌<◌, inl, inr, ℕ, zero, suc, List, [], ◌∷◌, length, refl, sym, ap, subst, append_assoc, arith}
+use Rattle.std.proofs.Common.{◌≡◌, ◌∙◌, ◌⊎◌, ◌++◌, ◌+◌, ◌-◌, ◌≤◌, ◌<◌, inl, inr, ℕ, zero, suc, List, [], ◌∷◌, length, refl, sym, ap, ap₂, subst, append_assoc, arith}
 use Rattle.std.proofs.lemmas.List.{append-nil}
 use Rattle.mc_base.specs.Runs.{next, last, ended, stopped, fault}
 use Rattle.mc_heap.specs.Choices.{Choice}
 use Rattle.mc_defs.specs.declared.shapes.StructInfo.{StructInfo}
 use Rattle.mc_waiting.specs.Requests.{Request, Waits}
 use Rattle.mc_waiting.specs.Runs.{ComesTo, GoesOn, Leads, Machine}
-use Rattle.mc_resolved.specs.Programs.{Program}
+use Rattle.std.specs.FinMap as maps
+use Rattle.mc_resolved.specs.Programs.{Function, Program}
 use Rattle.mc_resolved.specs.Configs.{Config, Result, Tasks, Values, done}
 use Rattle.mc_resolved.specs.Moves.{Arrives}
-use Rattle.mc_resolved.specs.Steps.{Does, Step}
+use Rattle.mc_resolved.specs.Steps.{Does, start, Step}
 use Rattle.mc_tasks.specs.Going.{Comes, Has, LeavesLoop, Stands, tasks_of, values_of}
 use Rattle.mc_tasks.specs.declared.next.Next.{Next}
 use Rattle.mc_tasks.specs.declared.work.Work.{Work}
@@ -131,10 +132,10 @@ module _ (p : Program) (structs : List StructInfo) (c : Config) (script : List (
     takes_more structs script lines new used more takes takes_too,
     (
       suc n,
-      grind (arith),
+      omega (arith),
       λ rest. (
-        let P : List Choice → Type 0 = λ cs. Leads (Step p) (suc n) c cs e rest in
-        subst P (sym (append_assoc used more rest)) (leads_more p n c d e (used ++ (more ++ rest)) (more ++ rest) rest (leads (more ++ rest)) (step rest))),
+          let P : List Choice → Type 0 = λ cs. Leads (Step p) (suc n) c cs e rest in
+          subst P (sym (append_assoc used more rest)) (leads_more p n c d e (used ++ (more ++ rest)) (more ++ rest) rest (leads (more ++ rest)) (step rest))),
     ),
   )
 
@@ -147,8 +148,8 @@ module _ (p : Program) (structs : List StructInfo) (c : Config) (script : List (
       n,
       omega (arith),
       λ rest. (
-        let P : List Choice → Type 0 = λ cs. ComesTo (Step p) n c cs ended in
-        subst P (sym (append_assoc used more rest)) (d, more ++ rest, leads (more ++ rest), step rest)),
+          let P : List Choice → Type 0 = λ cs. ComesTo (Step p) n c cs ended in
+          subst P (sym (append_assoc used more rest)) (d, more ++ rest, leads (more ++ rest), step rest)),
     ),
   )
   ends_made left later d e lines new ends.Stopped (used, takes, (n, spent, leads)) is (more, takes_too, step) = (
@@ -159,8 +160,8 @@ module _ (p : Program) (structs : List StructInfo) (c : Config) (script : List (
       suc n,
       omega (arith),
       λ rest. (
-        let P : List Choice → Type 0 = λ cs. ComesTo (Step p) (suc n) c cs stopped in
-        subst P (sym (append_assoc used more rest)) (d, more ++ rest, leads (more ++ rest), step rest)),
+          let P : List Choice → Type 0 = λ cs. ComesTo (Step p) (suc n) c cs stopped in
+          subst P (sym (append_assoc used more rest)) (d, more ++ rest, leads (more ++ rest), step rest)),
     ),
   )
   ends_made left later d e lines new (ends.Fault kind place) (used, takes, (n, spent, leads)) is (more, takes_too, step) = (
@@ -171,8 +172,8 @@ module _ (p : Program) (structs : List StructInfo) (c : Config) (script : List (
       suc n,
       omega (arith),
       λ rest. (
-        let P : List Choice → Type 0 = λ cs. ComesTo (Step p) (suc n) c cs (fault kind place) in
-        subst P (sym (append_assoc used more rest)) (d, more ++ rest, leads (more ++ rest), step rest)),
+          let P : List Choice → Type 0 = λ cs. ComesTo (Step p) (suc n) c cs (fault kind place) in
+          subst P (sym (append_assoc used more rest)) (d, more ++ rest, leads (more ++ rest), step rest)),
     ),
   )
 
@@ -226,18 +227,18 @@ module _ (p : Program) (structs : List StructInfo) (c : Config) (script : List (
   refused_made left later d e lines new Missing (used, takes, (n, spent, leads)) is (request, ([], (more, takes_too, asks), refused)) =
       let none : length new ≡ 0 = ap (λ (all : List (List ℕ)). length all) refused in
       let all : length script ≡ length (used ++ more) + 0 = takes_length structs script (used ++ more) [] (takes_more structs script lines [] used more takes takes_too) in
-      asks_made left later n d lines [] used more request (length script - length new + 1) IsShort takes spent leads is takes_too asks (omega (arith)) refl
+      asks_made left later n d lines [] used more request (length script - length new + 1) IsShort takes spent leads is takes_too asks (omega (arith, none, all)) refl
   refused_made left later d e lines new Missing so is (request, (line ∷ others, taken, refused)) = absurd refused
   refused_made left later d e lines new Unreadable so is (request, ([], taken, refused)) = absurd refused
   refused_made left later d e lines new Unreadable (used, takes, (n, spent, leads)) is (request, (line ∷ others, (more, takes_too, asks), refused)) =
       let same : length new ≡ length others = ap (λ (all : List (List ℕ)). length all) refused.1 in
       let all : length script ≡ length (used ++ more) + suc (length others) = takes_length structs script (used ++ more) (line ∷ others) (takes_more structs script lines (line ∷ others) used more takes takes_too) in
-      asks_made left later n d lines (line ∷ others) used more request (length script - length new) (IsBad structs) takes spent leads is takes_too asks (omega (arith)) (inl (new, refused))
+      asks_made left later n d lines (line ∷ others) used more request (length script - length new) (IsBad structs) takes spent leads is takes_too asks (omega (arith, same, all)) (inl (new, refused))
   refused_made left later d e lines new NotAllowed so is (request, ([], taken, refused)) = absurd refused
   refused_made left later d e lines new NotAllowed (used, takes, (n, spent, leads)) is (request, (line ∷ others, (more, takes_too, asks), refused)) =
       let same : length new ≡ length others = ap (λ (all : List (List ℕ)). length all) refused.1 in
       let all : length script ≡ length (used ++ more) + suc (length others) = takes_length structs script (used ++ more) (line ∷ others) (takes_more structs script lines (line ∷ others) used more takes takes_too) in
-      asks_made left later n d lines (line ∷ others) used more request (length script - length new) (IsBad structs) takes spent leads is takes_too asks (omega (arith)) (inr (new, refused))
+      asks_made left later n d lines (line ∷ others) used more request (length script - length new) (IsBad structs) takes spent leads is takes_too asks (omega (arith, same, all)) (inr (new, refused))
 
   -- ---- before a step
   pub ended_here : (left : ℕ) (d : Config) (lines : List (List ℕ)) → SoFar left d lines → ((choices : List Choice) → Step p d choices (last ended)) → Runs p structs c script fuel outcomes.Ended
@@ -302,3 +303,12 @@ module _ (p : Program) (structs : List StructInfo) (c : Config) (script : List (
   run_stuck later stepped e new is stuck step =
       let P : Stepped → Type 0 = λ s. IsMadeThen s e new in
       stuck_made p structs c script fuel left later (at_config (tasks_of w) (values_of w) heap) e lines new so is (made steps.Stuck e new (subst P stuck step))
+
+-- the run begins
+pub starts : (p : Program) (structs : List StructInfo) (f : Function) (script : List (List ℕ)) (fuel : ℕ) (w : Work) (heap : Heap) → tasks_of w ≡ (start f).tasks → values_of w ≡ (start f).values → heap ≡ maps.empty
+    → SoFar p structs (start f) script fuel fuel (at_config (tasks_of w) (values_of w) heap) script
+starts p structs f script fuel w heap tasks values none =
+    let first : at_config (tasks_of w) (values_of w) heap ≡ start f =
+    ap₂ (λ (t : Tasks) (v : Values). at_config t v heap) tasks values ∙ ap (λ (m : Heap). at_config (start f).tasks (start f).values m) none in
+    let P : Config → Type 0 = λ d. SoFar p structs (start f) script fuel fuel d script in
+    subst P (sym first) (begun p structs (start f) script fuel)

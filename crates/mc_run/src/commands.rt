@@ -64,8 +64,8 @@ fn meets_alone(
     given: &Shape,
     arguments: &[i64],
 ) -> Result<bool, NoMemory>
-    ensures { IfOk result (λ met. IsTrue met ↔ (AreFree map.empty (map_list block given.now.blocks.items)
-        × Sat defs.now predicate given.now.value arguments.now (part_of (map_list block given.now.blocks.items)))) }
+    ensures { IfOk result (λ met. IsTrue met ↔ (AreFree map.empty (map_list block given.now.blocks)
+        × Sat defs.now predicate given.now.value arguments.now (part_of (map_list block given.now.blocks)))) }
 {
     let mut part = Heap::new(alloc);
     if !add_blocks(&mut part, given.blocks.as_slice())? {
@@ -84,7 +84,7 @@ fn add_shape<'a>(
     given: &Shape,
 ) -> Result<Stepped, NoMemory>
     ensures { IfOk result (λ stepped. IsAdded program.entry.defs.now shape.now.predicate arguments.now shape.now.variable
-        (config_of machine.old) given.now.value (map_list block given.now.blocks.items) stepped (config_of machine.new)) }
+        (config_of machine.old) given.now.value (map_list block given.now.blocks) stepped (config_of machine.new)) }
 {
     let alloc = machine.alloc;
     if !meets_alone(alloc, program.defs, shape.predicate, given, arguments)? {

@@ -70,10 +70,13 @@ fn run_from(
 ) -> Result<Outcome, NoMemory>
     ensures { IfOk result (λ outcome. Runs (program_of program.entry) program.entry.structs.now (start (function_of entry.now)) script.old fuel outcome) }
 {
+    let work = Work::start(alloc, entry)?;
+    let heap = Heap::new(alloc);
+    let evaluator = Evaluator::new(alloc);
     let mut machine = Machine {
-        work: Work::start(alloc, entry)?,
-        heap: Heap::new(alloc),
-        evaluator: Evaluator::new(alloc),
+        work,
+        heap,
+        evaluator,
         alloc,
     };
     let before = script.count();

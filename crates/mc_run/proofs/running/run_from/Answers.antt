@@ -1,0 +1,32 @@
+use Rattle.std.proofs.Common.{◌≡◌, ◌∙◌, sym, subst, Bool, arith}
+use Rattle.std.specs.Prelude.{IsTrue}
+use Rattle.mc_resolved.specs.Steps.{start}
+use Rattle.mc_resolved.specs.Views.{function_of}
+use Rattle.mc_run.specs.Models.{config_of, program_of}
+use Rattle.mc_run.proofs.Going.{run_ended, run_ends, run_goes, run_refused, run_spent, run_stuck, starts}
+use Rattle.mc_run.proofs.running.run_from.Goals as goal
+
+pub loop-next-init : goal.loop-next-init
+loop-next-init c =
+    starts (program_of c.args.program) c.args.program.structs.now (function_of c.args.entry.now) c.args.script.now c.args.fuel c.in_ok-work.work c.new-heap.result c.in_ok-work.ensures.tasks c.in_ok-work.ensures.values c.new-heap.ensures
+
+pub returns-then-is_done : goal.returns-then-is_done
+returns-then-is_done c =
+    run_ended (program_of c.args.program) c.args.program.structs.now (start (function_of c.args.entry.now)) c.args.script.now c.args.fuel c.loop-next.left c.loop-next.machine.work c.arrive.new.self c.loop-next.machine.heap c.loop-next.script c.in_ok-next.next c.loop-next.invariant c.in_ok-next.ensures
+    (c.is_done.ensures.0 (subst IsTrue (sym c.if-is_done.true) tt))
+
+pub returns-then-left-eq0 : goal.returns-then-left-eq0
+returns-then-left-eq0 c =
+    run_spent (program_of c.args.program) c.args.program.structs.now (start (function_of c.args.entry.now)) c.args.script.now c.args.fuel c.loop-next.left c.loop-next.machine.work c.arrive.new.self c.loop-next.machine.heap c.loop-next.script c.in_ok-next.next c.loop-next.invariant c.in_ok-next.ensures
+    c.if-left-eq0.true (λ is. (let b = c.is_done.ensures.1 is in subst IsTrue c.if-is_done.false b))
+
+pub loop-next-preserved : goal.loop-next-preserved
+loop-next-preserved c =
+    run_goes (program_of c.args.program) c.args.program.structs.now (start (function_of c.args.entry.now)) c.args.script.now c.args.fuel c.loop-next.left c.loop-next.machine.work c.arrive.new.self c.loop-next.machine.heap c.loop-next.script c.in_ok-next.next c.loop-next.invariant c.in_ok-next.ensures
+    _ c.in_ok-make.field-0 (config_of c.make.new.machine) c.make.new.script (omega (arith, c.if-left-eq0.false)) c.in-Goes.is c.in_ok-make.ensures
+
+pub returns-in-Ends : goal.returns-in-Ends
+returns-in-Ends c =
+    subst _ (sym c.outcome_of.ensures) (
+    run_ends (program_of c.args.program) c.args.program.structs.now (start (function_of c.args.entry.now)) c.args.script.now c.args.fuel c.loop-next.left c.loop-next.machine.work c.arrive.new.self c.loop-next.machine.heap c.loop-next.script c.in_ok-next.next c.loop-next.invariant c.in_ok-next.ensures
+    _ c.in_ok-make.field-0 c.in-Ends.end (config_of c.make.new.machine) c.make.new.script (omega (arith, c.if-left-eq0.false)) c.in-Ends.is c.in_ok-make.ensures)
