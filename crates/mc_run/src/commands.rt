@@ -1,12 +1,13 @@
 // Commands on shapes.
 ghost use Rattle.std.specs.FinMap as map;
-ghost use Rattle.std.specs.Prelude.{◌↔◌, IfOk, IsTrue, List, map as map_list};
+ghost use Rattle.std.specs.Prelude.{◌≡◌, ◌↔◌, IfOk, IsTrue, List, Some, map as map_list};
+ghost use Rattle.mc_flow.specs.Values.{all_there};
 ghost use Rattle.mc_heap.specs.Adding.{AreFree, part_of};
 ghost use Rattle.mc_defs.specs.Meaning.{Sat};
 ghost use Rattle.mc_script.specs.Models.{block};
 ghost use Rattle.mc_run.specs.Adding.{IsAdded};
 ghost use Rattle.mc_heap.specs.Choices.{Choice as ChoiceModel};
-ghost use Rattle.mc_resolved.specs.Steps.{Executes};
+ghost use Rattle.mc_resolved.specs.Steps.{Executes, argument_value};
 ghost use Rattle.mc_resolved.specs.Programs.{Program as ProgramModel, assert_empty, assert_shape, assume_shape};
 ghost use Rattle.mc_resolved.specs.Views.{argument_of};
 ghost use Rattle.mc_tasks.specs.Going.{tasks_of};
@@ -41,16 +42,38 @@ pub fn assume<'a>(
         (assume_shape shape.now.place shape.now.predicate shape.now.variable (map_list argument_of shape.now.arguments.items)) choices request rest)
         script.old stepped (config_of machine.new) script.new) }
 {
-    let Some(arguments) = values_of(machine, shape.arguments.as_slice())? else {
-        return Ok(Stepped::Ends(End::Fault(FaultKind::Uninit, shape.place)));
-    };
+    match values_of(machine, shape.arguments.as_slice())? {
+        Some(arguments) => {
+            let stepped = ask_shape(machine, program, script, shape, arguments.as_slice())?;
+            Ok(stepped)
+        }
+        None => Ok(Stepped::Ends(End::Fault(FaultKind::Uninit, shape.place))),
+    }
+}
+
+// The script gives the value of a shape with new blocks. Its arguments are these.
+fn ask_shape<'a>(
+    machine: &mut Machine<'a>,
+    program: Program<'a>,
+    script: &mut Script,
+    shape: &AssumeShape,
+    arguments: &[i64],
+) -> Result<Stepped, NoMemory>
+    requires { all_there (map_list (argument_value (here_of machine.now).values) (map_list argument_of shape.now.arguments.items)) ≡ Some arguments.now }
+    ensures { IfOk result (λ stepped. IsStep program.entry.structs.now
+        (λ choices r. Executes (program_of program.entry) (here_of machine.old)
+        (assume_shape shape.now.place shape.now.predicate shape.now.variable (map_list argument_of shape.now.arguments.items)) (tasks_of machine.old.work) choices r)
+        (λ choices request rest. StatementAsks program.entry.defs.now (here_of machine.old).values (here_of machine.old).heap
+        (assume_shape shape.now.place shape.now.predicate shape.now.variable (map_list argument_of shape.now.arguments.items)) choices request rest)
+        script.old stepped (config_of machine.new) script.new) }
+{
     match script.ask(machine.alloc, program.structs)? {
         Asked::Missing => Ok(Stepped::Unanswered(Refusal::Missing)),
         Asked::Unreadable => Ok(Stepped::Unanswered(Refusal::Unreadable)),
         Asked::Choice(Choice::Input(_)) => Ok(Stepped::Unanswered(Refusal::NotAllowed)),
         Asked::Choice(Choice::Malloc(_)) => Ok(Stepped::Unanswered(Refusal::NotAllowed)),
         Asked::Choice(Choice::Shape(given)) => {
-            let stepped = add_shape(machine, program, shape, arguments.as_slice(), &given)?;
+            let stepped = add_shape(machine, program, shape, arguments, &given)?;
             Ok(stepped)
         }
     }
