@@ -1,6 +1,6 @@
 -- Where conditions and returns lead.
 use Rattle.std.proofs.Common.{◌≡◌, ◌∙◌, ap, sym, refl, Bool, true, false, ℤ, List, Option, Some, None}
-use Rattle.std.specs.Prelude.{is_none}
+use Rattle.std.specs.Prelude.{is_some, not}
 use Rattle.mc_base.specs.declared.plain.FaultKind.TheVariants.{Uninit}
 use Rattle.mc_base.specs.Runs.{next, last, fault}
 use Rattle.mc_text.specs.declared.place.Place.{Place}
@@ -19,11 +19,13 @@ decides h branches choices false to is = ap (λ (b : Branch). led h b choices) i
 pub goes_back : (tasks left : Tasks) (values : Values) (heap : Heap) (v : Option ℤ) (choices : List Choice) → (values, left) ≡ returning tasks v → next (at_config left values heap) choices ≡ gone_back heap tasks v choices
 goes_back tasks left values heap v choices is = ap (λ (p : Values × Tasks). next (at_config p.1 p.0 heap) choices) is
 
-pub returns_none : (heap : Heap) (tasks : Tasks) (place : Place) (choices : List Choice) (v : Option ℤ) → is_none v ≡ true → last (fault Uninit place) ≡ returned_value heap tasks place choices v
-returns_none heap tasks place choices None is = refl
-returns_none heap tasks place choices (Some v) is = cc
+pub returns_none : (heap : Heap) (tasks : Tasks) (place : Place) (choices : List Choice) (v : Option ℤ) (b : Bool) → is_some v ≡ not b → b ≡ true → last (fault Uninit place) ≡ returned_value heap tasks place choices v
+returns_none heap tasks place choices None b is e = refl
+returns_none heap tasks place choices (Some v) true is e = cc
+returns_none heap tasks place choices (Some v) false is e = cc
 
-pub returns_some : (heap : Heap) (tasks left : Tasks) (values : Values) (place : Place) (choices : List Choice) (v : Option ℤ) → is_none v ≡ false → (values, left) ≡ returning tasks v
+pub returns_some : (heap : Heap) (tasks left : Tasks) (values : Values) (place : Place) (choices : List Choice) (v : Option ℤ) (b : Bool) → is_some v ≡ not b → b ≡ false → (values, left) ≡ returning tasks v
     → next (at_config left values heap) choices ≡ returned_value heap tasks place choices v
-returns_some heap tasks left values place choices None none is = cc
-returns_some heap tasks left values place choices (Some v) none is = goes_back tasks left values heap (Some v) choices is
+returns_some heap tasks left values place choices None true is e back = cc
+returns_some heap tasks left values place choices None false is e back = cc
+returns_some heap tasks left values place choices (Some v) b is e back = goes_back tasks left values heap (Some v) choices back
