@@ -35,7 +35,7 @@ all_filled [] = refl
 all_filled (v ∷ vs) = ap (λ (more : List (Option ℤ)). Some v ∷ more) (all_filled vs)
 
 -- what is put at an address twice is what is put there last
-insert_again : (h : Heap) (at : ℕ) (b c : Block) → maps.insert (maps.insert h at b) at c ≡ maps.insert h at c
+pub insert_again : (h : Heap) (at : ℕ) (b c : Block) → maps.insert (maps.insert h at b) at c ≡ maps.insert h at c
 insert_again h at b c =
     let x = insert_changes (maps.insert h at b) at c in
     let y = insert_changes h at c in
@@ -46,20 +46,33 @@ insert_again h at b c =
     ])
 
 same_number : (n : ℕ) → nat_eq n n ≡ true
-same_number zero = refl
-same_number (suc n) = same_number n
+same_number n = grind arith
 
 there_is : (shape k : ℕ) (vs : List ℤ) → k < length vs → IsSome (field_at (Some (filled_block shape k vs)) shape k)
-there_is shape k vs h = rw (same_number shape, field_there k vs h) tt
+there_is shape k vs h = rw (same_number shape, field_there k vs h) refl
 
-pub written_next : (heap now later : Heap) (at shape k : ℕ) (vs : List ℤ) (v : ℤ) (there : Bool) → now ≡ maps.insert heap at (filled_block shape k vs) → k < length vs → v ≡ get_or vs k v
+pub written_next : (heap now later : Heap) (at shape k : ℕ) (vs : List ℤ) (v : ℤ) (there : Bool) (next : ℕ) → next ≡ suc k → now ≡ maps.insert heap at (filled_block shape k vs) → k < length vs → v ≡ get_or vs k v
     → IsTrue there ↔ IsSome (field_at (maps.get now at) shape k) → (IsTrue there → IsSomeAnd (maps.get now at) (λ block. later ≡ maps.insert now at (with_field block k v)))
-    → later ≡ maps.insert heap at (filled_block shape (suc k) vs)
-written_next heap now later at shape k vs v there is h here answers writes =
+    → later ≡ maps.insert heap at (filled_block shape next vs)
+written_next heap now later at shape k vs v there next one is h here answers writes =
     let b = filled_block shape k vs in
     let got : maps.get now at ≡ Some b = ap (λ (m : Heap). maps.get m at) is ∙ (insert_changes heap at b).here in
     let P : Option Block → Type 0 = λ o. IsSome (field_at o shape k) in
     let Q : Option Block → Type 0 = λ o. IsSomeAnd o (λ block. later ≡ maps.insert now at (with_field block k v)) in
     let put : later ≡ maps.insert now at (with_field b k v) = subst Q got (writes (answers.1 (subst P (sym got) (there_is shape k vs h)))) in
     let field : with_field b k v ≡ filled_block shape (suc k) vs = ap (λ (fs : List (Option ℤ)). record { shape = shape; fields = fs }) (set_next k vs v h here) in
-    put ∙ (ap (λ (m : Heap). maps.insert m at (with_field b k v)) is ∙ (insert_again heap at b (with_field b k v) ∙ ap (maps.insert heap at) field))
+    put ∙ (ap (λ (m : Heap). maps.insert m at (with_field b k v)) is ∙ (insert_again heap at b (with_field b k v) ∙ (ap (maps.insert heap at) field ∙ ap (λ (n : ℕ). maps.insert heap at (filled_block shape n vs)) (sym one))))
+
+-- a new block is put where it is, and at the end each of its fields has its value
+pub added_first : (heap now : Heap) (at shape : ℕ) (vs : List ℤ) → now ≡ maps.insert heap at (filled_block shape 0 vs) → now ≡ maps.insert now at (filled_block shape 0 vs)
+added_first heap now at shape vs is =
+    let b = filled_block shape 0 vs in
+    is ∙ sym (ap (λ (m : Heap). maps.insert m at b) is ∙ insert_again heap at b b)
+
+pub added_last : (heap now later : Heap) (at shape k : ℕ) (vs : List ℤ) → now ≡ maps.insert heap at (filled_block shape 0 vs) → later ≡ maps.insert now at (filled_block shape k vs) → k ≡ length vs
+    → later ≡ maps.insert heap at (record { shape = shape; fields = map (λ v. Some v) vs })
+added_last heap now later at shape k vs is then all =
+    let b = filled_block shape 0 vs in
+    let c = filled_block shape k vs in
+    let fields : filled k vs ≡ map (λ v. Some v) vs = ap (λ (n : ℕ). filled n vs) all ∙ all_filled vs in
+    then ∙ (ap (λ (m : Heap). maps.insert m at c) is ∙ (insert_again heap at b c ∙ ap (λ (fs : List (Option ℤ)). maps.insert heap at (record { shape = shape; fields = fs })) fields))

@@ -43,7 +43,7 @@ step_alike : (structs : List StructInfo) (Does Other : List Choice → Result �
 step_alike structs Does Other Asks Question steps.Goes c old new does undoes asks unasks g = (g.0, g.1, λ rest. does (g.0 ++ rest) (next c rest) (g.2 rest))
 step_alike structs Does Other Asks Question (steps.Ends f) c old new does undoes asks unasks g = (g.0, g.1, λ rest. does (g.0 ++ rest) (last (final_of f)) (g.2 rest))
 step_alike structs Does Other Asks Question (steps.Unanswered why) c old new does undoes asks unasks g =
-    (g.0, (g.1, (g.2.0, g.2.1, λ rest. asks (g.2.0 ++ rest) rest g.0 (g.2.2 rest)), g.3))
+    (g.0, (g.1.0, (g.1.1.0, g.1.1.1, λ rest. asks (g.1.1.0 ++ rest) rest g.0 (g.1.1.2 rest)), g.1.2))
 step_alike structs Does Other Asks Question steps.Stuck c old new does undoes asks unasks g = (
   g.0,
   g.1,
@@ -102,9 +102,9 @@ not_at_end p d following w values tasks arrives has other choices (later, ready,
 
 -- ---- lines that are taken
 pub takes_length : (structs : List StructInfo) (lines : List (List ℕ)) (used : List Choice) (left : List (List ℕ)) → Takes structs lines used left → length lines ≡ length used + length left
-takes_length structs lines [] left h = ap (λ (all : List (List ℕ)). length all) (sym h)
+takes_length structs lines [] left h = omega (arith, ap (λ (all : List (List ℕ)). length all) h)
 takes_length structs [] (c ∷ cs) left h = absurd h
-takes_length structs (line ∷ lines) (c ∷ cs) left h = ap suc (takes_length structs lines cs left h.1)
+takes_length structs (line ∷ lines) (c ∷ cs) left h = omega (arith, takes_length structs lines cs left h.1)
 
 -- ---- one step more
 leads_more : (p : Program) (n : ℕ) (c d e : Config) (choices left rest : List Choice) → Leads (Step p) n c choices d left → Step p d left (next e rest) → Leads (Step p) (suc n) c choices e rest
@@ -121,7 +121,7 @@ module _ (p : Program) (structs : List StructInfo) (c : Config) (script : List (
       (used : List Choice) × Takes structs script used lines × ((n : ℕ) × (n + left ≡ fuel) × ((rest : List Choice) → Leads (Step p) n c (used ++ rest) d rest))
 
   pub begun : SoFar fuel c script
-  begun = ([], refl, (0, refl, λ rest. (refl, refl)))
+  begun = ([], refl, (0, omega arith, λ rest. (refl, refl)))
 
   abbrev IsMade : Config → List (List ℕ) → Stepped → Config → List (List ℕ) → Type 0
   IsMade d lines stepped e new = IsStep structs (λ choices r. Step p d choices r) (λ choices request left. Asks p d choices request left) lines stepped e new

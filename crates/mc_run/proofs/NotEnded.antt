@@ -1,10 +1,12 @@
 -- A step ends the run with no stop and no fault only where nothing is left to do.
-use Rattle.std.proofs.Common.{◌≡◌, ◌⊎◌, inl, inr, zero, suc, ℕ, ℤ, List, [], ◌∷◌, Bool, true, false, Option, Some, None, refl, map}
+use Rattle.std.proofs.Common.{◌≡◌, ◌⊎◌, inl, inr, zero, suc, ℕ, ℤ, pos, List, [], ◌∷◌, Bool, true, false, Option, Some, None, refl, map}
 use Rattle.std.specs.Prelude.{slice_get}
 use Rattle.mc_base.specs.declared.plain.FaultKind.{FaultKind}
 use Rattle.mc_base.specs.Runs.{last, ended}
 use Rattle.mc_text.specs.declared.place.Place.{Place}
 use Rattle.mc_heap.specs.Heap.{Heap}
+use Rattle.mc_heap.specs.Adding.{with_blocks}
+use Rattle.mc_ast.specs.declared.trees.Comparison.TheVariants.{Unequal}
 use Rattle.mc_heap.specs.Choices.{Choice, input as choose_input, malloc as choose_malloc, shape as choose_shape}
 use Rattle.mc_defs.specs.declared.rules.Def.{Def}
 use Rattle.mc_base.specs.declared.ids.PredId.{PredId}
@@ -16,7 +18,7 @@ use Rattle.mc_resolved.specs.Programs.{Left, Cond, plain, compare, negation, bot
 use Rattle.mc_resolved.specs.Programs.{Initial, Stmt, declaration, block, empty, simple, free, assert, assume, assume_shape, assert_shape, assert_empty}
 use Rattle.mc_resolved.specs.Programs.{if_only, if_else, while_loop, do_loop, for_loop, break_loop, continue_loop, returns, Function, Program}
 use Rattle.mc_resolved.specs.Configs.{Target, nowhere, stored, returned, perform, again, test, always, end_block, end_loop, end_turn, end_call, take_result, Tasks, done, task, Branch, go_on, fails, stops, Result}
-use Rattle.mc_resolved.specs.Values.{Changed, fault_in, changed}
+use Rattle.mc_resolved.specs.Values.{Changed, fault_in, changed, set_variable}
 use Rattle.mc_resolved.specs.Steps.{Here, after, AfterValue, Allocates, AfterArguments, Passes, begun, Assigns, Performs, Declares, AddsShape, Assumes, Demands, Asserts, returned_value, Returns, led, decided, compared, Tests, Executes, Does, argument_value, taken}
 
 after_on : (tasks : Tasks) (place : Place) (choices : List Choice) (made : Changed) → last ended ≡ after tasks place choices made → ⊥
@@ -60,20 +62,20 @@ performs_on p h (call c) place rest choices is = passes_on p h c nowhere place r
 
 declares_on : (p : Program) (h : Here) (x : Initial) (place : Place) (rest : Tasks) (choices : List Choice) (right : Option Right) → Declares p h x place rest choices right (last ended) → ⊥
 declares_on p h x place rest choices None is = cc
-declares_on p h x place rest choices (Some right) is = assigns_on p h _ right place rest choices is
+declares_on p h x place rest choices (Some right) is = assigns_on p h (record { variable = x.variable; fields = [] }) right place rest choices is
 
 adds_on : (defs : List Def) (predicate : PredId) (args : List ℤ) (h : Here) (x : ℕ) (rest : Tasks) (place : Place) (choices : List Choice) → AddsShape defs predicate args h x rest place choices (last ended) → ⊥
 adds_on defs predicate args h x rest place [] is = is
 adds_on defs predicate args h x rest place (choose_input v ∷ choices) is = is
 adds_on defs predicate args h x rest place (choose_malloc n ∷ choices) is = is
-adds_on defs predicate args h x rest place (choose_shape v blocks ∷ choices) is = after_on rest place choices _ is.2
+adds_on defs predicate args h x rest place (choose_shape v blocks ∷ choices) is = after_on rest place choices (set_variable h.values (with_blocks h.heap blocks) x (Some v)) is.2
 
 assumes_on : (defs : List Def) (predicate : PredId) (h : Here) (x : ℕ) (rest : Tasks) (place : Place) (choices : List Choice) (args : Option (List ℤ)) → Assumes defs predicate h x rest place choices args (last ended) → ⊥
 assumes_on defs predicate h x rest place choices None is = cc
 assumes_on defs predicate h x rest place choices (Some args) is = adds_on defs predicate args h x rest place choices is
 
 demands_on : (P : Type 0) (kind : FaultKind) (h : Here) (rest : Tasks) (place : Place) (choices : List Choice) → Demands P kind h rest place choices (last ended) → ⊥
-demands_on P kind h rest place choices (inl is) = after_on rest place choices _ is.1
+demands_on P kind h rest place choices (inl is) = after_on rest place choices (changed h.values h.heap) is.1
 demands_on P kind h rest place choices (inr is) = (let e = is.1 in cc)
 
 asserts_on : (defs : List Def) (predicate : PredId) (h : Here) (rest : Tasks) (place : Place) (choices : List Choice) (v : Option ℤ) (args : Option (List ℤ)) → Asserts defs predicate h rest place choices v args (last ended) → ⊥
@@ -127,7 +129,7 @@ compared_on h c a b place (Some x) None choices e = cc
 compared_on h c a b place (Some x) (Some y) choices e = decided_on h a b choices (compares c x y) e
 
 tests_on : (h : Here) (c : Cond) (a b : Branch) (choices : List Choice) → Tests h c a b choices (last ended) → ⊥
-tests_on h (plain p e) a b choices is = value_on p _ is.0 (λ v left same. compared_on h _ a b p v _ left same) is.2
+tests_on h (plain p e) a b choices is = value_on p _ is.0 (λ v left same. compared_on h Unequal a b p v (Some (pos 0)) left same) is.2
 tests_on h (compare p c x y) a b choices is = value_on p _ is.0 (λ v left more. value_on p _ more.0 (λ w last_left same. compared_on h c a b p v w last_left same) more.2) is.2
 tests_on h (negation c) a b choices is = is
 tests_on h (both c d) a b choices is = is

@@ -6,11 +6,10 @@ use Rattle.mc_text.specs.declared.place.Place.{Place}
 use Rattle.mc_heap.specs.Choices.{Choice}
 use Rattle.mc_defs.specs.declared.shapes.StructInfo.{StructInfo}
 use Rattle.mc_meaning.specs.Values.{Evaluated, fault_of, value_of}
-use Rattle.mc_meaning.specs.Steps.{AfterValue}
 use Rattle.mc_waiting.specs.Requests.{Request, Waits, an_input, IsUnanswered}
 use Rattle.mc_resolved.specs.Programs.{Expr}
 use Rattle.mc_resolved.specs.Configs.{Config, Result}
-use Rattle.mc_resolved.specs.Steps.{Here, WithValue}
+use Rattle.mc_resolved.specs.Steps.{AfterValue, Here, WithValue}
 use Rattle.mc_resolved.specs.Values.{Evaluates}
 use Rattle.mc_values.specs.declared.refusal.Refusal.{Refusal}
 use Rattle.mc_values.specs.declared.refusal.Evaluated.TheVariants as one
