@@ -30,3 +30,17 @@ returns-in-Ends c =
     subst _ (sym c.outcome_of.ensures) (
     run_ends (program_of c.args.program) c.args.program.structs.now (start (function_of c.args.entry.now)) c.args.script.now c.args.fuel c.loop-next.left c.loop-next.machine.work c.arrive.new.self c.loop-next.machine.heap c.loop-next.script c.in_ok-next.next c.loop-next.invariant c.in_ok-next.ensures
     _ c.in_ok-make.field-0 c.in-Ends.end (config_of c.make.new.machine) c.make.new.script (omega (arith, c.if-left-eq0.false)) c.in-Ends.is c.in_ok-make.ensures)
+
+pub returns-in-Unanswered : goal.returns-in-Unanswered
+returns-in-Unanswered c =
+    let p = program_of c.args.program in
+    let first = start (function_of c.args.entry.now) in
+    let refused =
+        run_refused p c.args.program.structs.now first c.args.script.now c.args.fuel c.loop-next.left c.loop-next.machine.work c.arrive.new.self c.loop-next.machine.heap c.loop-next.script c.in_ok-next.next c.loop-next.invariant c.in_ok-next.ensures
+        _ c.in_ok-make.field-0 c.in-Unanswered.why (config_of c.make.new.machine) c.make.new.script (omega (arith, c.if-left-eq0.false)) c.in-Unanswered.is c.in_ok-make.ensures in
+    rw (c.waiting.ensures, c.count-before.ensures.count, c.count.ensures.count) refused
+
+pub returns-in-Stuck : goal.returns-in-Stuck
+returns-in-Stuck c =
+    run_stuck (program_of c.args.program) c.args.program.structs.now (start (function_of c.args.entry.now)) c.args.script.now c.args.fuel c.loop-next.left c.loop-next.machine.work c.arrive.new.self c.loop-next.machine.heap c.loop-next.script c.in_ok-next.next c.loop-next.invariant c.in_ok-next.ensures
+    _ c.in_ok-make.field-0 (config_of c.make.new.machine) c.make.new.script (omega (arith, c.if-left-eq0.false)) c.in-Stuck.is c.in_ok-make.ensures
