@@ -13,12 +13,12 @@ loop-next-init c =
 pub returns-then-is_done : goal.returns-then-is_done
 returns-then-is_done c =
     run_ended (program_of c.args.program) c.args.program.structs.now (start (function_of c.args.entry.now)) c.args.script.now c.args.fuel c.loop-next.left c.loop-next.machine.work c.arrive.new.self c.loop-next.machine.heap c.loop-next.script c.in_ok-next.next c.loop-next.invariant c.in_ok-next.ensures
-    (c.is_done.ensures.0 (subst IsTrue (sym c.if-is_done.true) tt))
+    (c.is_done.ensures.0 c.if-is_done.true)
 
 pub returns-then-left-eq0 : goal.returns-then-left-eq0
 returns-then-left-eq0 c =
     run_spent (program_of c.args.program) c.args.program.structs.now (start (function_of c.args.entry.now)) c.args.script.now c.args.fuel c.loop-next.left c.loop-next.machine.work c.arrive.new.self c.loop-next.machine.heap c.loop-next.script c.in_ok-next.next c.loop-next.invariant c.in_ok-next.ensures
-    c.if-left-eq0.true (λ is. (let b = c.is_done.ensures.1 is in subst IsTrue c.if-is_done.false b))
+    c.if-left-eq0.true (λ is. (let b = c.is_done.ensures.1 is in let f = c.if-is_done.false in cc))
 
 pub loop-next-preserved : goal.loop-next-preserved
 loop-next-preserved c =
@@ -36,8 +36,8 @@ returns-in-Unanswered c =
     let p = program_of c.args.program in
     let first = start (function_of c.args.entry.now) in
     let refused =
-        run_refused p c.args.program.structs.now first c.args.script.now c.args.fuel c.loop-next.left c.loop-next.machine.work c.arrive.new.self c.loop-next.machine.heap c.loop-next.script c.in_ok-next.next c.loop-next.invariant c.in_ok-next.ensures
-        _ c.in_ok-make.field-0 c.in-Unanswered.why (config_of c.make.new.machine) c.make.new.script (omega (arith, c.if-left-eq0.false)) c.in-Unanswered.is c.in_ok-make.ensures in
+    run_refused p c.args.program.structs.now first c.args.script.now c.args.fuel c.loop-next.left c.loop-next.machine.work c.arrive.new.self c.loop-next.machine.heap c.loop-next.script c.in_ok-next.next c.loop-next.invariant c.in_ok-next.ensures
+    _ c.in_ok-make.field-0 c.in-Unanswered.why (config_of c.make.new.machine) c.make.new.script (omega (arith, c.if-left-eq0.false)) c.in-Unanswered.is c.in_ok-make.ensures in
     rw (c.waiting.ensures, c.count-before.ensures.count, c.count.ensures.count) refused
 
 pub returns-in-Stuck : goal.returns-in-Stuck
