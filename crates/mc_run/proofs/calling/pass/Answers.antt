@@ -13,8 +13,8 @@ use Rattle.mc_run.specs.Steps.{Comes}
 use Rattle.mc_run.proofs.Passing.{passed_on, passing_faults, passing_refused}
 use Rattle.mc_run.proofs.calling.pass.Goals as goal
 
-pub returns-in-Values : goal.returns-in-Values
-returns-in-Values c =
+pub returns-in_ok-stepped-in-Values : goal.returns-in_ok-stepped-in-Values
+returns-in_ok-stepped-in-Values c =
     let answer = rw c.in-Values.is at c.in_ok-values.ensures.answer in
     let p = program_of c.args.program in
     passed_on c.args.program.structs.now p (values_of c.args.machine.now.work) c.args.machine.now.heap (call_of c.args.call.now) (target_of c.args.target) c.args.place (tasks_of c.args.machine.now.work) c.in-Values.values c.in_ok-stepped-in-Values.stepped (config_of c.begin.new.machine) c.args.script.now c.evaluate_all.new.script answer (

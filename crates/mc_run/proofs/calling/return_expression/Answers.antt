@@ -10,8 +10,8 @@ use Rattle.mc_run.specs.Models.{config_of, here_of}
 use Rattle.mc_run.proofs.Using.{value_faults, value_refused, value_used}
 use Rattle.mc_run.proofs.calling.return_expression.Goals as goal
 
-pub returns-in-Value : goal.returns-in-Value
-returns-in-Value c =
+pub returns-in_ok-stepped-in-Value : goal.returns-in_ok-stepped-in-Value
+returns-in_ok-stepped-in-Value c =
     let answer = rw c.in-Value.is at c.in_ok-value.ensures.answer in
     value_used c.args.program.structs.now (here_of c.args.machine.now) (expression_of c.args.right.now) c.args.place (λ v left other. other ≡ returned_value (here_of c.args.machine.now).heap (tasks_of c.args.machine.now.work) c.args.place left v) c.in-Value.value c.in_ok-stepped-in-Value.stepped (config_of c.go_back.new.machine) c.args.script.now c.evaluate.new.script answer (
     let P : Work → Heap → Type 0 = λ w heap. (choices : List Choice) → Comes c.in_ok-stepped-in-Value.stepped (config_of c.go_back.new.machine) choices (λ r. r ≡ returned_value heap (tasks_of w) c.args.place choices c.in-Value.value) in

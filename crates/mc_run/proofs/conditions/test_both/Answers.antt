@@ -12,8 +12,8 @@ use Rattle.mc_run.specs.Models.{config_of, here_of}
 use Rattle.mc_run.proofs.Using.{then_faults, then_refused, value_then}
 use Rattle.mc_run.proofs.conditions.test_both.Goals as goal
 
-pub returns-in-Value : goal.returns-in-Value
-returns-in-Value c =
+pub returns-in_ok-stepped-in-Value : goal.returns-in_ok-stepped-in-Value
+returns-in_ok-stepped-in-Value c =
     let answer = rw c.in-Value.is at c.in_ok-value.ensures.answer in
     let structs = c.args.program.structs.now in
     value_then structs (here_of c.args.machine.now) (expression_of c.args.first.now) c.args.place (λ v left other. WithValue (here_of c.args.machine.now) (expression_of c.args.second.now) c.args.place left (λ w more ends. ends ≡ compared (here_of c.args.machine.now) c.args.mark (branches_of c.args.machine.now.work).0 (branches_of c.args.machine.now.work).1 c.args.place v w more) other) (λ choices left. ValueAsks (values_of c.args.machine.now.work) c.args.machine.now.heap (expression_of c.args.second.now) choices left)

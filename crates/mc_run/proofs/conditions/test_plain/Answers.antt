@@ -12,8 +12,8 @@ use Rattle.mc_run.specs.Models.{config_of, here_of}
 use Rattle.mc_run.proofs.Using.{value_faults, value_refused, value_used}
 use Rattle.mc_run.proofs.conditions.test_plain.Goals as goal
 
-pub returns-in-Value : goal.returns-in-Value
-returns-in-Value c =
+pub returns-in_ok-stepped-in-Value : goal.returns-in_ok-stepped-in-Value
+returns-in_ok-stepped-in-Value c =
     let answer = rw c.in-Value.is at c.in_ok-value.ensures.answer in
     value_used c.args.program.structs.now (here_of c.args.machine.now) (expression_of c.args.expression.now) c.args.place (λ v left other. other ≡ compared (here_of c.args.machine.now) Unequal (branches_of c.args.machine.now.work).0 (branches_of c.args.machine.now.work).1 c.args.place v (Some (pos 0)) left) c.in-Value.value c.in_ok-stepped-in-Value.stepped (config_of c.decide.new.machine) c.args.script.now c.evaluate.new.script answer (let P : Work → Heap → Type 0 = λ w heap. (choices : List Choice) → Comes c.in_ok-stepped-in-Value.stepped (config_of c.decide.new.machine) choices (λ r. r ≡ compared (record { values = values_of w; heap = heap }) Unequal (branches_of w).0 (branches_of w).1 c.args.place c.in-Value.value (Some (pos 0)) choices) in
     let moved : P c.evaluate.new.self.work c.evaluate.new.self.heap = c.in_ok-stepped-in-Value.ensures in
