@@ -19,5 +19,5 @@ loop-field-preserved c = record {
 pub returns-clause-added : goal.returns-clause-added
 returns-clause-added c =
     λ yes. (
-      let whole = added_last c.args.heap.now c.add.new.self c.loop-field.heap c.args.added.now.address c.args.added.now.shape.0 c.loop-field.field c.as_slice-fields.result.now (c.in_ok-add.ensures.added (ap Ok c.if-not-branch.false)) c.loop-field.invariant.written (omega (arith, c.loop-field-test.false, c.loop-field.invariant.within)) in
-      rw c.as_slice-fields.ensures at whole)
+    let whole = added_last c.args.heap.now c.add.new.self c.loop-field.heap c.args.added.now.address c.args.added.now.shape.0 c.loop-field.field c.as_slice-fields.result.now (c.in_ok-add.ensures.added (ap Ok c.if-not-branch.false)) c.loop-field.invariant.written (omega (arith, c.loop-field-test.false, c.loop-field.invariant.within)) in
+    rw c.as_slice-fields.ensures at whole)
