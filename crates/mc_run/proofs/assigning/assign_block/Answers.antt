@@ -31,4 +31,4 @@ returns-in-Unanswered c =
     let before = c.args.machine.now in
     block_refused c.args.program.structs.now before.heap c.allocate.new.heap c.args.shape.0 c.args.fields
     (λ v heap left other. other ≡ after (tasks_of before.work) c.args.place left (assigned (values_of before.work) heap (goal_of c.args.goal) (Some v)))
-    c.in-Unanswered.why _ c.args.script.now c.allocate.new.script answer
+    c.in-Unanswered.why (config_of before) c.args.script.now c.allocate.new.script answer

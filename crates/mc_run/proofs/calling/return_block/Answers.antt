@@ -29,4 +29,4 @@ returns-in-Unanswered c =
     let before = c.args.machine.now in
     block_refused c.args.program.structs.now before.heap c.allocate.new.heap c.args.shape.0 c.args.fields
     (λ v heap left other. other ≡ gone_back heap (tasks_of before.work) (Some v) left)
-    c.in-Unanswered.why _ c.args.script.now c.allocate.new.script answer
+    c.in-Unanswered.why (at_config (tasks_of before.work) (values_of before.work) before.heap) c.args.script.now c.allocate.new.script answer
