@@ -11,5 +11,6 @@ pub mod Blocks
 pub mod Filling
 pub mod Mapped
 pub mod Leaving
+pub mod Making
 pub mod NotEnded
 pub mod Going
