@@ -1,3 +1,4 @@
+use Rattle.std.proofs.Common.{◌≡◌}
 use Rattle.mc_resolved.specs.Steps.{after}
 use Rattle.mc_resolved.specs.Values.{assigned}
 use Rattle.mc_resolved.specs.Views.{expression_of}

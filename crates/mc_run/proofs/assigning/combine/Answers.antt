@@ -1,4 +1,4 @@
-use Rattle.std.proofs.Common.{◌∙◌, sym, refl, Err}
+use Rattle.std.proofs.Common.{◌≡◌, ◌∙◌, sym, refl, Err}
 use Rattle.mc_resolved.specs.Steps.{after}
 use Rattle.mc_resolved.specs.Values.{combined}
 use Rattle.mc_resolved.specs.Views.{expression_of, left_of}

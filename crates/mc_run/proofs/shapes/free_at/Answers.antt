@@ -1,4 +1,4 @@
-use Rattle.std.proofs.Common.{refl}
+use Rattle.std.proofs.Common.{◌≡◌, refl}
 use Rattle.mc_resolved.specs.Steps.{after, freed}
 use Rattle.mc_resolved.specs.Views.{expression_of}
 use Rattle.mc_tasks.specs.Going.{tasks_of, values_of}
