@@ -4,7 +4,7 @@ pub returns-in_ok-stepped-in-Expression : goal.returns-in_ok-stepped-in-Expressi
 returns-in_ok-stepped-in-Expression c = rw c.in-Expression.is c.in_ok-stepped-in-Expression.ensures
 
 pub returns-in_ok-stepped-in-Call : goal.returns-in_ok-stepped-in-Call
-returns-in_ok-stepped-in-Call c = 
+returns-in_ok-stepped-in-Call c =
     let step = rw c.target.ensures at c.in_ok-stepped-in-Call.ensures in
     rw c.in-Call.is step
 
