@@ -138,6 +138,42 @@ fn return_block<'a>(
     }
 }
 
+// The function goes back with a right side.
+fn return_right<'a>(
+    machine: &mut Machine<'a>,
+    program: Program<'a>,
+    script: &mut Script,
+    right: &'a RightSide,
+    place: Place,
+) -> Result<Stepped, NoMemory>
+    ensures { IfOk result (λ stepped. IsStep program.entry.structs.now
+        (λ choices r. Returns (program_of program.entry) (here_of machine.old) (Some (right_of right.now)) (tasks_of machine.old.work) place choices r)
+        (λ choices request rest. RightAsks (here_of machine.old).values (here_of machine.old).heap (right_of right.now) choices request rest)
+        script.old stepped (config_of machine.new) script.new) }
+{
+    match right {
+        RightSide::Expression(expression) => {
+            let stepped = return_expression(machine, program, script, expression, place)?;
+            Ok(stepped)
+        }
+        RightSide::Call(call) => {
+            let stepped = pass(
+                machine,
+                program,
+                script,
+                call,
+                Target::Returned(place),
+                place,
+            )?;
+            Ok(stepped)
+        }
+        RightSide::Malloc(shape, fields) => {
+            let stepped = return_block(machine, program, script, *shape, *fields, place)?;
+            Ok(stepped)
+        }
+    }
+}
+
 /// A `return`.
 pub fn go_back_with<'a>(
     machine: &mut Machine<'a>,
@@ -156,23 +192,8 @@ pub fn go_back_with<'a>(
             machine.work.go_back(None)?;
             Ok(Stepped::Goes)
         }
-        Some(RightSide::Expression(expression)) => {
-            let stepped = return_expression(machine, program, script, expression, place)?;
-            Ok(stepped)
-        }
-        Some(RightSide::Call(call)) => {
-            let stepped = pass(
-                machine,
-                program,
-                script,
-                call,
-                Target::Returned(place),
-                place,
-            )?;
-            Ok(stepped)
-        }
-        Some(RightSide::Malloc(shape, fields)) => {
-            let stepped = return_block(machine, program, script, *shape, *fields, place)?;
+        Some(right) => {
+            let stepped = return_right(machine, program, script, right, place)?;
             Ok(stepped)
         }
     }

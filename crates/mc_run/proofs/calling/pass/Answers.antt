@@ -19,7 +19,7 @@ returns-in_ok-stepped-in-Values c =
     let p = program_of c.args.program in
     passed_on c.args.program.structs.now p (values_of c.args.machine.now.work) c.args.machine.now.heap (call_of c.args.call.now) (target_of c.args.target) c.args.place (tasks_of c.args.machine.now.work) c.in-Values.values c.in_ok-stepped-in-Values.stepped (config_of c.begin.new.machine) c.args.script.now c.evaluate_all.new.script answer (
     let P : Work → Heap → Type 0 = λ w heap. (choices : List Choice) → Comes c.in_ok-stepped-in-Values.stepped (config_of c.begin.new.machine) choices (λ r. AfterArguments (record { values = values_of w; heap = heap }) (slice_get p.functions c.args.call.now.function) (target_of c.args.target) c.args.place (tasks_of w) (arguments c.in-Values.values.items choices) r) in
-    let moved : P c.evaluate_all.new.self.work c.evaluate_all.new.self.heap = rw c.as_slice-in-Values.ensures at c.in_ok-stepped-in-Values.ensures in
+    let moved : P c.evaluate_all.new.self.work c.evaluate_all.new.self.heap = rw c.as_slice-in-Values.ensures.value at c.in_ok-stepped-in-Values.ensures in
     subst (λ (heap : Heap). P c.args.machine.now.work heap) c.in_ok-values.ensures.heap (subst (λ (w : Work). P w c.evaluate_all.new.self.heap) c.in_ok-values.ensures.work moved)
     )
 

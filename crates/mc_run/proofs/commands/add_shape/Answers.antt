@@ -1,4 +1,6 @@
-use Rattle.std.proofs.Common.{◌∙◌, ap, ap₂, map, refl, ℤ, List, Option, Some}
+use Rattle.std.proofs.Common.{◌≡◌, ◌∙◌, ap, ap₂, map, refl, rules, ℤ, List, Option, Some}
+use mir.Syntax.{w64}
+use mir.Val.{to_z, of_z}
 use Rattle.mc_heap.specs.Adding.{with_blocks}
 use Rattle.mc_heap.specs.Heap.{Heap}
 use Rattle.mc_resolved.specs.Configs.{Tasks, Values, with_variable}
@@ -18,8 +20,10 @@ pub returns : goal.returns
 returns c =
     let before = c.args.machine.now in
     let free = rw c.as_slice.ensures at c.in_ok-add_blocks.ensures.free in
+    let d : to_z w64 (of_z w64 c.args.given.now.value) ≡ c.args.given.now.value = search rules in
+    let held = rw d at c.put_value.ensures.values in
     let added = rw c.as_slice.ensures at (c.in_ok-add_blocks.ensures.added c.if-not-branch-2.false) in (
       (free.0 c.if-not-branch-2.false, (c.in_ok-meets_alone.ensures.0 c.if-not-branch.false).1),
-      ap₂ (λ (t : Tasks) (v : Values). at_config t v c.add_blocks.new.heap) c.put_value.ensures.tasks c.put_value.ensures.values
+      ap₂ (λ (t : Tasks) (v : Values). at_config t v c.add_blocks.new.heap) c.put_value.ensures.tasks held
           ∙ ap (λ (h : Heap). at_config (tasks_of before.work) (with_variable (values_of before.work) c.args.shape.now.variable (Some c.args.given.now.value)) h) added,
     )

@@ -10,7 +10,7 @@ use Rattle.mc_run.proofs.commands.assume.Goals as goal
 pub ask_shape-requires : goal.ask_shape-requires
 ask_shape-requires c =
     let made = rw (c.in-Some.is, c.as_slice.ensures.value) at c.in_ok-arguments.ensures in
-    rw c.as_slice-in-Some.ensures (sym made)
+    rw c.as_slice-in-Some.ensures.value (sym made)
 
 pub returns-in-None : goal.returns-in-None
 returns-in-None c =

@@ -1,4 +1,6 @@
-use Rattle.std.proofs.Common.{◌∙◌, ap, map}
+use Rattle.std.proofs.Common.{◌≡◌, rules}
+use mir.Syntax.{w64}
+use mir.Val.{to_z, of_z}
 use Rattle.mc_run.proofs.commands.meets_alone.Goals as goal
 
 pub returns-then-not-branch : goal.returns-then-not-branch
@@ -10,5 +12,6 @@ pub returns : goal.returns
 returns c =
     let free = rw (c.new-part.ensures, c.as_slice.ensures) at c.in_ok-add_blocks.ensures.free in
     let added = rw (c.new-part.ensures, c.as_slice.ensures) at (c.in_ok-add_blocks.ensures.added c.if-not-branch.false) in
-    let met = rw added at c.in_ok-met.ensures in
+    let d : to_z w64 (of_z w64 c.args.given.now.value) ≡ c.args.given.now.value = search rules in
+    let met = rw (d, added) at c.in_ok-met.ensures in
     ((λ yes. (free.0 c.if-not-branch.false, met.0 yes)), λ both. met.1 both.1)

@@ -6,10 +6,10 @@ use Rattle.mc_run.proofs.Changing.{at_config}
 use Rattle.mc_run.proofs.Going.{SoFar}
 use Rattle.mc_run.proofs.running.run_from.Given as goal
 
-abbrev pub invariant-loop-next : goal.invariant-loop-next
-invariant-loop-next l =
+abbrev pub invariant-loop-machine : goal.invariant-loop-machine
+invariant-loop-machine l =
     SoFar (program_of l.program) l.program.structs.now (start (function_of l.entry)) l.initial.script l.fuel l.left
     (at_config (tasks_of l.machine.work) (values_of l.machine.work) l.machine.heap) l.script
 
-abbrev pub decreases-loop-next : goal.decreases-loop-next
-decreases-loop-next l = l.left
+abbrev pub decreases-loop-machine : goal.decreases-loop-machine
+decreases-loop-machine l = l.left
