@@ -106,6 +106,21 @@ takes_length structs lines [] left h = omega (arith, ap (λ (all : List (List �
 takes_length structs [] (c ∷ cs) left h = absurd h
 takes_length structs (line ∷ lines) (c ∷ cs) left h = omega (arith, takes_length structs lines cs left h.1)
 
+-- a line that is refused is gone
+fewer : (structs : List StructInfo) (request : Request) (old new : List (List ℕ)) (why : Refusal) → IsRefused structs request old why new → length new ≤ length old
+fewer structs request [] new Missing h =
+    let none : length new ≡ 0 = ap (λ (all : List (List ℕ)). length all) h in
+    omega (arith, none)
+fewer structs request [] new Unreadable h = absurd h
+fewer structs request [] new NotAllowed h = absurd h
+fewer structs request (line ∷ lines) new Missing h = absurd h
+fewer structs request (line ∷ lines) new Unreadable h =
+    let same : length new ≡ length lines = ap (λ (all : List (List ℕ)). length all) h.1 in
+    omega (arith, same)
+fewer structs request (line ∷ lines) new NotAllowed h =
+    let same : length new ≡ length lines = ap (λ (all : List (List ℕ)). length all) h.1 in
+    omega (arith, same)
+
 -- ---- one step more
 leads_more : (p : Program) (n : ℕ) (c d e : Config) (choices left rest : List Choice) → Leads (Step p) n c choices d left → Step p d left (next e rest) → Leads (Step p) (suc n) c choices e rest
 leads_more p zero c d e choices left rest h step =
@@ -240,6 +255,13 @@ module _ (p : Program) (structs : List StructInfo) (c : Config) (script : List (
       let all : length script ≡ length (used ++ more) + suc (length others) = takes_length structs script (used ++ more) (line ∷ others) (takes_more structs script lines (line ∷ others) used more takes takes_too) in
       asks_made left later n d lines (line ∷ others) used more request (length script - length new) (IsBad structs) takes spent leads is takes_too asks (omega (arith, same, all)) (inr (new, refused))
 
+  lines_left : (left : ℕ) (d e : Config) (lines new : List (List ℕ)) (why : Refusal) → SoFar left d lines → IsMade d lines (steps.Unanswered why) e new → length new ≤ length script
+  lines_left left d e lines new why (used, takes, (n, spent, leads)) (request, (middle, (more, takes_too, asks), refused)) =
+      let before : length script ≡ length used + length lines = takes_length structs script used lines takes in
+      let after : length lines ≡ length more + length middle = takes_length structs lines more middle takes_too in
+      let gone : length new ≤ length middle = fewer structs request middle new why refused in
+      omega (arith, before, after, gone)
+
   -- ---- before a step
   pub ended_here : (left : ℕ) (d : Config) (lines : List (List ℕ)) → SoFar left d lines → ((choices : List Choice) → Step p d choices (last ended)) → Runs p structs c script fuel outcomes.Ended
   ended_here left d lines (used, takes, (n, spent, leads)) ends = (used, lines, takes, (n, omega (arith), λ rest. (d, rest, leads rest, ends rest)))
@@ -298,6 +320,11 @@ module _ (p : Program) (structs : List StructInfo) (c : Config) (script : List (
   run_refused later stepped why e new is waits step =
       let P : Stepped → Type 0 = λ s. IsMadeThen s e new in
       refused_made p structs c script fuel left later (at_config (tasks_of w) (values_of w) heap) e lines new why so is (made (steps.Unanswered why) e new (subst P waits step))
+
+  pub run_left : (stepped : Stepped) (why : Refusal) (e : Config) (new : List (List ℕ)) → stepped ≡ steps.Unanswered why → IsMadeThen stepped e new → length new ≤ length script
+  run_left stepped why e new waits step =
+      let P : Stepped → Type 0 = λ s. IsMadeThen s e new in
+      lines_left p structs c script fuel left (at_config (tasks_of w) (values_of w) heap) e lines new why so (made (steps.Unanswered why) e new (subst P waits step))
 
   pub run_stuck : (later : ℕ) (stepped : Stepped) (e : Config) (new : List (List ℕ)) → left ≡ suc later → stepped ≡ steps.Stuck → IsMadeThen stepped e new → Runs p structs c script fuel outcomes.Stuck
   run_stuck later stepped e new is stuck step =
