@@ -1,5 +1,4 @@
-use Rattle.std.proofs.Common.{◌≡◌, ◌∙◌, ◌-◌, ◌≤◌, sym, subst, length, Bool, arith}
-use Rattle.std.specs.Prelude.{IsTrue}
+use Rattle.std.proofs.Common.{◌≡◌, ◌-◌, ◌≤◌, length, arith}
 use Rattle.mc_resolved.specs.Steps.{start}
 use Rattle.mc_resolved.specs.Views.{function_of}
 use Rattle.mc_run.specs.Models.{config_of, program_of}
@@ -27,7 +26,7 @@ loop-machine-preserved c =
 
 pub returns-in-Ends : goal.returns-in-Ends
 returns-in-Ends c =
-    subst _ (sym c.outcome_of.ensures) (
+    rw c.outcome_of.ensures (
     run_ends (program_of c.args.program) c.args.program.structs.now (start (function_of c.args.entry.now)) c.args.script.now c.args.fuel c.loop-machine.left c.loop-machine.machine.work c.arrive.new.self c.loop-machine.machine.heap c.loop-machine.script c.in_ok-next.next c.loop-machine.invariant c.in_ok-next.ensures
     (c.loop-machine.left - 1) c.in_ok-make.field-0 c.in-Ends.end (config_of c.make.new.machine) c.make.new.script (omega (arith, c.if-left-eq0.false)) c.in-Ends.is c.in_ok-make.ensures)
 
