@@ -1,0 +1,9 @@
+pub mod Agreeing
+pub mod Assigning
+pub mod Calling
+pub mod Gathering
+pub mod Meeting
+pub mod Owning
+pub mod Seen
+pub mod Testing
+pub mod Valuing
