@@ -2,14 +2,15 @@
 use Rattle.std.proofs.Common.{◌≡◌, ℕ, List, [], ◌∷◌, refl, sym, ap, ◌∙◌, subst}
 use Rattle.mc_base.specs.declared.ids.VarId.{VarId}
 use Rattle.mc_base.specs.declared.plain.Kind.{Kind}
-use Rattle.mc_base.specs.declared.plain.Kind.TheVariants.{Int}
+use Rattle.mc_base.specs.declared.plain.Kind.TheVariants.{Int, Ptr}
 use Rattle.mc_text.specs.declared.place.Place.{Place}
-use Rattle.mc_flow.specs.declared.instr.Instr.TheVariants.{Copy, Store}
+use Rattle.mc_flow.specs.declared.instr.Instr.TheVariants.{Copy, Malloc, Store}
+use Rattle.mc_flow.specs.Steps.{field_count}
 use Rattle.mc_flow.specs.declared.instr.Operand.{Operand}
 use Rattle.mc_flow.specs.declared.instr.Operand.TheVariants.{Var}
-use Rattle.mc_resolved.specs.Programs.{FieldAt, Expr, Right, expression, allocation}
+use Rattle.mc_resolved.specs.Programs.{FieldAt, Expr, value as expression_value, Right, expression, allocation}
 use Rattle.mc_lowering.specs.Graphs.{Graph, local, plain, Stage, Appends, Undefines, IsMade, Uses}
-use Rattle.mc_lowering.specs.Values.{Operation, a_field, sets, struct_at, Takes, IsOfKind, Walks, walks_none, walks, Evaluates, Puts, puts_field}
+use Rattle.mc_lowering.specs.Values.{Operation, a_field, sets, struct_at, Takes, IsOfKind, Walks, walks_none, walks, Evaluates, Computes, of_field, Puts, puts_field}
 use Rattle.mc_lowering.specs.Lowering.{SetsTo, sets_operand, sets_computed, Assigns, assigns_field, assigns_allocated, Changes, changes_field}
 use Rattle.mc_lower.specs.declared.values.Operation.{Operation as OperationCode}
 use Rattle.mc_lower.specs.declared.values.Value.{Value}
@@ -35,6 +36,12 @@ pub walked_some : (g : Graph) (place : Place) (y z : VarId) (fields : List Field
 walked_some g place _ _ _ _ _ _ _ _ walks_none is = cc
 walked_some g place _ _ _ _ _ _ _ _ (walks of_kind taken rest) is = cc
 
+pub field_computed : (g : Graph) (out : ℕ) (place : Place) (x : ℕ) (fields : List FieldAt) (y z : VarId) (last : FieldAt) (kind : Kind) (ts us : List VarId) (s u : Stage)
+    → IsMade g (local out x) y s → Walks g place y fields ts s z last us u → IsOfKind g last kind
+    → Computes g out place (expression_value (record { variable = x; fields = fields })) ts s kind (a_field z last) us u
+field_computed g out place x [] y z last kind ts us s u made walked of_kind = absurd (walked_some g place y z [] last ts us s u walked refl)
+field_computed g out place x (f ∷ fs) y z last kind ts us s u made walked of_kind = of_field made walked of_kind
+
 pub field_put : (g : Graph) (out : ℕ) (place : Place) (x : ℕ) (fields : List FieldAt) (y z : VarId) (last : FieldAt) (o : Operand) (ts us : List VarId)
     → (s m r u : Stage) → IsMade g (local out x) y s → Walks g place y fields ts s z last us m
     → Appends g plain place (λ q. Store z (struct_at last.shape) last.field o q) m r → Undefines g place us r u
@@ -59,3 +66,11 @@ field_changed g out place operation x [] e o y z old new last kind ts us ws rs s
     absurd (walked_some g place y z [] last ts us m n walked refl)
 field_changed g out place operation x (f ∷ fs) e o y z old new last kind ts us ws rs s m n i j r u value made walked of_kind loaded computed stored undefined =
     changes_field value made walked of_kind loaded computed stored undefined
+
+pub allocated_assigned : (g : Graph) (out : ℕ) (place : Place) (x : ℕ) (fields : List FieldAt) (shape count : ℕ) (t : VarId) (ts : List VarId) (s m r u : Stage)
+    → (fields ≡ [] → ⊥) → ts ≡ t ∷ [] → field_count g.flow.structs (struct_at shape) ≡ count → Uses g 0 Ptr s t m
+    → Appends g plain place (λ q. Malloc t (struct_at shape) q) m r → Puts g out place (record { variable = x; fields = fields }) (Var t) ts r u
+    → Assigns g out place (record { variable = x; fields = fields }) (allocation shape count) s u
+allocated_assigned g out place x [] shape count t ts s m r u some is counted used allocated put = absurd (some refl)
+allocated_assigned g out place x (f ∷ fs) shape count t ts s m r u some is counted used allocated put =
+    assigns_allocated counted used allocated (subst (λ l. Puts g out place (record { variable = x; fields = f ∷ fs }) (Var t) l r u) is put)

@@ -24,12 +24,12 @@ received_on g f out x n rest more v vs s m u next is created received =
     subst (λ k. Receives g f out x k s (v ∷ vs) u) (sym is)
     (receives created.there created.created (subst (λ k. Receives g f out k more m vs u) next received))
 
-pub passed_on : (g : Graph) (place : Place) (vs : List VarId) (os : List Operand) (at : ℕ) (v : VarId) (o : Operand) (s m u : Stage)
-    → slice_get vs at ≡ Some v → slice_get os at ≡ Some o → Appends g plain place (λ q. Copy v o q) s m
-    → Passes g place (drop (at + 1) vs) (drop (at + 1) os) m u → Passes g place (drop at vs) (drop at os) s u
-passed_on g place vs os at v o s m u first second copied rest =
-    subst (λ l. Passes g place l (drop at os) s u) (sym (one_left vs at v first))
-    (subst (λ l. Passes g place (v ∷ drop (at + 1) vs) l s u) (sym (one_left os at o second)) (passes copied rest))
+pub passed_on : (g : Graph) (place : Place) (vs : List VarId) (os : List Operand) (at n : ℕ) (v : VarId) (o : Operand) (s m u : Stage)
+    → n ≡ at + 1 → slice_get vs at ≡ Some v → slice_get os at ≡ Some o → Appends g plain place (λ q. Copy v o q) s m
+    → Passes g place (drop n vs) (drop n os) m u → Passes g place (drop at vs) (drop at os) s u
+passed_on g place vs os at n v o s m u next first second copied rest =
+    subst (λ l. Passes g place l (drop at os) s u) (sym (one_left vs at n v next first))
+    (subst (λ l. Passes g place (v ∷ drop n vs) l s u) (sym (one_left os at n o next second)) (passes copied rest))
 
 -- ---- whole calls
 pub called : (g : Graph) (out inner : ℕ) (place : Place) (c : Call) (f : Function) (vs : List VarId) (ret : Option VarId) (s m j r e u : Stage)
@@ -44,12 +44,12 @@ pub taken_result : (g : Graph) (out : ℕ) (place : Place) (c : Call) (target : 
 taken_result g out place c target answer s m u called_there t =
     performs_result (subst (λ a. Calls g out place c s a m) t.there called_there) t.puts t.undefines
 
+answered_on : (g : Graph) (c : Around) (place : Place) (d : Call) (own ret : VarId) (s m i j u : Stage) → IsMade g (result c.out) own s
+    → Calls g c.out place d s (Some ret) m → Appends g plain place (λ q. Copy own (Var ret) q) m i → Undefines g place (ret ∷ []) i j → GoesTo c.out j u
+    → Lowers g c (returns place (Some (result_of d))) s u
+answered_on g c place d own ret s m i _ _ made called_there copied undefined goes_to = returns_result made called_there copied undefined
+
 pub answered : (g : Graph) (c : Around) (place : Place) (d : Call) (own : VarId) (answer : Option VarId) (s m u : Stage) → IsMade g (result c.out) own s
     → Calls g c.out place d s answer m → AnswersResult g c.out place own answer m u → Lowers g c (returns place (Some (result_of d))) s u
 answered g c place d own answer s m u made called_there t =
     answered_on g c place d own t.returned s m t.copied t.undefined u made (subst (λ a. Calls g c.out place d s a m) t.there called_there) t.appends t.undefines t.goes
-  where
-    answered_on : (g : Graph) (c : Around) (place : Place) (d : Call) (own ret : VarId) (s m i j u : Stage) → IsMade g (result c.out) own s
-        → Calls g c.out place d s (Some ret) m → Appends g plain place (λ q. Copy own (Var ret) q) m i → Undefines g place (ret ∷ []) i j → GoesTo c.out j u
-        → Lowers g c (returns place (Some (result_of d))) s u
-    answered_on g c place d own ret s m i _ _ made called_there copied undefined goes_to = returns_result made called_there copied undefined

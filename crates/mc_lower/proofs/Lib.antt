@@ -4,6 +4,7 @@ pub mod Calling
 pub mod Gathering
 pub mod Meeting
 pub mod Owning
+pub mod Resting
 pub mod Seen
 pub mod Testing
 pub mod Valuing

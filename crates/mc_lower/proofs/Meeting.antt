@@ -63,5 +63,5 @@ do_met g c place d a _ _ _ _ _ _ _ _ (appends there) body (ends_do turn tests la
 pub for_met : (g : Graph) (c : Around) (h : Head) (a : Stmt) (b n k i e : ℕ) (r s m t u : Stage) → Starts g c.function c.out h.start r (stage b n k)
     → Appends g head h.place (λ q. Skip q) (stage b n k) s → TestsPerhapsOn g c.out h.condition e s m → Lowers g (in_loop c e i) a m t
     → TurnsFor g c.out h b i e t u → Lowers g c (for_loop h a) r u
-for_met g c h a _ _ _ _ _ _ _ _ _ _ starts (appends there) (tests_perhaps_on tests) body (turns_for turn last (ends_for (exits exit) leaves)) =
-    fors starts (appends there) tests body turn last exit leaves
+for_met g c h a _ _ _ _ _ _ _ _ _ _ starts (appends there) (tests_perhaps_on tests) body (turns_for turn last (ends_for (exits last_point) gone)) =
+    fors starts (appends there) tests body turn last last_point gone

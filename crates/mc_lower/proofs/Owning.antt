@@ -2,6 +2,7 @@
 use Rattle.std.proofs.Common.{◌≡◌, ◌<◌, ◌++◌, ℕ, suc, List, [], ◌∷◌, Some, None, refl, sym, ap, ◌∙◌, subst, length}
 use Rattle.std.proofs.lemmas.Option.{slice_get_within}
 use Rattle.std.specs.Prelude.{slice_get}
+use Rattle.mc_base.specs.declared.plain.Kind.{Kind}
 use Rattle.mc_base.specs.declared.plain.VarInfo.{VarInfo}
 use Rattle.mc_lowering.specs.Graphs.{Stage, stage, var, Creates, creates, IsMade, is_made}
 use Rattle.mc_lower.specs.declared.builder.Builder.{Builder}
@@ -32,3 +33,10 @@ created w owner info old new n number items points goal agrees =
     ∙ ap (λ ps. stage (w.at old.goal.0) (length ps.items) (length new.variables.items)) (sym points)
     ∙ ap (λ l. stage (w.at l.0) (length new.points.items) (length new.variables.items)) (sym goal))
     (creates there known))
+
+-- a name and a kind make what is known of a variable
+abbrev with_info : List ℕ → Kind → VarInfo
+with_info name kind = record { name = name; kind = kind }
+
+pub info_same : (i : VarInfo) (name : List ℕ) (kind : Kind) → i.name ≡ name → i.kind ≡ kind → i ≡ record { name = name; kind = kind }
+info_same i name kind a b = ap (λ x. with_info x i.kind) a ∙ ap (λ y. with_info name y) b

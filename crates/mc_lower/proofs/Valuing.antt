@@ -1,5 +1,5 @@
 -- What values come to in the finished flow graph.
-use Rattle.std.proofs.Common.{◌≡◌, ◌<◌, ◌+◌, ◌++◌, ℕ, zero, suc, pos, List, [], ◌∷◌, Some, None, refl, sym, ap, ◌∙◌, subst, length, map, drop, arith}
+use Rattle.std.proofs.Common.{◌≡◌, ◌<◌, ◌+◌, ◌++◌, ℕ, zero, suc, pos, List, [], ◌∷◌, Some, None, refl, sym, ap, ◌∙◌, subst, length, map, drop, get_or, arith}
 use Rattle.std.proofs.lemmas.Option.{same_Some}
 use Rattle.std.specs.Prelude.{slice_get}
 use Rattle.mc_base.specs.declared.ids.PointId.{PointId}
@@ -34,8 +34,8 @@ settled_sets at (a_product a b) x q = refl
 pub taken : (g : Graph) (place : Place) (kind : Kind) (operation : Operation) (ts us : List VarId) (j : ℕ) (s m u : Stage) (t : VarId)
     → j ≡ length ts → us ≡ ts ++ t ∷ [] → Uses g j kind s t m → Appends g plain place (λ q. sets operation t q) m u
     → Takes g place kind operation ts s t us u
-taken g place kind operation ts us j s m u t number more used put =
-    subst (λ l. Takes g place kind operation ts s t l u) (sym more) (takes (subst (λ n. Uses g n kind s t m) number used) put)
+taken g place kind operation ts us j s m u t counted more used put =
+    subst (λ l. Takes g place kind operation ts s t l u) (sym more) (takes (subst (λ n. Uses g n kind s t m) counted used) put)
 
 -- ---- the value of an expression
 -- a value whose operand was made
@@ -137,14 +137,29 @@ walked_on g place fields at n x kind y t z last ts us ws s m u there less is of_
     (walks of_kind taken_there (subst (λ l. Walks g place t (map field_of l) us m z last ws u) next.3 rest))
 
 -- ---- expressions one after the other
-pub one_left : {A : Type 0} (xs : List A) (at : ℕ) (x : A) → slice_get xs at ≡ Some x → drop at xs ≡ x ∷ drop (at + 1) xs
-one_left [] at x there = let never : None ≡ Some x = there in cc
-one_left (h ∷ xs) zero x there = ap (λ y. y ∷ xs) (same_Some h x there)
-one_left (h ∷ xs) (suc at) x there = one_left xs at x there
+begin_left : {A : Type 0} (xs : List A) (at : ℕ) (x : A) → slice_get xs at ≡ Some x → drop at xs ≡ x ∷ drop (suc at) xs
+begin_left [] at x there = let never : None ≡ Some x = there in cc
+begin_left (h ∷ xs) zero x there = ap (λ y. y ∷ xs) (same_Some h x there)
+begin_left (h ∷ xs) (suc at) x there = begin_left xs at x there
 
-pub all_evaluated : (g : Graph) (out : ℕ) (place : Place) (es : List Expression) (at : ℕ) (x : Expression) (o : Operand) (os : List Operand)
-    → (ts us ws : List VarId) (s m u : Stage) → slice_get es at ≡ Some x → Evaluates g out place (expression_of x) ts s o us m
-    → EvaluatesAll g out place (map expression_of (drop (at + 1) es)) us m os ws u
+pub one_left : {A : Type 0} (xs : List A) (at n : ℕ) (x : A) → n ≡ at + 1 → slice_get xs at ≡ Some x → drop at xs ≡ x ∷ drop n xs
+one_left xs at n x is there = let same : suc at ≡ n = omega arith in subst (λ k. drop at xs ≡ x ∷ drop k xs) same (begin_left xs at x there)
+
+pub all_evaluated : (g : Graph) (out : ℕ) (place : Place) (es : List Expression) (at n : ℕ) (x : Expression) (o : Operand) (os : List Operand)
+    → (ts us ws : List VarId) (s m u : Stage) → n ≡ at + 1 → slice_get es at ≡ Some x → Evaluates g out place (expression_of x) ts s o us m
+    → EvaluatesAll g out place (map expression_of (drop n es)) us m os ws u
     → EvaluatesAll g out place (map expression_of (drop at es)) ts s (o ∷ os) ws u
-all_evaluated g out place es at x o os ts us ws s m u there value rest =
-    subst (λ l. EvaluatesAll g out place (map expression_of l) ts s (o ∷ os) ws u) (sym (one_left es at x there)) (evaluates_next value rest)
+all_evaluated g out place es at n x o os ts us ws s m u next there value rest =
+    subst (λ l. EvaluatesAll g out place (map expression_of l) ts s (o ∷ os) ws u) (sym (one_left es at n x next there)) (evaluates_next value rest)
+
+-- ---- whole expressions
+same_head : (o p : Operand) (os ps : List Operand) → o ∷ os ≡ p ∷ ps → o ≡ p
+same_head o p os ps is = ap {B = Operand} (λ l. get_or l 0 o) is
+
+pub evaluated : (g : Graph) (out : ℕ) (place : Place) (whole : Work) (e : Expr) (work : List Work) (made : List Operand) (ts us : List VarId) (s u : Stage) (o : Operand)
+    → work ≡ whole ∷ [] → made ≡ [] → Finishes g out place work made ts s o us u
+    → (Finishes g out place (whole ∷ []) [] ts s o us u → Entered g out place e [] [] ts s o us u) → Evaluates g out place e ts s o us u
+evaluated g out place whole e work made ts us s u o is none f opens =
+    let x = opens (subst (λ l. Finishes g out place (whole ∷ []) l ts s o us u) none (subst (λ l. Finishes g out place l made ts s o us u) is f)) in
+    subst (λ y. Evaluates g out place e ts s y us u) (same_head x.0 o [] x.4.0.0 x.4.0.1)
+    (subst (λ y. Evaluates g out place e ts s x.0 y u) x.4.1 (subst (λ y. Evaluates g out place e ts s x.0 x.1 y) x.4.2 x.3))

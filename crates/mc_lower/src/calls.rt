@@ -271,11 +271,19 @@ impl<'a> Builder<'a> {
             place,
         };
         match right {
-            RightSide::Call(call) => self.call_into(tasks, place, target, call, context)?,
-            RightSide::Expression(_) => self.assign(site, target, right)?,
-            RightSide::Malloc(_, _) => self.assign(site, target, right)?,
+            RightSide::Call(call) => {
+                self.call_into(tasks, place, target, call, context)?;
+                Ok(())
+            }
+            RightSide::Expression(_) => {
+                self.assign(site, target, right)?;
+                Ok(())
+            }
+            RightSide::Malloc(_, _) => {
+                self.assign(site, target, right)?;
+                Ok(())
+            }
         }
-        Ok(())
     }
 
     /// A simple statement.
@@ -295,14 +303,21 @@ impl<'a> Builder<'a> {
         match &simple.action {
             Action::Assign(left, right) => {
                 self.assign_right(tasks, place, Target::of(left), right, context)?;
+                Ok(())
             }
-            Action::Call(call) => self.call_for_nothing(tasks, place, call, context)?,
-            Action::Add(left, expression) => self.change(site, How::Plus, left, expression)?,
+            Action::Call(call) => {
+                self.call_for_nothing(tasks, place, call, context)?;
+                Ok(())
+            }
+            Action::Add(left, expression) => {
+                self.change(site, How::Plus, left, expression)?;
+                Ok(())
+            }
             Action::Subtract(left, expression) => {
                 self.change(site, How::Difference, left, expression)?;
+                Ok(())
             }
         }
-        Ok(())
     }
 
     // A declarator makes its variable, which is undefined or gets a value.
@@ -317,16 +332,19 @@ impl<'a> Builder<'a> {
     {
         let variable = self.create_local(context.function, context.occurrence, item.variable)?;
         match &item.value {
-            None => self.undefine_all(place, &[variable])?,
+            None => {
+                self.undefine_all(place, &[variable])?;
+                Ok(())
+            }
             Some(right) => {
                 let target = Target {
                     variable: item.variable,
                     fields: &[],
                 };
                 self.assign_right(tasks, place, target, right, context)?;
+                Ok(())
             }
         }
-        Ok(())
     }
 
     /// Declarators make their variables.

@@ -234,7 +234,7 @@ impl<'a> Builder<'a> {
     {
         let mut work = Stack::new(self.alloc);
         push(&mut work, self.goal, condition, ways)?;
-        for _ in 0..u64::MAX {
+        'parts: for _ in 0..u64::MAX {
             match work.pop() {
                 Some(next) => self.test_next(occurrence, next, &mut work)?,
                 None => return Ok(()),

@@ -37,7 +37,7 @@ impl<'a> Builder<'a> {
     fn run(&mut self, tasks: &mut Stack<Task<'a>>) -> Result<(), LowerFault>
         ensures { OnOk result ((w : World) → Agrees w self.new → Agrees w self.old × Rest w tasks.old (stage_of w self.old) (stage_of w self.new)) }
     {
-        for _ in 0..u64::MAX {
+        'tasks: for _ in 0..u64::MAX {
             match tasks.pop() {
                 Some(task) => self.step(tasks, task)?,
                 None => return Ok(()),
@@ -50,10 +50,13 @@ impl<'a> Builder<'a> {
     fn begin(&mut self, entry: &Function, occurrence: usize) -> Result<(), LowerFault>
         ensures { OnOk result (Leads (λ w s u. Answers w.graph (w.out occurrence) (function_of entry.now).result s u) self.old self.new) }
     {
-        if let Some(kind) = entry.result {
-            self.create_result(occurrence, kind)?;
+        match entry.result {
+            Some(kind) => {
+                self.create_result(occurrence, kind)?;
+                Ok(())
+            }
+            None => Ok(()),
         }
-        Ok(())
     }
 
     // The body of the entry.
@@ -77,10 +80,11 @@ impl<'a> Builder<'a> {
     fn fall(&mut self, entry: &Function, occurrence: usize) -> Result<(), LowerFault>
         ensures { OnOk result (Leads (λ w s u. Falls w.graph (function_of entry.now) (w.out occurrence) s u) self.old self.new) }
     {
-        if is_main(entry) {
-            let own = self.own_result(occurrence)?;
-            self.copy(NOWHERE, own, nothing())?;
+        if !is_main(entry) {
+            return Ok(());
         }
+        let own = self.own_result(occurrence)?;
+        self.copy(NOWHERE, own, nothing())?;
         Ok(())
     }
 

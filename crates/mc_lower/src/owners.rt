@@ -196,7 +196,7 @@ impl<'a> Builder<'a> {
     {
         let mut numbers = Vec::new(self.alloc);
         let mut inner = block;
-        while let Some(number) = inner {
+        'around: while let Some(number) = inner {
             let Some(opened) = self.blocks.get(number) else {
                 return Err(ABSENT);
             };

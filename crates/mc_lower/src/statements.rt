@@ -262,13 +262,16 @@ impl<'a> Builder<'a> {
     {
         push(tasks, Task::For(head, body, context))?;
         match &head.start {
-            ForStart::Nothing => {}
+            ForStart::Nothing => Ok(()),
             ForStart::Declaration(place, items) => {
                 push(tasks, Task::Declare(*place, items.as_slice(), context))?;
+                Ok(())
             }
-            ForStart::Simple(simple) => push(tasks, Task::Simple(simple, context))?,
+            ForStart::Simple(simple) => {
+                push(tasks, Task::Simple(simple, context))?;
+                Ok(())
+            }
         }
-        Ok(())
     }
 
     // The head of a `for` and its condition; its body is next.
@@ -312,10 +315,12 @@ impl<'a> Builder<'a> {
             Task::EndFor(head, begin, turns.exit, context.occurrence),
         )?;
         match &head.last {
-            None => {}
-            Some(simple) => push(tasks, Task::Simple(simple, context))?,
+            None => Ok(()),
+            Some(simple) => {
+                push(tasks, Task::Simple(simple, context))?;
+                Ok(())
+            }
         }
-        Ok(())
     }
 
     // The last part goes to the head; behind the exit the variables of the head become undefined.
@@ -378,6 +383,32 @@ impl<'a> Builder<'a> {
         Ok(())
     }
 
+    // `return` with a value.
+    fn return_right(
+        &mut self,
+        tasks: &mut Stack<Task<'a>>,
+        place: Place,
+        right: &'a RightSide,
+        context: Context<'a>,
+    ) -> Result<(), LowerFault>
+        ensures { OnOk result (Begins (λ w s m. Lowers w.graph (around_of w context.entry) (returns place (Some (right_of right.now))) s m) self.old tasks.old self.new tasks.new) }
+    {
+        match right {
+            RightSide::Call(call) => {
+                self.call_and_return(tasks, place, call, context)?;
+                Ok(())
+            }
+            RightSide::Expression(_) => {
+                self.return_value(place, right, context)?;
+                Ok(())
+            }
+            RightSide::Malloc(_, _) => {
+                self.return_value(place, right, context)?;
+                Ok(())
+            }
+        }
+    }
+
     // `return`, perhaps with a value.
     fn returns(
         &mut self,
@@ -389,14 +420,15 @@ impl<'a> Builder<'a> {
         ensures { OnOk result (Begins (λ w s m. Lowers w.graph (around_of w context.entry) (returns place (option_map (λ r. right_of r.now) value.entry)) s m) self.old tasks.old self.new tasks.new) }
     {
         match value {
-            None => self.go_out(context.occurrence)?,
-            Some(right) => match right {
-                RightSide::Call(call) => self.call_and_return(tasks, place, call, context)?,
-                RightSide::Expression(_) => self.return_value(place, right, context)?,
-                RightSide::Malloc(_, _) => self.return_value(place, right, context)?,
-            },
+            None => {
+                self.go_out(context.occurrence)?;
+                Ok(())
+            }
+            Some(right) => {
+                self.return_right(tasks, place, right, context)?;
+                Ok(())
+            }
         }
-        Ok(())
     }
 
     // A statement is lowered, or what is inside it is next.
@@ -412,48 +444,78 @@ impl<'a> Builder<'a> {
         match statement {
             Statement::Declaration(place, items) => {
                 push(tasks, Task::Declare(*place, items.as_slice(), context))?;
+                Ok(())
             }
             Statement::Block(numbers, inner) => {
                 self.block(tasks, numbers.as_slice(), inner.as_slice(), context)?;
+                Ok(())
             }
-            Statement::Empty => {}
-            Statement::Simple(simple) => push(tasks, Task::Simple(simple, context))?,
+            Statement::Empty => Ok(()),
+            Statement::Simple(simple) => {
+                push(tasks, Task::Simple(simple, context))?;
+                Ok(())
+            }
             Statement::Free(place, pointer) => {
                 let site = Site {
                     occurrence,
                     place: *place,
                 };
                 self.free(site, pointer)?;
+                Ok(())
             }
             Statement::Assert(place, condition) => {
                 self.check(*place, condition, Role::Plain, Instr::Fail, occurrence)?;
+                Ok(())
             }
             Statement::Assume(place, condition) => {
                 self.check(*place, condition, Role::Stop, Instr::End, occurrence)?;
+                Ok(())
             }
-            Statement::AssumeShape(shape) => self.assume_shape(shape, context)?,
-            Statement::AssertShape(shape) => self.assert_shape(shape, context)?,
-            Statement::AssertEmpty(place) => self.assert_empty(*place)?,
+            Statement::AssumeShape(shape) => {
+                self.assume_shape(shape, context)?;
+                Ok(())
+            }
+            Statement::AssertShape(shape) => {
+                self.assert_shape(shape, context)?;
+                Ok(())
+            }
+            Statement::AssertEmpty(place) => {
+                self.assert_empty(*place)?;
+                Ok(())
+            }
             Statement::If(place, condition, part) => {
                 self.if_only(tasks, *place, condition, part, context)?;
+                Ok(())
             }
             Statement::IfElse(place, condition, first, second) => {
                 self.if_else(tasks, *place, condition, first, second, context)?;
+                Ok(())
             }
             Statement::While(place, condition, body) => {
                 self.while_loop(tasks, *place, condition, body, context)?;
+                Ok(())
             }
             Statement::Do(place, body, condition) => {
                 self.do_loop(tasks, *place, body, condition, context)?;
+                Ok(())
             }
-            Statement::For(head, body) => self.for_loop(tasks, head, body, context)?,
-            Statement::Break(place) => self.break_loop(*place, context)?,
-            Statement::Continue(place) => self.continue_loop(*place, context)?,
+            Statement::For(head, body) => {
+                self.for_loop(tasks, head, body, context)?;
+                Ok(())
+            }
+            Statement::Break(place) => {
+                self.break_loop(*place, context)?;
+                Ok(())
+            }
+            Statement::Continue(place) => {
+                self.continue_loop(*place, context)?;
+                Ok(())
+            }
             Statement::Return(place, value) => {
                 self.returns(tasks, *place, value.as_ref(), context)?;
+                Ok(())
             }
         }
-        Ok(())
     }
 
     // The first of these statements is next, and then the others.
@@ -478,32 +540,66 @@ impl<'a> Builder<'a> {
         ensures { OnOk result (Begins (λ w s m. Met w task.entry s m) self.old tasks.old self.new tasks.new) }
     {
         match task {
-            Task::Statements(statements, context) => self.statements(tasks, statements, context)?,
-            Task::Statement(statement, context) => self.statement(tasks, statement, context)?,
-            Task::Simple(simple, context) => self.perform(tasks, simple, context)?,
-            Task::Declare(place, items, context) => self.declare(tasks, place, items, context)?,
-            Task::EndBlock(numbers, occurrence) => self.leave(NOWHERE, occurrence, numbers)?,
-            Task::Otherwise(no, merge) => self.otherwise(no, merge)?,
-            Task::Merge(place, merge) => self.merge(place, merge)?,
-            Task::EndWhile(place, head, exit) => self.end_while(place, head, exit)?,
+            Task::Statements(statements, context) => {
+                self.statements(tasks, statements, context)?;
+                Ok(())
+            }
+            Task::Statement(statement, context) => {
+                self.statement(tasks, statement, context)?;
+                Ok(())
+            }
+            Task::Simple(simple, context) => {
+                self.perform(tasks, simple, context)?;
+                Ok(())
+            }
+            Task::Declare(place, items, context) => {
+                self.declare(tasks, place, items, context)?;
+                Ok(())
+            }
+            Task::EndBlock(numbers, occurrence) => {
+                self.leave(NOWHERE, occurrence, numbers)?;
+                Ok(())
+            }
+            Task::Otherwise(no, merge) => {
+                self.otherwise(no, merge)?;
+                Ok(())
+            }
+            Task::Merge(place, merge) => {
+                self.merge(place, merge)?;
+                Ok(())
+            }
+            Task::EndWhile(place, head, exit) => {
+                self.end_while(place, head, exit)?;
+                Ok(())
+            }
             Task::EndDo(place, condition, head, turns, occurrence) => {
                 self.end_do(place, condition, head, turns, occurrence)?;
+                Ok(())
             }
-            Task::For(head, body, context) => self.enter_for(tasks, head, body, context)?,
+            Task::For(head, body, context) => {
+                self.enter_for(tasks, head, body, context)?;
+                Ok(())
+            }
             Task::ForTurn(head, begin, turns, context) => {
                 self.turn_for(tasks, head, begin, turns, context)?;
+                Ok(())
             }
             Task::EndFor(head, begin, exit, occurrence) => {
                 self.end_for(head, begin, exit, occurrence)?;
+                Ok(())
             }
-            Task::EndCall(place, callee) => self.end_call(place, callee)?,
+            Task::EndCall(place, callee) => {
+                self.end_call(place, callee)?;
+                Ok(())
+            }
             Task::Take(place, target, answer, occurrence) => {
                 self.take_result(Site { occurrence, place }, target, answer)?;
+                Ok(())
             }
             Task::Answer(place, own, answer, occurrence) => {
                 self.answer_result(Site { occurrence, place }, own, answer)?;
+                Ok(())
             }
         }
-        Ok(())
     }
 }

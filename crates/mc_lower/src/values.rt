@@ -385,10 +385,13 @@ impl<'a> Builder<'a> {
         let mut work = Stack::new(self.alloc);
         let mut made = Stack::new(self.alloc);
         work.push(Work::Whole(expression))?;
-        for _ in 0..u64::MAX {
+        'parts: for _ in 0..u64::MAX {
             match work.pop() {
                 Some(next) => { self.evaluate_next(site, next, &mut work, &mut made, temporaries)? }
-                None => return last_made(&mut made),
+                None => {
+                    let operand = last_made(&mut made)?;
+                    return Ok(operand);
+                }
             }
         }
         Err(LowerFault::NoMemory)
