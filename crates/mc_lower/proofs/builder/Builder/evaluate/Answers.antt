@@ -6,13 +6,13 @@ use Rattle.mc_lower.specs.Worlds.{stage_of}
 use Rattle.mc_lower.proofs.Valuing.{evaluated}
 use Rattle.mc_lower.proofs.builder.Builder.evaluate.Goals as goal
 
-pub loop-parts-init : goal.loop-parts-init
-loop-parts-init c = λ w o ts u agrees f.
+pub parts-init : goal.parts-init
+parts-init c = λ w o ts u agrees f.
     let whole = Work.Whole c.args.expression in
     (agrees, evaluated w.graph (w.out c.args.site.occurrence) c.args.site.place whole (expression_of c.args.expression.now) _ _ _ ts _ u o (c.in_ok-push.ensures ∙ ap (λ l. whole ∷ l) c.new-work.ensures) c.new-made.ensures f (λ x. x))
 
-pub loop-parts-preserved : goal.loop-parts-preserved
-loop-parts-preserved c = λ w o ts u agrees f.
+pub parts-preserved : goal.parts-preserved
+parts-preserved c = λ w o ts u agrees f.
     let e = c.in_ok-evaluate_next.ensures w o ts u agrees f in
-    c.loop-parts.invariant w o ts u e.0
-    (subst (λ l. Finishes w.graph (w.out c.args.site.occurrence) c.args.site.place l c.loop-parts.made c.loop-parts.temporaries.items (stage_of w c.loop-parts.self) o ts u) (sym c.in-Some.ensures) e.1)
+    c.parts.invariant w o ts u e.0
+    (subst (λ l. Finishes w.graph (w.out c.args.site.occurrence) c.args.site.place l c.parts.made c.parts.temporaries.items (stage_of w c.parts.self) o ts u) (sym c.in-Some.ensures) e.1)

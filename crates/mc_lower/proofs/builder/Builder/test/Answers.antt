@@ -4,13 +4,13 @@ use Rattle.mc_lower.specs.Valued.{Testing}
 use Rattle.mc_lower.proofs.Testing.{tested}
 use Rattle.mc_lower.proofs.builder.Builder.test.Goals as goal
 
-pub loop-parts-init : goal.loop-parts-init
-loop-parts-init c = λ w n k agrees f.
+pub parts-init : goal.parts-init
+parts-init c = λ w n k agrees f.
     let t : Work = record { from = c.args.self.now.goal; condition = c.args.condition; ways = c.args.ways } in
     (agrees, tested w c.args.occurrence t _ _ _ n k (c.in_ok-push.ensures ∙ ap (λ l. t ∷ l) c.new-work.ensures) f)
 
-pub loop-parts-preserved : goal.loop-parts-preserved
-loop-parts-preserved c = λ w n k agrees f.
+pub parts-preserved : goal.parts-preserved
+parts-preserved c = λ w n k agrees f.
     let e = c.in_ok-test_next.ensures w n k agrees f in
-    let b = c.loop-parts.self in
-    c.loop-parts.invariant w n k e.0 (subst (λ l. Testing w c.args.occurrence l (length b.points.items) (length b.variables.items) n k) (sym c.in-Some.ensures) e.1)
+    let b = c.parts.self in
+    c.parts.invariant w n k e.0 (subst (λ l. Testing w c.args.occurrence l (length b.points.items) (length b.variables.items) n k) (sym c.in-Some.ensures) e.1)
