@@ -104,10 +104,10 @@ undefined_some g place [] s u some there = absurd (some refl)
 undefined_some g place (v ∷ vs) s u some there = undefines there
 
 -- ---- goals
-abbrev points_in : Stage → ℕ
+abbrev pub points_in : Stage → ℕ
 points_in (stage a n k) = n
 
-abbrev variables_in : Stage → ℕ
+abbrev pub variables_in : Stage → ℕ
 variables_in (stage a n k) = k
 
 -- what goes on to a label stands where the label does

@@ -19,7 +19,7 @@ use Rattle.mc_lowering.specs.Values.{Evaluates, of_number, of_operation, Compute
 use Rattle.mc_lower.specs.declared.values.How.{How}
 use Rattle.mc_lower.specs.declared.values.Value.{Value}
 use Rattle.mc_lower.specs.declared.values.Work.{Work}
-use Rattle.mc_lower.specs.Valued.{IsValue, IsOperand, Finishes, joined}
+use Rattle.mc_lower.specs.Valued.{IsValue, IsOperand, JoinsParts, Finishes, joined}
 use Rattle.mc_lower.specs.Worlds.{settled, target}
 
 -- labels become points in what sets a variable
@@ -103,6 +103,13 @@ join_made g out place how e a b more made ts us s u o seen f =
     subst (λ x. Computes g out place x ts s Int (joined how f.0 f.4.0) f.4.1 f.4.2) (sym seen)
     (join_computed g out place how a b f.0 f.4.0 ts f.1 f.4.1 s f.2 f.4.2 f.3 f.4.3) in
     (Var f.4.4.0, f.4.4.1, f.4.4.2, of_operation computed f.4.4.3, f.4.4.4)
+
+pub join_valued : (g : Graph) (out : ℕ) (place : Place) (how : How) (e a b : Expr) (v : Value) (ts us : List VarId) (s u : Stage)
+    → e ≡ joined_expression how a b → JoinsParts g out place how a b ts s v us u → IsValue g out place e ts s v us u
+join_valued g out place how e a b v ts us s u seen j =
+    subst (λ x. IsValue g out place e ts s x us u) (sym j.6.1)
+    (subst (λ op. Computes g out place e ts s Int op us u) (sym j.6.2)
+    (subst (λ x. Computes g out place x ts s Int (joined how j.0 j.1) us u) (sym seen) (join_computed g out place how a b j.0 j.1 ts j.2 us s j.3 u j.4 j.5)))
 
 -- ---- fields one after the other
 last_alone : (fields : List FieldCode) (at : ℕ) (x : FieldCode) → slice_get fields at ≡ Some x → length fields ≡ at + 1 → drop at fields ≡ x ∷ []

@@ -425,20 +425,26 @@ impl<'a> Builder<'a> {
         match expression {
             Expression::Number(number) => Ok(Value::Ready(number_of(*number))),
             Expression::Input => Ok(Value::Computed(Kind::Int, Operation::Input)),
-            Expression::Value(left) => self.place_value(site, left, temporaries),
+            Expression::Value(left) => {
+                let value = self.place_value(site, left, temporaries)?;
+                Ok(value)
+            }
             Expression::Minus(part) => {
                 let operand = self.evaluate(site, part, temporaries)?;
                 let operation = Operation::Difference(nothing(), operand);
                 Ok(Value::Computed(Kind::Int, operation))
             }
             Expression::Times(left, right) => {
-                self.compute_join(site, How::Times, left, right, temporaries)
+                let value = self.compute_join(site, How::Times, left, right, temporaries)?;
+                Ok(value)
             }
             Expression::Plus(left, right) => {
-                self.compute_join(site, How::Plus, left, right, temporaries)
+                let value = self.compute_join(site, How::Plus, left, right, temporaries)?;
+                Ok(value)
             }
             Expression::Difference(left, right) => {
-                self.compute_join(site, How::Difference, left, right, temporaries)
+                let value = self.compute_join(site, How::Difference, left, right, temporaries)?;
+                Ok(value)
             }
         }
     }

@@ -13,6 +13,14 @@ parts-init c = λ w o ts u agrees f.
 
 pub parts-preserved : goal.parts-preserved
 parts-preserved c = λ w o ts u agrees f.
-    let e = c.in_ok-evaluate_next.ensures w o ts u agrees f in
+    let e = c.in_ok-evaluate_next-in-Some.ensures w o ts u agrees f in
     c.parts.invariant w o ts u e.0
     (subst (λ l. Finishes w.graph (w.out c.args.site.occurrence) c.args.site.place l c.parts.made c.parts.temporaries.items (stage_of w c.parts.self) o ts u) (sym c.in-Some.ensures) e.1)
+
+pub returns-in-None : goal.returns-in-None
+returns-in-None c = λ w agrees.
+    let o = c.in_ok-operand-in-None.operand in
+    let ts = c.parts.temporaries.items in
+    let s = stage_of w c.parts.self in
+    c.parts.invariant w o ts s agrees
+    (subst (λ l. Finishes w.graph (w.out c.args.site.occurrence) c.args.site.place l c.parts.made ts s o ts s) (sym c.in-None.ensures.0) ((c.last_made.new.made, c.in_ok-operand-in-None.ensures), refl, refl))
