@@ -1,5 +1,5 @@
 -- Where ways meet, in the finished flow graph.
-use Rattle.std.proofs.Common.{◌≡◌, ℕ, suc, List, [], ◌∷◌, Some, None, refl, sym, ap, ◌∙◌, subst, length}
+use Rattle.std.proofs.Common.{◌≡◌, ℕ, suc, List, [], ◌∷◌, Some, None, refl, sym, ap, ◌∙◌, subst, length, map}
 use Rattle.mc_base.specs.declared.ids.PointId.{PointId}
 use Rattle.mc_text.specs.declared.place.Place.{Place}
 use Rattle.mc_flow.specs.declared.instr.Instr.{Instr}
@@ -11,6 +11,10 @@ use Rattle.mc_lowering.specs.Lowering.{Around, in_loop, Starts, Finishes, Lowers
 use Rattle.mc_lower.specs.Left.{EndsCall, ends_call, Checks, checks, Merges, merges, Otherwise, otherwise, ExitsTo, exits, EndsDo, ends_do, EndsFor, ends_for, TurnsFor, turns_for}
 use Rattle.mc_lower.specs.Owned.{Forgets}
 use Rattle.mc_lower.specs.Valued.{TestsOn, tests_on, TestsPerhapsOn, tests_perhaps_on}
+
+pub mapped_length : {A B : Type 0} (f : A → B) (xs : List A) → length (map f xs) ≡ length xs
+mapped_length f [] = refl
+mapped_length f (x ∷ xs) = ap suc (mapped_length f xs)
 
 -- a point is appended where it is
 pub appended_at : (g : Graph) (role : Role) (place : Place) (code : PointId → Instr) (a n k : ℕ) (u : Stage) → Appends g role place code (stage a n k) u → a ≡ n

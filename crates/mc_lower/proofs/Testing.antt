@@ -1,5 +1,5 @@
 -- What tests come to in the finished flow graph.
-use Rattle.std.proofs.Common.{◌≡◌, ℕ, suc, pos, List, [], ◌∷◌, refl, sym, ap, ◌∙◌, subst, length}
+use Rattle.std.proofs.Common.{◌≡◌, ℕ, suc, pos, List, [], ◌∷◌, Some, None, refl, sym, ap, ◌∙◌, subst, length}
 use Rattle.mc_base.specs.declared.ids.PointId.{PointId}
 use Rattle.mc_base.specs.declared.ids.VarId.{VarId}
 use Rattle.mc_text.specs.declared.place.Place.{Place}
@@ -10,12 +10,12 @@ use Rattle.mc_flow.specs.declared.instr.Operand.TheVariants.{Const}
 use Rattle.mc_resolved.specs.Programs.{Expr, Cond, plain as plain_cond, compare, negation, both, either}
 use Rattle.mc_resolved.specs.Views.{condition_of}
 use Rattle.mc_lowering.specs.Graphs.{Graph, plain, Stage, stage, point, IsPoint, Appends, appends, Undefines, undefines, undefines_none}
-use Rattle.mc_lowering.specs.Values.{Evaluates, decides, Compares, compares, Tests, tests_plain, tests_compare, tests_negation, tests_both, tests_either}
+use Rattle.mc_lowering.specs.Values.{Evaluates, decides, Compares, compares, Tests, tests_plain, tests_compare, tests_negation, tests_both, tests_either, tests_always, tests_once}
 use Rattle.mc_lower.specs.declared.builder.Builder.{Builder}
 use Rattle.mc_lower.specs.declared.builder.Label.{Label}
 use Rattle.mc_lower.specs.declared.builder.Role.{Role as RoleCode}
 use Rattle.mc_lower.specs.declared.conditions.Work.{Work}
-use Rattle.mc_lower.specs.Valued.{Testing}
+use Rattle.mc_lower.specs.Valued.{Testing, TestsOn, tests_on, TestsPerhapsOn, tests_perhaps_on}
 use Rattle.mc_lower.specs.Worlds.{World, IsPut, settled, target, stage_of}
 
 -- ---- comparisons
@@ -116,3 +116,10 @@ tested w i t work n k m j is f =
     let d = condition_of t.condition.now in
     subst (λ y. Tests w.graph (w.out i) d (stage (w.at t.from.0) n k) (w.at t.ways.yes.0) (w.at t.ways.no.0) y j) x.3.0
     (subst (λ y. Tests w.graph (w.out i) d (stage (w.at t.from.0) n k) (w.at t.ways.yes.0) (w.at t.ways.no.0) x.0 y) x.3.1 x.2)
+
+-- ---- a condition that may be missing
+pub perhaps_some : (g : Graph) (out : ℕ) (d : Cond) (f : ℕ) (s u : Stage) → TestsOn g out d f s u → TestsPerhapsOn g out (Some d) f s u
+perhaps_some g out d f _ _ (tests_on there) = tests_perhaps_on (tests_once there)
+
+pub perhaps_none : (g : Graph) (out f a n k : ℕ) → TestsPerhapsOn g out None f (stage a n k) (stage a n k)
+perhaps_none g out f a n k = tests_perhaps_on tests_always

@@ -1,0 +1,15 @@
+use Rattle.std.proofs.Common.{sym, subst}
+use Rattle.mc_flow.specs.declared.instr.Operand.TheVariants.{Var, Const}
+use Rattle.mc_resolved.specs.Views.{argument_of}
+use Rattle.mc_lowering.specs.Lowering.{IsArgument, is_variable, is_constant}
+use Rattle.mc_lower.specs.Worlds.{stage_of}
+use Rattle.mc_lower.proofs.builder.Builder.argument.Goals as goal
+
+pub returns-in_ok-variable-in-Variable : goal.returns-in_ok-variable-in-Variable
+returns-in_ok-variable-in-Variable c = λ w agrees.
+    subst (λ a. IsArgument w.graph (w.out c.args.occurrence) (stage_of w c.args.self.now) (argument_of a) (Var c.in_ok-variable-in-Variable.variable)) (sym c.in-Variable.is)
+    (is_variable (c.in_ok-variable-in-Variable.ensures w agrees))
+
+pub returns-in-Constant : goal.returns-in-Constant
+returns-in-Constant c = λ w agrees.
+    subst (λ a. IsArgument w.graph (w.out c.args.occurrence) (stage_of w c.args.self.now) (argument_of a) (Const c.in-Constant.value)) (sym c.in-Constant.is) is_constant
