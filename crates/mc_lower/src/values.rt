@@ -143,6 +143,13 @@ fn number_of(number: u32) -> Operand
     Operand::Const(i64::from(number))
 }
 
+// The operand that is a constant.
+fn constant(value: i64) -> Operand
+    ensures { result ≡ Const value }
+{
+    Operand::Const(value)
+}
+
 /// The operand 0.
 pub fn nothing() -> Operand
     ensures { result ≡ Const (pos 0) }
@@ -475,7 +482,7 @@ impl<'a> Builder<'a> {
                 let variable = self.local(occurrence, number)?;
                 Ok(Operand::Var(variable))
             }
-            Argument::Constant(value) => Ok(Operand::Const(value)),
+            Argument::Constant(value) => Ok(constant(value)),
         }
     }
 }

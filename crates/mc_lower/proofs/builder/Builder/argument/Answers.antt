@@ -1,5 +1,6 @@
 use Rattle.std.proofs.Common.{sym, subst}
-use Rattle.mc_flow.specs.declared.instr.Operand.TheVariants.{Var, Const}
+use Rattle.mc_flow.specs.declared.instr.Operand.TheVariants.{Var}
+use Rattle.mc_resolved.specs.Programs.{constant}
 use Rattle.mc_resolved.specs.Views.{argument_of}
 use Rattle.mc_lowering.specs.Lowering.{IsArgument, is_variable, is_constant}
 use Rattle.mc_lower.specs.Worlds.{stage_of}
@@ -12,4 +13,5 @@ returns-in_ok-variable-in-Variable c = λ w agrees.
 
 pub returns-in-Constant : goal.returns-in-Constant
 returns-in-Constant c = λ w agrees.
-    subst (λ a. IsArgument w.graph (w.out c.args.occurrence) (stage_of w c.args.self.now) (argument_of a) (Const c.in-Constant.value)) (sym c.in-Constant.is) is_constant
+    subst (λ a. IsArgument w.graph (w.out c.args.occurrence) (stage_of w c.args.self.now) (argument_of a) c.constant.result) (sym c.in-Constant.is)
+    (subst (λ o. IsArgument w.graph (w.out c.args.occurrence) (stage_of w c.args.self.now) (constant c.in-Constant.value) o) (sym c.constant.ensures) is_constant)
