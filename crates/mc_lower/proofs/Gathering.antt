@@ -39,8 +39,8 @@ gathered_more Meant i n variables vs ws v there meant is g =
       ascending = all_pairs_push (λ a b. a.0 < b.0) vs (var n) g.ascending (λ k d lt. g.below k d lt);
       below = All-push (λ a. a.0 < n + 1) vs (var n) (All-weaker (λ a. a.0 < n) (λ a. a.0 < n + 1) (λ a lt. omega arith) vs g.below) (omega arith);
       all = λ j u lt is_there is_meant. elim (cases_lt j n) [
-      | inl low ↦ Contains-append_left vs (var n ∷ []) (var j) (g.all j u low is_there is_meant)
-      | inr high ↦ let same : n ≡ j = omega arith in subst (λ m. Contains (vs ++ var n ∷ []) (var m)) same (Contains-push vs (var n))
+        | inl low ↦ Contains-append_left vs (var n ∷ []) (var j) (g.all j u low is_there is_meant)
+        | inr high ↦ let same : n ≡ j = omega arith in subst (λ m. Contains (vs ++ var n ∷ []) (var m)) same (Contains-push vs (var n))
       ];
       only = All-push (λ u. (x : Variable) × (slice_get variables u.0 ≡ Some x) × IsLocalOf Meant i x.owner) vs (var n) g.only (v, there, meant);
     })
@@ -52,10 +52,10 @@ gathered_same Meant i n variables vs v there not_meant g =
       ascending = g.ascending;
       below = All-weaker (λ a. a.0 < n) (λ a. a.0 < n + 1) (λ a lt. omega arith) vs g.below;
       all = λ j u lt is_there is_meant. elim (cases_lt j n) [
-      | inl low ↦ g.all j u low is_there is_meant
-      | inr high ↦ let same : n ≡ j = omega arith in
-        let one : u ≡ v = same_Some u v (sym is_there ∙ ap (λ m. slice_get variables m) (sym same) ∙ there) in
-        absurd (not_meant (subst (λ x. IsLocalOf Meant i x.owner) one is_meant))
+        | inl low ↦ g.all j u low is_there is_meant
+        | inr high ↦ let same : n ≡ j = omega arith in
+            let one : u ≡ v = same_Some u v (sym is_there ∙ ap (λ m. slice_get variables m) (sym same) ∙ there) in
+            absurd (not_meant (subst (λ x. IsLocalOf Meant i x.owner) one is_meant))
       ];
       only = g.only;
     }
@@ -90,8 +90,8 @@ all_made : (w : World) (b : Builder) (Meant : ℕ → Type 0) (i x : ℕ) (vs : 
 all_made w b Meant i x vs v g agrees meant made =
     let is = made_of w.graph (local (w.out i) x) v _ _ _ made in
     elim (slice_get_cases b.variables.items v.0).1 [
-    | inl found ↦ g.all v.0 found.0 is.1 found.2 (meant_of w Meant i x found.0.owner (same_Some _ _ (sym (agrees.owners v.0 found.0 found.2) ∙ is.0)) meant)
-    | inr past ↦ absurd (omega arith)
+      | inl found ↦ g.all v.0 found.0 is.1 found.2 (meant_of w Meant i x found.0.owner (same_Some _ _ (sym (agrees.owners v.0 found.0 found.2) ∙ is.0)) meant)
+      | inr past ↦ absurd (omega arith)
     ]
 
 only_made : (w : World) (b : Builder) (Meant : ℕ → Type 0) (i : ℕ) → Agrees w b → (v : VarId)

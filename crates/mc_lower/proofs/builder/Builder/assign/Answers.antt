@@ -10,6 +10,8 @@ pub returns-then-is_empty : goal.returns-then-is_empty
 returns-then-is_empty c = λ w agrees.
     let f = c.is_empty.ensures in
     let none : length c.args.target.fields.now ≡ 0 = grind (arith, nat_tests, c.if-is_empty.true) in
-    let set = c.in_ok-set_to.ensures w agrees in
-    (set.0, subst (λ fs. Assigns w.graph (w.out c.args.site.occurrence) c.args.site.place (record { variable = c.args.target.variable; fields = map field_of fs }) (right_of c.args.right.now) (stage_of w c.args.self.now) (stage_of w c.set_to.new.self))
-    (sym (is_none c.args.target.fields.now none)) (assigns_variable (c.in_ok-variable.ensures w set.0) set.1))
+    let set = c.in_ok-set_to.ensures w agrees in (
+      set.0,
+      subst (λ fs. Assigns w.graph (w.out c.args.site.occurrence) c.args.site.place (record { variable = c.args.target.variable; fields = map field_of fs }) (right_of c.args.right.now) (stage_of w c.args.self.now) (stage_of w c.set_to.new.self))
+          (sym (is_none c.args.target.fields.now none)) (assigns_variable (c.in_ok-variable.ensures w set.0) set.1),
+    )

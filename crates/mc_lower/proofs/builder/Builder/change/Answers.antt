@@ -20,9 +20,11 @@ returns-then-is_empty c = λ w agrees.
     let m = stage_of w c.evaluate.new.self in
     let out = w.out c.args.site.occurrence in
     let from_none = subst (λ l. Evaluates w.graph out c.args.site.place e l s c.in_ok-operand.operand c.evaluate.new.temporaries.items m) c.new-temporaries.ensures.items value.1 in
-    let as_slice = subst (λ l. Evaluates w.graph out c.args.site.place e [] s c.in_ok-operand.operand l m) (sym c.as_slice.ensures.value) from_none in
-    (value.0, subst (λ fs. Changes w.graph out c.args.site.place (joined c.args.how) (record { variable = c.args.left.now.variable; fields = map field_of fs }) e s (stage_of w c.change_variable.new.self))
-    (sym (is_none c.args.left.now.fields.items none)) (changed.1 e s as_slice))
+    let as_slice = subst (λ l. Evaluates w.graph out c.args.site.place e [] s c.in_ok-operand.operand l m) (sym c.as_slice.ensures.value) from_none in (
+      value.0,
+      subst (λ fs. Changes w.graph out c.args.site.place (joined c.args.how) (record { variable = c.args.left.now.variable; fields = map field_of fs }) e s (stage_of w c.change_variable.new.self))
+          (sym (is_none c.args.left.now.fields.items none)) (changed.1 e s as_slice),
+    )
 
 pub returns : goal.returns
 returns c = λ w agrees.

@@ -26,9 +26,11 @@ returns-in-Input c = λ w agrees.
 
 pub returns-in_ok-value-in-Value : goal.returns-in_ok-value-in-Value
 returns-in_ok-value-in-Value c = λ w agrees.
-    let v = c.in_ok-value-in-Value.ensures w agrees in
-    (v.0, subst (λ x. IsValue w.graph (w.out c.args.site.occurrence) c.args.site.place x c.args.temporaries.now.items (stage_of w c.args.self.now) c.in_ok-value-in-Value.value c.place_value.new.temporaries.items (stage_of w c.place_value.new.self))
-    (sym (ap expression_of c.in-Value.is ∙ value_seen c.in-Value.left)) v.1)
+    let v = c.in_ok-value-in-Value.ensures w agrees in (
+      v.0,
+      subst (λ x. IsValue w.graph (w.out c.args.site.occurrence) c.args.site.place x c.args.temporaries.now.items (stage_of w c.args.self.now) c.in_ok-value-in-Value.value c.place_value.new.temporaries.items (stage_of w c.place_value.new.self))
+          (sym (ap expression_of c.in-Value.is ∙ value_seen c.in-Value.left)) v.1,
+    )
 
 pub returns-in_ok-operand-in-Minus : goal.returns-in_ok-operand-in-Minus
 returns-in_ok-operand-in-Minus c = λ w agrees.
@@ -38,9 +40,11 @@ returns-in_ok-operand-in-Minus c = λ w agrees.
     let s = stage_of w c.args.self.now in
     let us = c.evaluate.new.temporaries.items in
     let u = stage_of w c.evaluate.new.self in
-    let seen = ap expression_of c.in-Minus.is ∙ minus_seen c.in-Minus.part ∙ ap (λ x. minus (expression_of x)) (sym c.deref.ensures) in
-    (v.0, subst (λ z. Computes w.graph (w.out c.args.site.occurrence) c.args.site.place (expression_of c.args.expression.now) ts s Int (a_difference z p) us u) (sym c.nothing.ensures)
-    (subst (λ x. Computes w.graph (w.out c.args.site.occurrence) c.args.site.place x ts s Int (a_difference (Const (pos 0)) p) us u) (sym seen) (of_minus v.1)))
+    let seen = ap expression_of c.in-Minus.is ∙ minus_seen c.in-Minus.part ∙ ap (λ x. minus (expression_of x)) (sym c.deref.ensures) in (
+      v.0,
+      subst (λ z. Computes w.graph (w.out c.args.site.occurrence) c.args.site.place (expression_of c.args.expression.now) ts s Int (a_difference z p) us u) (sym c.nothing.ensures)
+          (subst (λ x. Computes w.graph (w.out c.args.site.occurrence) c.args.site.place x ts s Int (a_difference (Const (pos 0)) p) us u) (sym seen) (of_minus v.1)),
+    )
 
 pub returns-in_ok-value-in-Times : goal.returns-in_ok-value-in-Times
 returns-in_ok-value-in-Times c = λ w agrees.

@@ -15,9 +15,11 @@ use Rattle.mc_lower.proofs.builder.Builder.enter.Goals as goal
 pub returns-in_ok-push-in-Number : goal.returns-in_ok-push-in-Number
 returns-in_ok-push-in-Number c = λ w o ts u agrees rest.
     let n = c.in-Number.number in
-    let seen = ap expression_of c.in-Number.is ∙ number_seen n in
-    (agrees, one_made w.graph (w.out c.args.site.occurrence) c.args.site.place (expression_of c.args.expression.now) (Const (pos n)) c.args.work.now c.args.made.now _ _ _ _ _ _ _ o
-    (number_made w.graph (w.out c.args.site.occurrence) c.args.site.place _ n _ _ seen) (c.in_ok-push-in-Number.ensures ∙ ap (λ x. x ∷ c.args.made.now) c.number_of.ensures) rest)
+    let seen = ap expression_of c.in-Number.is ∙ number_seen n in (
+      agrees,
+      one_made w.graph (w.out c.args.site.occurrence) c.args.site.place (expression_of c.args.expression.now) (Const (pos n)) c.args.work.now c.args.made.now _ _ _ _ _ _ _ o
+          (number_made w.graph (w.out c.args.site.occurrence) c.args.site.place _ n _ _ seen) (c.in_ok-push-in-Number.ensures ∙ ap (λ x. x ∷ c.args.made.now) c.number_of.ensures) rest,
+    )
 
 pub returns-in_ok-make-in-Input : goal.returns-in_ok-make-in-Input
 returns-in_ok-make-in-Input c = λ w o ts u agrees rest.

@@ -21,9 +21,11 @@ returns-in_ok-make-in-Minus c = λ w o ts u agrees rest.
     let m = stage_of w c.make.new.self in
     let taken = subst (λ z. Takes w.graph c.args.site.place Int (a_difference z p) ss s made.1.variable us m) c.nothing.ensures made.1.taken in
     let f : Finishes w.graph (w.out c.args.site.occurrence) c.args.site.place (Work.Minus ∷ c.args.work.now) (p ∷ c.last_made.new.made) ss s o ts u =
-    (made.1.variable, us, m, taken, subst (λ l. Finishes w.graph (w.out c.args.site.occurrence) c.args.site.place c.args.work.now l us m o ts u) made.1.kept rest) in
-    (made.0, subst (λ t. Finishes w.graph (w.out c.args.site.occurrence) c.args.site.place (t ∷ c.args.work.now) c.args.made.now ss s o ts u) (sym c.in-Minus.is)
-    (subst (λ l. Finishes w.graph (w.out c.args.site.occurrence) c.args.site.place (Work.Minus ∷ c.args.work.now) l ss s o ts u) (sym c.in_ok-operand-in-Minus.ensures) f))
+    (made.1.variable, us, m, taken, subst (λ l. Finishes w.graph (w.out c.args.site.occurrence) c.args.site.place c.args.work.now l us m o ts u) made.1.kept rest) in (
+      made.0,
+      subst (λ t. Finishes w.graph (w.out c.args.site.occurrence) c.args.site.place (t ∷ c.args.work.now) c.args.made.now ss s o ts u) (sym c.in-Minus.is)
+          (subst (λ l. Finishes w.graph (w.out c.args.site.occurrence) c.args.site.place (Work.Minus ∷ c.args.work.now) l ss s o ts u) (sym c.in_ok-operand-in-Minus.ensures) f),
+    )
 
 pub returns-in_ok-make-in-Join : goal.returns-in_ok-make-in-Join
 returns-in_ok-make-in-Join c = λ w o ts u agrees rest.
@@ -37,7 +39,9 @@ returns-in_ok-make-in-Join c = λ w o ts u agrees rest.
     let m = stage_of w c.make-in-Join.new.self in
     let taken = subst (λ op. Takes w.graph c.args.site.place Int op ss s made.1.variable us m) c.of.ensures made.1.taken in
     let f : Finishes w.graph (w.out c.args.site.occurrence) c.args.site.place (Work.Join how ∷ c.args.work.now) (q ∷ p ∷ c.last_made-in-Join-2.new.made) ss s o ts u =
-    (made.1.variable, us, m, taken, subst (λ l. Finishes w.graph (w.out c.args.site.occurrence) c.args.site.place c.args.work.now l us m o ts u) made.1.kept rest) in
-    (made.0, subst (λ t. Finishes w.graph (w.out c.args.site.occurrence) c.args.site.place (t ∷ c.args.work.now) c.args.made.now ss s o ts u) (sym c.in-Join.is)
-    (subst (λ l. Finishes w.graph (w.out c.args.site.occurrence) c.args.site.place (Work.Join how ∷ c.args.work.now) l ss s o ts u)
-    (sym (c.in_ok-right-in-Join.ensures ∙ ap (λ l. q ∷ l) c.in_ok-left-in-Join.ensures)) f))
+    (made.1.variable, us, m, taken, subst (λ l. Finishes w.graph (w.out c.args.site.occurrence) c.args.site.place c.args.work.now l us m o ts u) made.1.kept rest) in (
+      made.0,
+      subst (λ t. Finishes w.graph (w.out c.args.site.occurrence) c.args.site.place (t ∷ c.args.work.now) c.args.made.now ss s o ts u) (sym c.in-Join.is)
+          (subst (λ l. Finishes w.graph (w.out c.args.site.occurrence) c.args.site.place (Work.Join how ∷ c.args.work.now) l ss s o ts u)
+          (sym (c.in_ok-right-in-Join.ensures ∙ ap (λ l. q ∷ l) c.in_ok-left-in-Join.ensures)) f),
+    )

@@ -19,9 +19,9 @@ loop-number-preserved c =
     let v = c.index.result.now in
     let there = slice_get_read variables (length variables) n v refl inside c.index.ensures in
     elim c.if-is_among.branch [
-      then-is_among+in_ok-push w ↦ subst (λ (m : Vec VarId Global). Gathers (λ x. Contains c.args.numbers.now x) c.args.occurrence variables (n + 1) m.items) (sym w.made-is)
+      | then-is_among+in_ok-push w ↦ subst (λ (m : Vec VarId Global). Gathers (λ x. Contains c.args.numbers.now x) c.args.occurrence variables (n + 1) m.items) (sym w.made-is)
           (gathered_more (λ x. Contains c.args.numbers.now x) c.args.occurrence n variables c.loop-number.made.items _ v there (c.is_among.ensures.0 w.if-is_among.true) w.in_ok-push.ensures.items c.loop-number.invariant)
-    | else-is_among w ↦ subst (λ (m : Vec VarId Global). Gathers (λ x. Contains c.args.numbers.now x) c.args.occurrence variables (n + 1) m.items) (sym w.made-is)
+      | else-is_among w ↦ subst (λ (m : Vec VarId Global). Gathers (λ x. Contains c.args.numbers.now x) c.args.occurrence variables (n + 1) m.items) (sym w.made-is)
           (gathered_same (λ x. Contains c.args.numbers.now x) c.args.occurrence n variables c.loop-number.made.items v there
           (λ is_meant. let never : false ≡ true = sym w.if-is_among.false ∙ c.is_among.ensures.1 is_meant in cc) c.loop-number.invariant)
     ]

@@ -18,9 +18,9 @@ loop-number-preserved c =
     let v = c.index.result.now in
     let there = slice_get_read variables (length variables) n v refl inside c.index.ensures in
     elim c.if-is_below.branch [
-      then-is_below+in_ok-push w ↦ subst (λ (m : Vec VarId Global). Gathers (λ x. x < c.args.count) c.args.occurrence variables (n + 1) m.items) (sym w.made-is)
+      | then-is_below+in_ok-push w ↦ subst (λ (m : Vec VarId Global). Gathers (λ x. x < c.args.count) c.args.occurrence variables (n + 1) m.items) (sym w.made-is)
           (gathered_more (λ x. x < c.args.count) c.args.occurrence n variables c.loop-number.made.items _ v there (c.is_below.ensures.0 w.if-is_below.true) w.in_ok-push.ensures.items c.loop-number.invariant)
-    | else-is_below w ↦ subst (λ (m : Vec VarId Global). Gathers (λ x. x < c.args.count) c.args.occurrence variables (n + 1) m.items) (sym w.made-is)
+      | else-is_below w ↦ subst (λ (m : Vec VarId Global). Gathers (λ x. x < c.args.count) c.args.occurrence variables (n + 1) m.items) (sym w.made-is)
           (gathered_same (λ x. x < c.args.count) c.args.occurrence n variables c.loop-number.made.items v there
           (λ is_meant. let never : false ≡ true = sym w.if-is_below.false ∙ c.is_below.ensures.1 is_meant in cc) c.loop-number.invariant)
     ]

@@ -13,9 +13,11 @@ returns-then-is_empty c = λ w agrees.
     let put = c.in_ok-put_into_variable.ensures w agrees in
     let s = stage_of w c.args.self.now in
     let u = stage_of w c.put_into_variable.new.self in
-    let items = subst (λ l. Puts w.graph (w.out c.args.site.occurrence) c.args.site.place (record { variable = c.args.target.variable; fields = [] }) c.args.operand l s u) c.as_slice.ensures.value put.1 in
-    (put.0, subst (λ fs. Puts w.graph (w.out c.args.site.occurrence) c.args.site.place (record { variable = c.args.target.variable; fields = map field_of fs }) c.args.operand c.args.temporaries.now.items s u)
-    (sym (is_none c.args.target.fields.now none)) items)
+    let items = subst (λ l. Puts w.graph (w.out c.args.site.occurrence) c.args.site.place (record { variable = c.args.target.variable; fields = [] }) c.args.operand l s u) c.as_slice.ensures.value put.1 in (
+      put.0,
+      subst (λ fs. Puts w.graph (w.out c.args.site.occurrence) c.args.site.place (record { variable = c.args.target.variable; fields = map field_of fs }) c.args.operand c.args.temporaries.now.items s u)
+          (sym (is_none c.args.target.fields.now none)) items,
+    )
 
 pub returns : goal.returns
 returns c = λ w agrees. let put = c.in_ok-put_into_field.ensures w agrees in (put.0, put.1.puts)
