@@ -1,5 +1,5 @@
 -- What agrees with more agrees with less.
-use Rattle.std.proofs.Common.{◌≡◌, ◌++◌, ℕ, zero, suc, List, [], ◌∷◌, Some, None, refl, sym, ap, ◌∙◌, subst, length, map, arith}
+use Rattle.std.proofs.Common.{◌≡◌, ◌++◌, ℕ, zero, suc, List, [], ◌∷◌, Some, None, refl, sym, ap, ◌∙◌, subst, length, map, ◌≤◌, drop, get_or, arith}
 use Rattle.std.specs.Prelude.{slice_get}
 use Rattle.mc_base.specs.declared.ids.PointId.{PointId}
 use Rattle.mc_text.specs.declared.place.Place.{Place}
@@ -35,6 +35,11 @@ before P xs zs x is all i y there = all i y (ap (λ l. slice_get l i) is ∙ kep
 
 pub at_last : {A : Type 0} (P : ℕ → A → Type 0) (xs zs : List A) (x : A) → zs ≡ xs ++ x ∷ [] → AllAt P zs → P (length xs) x
 at_last P xs zs x is all = all (length xs) x (ap (λ l. slice_get l (length xs)) is ∙ last_there xs x)
+
+-- the first item of several
+pub first_of : {A : Type 0} (xs : List A) (x : A) → 1 ≤ length xs → x ≡ get_or xs 0 x → xs ≡ x ∷ drop 1 xs
+first_of [] x some here = absurd (omega arith)
+first_of (y ∷ ys) x some here = ap (λ (z : _). z ∷ ys) (sym here)
 
 -- ---- builders
 abbrev pub with_goal : Builder → Label → Builder

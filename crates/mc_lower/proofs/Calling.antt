@@ -21,8 +21,9 @@ use Rattle.mc_lower.proofs.Valuing.{one_left}
 pub received_on : (g : Graph) (f : Function) (out x n rest more : ℕ) (v : VarId) (vs : List VarId) (s m u : Stage) → n ≡ x + 1 → rest ≡ suc more
     → CreatesLocal g f out x s v m → Receives g f out n more m vs u → Receives g f out x rest s (v ∷ vs) u
 received_on g f out x n rest more v vs s m u next is created received =
+    let same : n ≡ suc x = omega arith in
     subst (λ k. Receives g f out x k s (v ∷ vs) u) (sym is)
-    (receives created.there created.created (subst (λ k. Receives g f out k more m vs u) next received))
+    (receives created.there created.created (subst (λ k. Receives g f out k more m vs u) same received))
 
 pub passed_on : (g : Graph) (place : Place) (vs : List VarId) (os : List Operand) (at n : ℕ) (v : VarId) (o : Operand) (s m u : Stage)
     → n ≡ at + 1 → slice_get vs at ≡ Some v → slice_get os at ≡ Some o → Appends g plain place (λ q. Copy v o q) s m

@@ -1,16 +1,18 @@
 -- Where ways meet, in the finished flow graph.
 use Rattle.std.proofs.Common.{◌≡◌, ℕ, suc, List, [], ◌∷◌, Some, None, refl, sym, ap, ◌∙◌, subst, length, map}
 use Rattle.mc_base.specs.declared.ids.PointId.{PointId}
+use Rattle.mc_base.specs.declared.ids.VarId.{VarId}
 use Rattle.mc_text.specs.declared.place.Place.{Place}
 use Rattle.mc_flow.specs.declared.instr.Instr.{Instr}
-use Rattle.mc_flow.specs.declared.instr.Instr.TheVariants.{Skip}
-use Rattle.mc_resolved.specs.Programs.{Cond, Head, Stmt, if_only, if_else, while_loop, do_loop, for_loop}
-use Rattle.mc_lowering.specs.Graphs.{Graph, Role, plain, head, merge, nowhere, Stage, stage, IsPoint, Appends, appends, Leaves}
+use Rattle.mc_flow.specs.declared.instr.Instr.TheVariants.{End, Fail, Skip}
+use Rattle.mc_resolved.specs.Programs.{Cond, Head, Right, Stmt, assert, assume, break_loop, continue_loop, returns, if_only, if_else, while_loop, do_loop, for_loop}
+use Rattle.mc_lowering.specs.Graphs.{Graph, Role, plain, head, merge, stop, result, IsMade, nowhere, Stage, stage, IsPoint, Appends, appends, Leaves}
 use Rattle.mc_lowering.specs.Values.{Tests, TestsPerhaps}
-use Rattle.mc_lowering.specs.Lowering.{Around, in_loop, Starts, Finishes, Lowers, ifs, ifs_else, whiles, dos, fors}
+use Rattle.mc_lowering.specs.Lowering.{Around, Loop, SetsTo, breaks, continues, returns_nothing, returns_value, asserts, assumes, in_loop, Starts, Finishes, Lowers, ifs, ifs_else, whiles, dos, fors}
 use Rattle.mc_lower.specs.Left.{EndsCall, ends_call, Checks, checks, Merges, merges, Otherwise, otherwise, ExitsTo, exits, EndsDo, ends_do, EndsFor, ends_for, TurnsFor, turns_for}
 use Rattle.mc_lower.specs.Owned.{Forgets}
 use Rattle.mc_lower.specs.Valued.{TestsOn, tests_on, TestsPerhapsOn, tests_perhaps_on}
+use Rattle.mc_lower.specs.Worlds.{GoesTo, goes_to}
 
 pub mapped_length : {A B : Type 0} (f : A → B) (xs : List A) → length (map f xs) ≡ length xs
 mapped_length f [] = refl
@@ -44,6 +46,32 @@ checked g out role place code d s b f n m k j tests at more same there =
     subst (λ x. Checks g out role place code d s (stage b x j)) (sym more)
     (subst (λ x. Checks g out role place code d s (stage b (suc n) x)) (sym same)
     (checks (subst (λ x. Tests g out d s b x n k) at tests) there))
+
+pub turned : (g : Graph) (out : ℕ) (h : Head) (b a n k e : ℕ) (r m u : Stage) → Appends g plain h.place (λ q. Skip q) (stage a n k) r
+    → Finishes g out h.last r m → EndsFor g out h b e m u → TurnsFor g out h b a e (stage a n k) u
+turned g out h b _ _ _ e r m u (appends there) last ends = turns_for (appends there) last ends
+
+-- ---- jumps
+pub broken : (g : Graph) (c : Around) (place : Place) (l : Loop) (s m u : Stage) → c.loop ≡ Some l → Leaves g c.out place c.blocks s m → GoesTo l.exit m u
+    → Lowers g c (break_loop place) s u
+broken g c place l s _ _ is left goes_to = breaks is left
+
+pub continued : (g : Graph) (c : Around) (place : Place) (l : Loop) (s m u : Stage) → c.loop ≡ Some l → Leaves g c.out place c.blocks s m → GoesTo l.turn m u
+    → Lowers g c (continue_loop place) s u
+continued g c place l s _ _ is left goes_to = continues is left
+
+pub returned_nothing : (g : Graph) (c : Around) (place : Place) (s u : Stage) → GoesTo c.out s u → Lowers g c (returns place None) s u
+returned_nothing g c place _ _ goes_to = returns_nothing
+
+pub returned_value : (g : Graph) (c : Around) (place : Place) (right : Right) (v : VarId) (s m u : Stage) → IsMade g (result c.out) v s
+    → SetsTo g c.out place v right s m → GoesTo c.out m u → Lowers g c (returns place (Some right)) s u
+returned_value g c place right v s _ _ made set goes_to = returns_value made set
+
+pub checked_fail : (g : Graph) (c : Around) (place : Place) (d : Cond) (s u : Stage) → Checks g c.out plain place Fail d s u → Lowers g c (assert place d) s u
+checked_fail g c place d s _ (checks tests there) = asserts tests there
+
+pub checked_end : (g : Graph) (c : Around) (place : Place) (d : Cond) (s u : Stage) → Checks g c.out stop place End d s u → Lowers g c (assume place d) s u
+checked_end g c place d s _ (checks tests there) = assumes tests there
 
 -- ---- statements with statements inside
 pub if_met : (g : Graph) (c : Around) (place : Place) (d : Cond) (a : Stmt) (n : ℕ) (s r m u : Stage) → TestsOn g c.out d n s r → Lowers g c a r m

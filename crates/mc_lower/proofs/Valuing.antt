@@ -9,13 +9,15 @@ use Rattle.mc_base.specs.declared.plain.Kind.TheVariants.{Int}
 use Rattle.mc_text.specs.declared.place.Place.{Place}
 use Rattle.mc_flow.specs.declared.instr.Operand.{Operand}
 use Rattle.mc_flow.specs.declared.instr.Operand.TheVariants.{Var, Const}
+use Rattle.mc_resolved.specs.declared.program.Argument.{Argument}
 use Rattle.mc_resolved.specs.declared.program.Expression.{Expression}
 use Rattle.mc_resolved.specs.declared.program.FieldAt.{FieldAt as FieldCode}
 use Rattle.mc_resolved.specs.Programs.{FieldAt, Expr, number, minus, times, plus, difference}
-use Rattle.mc_resolved.specs.Views.{expression_of, field_of}
+use Rattle.mc_resolved.specs.Views.{argument_of, expression_of, field_of}
 use Rattle.mc_lowering.specs.Graphs.{Graph, plain, Stage, Appends, Uses}
 use Rattle.mc_lowering.specs.Values.{Operation, an_input, a_field, a_sum, a_difference, a_product, sets, Takes, takes, IsOfKind, Walks, walks_none, walks}
 use Rattle.mc_lowering.specs.Values.{Evaluates, of_number, of_operation, Computes, of_minus, of_times, of_plus, of_difference, EvaluatesAll, evaluates_next}
+use Rattle.mc_lowering.specs.Lowering.{IsArgument, AreArguments, are_arguments}
 use Rattle.mc_lower.specs.declared.values.How.{How}
 use Rattle.mc_lower.specs.declared.values.Value.{Value}
 use Rattle.mc_lower.specs.declared.values.Work.{Work}
@@ -158,6 +160,12 @@ pub all_evaluated : (g : Graph) (out : ℕ) (place : Place) (es : List Expressio
     → EvaluatesAll g out place (map expression_of (drop at es)) ts s (o ∷ os) ws u
 all_evaluated g out place es at n x o os ts us ws s m u next there value rest =
     subst (λ l. EvaluatesAll g out place (map expression_of l) ts s (o ∷ os) ws u) (sym (one_left es at n x next there)) (evaluates_next value rest)
+
+pub argument_on : (g : Graph) (out : ℕ) (s : Stage) (args : List Argument) (at n : ℕ) (x : Argument) (o : Operand) (os : List Operand) → n ≡ at + 1
+    → slice_get args at ≡ Some x → IsArgument g out s (argument_of x) o → AreArguments g out s (map argument_of (drop n args)) os
+    → AreArguments g out s (map argument_of (drop at args)) (o ∷ os)
+argument_on g out s args at n x o os next there is rest =
+    subst (λ l. AreArguments g out s (map argument_of l) (o ∷ os)) (sym (one_left args at n x next there)) (are_arguments is rest)
 
 -- ---- whole expressions
 same_head : (o p : Operand) (os ps : List Operand) → o ∷ os ≡ p ∷ ps → o ≡ p

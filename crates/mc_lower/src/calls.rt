@@ -357,11 +357,11 @@ impl<'a> Builder<'a> {
     ) -> Result<(), LowerFault>
         ensures { OnOk result (Begins (λ w s m. Declares w.graph (function_of context.entry.function.now) (w.out context.entry.occurrence) place (map initial_of items.now) s m) self.old tasks.old self.new tasks.new) }
     {
-        let Some((item, more)) = items.split_first() else {
+        let [first, more @ ..] = items else {
             return Ok(());
         };
         push(tasks, Task::Declare(place, more, context))?;
-        self.declare_one(tasks, place, item, context)?;
+        self.declare_one(tasks, place, first, context)?;
         Ok(())
     }
 }

@@ -1,5 +1,5 @@
 // The variables of a flow graph, found by whose they are.
-ghost use Rattle.std.specs.Prelude.{◌≡◌, ◌<◌, ◌↔◌, IfOk, IfSome, OnOk, IsTrue, Contains};
+ghost use Rattle.std.specs.Prelude.{◌≡◌, ◌<◌, ◌↔◌, ◌++◌, IfOk, IfSome, OnOk, IsTrue, Contains};
 ghost use Rattle.mc_lowering.specs.Graphs.{Creates, IsMade, AreMade, Leaves, Uses, local, result as result_of};
 ghost use Rattle.mc_lowering.specs.Lowering.{result_info};
 ghost use Rattle.mc_resolved.specs.Views.{function_of};
@@ -190,24 +190,34 @@ impl<'a> Builder<'a> {
         Ok(())
     }
 
+    // The variables of a block come behind these, and the block around it is next.
+    fn number_block(
+        &self,
+        number: usize,
+        numbers: &mut Vec<usize>,
+    ) -> Result<Option<usize>, LowerFault>
+        ensures { IfOk result (λ around. (w : World) → Agrees w self.now → numbers.old.items ++ w.blocks number ≡ numbers.new.items ++ blocks_in w around) }
+    {
+        let Some(opened) = self.blocks.get(number) else {
+            return Err(ABSENT);
+        };
+        numbers.extend_from_slice(opened.numbers)?;
+        Ok(opened.around)
+    }
+
     // The variables of a block and of those around it in the same loop.
     fn numbers_in(&self, block: Option<usize>) -> Result<Vec<usize>, LowerFault>
         ensures { IfOk result (λ xs. (w : World) → Agrees w self.now → xs.items ≡ blocks_in w block) }
     {
         let mut numbers = Vec::new(self.alloc);
         let mut inner = block;
-        'around: while let Some(number) = inner {
-            let Some(opened) = self.blocks.get(number) else {
-                return Err(ABSENT);
-            };
-            numbers.extend_from_slice(opened.numbers)?;
-            inner = match opened.around {
-                Some(around) if around < number => Some(around),
-                Some(_) => return Err(ABSENT),
-                None => None,
-            };
+        'around: for _ in 0..u64::MAX {
+            match inner {
+                Some(number) => { inner = self.number_block(number, &mut numbers)? }
+                None => return Ok(numbers),
+            }
         }
-        Ok(numbers)
+        Err(LowerFault::NoMemory)
     }
 
     /// Of the variables of a block and of those around it in the same loop, those that are made by now become undefined.

@@ -527,7 +527,7 @@ impl<'a> Builder<'a> {
     ) -> Result<(), LowerFault>
         ensures { OnOk result (Begins (λ w s m. LowersAll w.graph (around_of w context.entry) (stmts_of (map statement_of statements.now)) s m) self.old tasks.old self.new tasks.new) }
     {
-        let Some((first, more)) = statements.split_first() else {
+        let [first, more @ ..] = statements else {
             return Ok(());
         };
         push(tasks, Task::Statements(more, context))?;

@@ -1,0 +1,21 @@
+use Rattle.std.proofs.Common.{◌≡◌, ◌∷◌, ◌-◌, List, length, map, take, drop, sym, ap, ◌∙◌, subst}
+use Rattle.std.proofs.lemmas.List.{take_rest}
+use Rattle.mc_resolved.specs.declared.program.Statement.{Statement}
+use Rattle.mc_resolved.specs.Views.{statement_of, stmts_of}
+use Rattle.mc_lowering.specs.Lowering.{LowersAll, lowers_next}
+use Rattle.mc_lower.specs.Left.{around_of}
+use Rattle.mc_lower.specs.Worlds.{stage_of}
+use Rattle.mc_lower.proofs.Agreeing.{first_of}
+use Rattle.mc_lower.proofs.Resting.{pushed_two}
+use Rattle.mc_lower.proofs.builder.Builder.statements.Goals as goal
+
+pub returns : goal.returns
+returns c = λ w u agrees rest.
+    let items : List Statement = c.args.statements.now in
+    let first = c.first-item.result in
+    let more : List Statement = take (length items - 1) (drop 1 items) in
+    let split : items ≡ first ∷ more =
+    first_of items first c.in-len1-up.len_at_least c.first-item.is ∙ ap (λ (l : List Statement). first ∷ l) (sym (take_rest items 1)) in
+    let s = stage_of w c.args.self.now in
+    let r = pushed_two w _ _ _ _ _ s u c.in_ok-push-2.ensures c.in_ok-push.ensures rest in
+    (agrees, (r.2.0, subst (λ l. LowersAll w.graph (around_of w c.args.context) (stmts_of (map statement_of l)) s r.2.0) (sym split) (lowers_next r.1 r.2.1), r.2.2))
