@@ -8,3 +8,4 @@ pub mod Resting
 pub mod Seen
 pub mod Testing
 pub mod Valuing
+pub mod Entering
