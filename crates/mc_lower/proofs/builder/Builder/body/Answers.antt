@@ -16,6 +16,8 @@ returns c = λ w agrees.
     let t = Task.Statements c.as_slice.result here in
     let s = stage_of w c.args.self.now in
     let ran = c.in_ok-run.ensures w agrees in
-    let r = pushed w _ (t ∷ []) s (stage_of w c.run.new.self) (c.in_ok-push.ensures ∙ ap (λ l. t ∷ l) c.new-tasks.ensures) ran.1 in
-    (ran.0, subst (λ x. LowersAll w.graph (in_body f out) f.body s x) r.2
-    (subst (λ l. LowersAll w.graph (around_of w here) (stmts_of (map statement_of l)) s r.0) c.as_slice.ensures.value r.1))
+    let r = pushed w _ (t ∷ []) s (stage_of w c.run.new.self) (c.in_ok-push.ensures ∙ ap (λ l. t ∷ l) c.new-tasks.ensures) ran.1 in (
+      ran.0,
+      subst (λ x. LowersAll w.graph (in_body f out) f.body s x) r.2
+          (subst (λ l. LowersAll w.graph (around_of w here) (stmts_of (map statement_of l)) s r.0) c.as_slice.ensures.value r.1),
+    )

@@ -16,9 +16,15 @@ returns c = λ w u agrees rest.
     let split : items ≡ first ∷ more =
     first_of items first c.in-len1-up.len_at_least c.first-item.is ∙ ap (λ (l : List InitialCode). first ∷ l) (sym (take_rest items 1)) in
     let r = c.in_ok-declare_one.ensures w u agrees rest in
-    let q = pushed w _ _ r.1.0 u c.in_ok-push.ensures r.1.2 in
-    (r.0, (q.0, subst (λ l. Declares w.graph (function_of c.args.context.function.now) (w.out c.args.context.occurrence) c.args.place (map initial_of l) (stage_of w c.args.self.now) q.0) (sym split)
-    (r.1.1 (map initial_of more) q.0 q.1), q.2))
+    let q = pushed w _ _ r.1.0 u c.in_ok-push.ensures r.1.2 in (
+      r.0,
+      (
+        q.0,
+        subst (λ l. Declares w.graph (function_of c.args.context.function.now) (w.out c.args.context.occurrence) c.args.place (map initial_of l) (stage_of w c.args.self.now) q.0) (sym split)
+            (r.1.1 (map initial_of more) q.0 q.1),
+        q.2,
+      ),
+    )
 
 pub returns-in_default : goal.returns-in_default
 returns-in_default c = λ w u agrees rest.

@@ -22,9 +22,11 @@ loop-at-preserved c = λ w os ws u agrees rest.
     let inside : at < length es = omega arith in
     let there = slice_get-get_or es at x inside ∙ ap (λ y. Some y) (sym c.index-expressions-at.is) in
     let e = c.loop-at.invariant w (o ∷ os) ws u value.0
-    (all_evaluated w.graph (w.out c.args.site.occurrence) c.args.site.place es at (at + 1) x o os _ _ ws _ _ u refl there value.1 rest) in
-    (e.0, subst (λ l. EvaluatesAll w.graph (w.out c.args.site.occurrence) c.args.site.place (map expression_of es) c.args.temporaries.now.items (stage_of w c.args.self.now) l ws u)
-    (sym (ap (λ l. l ++ os) c.in_ok-push.ensures.items ∙ append_assoc c.loop-at.operands.items (o ∷ []) os)) e.1)
+    (all_evaluated w.graph (w.out c.args.site.occurrence) c.args.site.place es at (at + 1) x o os _ _ ws _ _ u refl there value.1 rest) in (
+      e.0,
+      subst (λ l. EvaluatesAll w.graph (w.out c.args.site.occurrence) c.args.site.place (map expression_of es) c.args.temporaries.now.items (stage_of w c.args.self.now) l ws u)
+          (sym (ap (λ l. l ++ os) c.in_ok-push.ensures.items ∙ append_assoc c.loop-at.operands.items (o ∷ []) os)) e.1,
+    )
 
 pub returns : goal.returns
 returns c = λ w agrees.

@@ -10,9 +10,15 @@ returns-in_ok-assign_right-in-Assign c = λ w u agrees rest.
     let e = c.in_ok-assign_right-in-Assign.ensures w u agrees rest in
     let out = w.out c.args.context.occurrence in
     let place = c.args.simple.now.place in
-    let s = stage_of w c.args.self.now in
-    (e.0, (e.1.0, subst (λ a. Performs w.graph out place (action_of a) s e.1.0) (sym c.in-Assign.is)
-    (subst (λ l. Performs w.graph out place (assign l (right_of c.in-Assign.right)) s e.1.0) c.of.ensures e.1.1), e.1.2))
+    let s = stage_of w c.args.self.now in (
+      e.0,
+      (
+        e.1.0,
+        subst (λ a. Performs w.graph out place (action_of a) s e.1.0) (sym c.in-Assign.is)
+            (subst (λ l. Performs w.graph out place (assign l (right_of c.in-Assign.right)) s e.1.0) c.of.ensures e.1.1),
+        e.1.2,
+      ),
+    )
 
 pub returns-in_ok-call_for_nothing-in-Call : goal.returns-in_ok-call_for_nothing-in-Call
 returns-in_ok-call_for_nothing-in-Call c = λ w u agrees rest.

@@ -11,9 +11,11 @@ loop-number-init c = λ w vs u agrees rest.
     let f = function_of c.args.function.now in
     let count = c.args.function.now.parameters in
     let s = stage_of w c.args.self.now in
-    let same : count - 0 ≡ count = omega arith in
-    (agrees, subst (λ l. Receives w.graph f (w.out c.args.occurrence) 0 count s (l ++ vs) u) (sym c.new-parameters.ensures.items)
-    (subst (λ k. Receives w.graph f (w.out c.args.occurrence) 0 k s vs u) same rest))
+    let same : count - 0 ≡ count = omega arith in (
+      agrees,
+      subst (λ l. Receives w.graph f (w.out c.args.occurrence) 0 count s (l ++ vs) u) (sym c.new-parameters.ensures.items)
+          (subst (λ k. Receives w.graph f (w.out c.args.occurrence) 0 k s vs u) same rest),
+    )
 
 pub loop-number-preserved : goal.loop-number-preserved
 loop-number-preserved c = λ w vs u agrees rest.
@@ -25,9 +27,11 @@ loop-number-preserved c = λ w vs u agrees rest.
     let gap : count - n ≡ suc (count - (n + 1)) = omega arith in
     let created = c.in_ok-variable.ensures w agrees in
     let e = c.loop-number.invariant w (v ∷ vs) u created.0
-    (received_on w.graph f (w.out c.args.occurrence) n (n + 1) (count - n) (count - (n + 1)) v vs _ _ u refl gap created.1 rest) in
-    (e.0, subst (λ l. Receives w.graph f (w.out c.args.occurrence) 0 count (stage_of w c.args.self.now) l u)
-    (sym (ap (λ l. l ++ vs) c.in_ok-push.ensures.items ∙ append_assoc c.loop-number.parameters.items (v ∷ []) vs)) e.1)
+    (received_on w.graph f (w.out c.args.occurrence) n (n + 1) (count - n) (count - (n + 1)) v vs _ _ u refl gap created.1 rest) in (
+      e.0,
+      subst (λ l. Receives w.graph f (w.out c.args.occurrence) 0 count (stage_of w c.args.self.now) l u)
+          (sym (ap (λ l. l ++ vs) c.in_ok-push.ensures.items ∙ append_assoc c.loop-number.parameters.items (v ∷ []) vs)) e.1,
+    )
 
 pub returns : goal.returns
 returns c = λ w agrees.

@@ -12,9 +12,15 @@ pub returns-in_ok-go_out-in-None : goal.returns-in_ok-go_out-in-None
 returns-in_ok-go_out-in-None c = λ w u agrees rest.
     let e = c.in_ok-go_out-in-None.ensures w agrees in
     let s = stage_of w c.args.self.now in
-    let m = stage_of w c.go_out.new.self in
-    (e.0, (m, subst (λ o. Lowers w.graph (around_of w c.args.context) (returning c.args.place (option_map (λ r. right_of r.now) o)) s m) (sym c.in-None.is)
-    (returned_nothing w.graph (around_of w c.args.context) c.args.place s m e.1), rest))
+    let m = stage_of w c.go_out.new.self in (
+      e.0,
+      (
+        m,
+        subst (λ o. Lowers w.graph (around_of w c.args.context) (returning c.args.place (option_map (λ r. right_of r.now) o)) s m) (sym c.in-None.is)
+            (returned_nothing w.graph (around_of w c.args.context) c.args.place s m e.1),
+        rest,
+      ),
+    )
 
 pub returns-in_ok-return_right-in-Some : goal.returns-in_ok-return_right-in-Some
 returns-in_ok-return_right-in-Some c = λ w u agrees rest.
