@@ -1,6 +1,9 @@
 pub mod Agreeing
 pub mod Assigning
 pub mod Calling
+pub mod Choosing
+pub mod Entering
+pub mod Firsts
 pub mod Gathering
 pub mod Meeting
 pub mod Owning
@@ -8,4 +11,4 @@ pub mod Resting
 pub mod Seen
 pub mod Testing
 pub mod Valuing
-pub mod Entering
+pub mod Worlding

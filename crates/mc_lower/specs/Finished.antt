@@ -10,7 +10,7 @@ use Rattle.mc_resolved.specs.Views.{program_of}
 use Rattle.mc_lowering.specs.Graphs.{Graph, Owner, Role, plain, head, merge, stop, nowhere, Stage, stage, IsPoint}
 use Rattle.mc_lowering.specs.Lowering.{AreThresholds, IsLowering, IsTooLong}
 use Rattle.mc_flow.specs.declared.instr.Instr.TheVariants.{End}
-use Rattle.std.specs.Prelude.{◌<◌, AllPairs, All, Contains}
+use Rattle.std.specs.Prelude.{◌<◌, ◌≤◌, AllPairs, All, Contains}
 use Rattle.mc_lowering.specs.Graphs.{point}
 use Rattle.mc_lower.specs.declared.builder.Builder.{Builder}
 use Rattle.mc_lower.specs.declared.builder.Draft.{Draft}
@@ -49,8 +49,9 @@ pub record AreThose (drafts : List Draft) (role : Role) (ps : List PointId) : Ty
 pub data Ends (g : Graph) (out : ℕ) : Stage → Stage → Type 0 where
   ends : {a k : ℕ} → IsPoint g out plain nowhere End → Ends g out (stage out out k) (stage a (suc out) k)
 
--- labels have points, with which all that is known of them holds
+-- there are at most 10,000 points, and labels have points, with which all that is known of them holds
 pub record AreSettled (b : Builder) (table : List ℕ) : Type 0 where
+  pub short : length b.points.items ≤ 10000
   pub marks : AllAt (λ i m. IsMarked (point_at table) m) b.marks.items
   pub apart : AreApart (point_at table) b.outs.items
   pub once : AreOnce b.variables.items

@@ -5,7 +5,9 @@ ghost use Rattle.mc_lowering.specs.Lowering.{AreThresholds};
 ghost use Rattle.mc_lower.specs.Finished.{AreApart, AreOnce, AreSettled, AreThose, IsFinished, IsInner, point_at};
 ghost use Rattle.mc_lower.specs.Worlds.{AllAt, IsMarked, point_in, role_of, settled, target as point_of_target};
 
-use crate::builder::{ABSENT, Builder, Draft, Label, LowerFault, Mark, Opened, Role, Variable};
+use crate::builder::{
+    ABSENT, Builder, Draft, Label, LowerFault, MAX_POINTS, Mark, Opened, Role, Variable,
+};
 use crate::lowering::Lowered;
 use crate::owners::find;
 use mc_base::{Items, PointId, VarInfo};
@@ -163,13 +165,21 @@ fn with_points(table: &[usize], code: Instr) -> Instr
     }
 }
 
+// Whether a point is of a role.
+#[tactic(auto, using(crate::proofs::Choosing::same_role))]
+fn has_role(point: &Draft, role: Role) -> bool
+    ensures { IsTrue result ↔ (role_of point.now.role ≡ role_of role) }
+{
+    point.role == role
+}
+
 // The points of a role, ascending.
 fn of_role(alloc: Global, points: &[Draft], role: Role) -> Result<Items<PointId>, LowerFault>
     ensures { IfOk result (λ ps. AreThose points.now (role_of role) ps) }
 {
     let mut list = Vec::new(alloc);
-    for (number, point) in points.iter().enumerate() {
-        if point.role == role {
+    for number in 0..points.len() {
+        if has_role(&points[number], role) {
             list.push(PointId(number as u64))?;
         }
     }
@@ -311,7 +321,8 @@ fn checked_points(builder: &Builder) -> Result<Vec<usize>, LowerFault>
     let outs = builder.outs.as_slice();
     let table = points_of(builder.alloc, builder.labels, marks)?;
     let lasts = last_labels(builder.alloc, table.as_slice(), outs, builder.points.len())?;
-    let fits = all_hold(table.as_slice(), marks)
+    let fits = builder.points.len() <= MAX_POINTS
+        && all_hold(table.as_slice(), marks)
         && are_apart(table.as_slice(), outs, lasts.as_slice())
         && are_once(builder.variables.as_slice())
         && are_inner(builder.blocks.as_slice());
@@ -320,7 +331,7 @@ fn checked_points(builder: &Builder) -> Result<Vec<usize>, LowerFault>
 
 /// The flow graph with these points and variables.
 pub fn finish(builder: Builder) -> Result<Lowered, LowerFault>
-    ensures { IfOk result (λ x. IsFinished builder x) }
+    ensures { IfOk result (λ x. IsFinished builder.entry x) }
 {
     let alloc = builder.alloc;
     let table = checked_points(&builder)?;
