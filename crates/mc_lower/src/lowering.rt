@@ -102,7 +102,7 @@ impl<'a> Builder<'a> {
     fn make_entry(&mut self, entry: &'a Function) -> Result<(), LowerFault>
         requires no_points { self.old.points.items ≡ [] }
         requires no_variables { self.old.variables.items ≡ [] }
-        ensures { OnOk result ((w : World) → Agrees w self.new → (out : ℕ) × Makes w.graph (function_of entry.now) out (length self.new.variables.items) × (length self.new.points.items ≡ suc out)) }
+        ensures { OnOk result ((w : World) → Agrees w self.new → Agrees w self.old × (out : ℕ) × Makes w.graph (function_of entry.now) out (length self.new.variables.items) × (length self.new.points.items ≡ suc out)) }
     {
         self.skip(Role::Plain, NOWHERE)?;
         let occurrence = self.occur()?;
@@ -126,5 +126,6 @@ pub fn lower(alloc: Global, program: &Resolved, structs: &Structs) -> Result<Low
         return Err(ABSENT);
     }
     builder.make_entry(entry)?;
-    finish(builder)
+    let lowered = finish(builder)?;
+    Ok(lowered)
 }

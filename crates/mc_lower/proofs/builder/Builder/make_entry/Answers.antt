@@ -17,4 +17,4 @@ returns c = λ w agrees.
     let out = w.out c.in_ok-occurrence.occurrence in
     let answered = subst (λ s. Answers w.graph out f.result s (stage_of w c.begin.new.self)) (sym occurred.1) begun.1 in
     let made = entry_made w.graph f out _ _ _ _ _ _ _ _ _ _ (ap (λ l. length l) c.requires.no_points) (ap (λ l. length l) c.requires.no_variables) skipped.1 answered lowered.1 fallen.1 ended.1 in
-    (out, made.0, made.1)
+    (skipped.0, out, made.0, made.1)
