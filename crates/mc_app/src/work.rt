@@ -7,6 +7,7 @@ ghost use Rattle.mc_straight.specs.Typing.{IsTyped};
 ghost use Rattle.mc_straight.specs.Lowering.{flow_of};
 ghost use Rattle.mc_types.specs.Tables.{struct_infos};
 ghost use Rattle.mc_defs.specs.Conditions.{DefsFit};
+ghost use Rattle.mc_app.specs.Documents.{IsVerdictOn};
 ghost use Rattle.mc_app.specs.Programs.{AreDefinitions, IsProgramHere, IsSafe, IsSafeUnit, IsUndefined, IsUnread, IsWellFormed};
 ghost use Rattle.mc_app.specs.Answers.{IsWhy, IsWhyBound, IsWhyFitting, IsWhyUnit};
 
@@ -109,6 +110,11 @@ fn verdict_on<F: Files>(
     document: &str,
     short: &Program,
 ) -> Result<Verdict, FileFault>
+    requires { IsTyped short.now }
+    ensures verdict { WhereTold (F.holds files.old document.now) (λ text. IfOk result (IsVerdictOn (flow_of short.now) [] text)) }
+    ensures safe { IfOk result (λ v. v ≡ Verdict.Safe → IsSafeFlow (flow_of short.now) []) }
+    ensures same { Stays (F.holds files.old) (F.holds files.new) }
+    ensures cause { HasCause (F.faults files.old) (F.faults files.new) result }
 {
     let flow = lower(alloc, short)?;
     let defs = Defs::new(alloc);
