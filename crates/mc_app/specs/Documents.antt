@@ -1,5 +1,5 @@
 -- What a document is for a flow graph, and what a judge has heard of it.
-use Rattle.std.specs.Prelude.{◌≡◌, ◌×◌, ◌++◌, ℕ, Bool, List, take}
+use Rattle.std.specs.Prelude.{ℕ, Bool, List}
 use Rattle.mc_cert.specs.Lines.{lines_of}
 use Rattle.mc_defs.specs.declared.rules.Def.{Def}
 use Rattle.mc_flow.specs.declared.graph.Flow.{Flow}

@@ -1,5 +1,5 @@
 // Documents in files, judged as they are read.
-ghost use Rattle.std.specs.Prelude.{◌≡◌, ◌≤◌, ◌<◌, ◌-◌, ◌++◌, ◌+◌, [], ℕ, List, length, take, drop, IfOk, OnOk};
+ghost use Rattle.std.specs.Prelude.{◌≡◌, ◌≤◌, ◌<◌, ◌-◌, ◌+◌, [], ℕ, List, length, take, drop, IfOk, OnOk};
 ghost use Rattle.mc_flow.specs.Steps.{IsSafeFlow};
 ghost use Rattle.mc_flow.specs.Valid.{IsValid};
 ghost use Rattle.mc_judge.specs.Stages.{Hears, StaysFor};
