@@ -30,18 +30,20 @@ why_of_verdict once holds c unit short Safe straight told =
     ((short, straight), λ document h. (short, straight, (told document h).0.safe.0 refl))
 why_of_verdict once holds c unit short (Alarms count) straight told =
     ((short, straight), λ document h. (short, straight, ((told document h).0.alarms count).0 refl))
-why_of_verdict once holds c unit short (Refused mistake) straight told =
-    ((short, straight), λ document h.
+why_of_verdict once holds c unit short (Refused mistake) straight told = (
+  (short, straight),
+  λ document h.
       let t = told document h in
       record {
         no_certificate = λ yes.
-          let same = once unit yes.0 short yes.1 straight in
-          let e = t.0.safe.1 (subst (λ (s : StraightForm). IsCertificate (flow_of s) [] document) same yes.2) in
-          cc;
+            let same = once unit yes.0 short yes.1 straight in
+            let e = t.0.safe.1 (subst (λ (s : StraightForm). IsCertificate (flow_of s) [] document) same yes.2) in
+            cc;
         no_alarms = λ count yes.
-          let same = once unit yes.0 short yes.1 straight in
-          let chain = subst (λ (s : StraightForm). IsChain (flow_of s) [] document yes.2.0) same yes.2.1 in
-          let e = (t.0.alarms count).1 (yes.2.0, chain, yes.2.2.0, yes.2.2.1) in
-          cc;
+            let same = once unit yes.0 short yes.1 straight in
+            let chain = subst (λ (s : StraightForm). IsChain (flow_of s) [] document yes.2.0) same yes.2.1 in
+            let e = (t.0.alarms count).1 (yes.2.0, chain, yes.2.2.0, yes.2.2.1) in
+            cc;
         cause = (short, straight, t.1);
-      })
+      },
+)

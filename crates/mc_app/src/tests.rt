@@ -177,8 +177,14 @@ static DOCUMENTS: [(&str, &str); 20] = [
         "[\"memcad\",1,\"chain\"]\n[\"S1\"]\n[\"S2\"]\n[\"S17\"]\n[\"end\"]\n",
         "refused: line 2, S1, premise 1",
     ),
-    ("[\"memcad\",1,\"chain\"]\n[\"end\"]\n", "refused: line 2, end, premise 1"),
-    ("[\"S1\"]\n[\"S2\"]\n[\"S17\"]\n[\"end\"]\n", "refused: line 1, S1, premise 1"),
+    (
+        "[\"memcad\",1,\"chain\"]\n[\"end\"]\n",
+        "refused: line 2, end, premise 1",
+    ),
+    (
+        "[\"S1\"]\n[\"S2\"]\n[\"S17\"]\n[\"end\"]\n",
+        "refused: line 1, S1, premise 1",
+    ),
     (
         "[\"memcad\",1,\"certificate\"]\n[\"memcad\",1,\"certificate\"]\n[\"S1\"]\n[\"S2\"]\n[\"S17\"]\n[\"end\"]\n",
         "refused: line 2, memcad, premise 1",
@@ -350,7 +356,10 @@ fn documents_come_in_pieces(rt: HostRuntime) -> Result<(), Fail> {
         document.push_str(DOCUMENT)?;
         let program = padded(alloc, PROGRAM, 0)?;
         let files = files(alloc, program, Vec::new(alloc), &document, 0)?;
-        assert!(rt; ends(alloc, "check p d c", files, 0, "safe")?, "{len} blanks");
+        assert!(rt;
+            ends(alloc, "check p d c", files, 0, "safe")?,
+            "{len} blanks"
+        );
     }
     Ok(())
 }

@@ -56,7 +56,11 @@ static BODIES: [(&str, &str, &str); 44] = [
         "refused: line 7, S11, premise 4",
     ),
     ("free(NULL); return 0;", "S1 S11 S2 S17", "safe"),
-    ("free(NULL); return 0;", "S1 S12 S2 S17", "refused: line 3, S12, premise 4"),
+    (
+        "free(NULL); return 0;",
+        "S1 S12 S2 S17",
+        "refused: line 3, S12, premise 4",
+    ),
     (
         "free(NULL); /* nothing */ return 0;",
         "S1 S11 S2 S17",
@@ -100,7 +104,11 @@ static BODIES: [(&str, &str, &str); 44] = [
         "refused: line 12, S8, premise 5",
     ),
     ("struct node *p; return 0;", "S1 S3 S2 S17", "safe"),
-    ("struct node *p; return 0;", "S1 S2 S17", "refused: line 3, S2, premise 1"),
+    (
+        "struct node *p; return 0;",
+        "S1 S2 S17",
+        "refused: line 3, S2, premise 1",
+    ),
     (
         "struct node *p; free(p); return 0;",
         "S1 S3 S11 S2 S17",
@@ -161,7 +169,11 @@ static BODIES: [(&str, &str, &str); 44] = [
     ),
     // A document is no certificate where its state is not false, or a branch is left out.
     ("return 0;", "S1 L12", "refused: line 3, L12, premise 2"),
-    ("return 0;", "S1 S2 S17 S17", "refused: line 5, S17, premise 1"),
+    (
+        "return 0;",
+        "S1 S2 S17 S17",
+        "refused: line 5, S17, premise 1",
+    ),
     // No programs, and no straight ones.
     (
         "struct node *p; struct node *p; return 0;",
