@@ -16,8 +16,9 @@ use crate::documents::{Change, first_wrong};
 use crate::flows::Code::{Assume, Copy, End, Input, Skip, TestEq, Undef};
 use crate::flows::{Program, Shape};
 use mc_base::Kind::{Int, Ptr};
-use mc_base::VarId;
+use mc_base::{NoMemory, VarId};
 use mc_flow::Operand::{Const, Var};
+use std::alloc::Global;
 use std::test::Fail;
 
 const RET: VarId = VarId(0);
@@ -100,7 +101,7 @@ static DOCUMENT: [&str; 46] = [
     r#"["end"]"#,
 ];
 
-static CHANGES: [Change; 52] = [
+static FIRST: [Change; 8] = [
     Change {
         kept: 46,
         dropped: 0,
@@ -149,6 +150,9 @@ static CHANGES: [Change; 52] = [
         put: &[r#"["S"]"#],
         answer: Form(34),
     },
+];
+
+static SECOND: [Change; 9] = [
     Change {
         kept: 1,
         dropped: 20,
@@ -203,6 +207,9 @@ static CHANGES: [Change; 52] = [
         put: &[],
         answer: Premise(16, 1),
     },
+];
+
+static THIRD: [Change; 9] = [
     Change {
         kept: 6,
         dropped: 12,
@@ -257,6 +264,9 @@ static CHANGES: [Change; 52] = [
         put: &[r#"["S5"]"#],
         answer: Premise(3, 1),
     },
+];
+
+static FOURTH: [Change; 8] = [
     Change {
         kept: 2,
         dropped: 10,
@@ -305,6 +315,9 @@ static CHANGES: [Change; 52] = [
         put: &[r#"["S4"]"#],
         answer: Premise(29, 1),
     },
+];
+
+static FIFTH: [Change; 9] = [
     Change {
         kept: 2,
         dropped: 1,
@@ -359,6 +372,9 @@ static CHANGES: [Change; 52] = [
         put: &[r#"["L9",0,1]"#],
         answer: Premise(2, 1),
     },
+];
+
+static SIXTH: [Change; 9] = [
     Change {
         kept: 2,
         dropped: 12,
@@ -415,11 +431,42 @@ static CHANGES: [Change; 52] = [
     },
 ];
 
+fn wrong_change(alloc: Global, changes: &[Change]) -> Result<Option<usize>, NoMemory> {
+    first_wrong(alloc, &PROGRAM, &DOCUMENT, changes)
+}
+
 #[test]
-fn assumed_lists_end_a_loop(rt: HostRuntime) -> Result<(), Fail> {
-    assert_eq!(rt;
-        first_wrong(rt.alloc(), &PROGRAM, &DOCUMENT, &CHANGES)?,
-        None
-    );
+fn assumed_lists_end_a_loop_first(rt: HostRuntime) -> Result<(), Fail> {
+    assert_eq!(rt; wrong_change(rt.alloc(), &FIRST)?, None);
+    Ok(())
+}
+
+#[test]
+fn assumed_lists_end_a_loop_second(rt: HostRuntime) -> Result<(), Fail> {
+    assert_eq!(rt; wrong_change(rt.alloc(), &SECOND)?, None);
+    Ok(())
+}
+
+#[test]
+fn assumed_lists_end_a_loop_third(rt: HostRuntime) -> Result<(), Fail> {
+    assert_eq!(rt; wrong_change(rt.alloc(), &THIRD)?, None);
+    Ok(())
+}
+
+#[test]
+fn assumed_lists_end_a_loop_fourth(rt: HostRuntime) -> Result<(), Fail> {
+    assert_eq!(rt; wrong_change(rt.alloc(), &FOURTH)?, None);
+    Ok(())
+}
+
+#[test]
+fn assumed_lists_end_a_loop_fifth(rt: HostRuntime) -> Result<(), Fail> {
+    assert_eq!(rt; wrong_change(rt.alloc(), &FIFTH)?, None);
+    Ok(())
+}
+
+#[test]
+fn assumed_lists_end_a_loop_sixth(rt: HostRuntime) -> Result<(), Fail> {
+    assert_eq!(rt; wrong_change(rt.alloc(), &SIXTH)?, None);
     Ok(())
 }

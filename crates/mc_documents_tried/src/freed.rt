@@ -13,8 +13,9 @@ use crate::documents::{Change, first_wrong};
 use crate::flows::Code::{Copy, End, Free, Malloc, Skip, Store, TestEq};
 use crate::flows::{Program, Shape};
 use mc_base::Kind::{Int, Ptr};
-use mc_base::VarId;
+use mc_base::{NoMemory, VarId};
 use mc_flow::Operand::{Const, Var};
+use std::alloc::Global;
 use std::test::Fail;
 
 const RET: VarId = VarId(0);
@@ -60,7 +61,7 @@ static DOCUMENT: [&str; 15] = [
     r#"["end"]"#,
 ];
 
-static CHANGES: [Change; 27] = [
+static FIRST: [Change; 9] = [
     Change {
         kept: 0,
         dropped: 0,
@@ -119,6 +120,9 @@ static CHANGES: [Change; 27] = [
         put: &[r#"["L11",0]"#],
         answer: Premise(2, 3),
     },
+];
+
+static SECOND: [Change; 9] = [
     Change {
         kept: 1,
         dropped: 1,
@@ -173,6 +177,9 @@ static CHANGES: [Change; 27] = [
         put: &[r#"["cut",0]"#, r#"["head",0,[[null,null],["0"],[],[]]]"#],
         answer: Premise(17, 3),
     },
+];
+
+static THIRD: [Change; 9] = [
     Change {
         kept: 1,
         dropped: 0,
@@ -229,11 +236,24 @@ static CHANGES: [Change; 27] = [
     },
 ];
 
+fn wrong_change(alloc: Global, changes: &[Change]) -> Result<Option<usize>, NoMemory> {
+    first_wrong(alloc, &PROGRAM, &DOCUMENT, changes)
+}
+
 #[test]
-fn blocks_are_freed(rt: HostRuntime) -> Result<(), Fail> {
-    assert_eq!(rt;
-        first_wrong(rt.alloc(), &PROGRAM, &DOCUMENT, &CHANGES)?,
-        None
-    );
+fn blocks_are_freed_first(rt: HostRuntime) -> Result<(), Fail> {
+    assert_eq!(rt; wrong_change(rt.alloc(), &FIRST)?, None);
+    Ok(())
+}
+
+#[test]
+fn blocks_are_freed_second(rt: HostRuntime) -> Result<(), Fail> {
+    assert_eq!(rt; wrong_change(rt.alloc(), &SECOND)?, None);
+    Ok(())
+}
+
+#[test]
+fn blocks_are_freed_third(rt: HostRuntime) -> Result<(), Fail> {
+    assert_eq!(rt; wrong_change(rt.alloc(), &THIRD)?, None);
     Ok(())
 }

@@ -12,8 +12,9 @@ use crate::documents::{Change, first_wrong};
 use crate::flows::Code::{Copy, End, Free, Malloc, Skip};
 use crate::flows::{Program, Shape};
 use mc_base::Kind::{Int, Ptr};
-use mc_base::VarId;
+use mc_base::{NoMemory, VarId};
 use mc_flow::Operand::{Const, Var};
+use std::alloc::Global;
 use std::test::Fail;
 
 const RET: VarId = VarId(0);
@@ -52,7 +53,7 @@ static DOCUMENT: [&str; 11] = [
     r#"["end"]"#,
 ];
 
-static CHANGES: [Change; 28] = [
+static FIRST: [Change; 7] = [
     Change {
         kept: 0,
         dropped: 0,
@@ -95,6 +96,9 @@ static CHANGES: [Change; 28] = [
         put: &[r#"["pass"]"#],
         answer: Premise(11, 3),
     },
+];
+
+static SECOND: [Change; 7] = [
     Change {
         kept: 9,
         dropped: 0,
@@ -137,6 +141,9 @@ static CHANGES: [Change; 28] = [
         put: &[r#"["L8",0,0,"i"]"#, r#"["C1"]"#],
         answer: Premise(11, 1),
     },
+];
+
+static THIRD: [Change; 7] = [
     Change {
         kept: 9,
         dropped: 1,
@@ -179,6 +186,9 @@ static CHANGES: [Change; 28] = [
         put: &[r#"["head",0,[[null,null],["0"],[],[]]]"#],
         answer: Premise(2, 1),
     },
+];
+
+static FOURTH: [Change; 7] = [
     Change {
         kept: 2,
         dropped: 0,
@@ -223,11 +233,30 @@ static CHANGES: [Change; 28] = [
     },
 ];
 
+fn wrong_change(alloc: Global, changes: &[Change]) -> Result<Option<usize>, NoMemory> {
+    first_wrong(alloc, &PROGRAM, &DOCUMENT, changes)
+}
+
 #[test]
-fn blocks_are_not_freed_twice(rt: HostRuntime) -> Result<(), Fail> {
-    assert_eq!(rt;
-        first_wrong(rt.alloc(), &PROGRAM, &DOCUMENT, &CHANGES)?,
-        None
-    );
+fn blocks_are_not_freed_twice_first(rt: HostRuntime) -> Result<(), Fail> {
+    assert_eq!(rt; wrong_change(rt.alloc(), &FIRST)?, None);
+    Ok(())
+}
+
+#[test]
+fn blocks_are_not_freed_twice_second(rt: HostRuntime) -> Result<(), Fail> {
+    assert_eq!(rt; wrong_change(rt.alloc(), &SECOND)?, None);
+    Ok(())
+}
+
+#[test]
+fn blocks_are_not_freed_twice_third(rt: HostRuntime) -> Result<(), Fail> {
+    assert_eq!(rt; wrong_change(rt.alloc(), &THIRD)?, None);
+    Ok(())
+}
+
+#[test]
+fn blocks_are_not_freed_twice_fourth(rt: HostRuntime) -> Result<(), Fail> {
+    assert_eq!(rt; wrong_change(rt.alloc(), &FOURTH)?, None);
     Ok(())
 }

@@ -6,8 +6,9 @@ use crate::documents::{Change, first_wrong};
 use crate::flows::Code::{Copy, End, Input, Skip, TestEq, Undef};
 use crate::flows::{Program, Shape};
 use mc_base::Kind::Int;
-use mc_base::VarId;
+use mc_base::{NoMemory, VarId};
 use mc_flow::Operand::{Const, Var};
+use std::alloc::Global;
 use std::test::Fail;
 
 const RET: VarId = VarId(0);
@@ -53,7 +54,7 @@ static DOCUMENT: [&str; 15] = [
     r#"["end"]"#,
 ];
 
-static CHANGES: [Change; 18] = [
+static FIRST: [Change; 9] = [
     Change {
         kept: 0,
         dropped: 0,
@@ -108,6 +109,9 @@ static CHANGES: [Change; 18] = [
         put: &[r#"["S1"]"#],
         answer: Premise(5, 1),
     },
+];
+
+static SECOND: [Change; 9] = [
     Change {
         kept: 5,
         dropped: 0,
@@ -164,11 +168,18 @@ static CHANGES: [Change; 18] = [
     },
 ];
 
+fn wrong_change(alloc: Global, changes: &[Change]) -> Result<Option<usize>, NoMemory> {
+    first_wrong(alloc, &PROGRAM, &DOCUMENT, changes)
+}
+
 #[test]
-fn loops_come_back(rt: HostRuntime) -> Result<(), Fail> {
-    assert_eq!(rt;
-        first_wrong(rt.alloc(), &PROGRAM, &DOCUMENT, &CHANGES)?,
-        None
-    );
+fn loops_come_back_first(rt: HostRuntime) -> Result<(), Fail> {
+    assert_eq!(rt; wrong_change(rt.alloc(), &FIRST)?, None);
+    Ok(())
+}
+
+#[test]
+fn loops_come_back_second(rt: HostRuntime) -> Result<(), Fail> {
+    assert_eq!(rt; wrong_change(rt.alloc(), &SECOND)?, None);
     Ok(())
 }

@@ -26,8 +26,9 @@ use crate::flows::Code::{
 };
 use crate::flows::{Program, Shape};
 use mc_base::Kind::{Int, Ptr};
-use mc_base::VarId;
+use mc_base::{NoMemory, VarId};
 use mc_flow::Operand::{Const, Var};
+use std::alloc::Global;
 use std::test::Fail;
 
 const RET: VarId = VarId(0);
@@ -102,7 +103,7 @@ static DOCUMENT: [&str; 30] = [
     r#"["end"]"#,
 ];
 
-static CHANGES: [Change; 21] = [
+static FIRST: [Change; 7] = [
     Change {
         kept: 30,
         dropped: 0,
@@ -145,6 +146,9 @@ static CHANGES: [Change; 21] = [
         put: &[r#"["S17"]"#],
         answer: Premise(17, 1),
     },
+];
+
+static SECOND: [Change; 7] = [
     Change {
         kept: 1,
         dropped: 15,
@@ -187,6 +191,9 @@ static CHANGES: [Change; 21] = [
         put: &[r#"["L1",0]"#],
         answer: Premise(19, 4),
     },
+];
+
+static THIRD: [Change; 7] = [
     Change {
         kept: 2,
         dropped: 1,
@@ -231,11 +238,24 @@ static CHANGES: [Change; 21] = [
     },
 ];
 
+fn wrong_change(alloc: Global, changes: &[Change]) -> Result<Option<usize>, NoMemory> {
+    first_wrong(alloc, &PROGRAM, &DOCUMENT, changes)
+}
+
 #[test]
-fn lengths_grow(rt: HostRuntime) -> Result<(), Fail> {
-    assert_eq!(rt;
-        first_wrong(rt.alloc(), &PROGRAM, &DOCUMENT, &CHANGES)?,
-        None
-    );
+fn lengths_grow_first(rt: HostRuntime) -> Result<(), Fail> {
+    assert_eq!(rt; wrong_change(rt.alloc(), &FIRST)?, None);
+    Ok(())
+}
+
+#[test]
+fn lengths_grow_second(rt: HostRuntime) -> Result<(), Fail> {
+    assert_eq!(rt; wrong_change(rt.alloc(), &SECOND)?, None);
+    Ok(())
+}
+
+#[test]
+fn lengths_grow_third(rt: HostRuntime) -> Result<(), Fail> {
+    assert_eq!(rt; wrong_change(rt.alloc(), &THIRD)?, None);
     Ok(())
 }

@@ -26,8 +26,9 @@ use crate::documents::{Change, first_wrong};
 use crate::flows::Code::{Assert, Assume, Copy, End, Load, Skip, Store, TestEq, Undef};
 use crate::flows::{Program, Shape};
 use mc_base::Kind::{Int, Ptr};
-use mc_base::VarId;
+use mc_base::{NoMemory, VarId};
 use mc_flow::Operand::{Const, Var};
+use std::alloc::Global;
 use std::test::Fail;
 
 const RET: VarId = VarId(0);
@@ -154,7 +155,7 @@ static DOCUMENT: [&str; 52] = [
     r#"["end"]"#,
 ];
 
-static CHANGES: [Change; 14] = [
+static FIRST: [Change; 7] = [
     Change {
         kept: 52,
         dropped: 0,
@@ -197,6 +198,9 @@ static CHANGES: [Change; 14] = [
         put: &[r#"["L1",2]"#],
         answer: Premise(29, 2),
     },
+];
+
+static SECOND: [Change; 7] = [
     Change {
         kept: 48,
         dropped: 1,
@@ -244,11 +248,18 @@ static CHANGES: [Change; 14] = [
     },
 ];
 
+fn wrong_change(alloc: Global, changes: &[Change]) -> Result<Option<usize>, NoMemory> {
+    first_wrong(alloc, &PROGRAM, &DOCUMENT, changes)
+}
+
 #[test]
-fn lists_are_joined(rt: HostRuntime) -> Result<(), Fail> {
-    assert_eq!(rt;
-        first_wrong(rt.alloc(), &PROGRAM, &DOCUMENT, &CHANGES)?,
-        None
-    );
+fn lists_are_joined_first(rt: HostRuntime) -> Result<(), Fail> {
+    assert_eq!(rt; wrong_change(rt.alloc(), &FIRST)?, None);
+    Ok(())
+}
+
+#[test]
+fn lists_are_joined_second(rt: HostRuntime) -> Result<(), Fail> {
+    assert_eq!(rt; wrong_change(rt.alloc(), &SECOND)?, None);
     Ok(())
 }

@@ -17,8 +17,9 @@ use crate::documents::{Change, first_wrong};
 use crate::flows::Code::{Assert, Assume, Copy, End, Malloc, Skip, Store, TestEq, Undef};
 use crate::flows::{Program, Shape};
 use mc_base::Kind::{Int, Ptr};
-use mc_base::VarId;
+use mc_base::{NoMemory, VarId};
 use mc_flow::Operand::{Const, Var};
+use std::alloc::Global;
 use std::test::Fail;
 
 const RET: VarId = VarId(0);
@@ -72,7 +73,7 @@ static DOCUMENT: [&str; 17] = [
     r#"["L3",0,1,[2,1,1],1,[0,0]]"#,
 ];
 
-static CHANGES: [Change; 12] = [
+static FIRST: [Change; 6] = [
     Change {
         kept: 0,
         dropped: 0,
@@ -109,6 +110,9 @@ static CHANGES: [Change; 12] = [
         put: &[r#"["L14",1]"#],
         answer: Premise(17, 3),
     },
+];
+
+static SECOND: [Change; 6] = [
     Change {
         kept: 16,
         dropped: 1,
@@ -147,11 +151,18 @@ static CHANGES: [Change; 12] = [
     },
 ];
 
+fn wrong_change(alloc: Global, changes: &[Change]) -> Result<Option<usize>, NoMemory> {
+    first_wrong(alloc, &PROGRAM, &DOCUMENT, changes)
+}
+
 #[test]
-fn shared_trees_are_none(rt: HostRuntime) -> Result<(), Fail> {
-    assert_eq!(rt;
-        first_wrong(rt.alloc(), &PROGRAM, &DOCUMENT, &CHANGES)?,
-        None
-    );
+fn shared_trees_are_none_first(rt: HostRuntime) -> Result<(), Fail> {
+    assert_eq!(rt; wrong_change(rt.alloc(), &FIRST)?, None);
+    Ok(())
+}
+
+#[test]
+fn shared_trees_are_none_second(rt: HostRuntime) -> Result<(), Fail> {
+    assert_eq!(rt; wrong_change(rt.alloc(), &SECOND)?, None);
     Ok(())
 }

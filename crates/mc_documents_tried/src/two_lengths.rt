@@ -13,8 +13,9 @@ use crate::documents::{Change, first_wrong};
 use crate::flows::Code::{Assume, Copy, End, Input, Skip, Undef};
 use crate::flows::{Program, Shape};
 use mc_base::Kind::{Int, Ptr};
-use mc_base::VarId;
+use mc_base::{NoMemory, VarId};
 use mc_flow::Operand::{Const, Var};
+use std::alloc::Global;
 use std::test::Fail;
 
 const RET: VarId = VarId(0);
@@ -118,11 +119,12 @@ static CHANGES: [Change; 9] = [
     },
 ];
 
+fn wrong_change(alloc: Global, changes: &[Change]) -> Result<Option<usize>, NoMemory> {
+    first_wrong(alloc, &PROGRAM, &DOCUMENT, changes)
+}
+
 #[test]
 fn lengths_have_to_agree(rt: HostRuntime) -> Result<(), Fail> {
-    assert_eq!(rt;
-        first_wrong(rt.alloc(), &PROGRAM, &DOCUMENT, &CHANGES)?,
-        None
-    );
+    assert_eq!(rt; wrong_change(rt.alloc(), &CHANGES)?, None);
     Ok(())
 }
