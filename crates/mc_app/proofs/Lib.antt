@@ -1,4 +1,5 @@
 pub mod Causes
 pub mod Printing
 pub mod Safe
+pub mod Verdicts
 pub mod Whys

@@ -5,7 +5,7 @@ use Rattle.std.specs.declared.alloc.Global.{Global}
 use Rattle.mc_ast.specs.Trees.{UnitTree}
 use Rattle.mc_outside.specs.Outside.{WhereTold, Stays}
 use Rattle.mc_app.specs.declared.answer.Answer.{Answer}
-use Rattle.mc_app.specs.declared.answer.Answer.TheVariants.{Good, Words, Program, Definitions, Document}
+use Rattle.mc_app.specs.declared.answer.Answer.TheVariants.{Good, Alarms, Words, Program, Definitions, Document}
 use Rattle.mc_app.specs.declared.answer.ProgramFault.TheVariants.{Unread, Misfit, NotYet}
 use Rattle.mc_read.specs.declared.cause.Refusal.{Refusal}
 use Rattle.mc_read.specs.declared.cause.ReadFault.{ReadFault}
@@ -26,7 +26,8 @@ pub why_of_defs : (holds : Holds) (d c : List ℕ) (unit : UnitTree) (defs : Lis
 why_of_defs holds d c unit defs Words read why = why
 why_of_defs holds d c unit defs (Definitions fault) read why = absurd why
 why_of_defs holds d c unit defs (Program fault) read why = (defs, read, why)
-why_of_defs holds d c unit defs Document read why = (defs, read, why)
+why_of_defs holds d c unit defs (Document mistake) read why = (defs, read, why)
+why_of_defs holds d c unit defs (Alarms count) read why = (defs, read, why)
 why_of_defs holds d c unit defs Good read why = (defs, read, why)
 
 -- from the program as it was read
@@ -36,7 +37,8 @@ why_of_unit holds p d c unit (Program (Unread cause)) read why = absurd why.2
 why_of_unit holds p d c unit (Program (Misfit refusal)) read why = (unit, read, why)
 why_of_unit holds p d c unit (Program NotYet) read why = (unit, read, why)
 why_of_unit holds p d c unit (Definitions fault) read why = (unit, read, why)
-why_of_unit holds p d c unit Document read why = (unit, read, why)
+why_of_unit holds p d c unit (Document mistake) read why = (unit, read, why)
+why_of_unit holds p d c unit (Alarms count) read why = (unit, read, why)
 why_of_unit holds p d c unit Good read why = (unit, read, why)
 
 -- from what is answered where the shape commands fit
@@ -46,7 +48,8 @@ why_of_fitting holds c unit defs (Definitions fault) fits why = why
 why_of_fitting holds c unit defs (Program (Unread cause)) fits why = why
 why_of_fitting holds c unit defs (Program (Misfit refusal)) fits why = absurd why
 why_of_fitting holds c unit defs (Program NotYet) fits why = (fits, why)
-why_of_fitting holds c unit defs Document fits why = (fits, why)
+why_of_fitting holds c unit defs (Document mistake) fits why = (fits, why)
+why_of_fitting holds c unit defs (Alarms count) fits why = (fits, why)
 why_of_fitting holds c unit defs Good fits why = (fits, why)
 
 -- what files hold has stayed
@@ -56,7 +59,8 @@ stay_bound old new c unit defs (Definitions fault) stays why = why
 stay_bound old new c unit defs (Program (Unread cause)) stays why = why
 stay_bound old new c unit defs (Program (Misfit refusal)) stays why = why
 stay_bound old new c unit defs (Program NotYet) stays why = why
-stay_bound old new c unit defs Document stays why = (why.0, (why.1.0, λ document k. why.1.1 document (stays c ∙ k)))
+stay_bound old new c unit defs (Document mistake) stays why = (why.0, (why.1.0, λ document k. why.1.1 document (stays c ∙ k)))
+stay_bound old new c unit defs (Alarms count) stays why = (why.0, (why.1.0, λ document k. why.1.1 document (stays c ∙ k)))
 stay_bound old new c unit defs Good stays why = (why.0, (why.1.0, λ document k. why.1.1 document (stays c ∙ k)))
 
 stay_defined : (old new : Holds) (d c : List ℕ) (unit : UnitTree) (a : Answer) → Stays old new → IsWhyDefined new d c unit a → IsWhyDefined old d c unit a
@@ -66,7 +70,8 @@ pub stay_unit : (old new : Holds) (d c : List ℕ) (unit : UnitTree) (a : Answer
 stay_unit old new d c unit Words stays why = why
 stay_unit old new d c unit (Definitions fault) stays why = λ text h. why text (stays d ∙ h)
 stay_unit old new d c unit (Program fault) stays why = stay_defined old new d c unit (Program fault) stays why
-stay_unit old new d c unit Document stays why = stay_defined old new d c unit Document stays why
+stay_unit old new d c unit (Document mistake) stays why = stay_defined old new d c unit (Document mistake) stays why
+stay_unit old new d c unit (Alarms count) stays why = stay_defined old new d c unit (Alarms count) stays why
 stay_unit old new d c unit Good stays why = stay_defined old new d c unit Good stays why
 
 pub four : (ws : List (String Global)) (a b c d : String Global) → length ws ≡ 4 → a ≡ get_or ws 0 a → b ≡ get_or ws 1 b → c ≡ get_or ws 2 c → d ≡ get_or ws 3 d → ws ≡ a ∷ b ∷ c ∷ d ∷ []

@@ -13,11 +13,15 @@ use Rattle.mc_straight.specs.declared.tree.Program.{Program as StraightForm}
 use Rattle.mc_straight.specs.Straight.{IsStraight}
 use Rattle.mc_straight.specs.Runs.{IsEntry}
 use Rattle.mc_straight.specs.Lowering.{flow_of}
-use Rattle.mc_check.specs.Document.{IsValidDocument}
+use Rattle.mc_judge.specs.declared.verdict.Refusal.{Refusal as Mistake}
+use Rattle.mc_judge.specs.declared.verdict.Verdict.TheVariants as verdict
+use Rattle.mc_judge.specs.Verdicts.{IsCertificate, IsChain}
+use Rattle.mc_kernel.specs.Branches.{Path}
 use Rattle.mc_read.specs.declared.cause.Refusal.{Refusal}
 use Rattle.mc_read.specs.Causes.{typing_refusal}
 use Rattle.mc_read.specs.Programs.{IsProgramOf}
 use Rattle.mc_read.specs.Refusals.{IsRefused}
+use Rattle.mc_app.specs.Documents.{IsRightVerdict}
 use Rattle.mc_app.specs.declared.answer.NoProgram.{NoProgram}
 use Rattle.mc_app.specs.declared.answer.NoProgram.TheVariants.{TooBig, Refused}
 use Rattle.mc_app.specs.declared.answer.NoDefinitions.{NoDefinitions}
@@ -67,7 +71,25 @@ IsNotStraight unit = (straight : StraightForm) → IsStraight unit straight → 
 
 -- it is straight, and the document is a valid certificate of its flow graph
 abbrev pub IsCertified : List ℕ → UnitTree → Type 0
-IsCertified document unit = (straight : StraightForm) × IsStraight unit straight × IsValidDocument (flow_of straight) document
+IsCertified document unit =
+    (straight : StraightForm) × IsStraight unit straight × IsCertificate (flow_of straight) [] document
+
+-- it is straight, and the document is a chain of one pass for its flow graph with so many stuck branches, which are some
+abbrev pub HasAlarms : ℕ → List ℕ → UnitTree → Type 0
+HasAlarms count document unit =
+    (straight : StraightForm) × IsStraight unit straight
+    × ((stuck : List Path) × IsChain (flow_of straight) [] document stuck × (count ≡ length stuck) × (0 < count))
+
+-- it is straight, and for this cause the document is refused by whatever judges rightly
+abbrev pub HasMistake : Mistake → List ℕ → UnitTree → Type 0
+HasMistake mistake document unit =
+    (straight : StraightForm) × IsStraight unit straight × IsRightVerdict (flow_of straight) [] document (verdict.Refused mistake)
+
+-- the document is neither a certificate nor a chain with alarms, and this is the cause
+pub record IsMistaken (mistake : Mistake) (document : List ℕ) (unit : UnitTree) : Type 0 where
+  pub no_certificate : IsCertified document unit → ⊥
+  pub no_alarms : (count : ℕ) → HasAlarms count document unit → ⊥
+  pub cause : HasMistake mistake document unit
 
 -- no run of the program from its entry has a fault; where it is straight, it has no shape commands
 abbrev pub IsSafeUnit : UnitTree → Type 0

@@ -123,69 +123,75 @@ static DOCUMENTS: [(&str, &str); 20] = [
         "safe",
     ),
     // Without the end line.
-    ("", "refused"),
-    ("\n", "refused"),
-    ("[\"memcad\",1,\"certificate\"]\n", "refused"),
+    ("", "refused: ends early"),
+    ("\n", "refused: line 1, NotJson"),
+    ("[\"memcad\",1,\"certificate\"]\n", "refused: ends early"),
     (
         "[\"memcad\",1,\"certificate\"]\n[\"S1\"]\n[\"S2\"]\n[\"S17\"]\n",
-        "refused",
+        "refused: ends early",
     ),
     // With more behind it, or an open branch.
     (
         "[\"memcad\",1,\"certificate\"]\n[\"S1\"]\n[\"S2\"]\n[\"S17\"]\n[\"end\"]\n[\"end\"]\n",
-        "refused",
+        "refused: line 6, after the end",
     ),
     (
         "[\"memcad\",1,\"certificate\"]\n[\"S1\"]\n[\"S2\"]\n[\"S17\"]\n[\"end\"]\n[\"S1\"]",
-        "refused",
+        "refused: line 6, after the end",
     ),
     (
         "[\"memcad\",1,\"certificate\"]\n[\"S1\"]\n[\"S2\"]\n[\"S17\"]\n[\"end\"]\n\n",
-        "refused",
+        "refused: line 6, after the end",
     ),
     (
         "[\"memcad\",1,\"certificate\"]\n[\"S1\"]\n[\"S2\"]\n[\"end\"]\n",
-        "refused",
+        "refused: line 4, end, premise 3",
     ),
     // Lines that are none, or stand at the wrong place.
     (
         "[\"memcad\",1,\"certificate\"]\n[\"S1\"\n[\"S2\"]\n[\"S17\"]\n[\"end\"]\n",
-        "refused",
+        "refused: line 2, NotJson",
     ),
     (
         "[\"memcad\",1,\"certificate\"]\n[\"S1\",7]\n[\"S2\"]\n[\"S17\"]\n[\"end\"]\n",
-        "refused",
+        "refused: line 2, Form",
     ),
     (
         "[\"memcad\",1,\"certificate\"]\n[\"S1\"][\"S2\"]\n[\"S17\"]\n[\"end\"]\n",
-        "refused",
+        "refused: line 2, NotJson",
     ),
     (
         "[\"memcad\",1,\"certificate\"]\n[\"S2\"]\n[\"S1\"]\n[\"S17\"]\n[\"end\"]\n",
-        "refused",
+        "refused: line 2, S2, premise 1",
     ),
     (
         "[\"memcad\",1,\"certificate\"]\n\n[\"S1\"]\n[\"S2\"]\n[\"S17\"]\n[\"end\"]\n",
-        "refused",
+        "refused: line 2, NotJson",
     ),
     // Headers.
     (
         "[\"memcad\",9,\"certificate\"]\n[\"S1\"]\n[\"S2\"]\n[\"S17\"]\n[\"end\"]\n",
-        "refused",
+        "refused: line 1, Version",
     ),
     (
         "[\"memcad\",1,\"chain\"]\n[\"S1\"]\n[\"S2\"]\n[\"S17\"]\n[\"end\"]\n",
-        "refused",
+        "refused: line 2, S1, premise 1",
     ),
-    ("[\"memcad\",1,\"chain\"]\n[\"end\"]\n", "refused"),
-    ("[\"S1\"]\n[\"S2\"]\n[\"S17\"]\n[\"end\"]\n", "refused"),
+    (
+        "[\"memcad\",1,\"chain\"]\n[\"end\"]\n",
+        "refused: line 2, end, premise 1",
+    ),
+    (
+        "[\"S1\"]\n[\"S2\"]\n[\"S17\"]\n[\"end\"]\n",
+        "refused: line 1, S1, premise 1",
+    ),
     (
         "[\"memcad\",1,\"certificate\"]\n[\"memcad\",1,\"certificate\"]\n[\"S1\"]\n[\"S2\"]\n[\"S17\"]\n[\"end\"]\n",
-        "refused",
+        "refused: line 2, memcad, premise 1",
     ),
     (
         "\n[\"memcad\",1,\"certificate\"]\n[\"S1\"]\n[\"S2\"]\n[\"S17\"]\n[\"end\"]\n",
-        "refused",
+        "refused: line 1, NotJson",
     ),
 ];
 
@@ -211,7 +217,7 @@ static WORDS: [(&str, &str); 20] = [
     ("check d x c", "program: NoEntry at 1:1"),
     ("check d x x", "program: NoEntry at 1:1"),
     ("check p p x", "definitions: Syntax at 1:1"),
-    ("check p d p", "refused"),
+    ("check p d p", "refused: line 1, NotJson"),
 ];
 
 // Lengths of the program, calls on the files that fail, and what comes of it.
@@ -244,6 +250,9 @@ static LENGTHS: [(&str, usize, usize, &str); 6] = [
 
 // The number of the status with which a call ends that printed this.
 fn code(printed: &str) -> u8 {
+    if let [b'r', b'e', b'f', ..] = printed.as_bytes() {
+        return 6;
+    }
     match printed {
         "safe" => 0,
         "words: refused" => 2,
@@ -252,7 +261,7 @@ fn code(printed: &str) -> u8 {
         | "definitions: UnknownName at 1:69"
         | "definitions: Unguarded at 1:24"
         | "definitions: Undetermined at 1:24" => 4,
-        "refused" => 6,
+        "alarms: 1" => 1,
         "" => 7,
         _ => 3,
     }
@@ -330,6 +339,26 @@ fn documents_are_judged(rt: HostRuntime) -> Result<(), Fail> {
         assert!(rt;
             ends(alloc, "check p d c", files, 0, printed)?,
             "{printed}: {document}"
+        );
+    }
+    Ok(())
+}
+
+// Documents longer than a piece: blanks stand before their first line.
+#[test]
+fn documents_come_in_pieces(rt: HostRuntime) -> Result<(), Fail> {
+    let alloc = rt.alloc();
+    for len in [65_535, 65_536, 65_537, 131_072, 200_000] {
+        let mut document = String::from_str(alloc, "")?;
+        while document.len() < len {
+            document.push_str(" ")?;
+        }
+        document.push_str(DOCUMENT)?;
+        let program = padded(alloc, PROGRAM, 0)?;
+        let files = files(alloc, program, Vec::new(alloc), &document, 0)?;
+        assert!(rt;
+            ends(alloc, "check p d c", files, 0, "safe")?,
+            "{len} blanks"
         );
     }
     Ok(())

@@ -2,22 +2,23 @@
 ghost use Rattle.std.specs.Prelude.{◌≡◌, ◌↔◌, ◌≤◌, ◌^◌, [], IfOk, IsTrue, MatchResult, length};
 ghost use Rattle.mc_ast.specs.Views.{unit_of};
 ghost use Rattle.mc_outside.specs.Outside.{HasCause, Stays, WhereTold};
-ghost use Rattle.mc_check.specs.Document.{IsValidDocument};
 ghost use Rattle.mc_flow.specs.Steps.{IsSafeFlow};
 ghost use Rattle.mc_straight.specs.Typing.{IsTyped};
 ghost use Rattle.mc_straight.specs.Lowering.{flow_of};
 ghost use Rattle.mc_types.specs.Tables.{struct_infos};
 ghost use Rattle.mc_defs.specs.Conditions.{DefsFit};
+ghost use Rattle.mc_app.specs.Documents.{IsVerdictOn};
 ghost use Rattle.mc_app.specs.Programs.{AreDefinitions, IsProgramHere, IsSafe, IsSafeUnit, IsUndefined, IsUnread, IsWellFormed};
 ghost use Rattle.mc_app.specs.Answers.{IsWhy, IsWhyBound, IsWhyFitting, IsWhyUnit};
 
-use crate::contents::{text, whole};
+use crate::contents::text;
+use crate::documents::verdict_in;
 use crate::words::Command;
 use crate::{Answer, NoDefinitions, NoProgram, ProgramFault};
 use mc_ast::Unit;
 use mc_defread::{DefFault, read_defs};
 use mc_defs::Defs;
-use mc_kernel::certified_is_safe;
+use mc_judge::Verdict;
 use mc_outside::{FileFault, Files};
 use mc_read::{ReadFault, Refusal, programs_have_distinct_places};
 use mc_straight::{Program, lower, straight, trees_are_read_once, trees_run_alike};
@@ -101,34 +102,24 @@ fn definitions_in<F: Files>(
     }
 }
 
-// Whether a document is valid for the flow graph of a straight program, which is safe then. It has no shape commands, so
-// its definitions play no part.
-fn is_certificate(alloc: Global, short: &Program, document: &[u8]) -> Result<bool, AllocError>
-    requires { IsTyped short.now }
-    ensures valid { IfOk result (λ b. IsTrue b ↔ IsValidDocument (flow_of short.now) document.now) }
-    ensures safe { IfOk result (λ b. IsTrue b → IsSafeFlow (flow_of short.now) []) }
-{
-    certified_is_safe();
-    let flow = lower(alloc, short)?;
-    let yes = mc_check::check(alloc, &flow, &Defs::new(alloc), document)?;
-    Ok(yes)
-}
-
-fn is_certificate_in<F: Files>(
+// The verdict on a document for the flow graph of a straight program. It has no shape commands, so its definitions play no
+// part.
+fn verdict_on<F: Files>(
     alloc: Global,
     files: &mut F,
-    name: &str,
+    document: &str,
     short: &Program,
-) -> Result<bool, FileFault>
+) -> Result<Verdict, FileFault>
     requires { IsTyped short.now }
-    ensures told { WhereTold (F.holds files.old name.now) (λ document. IfOk result (λ b. IsTrue b ↔ IsValidDocument (flow_of short.now) document)) }
-    ensures safe { IfOk result (λ b. IsTrue b → IsSafeFlow (flow_of short.now) []) }
+    ensures verdict { WhereTold (F.holds files.old document.now) (λ text. IfOk result (IsVerdictOn (flow_of short.now) [] text)) }
+    ensures safe { IfOk result (λ v. v ≡ Verdict.Safe → IsSafeFlow (flow_of short.now) []) }
     ensures same { Stays (F.holds files.old) (F.holds files.new) }
     ensures cause { HasCause (F.faults files.old) (F.faults files.new) result }
 {
-    let document = whole(alloc, files, name)?;
-    let yes = is_certificate(alloc, short, &document)?;
-    Ok(yes)
+    let flow = lower(alloc, short)?;
+    let defs = Defs::new(alloc);
+    let verdict = verdict_in(alloc, files, document, &flow, &defs)?;
+    Ok(verdict)
 }
 
 // Checks a certificate of a program whose shape commands fit.
@@ -149,11 +140,8 @@ fn check_fitting<F: Files>(
     let Some(short) = straight(alloc, unit)? else {
         return Ok(Answer::Program(ProgramFault::NotYet));
     };
-    if is_certificate_in(alloc, files, document, &short)? {
-        Ok(Answer::Good)
-    } else {
-        Ok(Answer::Document)
-    }
+    let verdict = verdict_on(alloc, files, document, &short)?;
+    Ok(Answer::of_verdict(verdict))
 }
 
 // Checks a certificate of a program with definitions.

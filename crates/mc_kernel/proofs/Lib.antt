@@ -3,7 +3,6 @@ pub mod Claims
 pub mod EdgesOnce
 pub mod ExampleFlows
 pub mod FailingExample
-pub mod Freeing
 pub mod Goals
 pub mod Induction
 pub mod Jumping
@@ -12,19 +11,8 @@ pub mod Lines
 pub mod ListExample
 pub mod Lists
 pub mod LoopExample
-pub mod Moves
-pub mod Once
 pub mod Plain
 pub mod Soundness
-pub mod StraightBlocks
-pub mod StraightFacts
-pub mod StraightLists
-pub mod StraightMarks
-pub mod StraightPlaces
-pub mod StraightReads
-pub mod StraightSound
-pub mod StraightStates
-pub mod StraightSteps
 pub mod Visits
 pub mod JumpsJudged
 pub mod LinesJudged

@@ -1,11 +1,7 @@
-pub mod Rules
-pub mod Next
-pub mod Applied
 pub mod Branches
 pub mod Jumps
 pub mod Instances
 pub mod Certificates
-pub mod Straight
 pub mod JumpLaws
 pub mod Examples
 pub mod WrongJumps

@@ -12,14 +12,11 @@ pub mod Images
 pub mod Lists
 pub mod Merging
 pub mod Nodes
-pub mod Nulls
 pub mod OneCell
 pub mod Parts
-pub mod Places
 pub mod Renaming
 pub mod Standing
 pub mod Stars
 pub mod Truth
 pub mod Variables
 pub mod Worked
-pub mod Wrong

@@ -6,12 +6,9 @@ pub mod Examples
 pub mod Facts
 pub mod Fits
 pub mod Guess
-pub mod Kept
 pub mod Laws
-pub mod Nulls
 pub mod RawStates
 pub mod Rules
 pub mod Stands
 pub mod State
-pub mod Straight
 pub mod Terms

@@ -3,14 +3,11 @@
 
 mod covers;
 mod examples;
-mod facts;
 mod goal;
 mod laws;
 mod line;
 mod raw_state;
 mod rule;
-mod state;
-mod straight_line;
 mod terms;
 
 pub use covers::{
@@ -27,6 +24,4 @@ pub use line::{Form, JoinStep, Side, Version};
 pub use mc_graph::Edge;
 pub use raw_state::{NodeKind, RawState};
 pub use rule::LogicFault;
-pub use state::State;
-pub use straight_line::StraightLine;
 pub use terms::Term;

@@ -1,0 +1,26 @@
+-- What a document is for a flow graph, and what a judge has heard of it.
+use Rattle.std.specs.Prelude.{ℕ, Bool, List}
+use Rattle.mc_cert.specs.Lines.{lines_of}
+use Rattle.mc_defs.specs.declared.rules.Def.{Def}
+use Rattle.mc_flow.specs.declared.graph.Flow.{Flow}
+use Rattle.mc_judge.specs.declared.judge.Judge.{Judge}
+use Rattle.mc_judge.specs.declared.verdict.Verdict.{Verdict}
+use Rattle.mc_judge.specs.Stages.{HasHeard}
+use Rattle.mc_judge.specs.Verdicts.{IsVerdict, Tells}
+use Rattle.mc_kernel.specs.Judges.{Knowledge}
+use Rattle.mc_reading.specs.Documents.{IsJudge}
+use Rattle.mc_state.specs.declared.raw_state.RawState.{RawState}
+
+-- by whatever judges rightly, this is the verdict on the document
+abbrev pub IsRightVerdict : Flow → List Def → List ℕ → Verdict → Type 0
+IsRightVerdict flow defs document verdict =
+    (k : Knowledge) (well : RawState → Bool) → IsJudge k well flow defs → IsVerdict k well flow defs (lines_of document) verdict
+
+-- this is the verdict on the document, also without a judge
+abbrev pub IsVerdictOn : Flow → List Def → List ℕ → Verdict → Type 0
+IsVerdictOn flow defs document verdict = Tells flow defs document verdict × IsRightVerdict flow defs document verdict
+
+-- the judge has heard the text, by whatever judges rightly
+abbrev pub IsHeard : List ℕ → Judge → Type 0
+IsHeard text judge =
+    (k : Knowledge) (well : RawState → Bool) → IsJudge k well judge.flow.now judge.defs.now → HasHeard k well text judge

@@ -1,6 +1,0 @@
-//! Judges certificates.
-#![tactic(auto)]
-
-mod judge;
-
-pub use judge::check;
