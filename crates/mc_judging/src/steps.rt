@@ -9,7 +9,7 @@ ghost use Rattle.mc_kernel.specs.Judges.{Knowledge, by_step};
 ghost use Rattle.mc_state.specs.Fits.{IsWellMade};
 ghost use Rattle.mc_premises.specs.Premises.{Judged, then_give};
 ghost use Rattle.mc_state.specs.State.{State as Symbolic};
-ghost use Rattle.mc_step.specs.declared.next.Next.{Next as Step};
+ghost use Rattle.mc_step.specs.Next.{Next as Step};
 ghost use Rattle.mc_stepping.specs.Stepped.{Steps, seen, successors};
 
 use crate::places::may_step;

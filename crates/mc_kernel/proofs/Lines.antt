@@ -23,7 +23,7 @@ use Rattle.mc_state.specs.Rules.{IsSound}
 use Rattle.mc_unfold.specs.Unfolded.{UnfoldsInd, UnfoldsSeg, unfolded, unfolded_at, own_places}
 use Rattle.mc_back.specs.Unfolded.{UnfoldsBack, unfolded_back}
 use Rattle.mc_fold.specs.Folded.{folded}
-use Rattle.mc_step.specs.declared.next.Next.{Next}
+use Rattle.mc_step.specs.Next.{Next}
 use Rattle.mc_step.specs.Steps.{S1Is, S2Is, S3Is, S4Is, S5Is, S6Is, S7Is, S8Is, S9Is, S10Is, S11Is, S12Is, S13Is, S14Is, S15Is, S16Is, S17Is, S18Is}
 use Rattle.mc_step.specs.Laws as step
 use Rattle.mc_step.specs.Laws.{IsAt}

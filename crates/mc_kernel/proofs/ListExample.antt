@@ -12,7 +12,7 @@ use Rattle.mc_state.specs.declared.goal.Goal.{Goal}
 use Rattle.mc_state.specs.declared.line.Form.TheVariants.{Certificate}
 use Rattle.mc_state.specs.Facts.{IsFalse}
 use Rattle.mc_state.specs.State.{State, unknown}
-use Rattle.mc_step.specs.declared.next.Next.{Next}
+use Rattle.mc_step.specs.Next.{Next}
 use Rattle.mc_step.specs.Steps.{moved_to}
 use Rattle.mc_kernel.specs.Branches.{Path, Setting, MayStep, path_of, roots, AreCuts}
 use Rattle.mc_kernel.specs.Certificates.{IsValidCertificate}

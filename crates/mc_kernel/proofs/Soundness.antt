@@ -17,7 +17,7 @@ use Rattle.mc_state.specs.State.{State}
 use Rattle.mc_state.specs.Fits.{IsBounded}
 use Rattle.mc_state.specs.Rules.{IsSound, GoalHolds, GoalIsThere}
 use Rattle.mc_fold.specs.Changed.{MergesNodes}
-use Rattle.mc_step.specs.declared.next.Next.{Next}
+use Rattle.mc_step.specs.Next.{Next}
 use Rattle.mc_step.specs.Laws.{IsStep, IsAt, LeadsOn, SidesHold}
 use Rattle.mc_kernel.specs.Branches.{Path, Setting, IsPlain, path_to, path_of, merged_goal, states_at}
 use Rattle.mc_kernel.proofs.Lists.{all_at, all_of_map, all_map, all_both}

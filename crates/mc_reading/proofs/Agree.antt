@@ -21,7 +21,7 @@ use Rattle.mc_fold.specs.Judges.{folding_ind, folding_seg, closing_seg, joining_
 use Rattle.mc_unfold.specs.Judges.{unfolding_ind, unfolding_seg}
 use Rattle.mc_back.specs.Judges.{unfolding_back}
 use Rattle.mc_step.specs.declared.gap.Gap.{Gap}
-use Rattle.mc_step.specs.declared.next.Next.{Next}
+use Rattle.mc_step.specs.Next.{Next}
 use Rattle.mc_step.specs.Instructions.{ResultParts, TestParts, add_of, sub_of, mul_of, test_le_of}
 use Rattle.mc_step.specs.Judges.{InstrRule, S1, S2, S3, S4, S5, S6, S7, S8, S9, S10, S11, S12, S13, S14, S15, S16, S17, S18, computing, stepping}
 use Rattle.mc_step.specs.Operands.{code_at, operand_node, with_operand}

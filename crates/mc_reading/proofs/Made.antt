@@ -20,7 +20,7 @@ use Rattle.mc_state.specs.State.{State}
 use Rattle.mc_fold.specs.MadeLaws as fold
 use Rattle.mc_unfold.specs.WellMade as opening
 use Rattle.mc_back.specs.Laws as back
-use Rattle.mc_step.specs.declared.next.Next.{Next}
+use Rattle.mc_step.specs.Next.{Next}
 use Rattle.mc_step.specs.JudgedLaws as step
 use Rattle.mc_step.specs.JudgedLaws.{IsMadeFor}
 use Rattle.mc_step.specs.Laws.{IsStep}

@@ -28,7 +28,7 @@ use Rattle.mc_graph.specs.Graph.{Graph, edge_with, replaced, without, block_star
 use Rattle.mc_state.specs.State.{State, next_node, with_var, with_nodes, with_edges, with_only_edges, with_atoms, with_block}
 use Rattle.mc_state.specs.Fits.{AreNodes, IsBounded}
 use Rattle.mc_state.specs.Stands.{EdgeMeets, StandsBy}
-use Rattle.mc_step.specs.declared.next.Next.{Next}
+use Rattle.mc_step.specs.Next.{Next}
 use Rattle.mc_step.specs.Operands.{with_operand}
 use Rattle.mc_step.specs.Steps.{moved_to, freed_atoms, S8Is, S9Is, S10Is, S11Is, S12Is}
 use Rattle.mc_step.specs.Laws.{IsAt, LeadsOn}

@@ -15,7 +15,7 @@ use Rattle.mc_state.specs.State.{with_atoms, with_var}
 use Rattle.mc_state.specs.Facts.{IsFalse}
 use Rattle.mc_state.specs.Laws.{DerivedIsTrue, NoneStandsForFalse}
 use Rattle.mc_state.specs.Rules.{GoalHolds}
-use Rattle.mc_step.specs.declared.next.Next.{Next}
+use Rattle.mc_step.specs.Next.{Next}
 use Rattle.mc_step.specs.Operands.{HasBlock}
 use Rattle.mc_step.specs.Steps.{moved_to}
 use Rattle.mc_step.specs.Laws.{IsStep, SidesHold, S1, S2, S3, S4, S5, S6, S7, S8, S9, S10, S11, S12, S13, S14, S15, S16, S17, S18}

@@ -18,7 +18,7 @@ use Rattle.mc_state.specs.State.{State, var_node}
 use Rattle.mc_state.specs.Facts.{AreEqual}
 use Rattle.mc_step.specs.declared.gap.Gap.{Gap}
 use Rattle.mc_step.specs.declared.gap.Gap.TheVariants.{Uninit, NoBlock, Reached, NoShape, UninitField, NotEmpty}
-use Rattle.mc_step.specs.declared.next.Next.{Next}
+use Rattle.mc_step.specs.Next.{Next}
 use Rattle.mc_step.specs.Operands.{code_at, operand_node, with_operand, AreNodesOf, HasBlock}
 use Rattle.mc_step.specs.Steps.{S8Is, S9Is, S11Is, S12Is, S18Is}
 use Rattle.mc_step.specs.Unmet.{taken, IsFirstUnknown, AreKnown, Lacks, IsGap, IsUnmet}

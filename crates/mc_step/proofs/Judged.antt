@@ -8,7 +8,7 @@ use Rattle.mc_premises.specs.Known.{Test}
 use Rattle.mc_premises.proofs.Numbered.{judged_unmet, given_or_unmet}
 use Rattle.mc_pure.specs.Laws.{BlocksAtOneNode}
 use Rattle.mc_state.specs.State.{State}
-use Rattle.mc_step.specs.declared.next.Next.{Next}
+use Rattle.mc_step.specs.Next.{Next}
 use Rattle.mc_step.specs.Judges.{InstrRule, stepping}
 use Rattle.mc_step.specs.Judges as rule
 use Rattle.mc_step.specs.JudgedLaws.{IsStepBy, StepsHaveRules, AreGiven, StepsAreJudged, StepsAreDecided}

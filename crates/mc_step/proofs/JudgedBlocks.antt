@@ -31,7 +31,7 @@ use Rattle.mc_pure.specs.Pure.{Kinds}
 use Rattle.mc_state.specs.State.{State, var_node, with_number}
 use Rattle.mc_state.specs.Facts.{AreEqual}
 use Rattle.mc_state.specs.Fits.{MayHaveKinds, EdgeFitsStructs, IsWellMade}
-use Rattle.mc_step.specs.declared.next.Next.{Next}
+use Rattle.mc_step.specs.Next.{Next}
 use Rattle.mc_step.specs.Instructions.{load_of, store_of, free_of}
 use Rattle.mc_step.specs.JudgedLaws.{FieldsAreThere}
 use Rattle.mc_step.specs.Judges.{is_shaped_at, is_block_at, flat_node, known_field, loading, with_replaced, storing, freeing_null, with_freed, freeing}

@@ -12,7 +12,7 @@ use Rattle.mc_premises.specs.Premises.{Judged, need}
 use Rattle.mc_premises.proofs.Numbered.{need_ok, need_yes, have_ok}
 use Rattle.mc_premises.proofs.Tests.{not_false, is_sound}
 use Rattle.mc_state.specs.State.{State, with_var, with_atom, next_node}
-use Rattle.mc_step.specs.declared.next.Next.{Next}
+use Rattle.mc_step.specs.Next.{Next}
 use Rattle.mc_step.specs.Instructions.{skip_of, copy_of, undef_of, input_of, malloc_of, test_eq_of, assume_of, assert_of, empty_of, is_end}
 use Rattle.mc_step.specs.Judges.{skipping, copying, forgetting, taking, allocating, testing_equal, with_first, operand_nodes, with_shape, assuming, side_branch, asserting, ending, has_none, emptying}
 use Rattle.mc_step.specs.Operands.{code_at, operand_node, with_operand, with_operands, AreNodesOf}

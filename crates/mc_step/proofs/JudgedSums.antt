@@ -26,7 +26,7 @@ use Rattle.mc_ranges.specs.Range.{IsOutcome, IsLeastIntRange}
 use Rattle.mc_state.specs.Facts.{IsFalse}
 use Rattle.mc_state.specs.Fits.{IsWellMade}
 use Rattle.mc_state.specs.State.{State, pure_of, with_var, with_nodes, with_atoms, next_node}
-use Rattle.mc_step.specs.declared.next.Next.{Next}
+use Rattle.mc_step.specs.Next.{Next}
 use Rattle.mc_step.specs.Fitting.{ends_of}
 use Rattle.mc_step.specs.Instructions.{ResultParts, add_of, sub_of, mul_of, test_le_of}
 use Rattle.mc_step.specs.Judges.{computing, adding, subtracting, multiplying, testing_at_most}

@@ -21,7 +21,7 @@ use Rattle.mc_flow.specs.Values.{without}
 use Rattle.mc_state.specs.State.{State, with_var, without_vars}
 use Rattle.mc_state.specs.Fits.{IsBounded}
 use Rattle.mc_state.specs.Stands.{StandsBy}
-use Rattle.mc_step.specs.declared.next.Next.{Next}
+use Rattle.mc_step.specs.Next.{Next}
 use Rattle.mc_step.specs.Operands.{code_at, with_operand}
 use Rattle.mc_step.specs.Steps.{moved_to, S1Is, S2Is, S3Is, S17Is}
 use Rattle.mc_step.specs.Laws.{IsAt, LeadsOn, SidesHold}

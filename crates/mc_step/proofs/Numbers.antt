@@ -23,7 +23,7 @@ use Rattle.mc_ranges.specs.declared.Range.{Range}
 use Rattle.mc_ranges.specs.Range.{Holds}
 use Rattle.mc_state.specs.State.{State, next_node, with_nodes, with_var, with_atoms}
 use Rattle.mc_state.specs.Fits.{IsBounded}
-use Rattle.mc_step.specs.declared.next.Next.{Next}
+use Rattle.mc_step.specs.Next.{Next}
 use Rattle.mc_step.specs.Operands.{with_operand}
 use Rattle.mc_step.specs.Steps.{moved_to, range_atoms, sum_offsets, difference_offsets, no_offsets, Computes, S4Is, S5Is, S6Is, S7Is}
 use Rattle.mc_step.specs.Laws.{IsAt, LeadsOn}

@@ -22,7 +22,7 @@ use Rattle.mc_pure.specs.Laws.{BlocksAtOneNode}
 use Rattle.mc_ranges.specs.declared.Range.{Range}
 use Rattle.mc_state.specs.State.{State, pure_of, var_node, with_var, without_vars, with_nodes, with_atom, with_atoms, with_block, next_node}
 use Rattle.mc_state.specs.Facts.{IsFalse, AreEqual}
-use Rattle.mc_step.specs.declared.next.Next.{Next}
+use Rattle.mc_step.specs.Next.{Next}
 use Rattle.mc_step.specs.Instructions.{CopyParts, ResultParts, LoadParts, StoreParts, MallocParts, TestParts, AssumeParts, AssertParts, skip_of, copy_of, undef_of, input_of, add_of, sub_of, mul_of, load_of, store_of, malloc_of, free_of, test_eq_of, test_le_of, assume_of, assert_of, empty_of}
 use Rattle.mc_step.specs.JudgedLaws.{StepsAreOne}
 use Rattle.mc_step.specs.Fitting.{ends_of}

@@ -16,7 +16,7 @@ use Rattle.mc_flow.specs.Values.{wrapped}
 use Rattle.mc_pure.specs.Examples.{node}
 use Rattle.mc_state.specs.State.{State}
 use Rattle.mc_state.specs.Stands.{StandsBy}
-use Rattle.mc_step.specs.declared.next.Next.{Next}
+use Rattle.mc_step.specs.Next.{Next}
 use Rattle.mc_step.specs.Steps.{moved_to}
 use Rattle.mc_step.specs.Laws.{IsAt, IsAtSome}
 use Rattle.mc_step.specs.Examples as ex

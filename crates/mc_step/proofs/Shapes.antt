@@ -28,7 +28,7 @@ use Rattle.mc_state.specs.State.{State, next_node, with_nodes, with_edges, with_
 use Rattle.mc_state.specs.Fits.{AreNodes, IsBounded}
 use Rattle.mc_state.specs.Stands.{EdgeMeets}
 use Rattle.mc_state.specs.Rules.{GoalHolds}
-use Rattle.mc_step.specs.declared.next.Next.{Next}
+use Rattle.mc_step.specs.Next.{Next}
 use Rattle.mc_step.specs.Operands.{with_operand, with_operands}
 use Rattle.mc_step.specs.Steps.{moved_to, S15Is, S16Is, S18Is}
 use Rattle.mc_step.specs.Laws.{IsAt, LeadsOn}

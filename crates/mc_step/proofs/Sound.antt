@@ -4,7 +4,7 @@ use Rattle.mc_base.specs.declared.ids.PointId.{PointId}
 use Rattle.mc_defs.specs.declared.rules.Def.{Def}
 use Rattle.mc_flow.specs.declared.graph.Flow.{Flow}
 use Rattle.mc_state.specs.State.{State}
-use Rattle.mc_step.specs.declared.next.Next.{Next}
+use Rattle.mc_step.specs.Next.{Next}
 use Rattle.mc_step.specs.Laws.{IsStep, S1, S2, S3, S4, S5, S6, S7, S8, S9, S10, S11, S12, S13, S14, S15, S16, S17, S18, StepsAreSound}
 use Rattle.mc_step.proofs.LowerLaws.{StepLaws}
 use Rattle.mc_step.proofs.Blocks.{s8_sound, s9_sound, s10_sound, s11_sound, s12_sound}

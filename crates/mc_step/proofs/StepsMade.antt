@@ -34,7 +34,7 @@ use Rattle.mc_pure.specs.Pure.{Kinds, HasKind, IsNode, IsWellFormed, IsOffset}
 use Rattle.mc_ranges.specs.declared.Range.{Range}
 use Rattle.mc_state.specs.State.{State, pure_of, next_node, with_var, without_vars, with_nodes, with_atoms, with_only_edges, with_block}
 use Rattle.mc_state.specs.Fits.{AreNodes, HaveKinds, MayHaveKinds, EdgeFitsDefs, EdgeFitsStructs, IsWellMade}
-use Rattle.mc_step.specs.declared.next.Next.{Next}
+use Rattle.mc_step.specs.Next.{Next}
 use Rattle.mc_step.specs.JudgedLaws.{IsMadeFor, StepsAreWellMade}
 use Rattle.mc_step.specs.Judges.{with_replaced, with_shape, side_branch}
 use Rattle.mc_step.specs.Laws.{IsStep, S1, S2, S3, S4, S5, S6, S7, S8, S9, S10, S11, S12, S13, S14, S15, S16, S17, S18}

@@ -24,7 +24,7 @@ use Rattle.mc_ranges.specs.declared.Range.{Range}
 use Rattle.mc_ranges.specs.Range.{Holds}
 use Rattle.mc_state.specs.State.{State, pure_of, with_atoms}
 use Rattle.mc_state.specs.Stands.{StandsBy}
-use Rattle.mc_step.specs.declared.next.Next.{Next}
+use Rattle.mc_step.specs.Next.{Next}
 use Rattle.mc_step.specs.Steps.{moved_to, le_atoms, gt_atoms, S13Is, S14Is}
 use Rattle.mc_step.specs.Laws.{LeadsOn}
 use Rattle.mc_step.proofs.LowerLaws.{StepLaws}

@@ -25,7 +25,7 @@ use Rattle.mc_graph.specs.declared.edge.Edge.TheVariants.{Block as BlockEdge, In
 use Rattle.mc_pure.specs.Examples.{node}
 use Rattle.mc_state.specs.declared.goal.Goal.{Goal}
 use Rattle.mc_state.specs.State.{State, with_var, with_nodes, with_atoms, with_edges, with_only_edges, with_number, with_block}
-use Rattle.mc_step.specs.declared.next.Next.{Next}
+use Rattle.mc_step.specs.Next.{Next}
 use Rattle.mc_step.specs.Steps.{moved_to}
 
 -- ---- the flow graph

@@ -10,7 +10,7 @@ use Rattle.mc_graph.specs.declared.edge.Edge.TheVariants.{Seg}
 use Rattle.mc_premises.specs.Known.{Test, Tells}
 use Rattle.mc_pure.specs.Examples.{node}
 use Rattle.mc_state.specs.State.{State}
-use Rattle.mc_step.specs.declared.next.Next.{Next}
+use Rattle.mc_step.specs.Next.{Next}
 use Rattle.mc_step.specs.Examples.{flow, one_cell, with_one}
 use Rattle.mc_step.specs.Judges.{InstrRule, stepping}
 use Rattle.mc_step.specs.Sums.{Ends, Ranges, Operation, result_atoms, at_most_atoms, above_atoms}

@@ -21,7 +21,7 @@ use Rattle.mc_state.specs.declared.goal.Goal.{Goal}
 use Rattle.mc_state.specs.State.{State}
 use Rattle.mc_state.specs.Facts.{IsFalse, Derives}
 use Rattle.mc_state.specs.Fits.{AreNodes, ArgsFit, IsBounded, FitsProgram, IsWellMade}
-use Rattle.mc_step.specs.declared.next.Next.{Next}
+use Rattle.mc_step.specs.Next.{Next}
 use Rattle.mc_step.specs.declared.gap.Gap.{Gap}
 use Rattle.mc_step.specs.Judges.{InstrRule, S1, S2, S3, S4, S5, S6, S7, S8, S9, S10, S11, S12, S13, S14, S15, S16, S17, S18, stepping}
 use Rattle.mc_step.specs.Laws.{IsStep}

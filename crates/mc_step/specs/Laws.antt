@@ -19,7 +19,7 @@ use Rattle.mc_state.specs.Stands.{StandsBy}
 use Rattle.mc_state.specs.Rules.{GoalHolds, GoalIsThere}
 use Rattle.mc_step.specs.declared.gap.Gap.{Gap}
 use Rattle.mc_step.specs.declared.gap.Gap.TheVariants.{NoShape}
-use Rattle.mc_step.specs.declared.next.Next.{Next}
+use Rattle.mc_step.specs.Next.{Next}
 use Rattle.mc_step.specs.Steps.{S1Is, S2Is, S3Is, S4Is, S5Is, S6Is, S7Is, S8Is, S9Is, S10Is, S11Is, S12Is, S13Is, S14Is, S15Is, S16Is, S17Is, S18Is}
 use Rattle.mc_step.specs.Unmet.{IsUnmet}
 

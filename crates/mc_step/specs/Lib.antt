@@ -5,6 +5,7 @@ pub mod JudgedExamples
 pub mod JudgedLaws
 pub mod Judges
 pub mod Laws
+pub mod Next
 pub mod Operands
 pub mod Steps
 pub mod Sums

@@ -25,7 +25,7 @@ use Rattle.mc_pure.specs.Derived.{HasRange}
 use Rattle.mc_state.specs.declared.goal.Goal.{Goal}
 use Rattle.mc_state.specs.State.{State, pure_of, var_node, with_var, without_vars, next_node, with_nodes, with_atoms, with_atom, with_edges, with_only_edges, with_block}
 use Rattle.mc_state.specs.Facts.{IsFalse, AreEqual}
-use Rattle.mc_step.specs.declared.next.Next.{Next}
+use Rattle.mc_step.specs.Next.{Next}
 use Rattle.mc_step.specs.Operands.{code_at, operand_node, with_operand, with_operands, AreNodesOf, HasBlock}
 
 -- the branch goes on at a point with a state

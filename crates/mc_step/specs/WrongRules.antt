@@ -10,7 +10,7 @@ use Rattle.mc_heap.specs.Choices.{Choice}
 use Rattle.mc_defs.specs.Examples.{defs}
 use Rattle.mc_flow.specs.Steps.{Config, Result, Step}
 use Rattle.mc_state.specs.State.{State, with_var, next_node, with_nodes, with_atom, with_block}
-use Rattle.mc_step.specs.declared.next.Next.{Next}
+use Rattle.mc_step.specs.Next.{Next}
 use Rattle.mc_step.specs.Steps.{moved_to}
 use Rattle.mc_step.specs.Laws.{LeadsOn}
 use Rattle.mc_step.specs.Examples.{flow}

@@ -7,7 +7,6 @@ mod gap;
 mod judged_examples;
 mod judged_laws;
 mod laws;
-mod next;
 mod wrong_rules;
 
 pub use examples::{example_blocks, example_gaps, example_numbers, example_premises, example_runs};
@@ -22,7 +21,6 @@ pub use judged_laws::{
     steps_are_judged, steps_are_well_made, steps_have_rules,
 };
 pub use laws::{steps_are_sound, steps_stay_bounded, unmet_has_no_step};
-pub use next::Next;
 pub use wrong_rules::{
     kept_block_is_wrong, sure_malloc_is_wrong, unchecked_sum_is_wrong, unknown_load_is_wrong,
 };

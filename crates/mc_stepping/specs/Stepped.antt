@@ -2,7 +2,7 @@
 use Rattle.std.specs.Prelude.{◌≡◌, ℕ, true, List, [], ◌∷◌, Result, Ok, Err, is_ok}
 use Rattle.mc_premises.specs.Premises.{Judged}
 use Rattle.mc_state.specs.State.{State}
-use Rattle.mc_step.specs.declared.next.Next.{Next}
+use Rattle.mc_step.specs.Next.{Next}
 use Rattle.mc_stepping.specs.declared.next.Next.{Next as Branch}
 use Rattle.mc_stepping.specs.declared.next.Stepped.{Stepped}
 use Rattle.mc_stepping.specs.declared.next.Stepped.TheVariants.{Ended, Moved, Branched}
