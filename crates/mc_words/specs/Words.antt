@@ -1,0 +1,46 @@
+-- What words ask for.
+use Rattle.std.specs.Prelude.{◌≡◌, ℕ, List, [], ◌∷◌, Ok, Some, codes}
+use Rattle.std.specs.Str.Parse.{ParsesUnsigned}
+use Rattle.clap.specs.Words.{App, first_of, matches_of}
+use Rattle.clap.specs.Faults.{fault_of}
+use Rattle.clap.specs.Walk.{one_of}
+use Rattle.mc_words.specs.declared.words.Request.{Request}
+use Rattle.mc_words.specs.declared.words.Request.TheVariants as request
+use Rattle.mc_words.specs.declared.words.Check.{Check}
+use Rattle.mc_words.specs.declared.words.Run.{Run}
+use Rattle.mc_words.specs.Commands.{check_app, run_app}
+
+-- the words begin with this one, and the command of that name finds no fault in them
+abbrev pub IsFor : List ℕ → App → List (List ℕ) → Type 0
+IsFor name app words = ((rest : List (List ℕ)) × (words ≡ name ∷ rest)) × (fault_of app words ≡ [])
+
+-- the word that a command reads at one of its names
+abbrev pub Reads : App → List (List ℕ) → List ℕ → List ℕ → Type 0
+Reads app words id word = first_of id (matches_of app words) ≡ Some word
+
+-- the number that a `run` reads as its fuel
+abbrev pub ReadsFuel : List (List ℕ) → ℕ → Type 0
+ReadsFuel words n =
+    (number : List ℕ) × (one_of (codes "fuel") (matches_of run_app words) ≡ Some number) × ParsesUnsigned {E = Unit {0}} 64 10 number (Ok n)
+
+-- the words are a `check` with these files and this entry
+pub record AsksCheck (words : List (List ℕ)) (c : Check) : Type 0 where
+  pub named : IsFor (codes "check") check_app words
+  pub program : Reads check_app words (codes "program") c.program.now
+  pub definitions : Reads check_app words (codes "definitions") c.definitions.now
+  pub document : Reads check_app words (codes "document") c.document.now
+  pub start : Reads check_app words (codes "entry") c.start.now
+
+-- the words are a `run` with these files, this entry and so much fuel
+pub record AsksRun (words : List (List ℕ)) (c : Run) : Type 0 where
+  pub named : IsFor (codes "run") run_app words
+  pub program : Reads run_app words (codes "program") c.program.now
+  pub definitions : Reads run_app words (codes "definitions") c.definitions.now
+  pub script : Reads run_app words (codes "script") c.script.now
+  pub start : Reads run_app words (codes "entry") c.start.now
+  pub fuel : ReadsFuel words c.fuel
+
+-- the words ask for this
+abbrev pub Asks : List (List ℕ) → Request → Type 0
+Asks words (request.Check c) = AsksCheck words c
+Asks words (request.Run c) = AsksRun words c
