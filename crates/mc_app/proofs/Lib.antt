@@ -1,4 +1,7 @@
+pub mod Asked
 pub mod Causes
+pub mod Hearing
+pub mod Lowered
 pub mod Printing
 pub mod Safe
 pub mod Verdicts

@@ -1,26 +1,89 @@
--- A straight program whose flow graph is safe is safe itself.
-use Rattle.std.proofs.Common.{[], refl}
-use Rattle.mc_base.specs.Runs.{fault}
-use Rattle.mc_flow.specs.Steps.{IsSafeFlow}
+-- A program whose flow graph is safe is safe itself.
+use Rattle.std.proofs.Common.{◌≡◌, ◌∙◌, ◌&&◌, ℕ, Bool, true, false, List, [], ◌∷◌, Option, Some, inl, inr, refl, subst, sym, codes}
+use Rattle.std.specs.List.{find, list_any}
+use Rattle.mc_ast.specs.Names.{is_same}
 use Rattle.mc_ast.specs.Trees.{FunctionTree, UnitTree}
+use Rattle.mc_base.specs.Runs.{fault}
+use Rattle.mc_defs.specs.declared.rules.Def.{Def}
+use Rattle.mc_flow.specs.declared.graph.Flow.{Flow}
+use Rattle.mc_flow.specs.Steps.{IsSafeFlow}
+use Rattle.mc_lowering.specs.Graphs.{Graph}
+use Rattle.mc_lowering.specs.Lowering.{IsLowering}
+use Rattle.mc_meaning.specs.Steps.{IsSafeProgram, program_of}
+use Rattle.mc_places.specs.Places.{AreAscending, AreDistinct, declared_places}
+use Rattle.mc_resolved.specs.Programs.{Function}
+use Rattle.mc_resolved.specs.Resolving.{resolved_program}
+use Rattle.mc_text.specs.declared.place.Place.{Place}
 use Rattle.mc_straight.specs.declared.tree.Program.{Program as StraightForm}
 use Rattle.mc_straight.specs.Straight.{IsStraight, without_struct, with_struct, struct_is}
 use Rattle.mc_straight.specs.Runs.{IsEntry, ReadsAs, TreeRunsAlike}
 use Rattle.mc_straight.specs.Lowering.{flow_of}
-use Rattle.mc_app.specs.Programs.{IsWellFormed, IsSafeUnit}
+use Rattle.mc_types.specs.Tables.{called_function, is_defined, tables_of}
+use Rattle.mc_types.specs.Typing.{IsWellTyped, is_entry}
+use Rattle.mc_app.specs.Programs.{IsGraphOf, IsSafeUnit, IsShort, IsWellFormed}
+
+-- ---- straight programs
 
 abbrev pub RunAlike : Type 0
 RunAlike = (unit : UnitTree) (f : FunctionTree) (short : StraightForm) → ReadsAs unit short → IsEntry unit f → TreeRunsAlike unit f short (flow_of short)
 
-pub reads_as : (unit : UnitTree) (short : StraightForm) → IsWellFormed unit → IsStraight unit short → ReadsAs unit short
-reads_as unit short sound straight = record { typed = sound.0; places = sound.1; straight = straight }
+pub reads_as : (start : List ℕ) (unit : UnitTree) (short : StraightForm) → IsWellFormed start unit → IsShort start unit short → ReadsAs unit short
+reads_as start unit short sound straight =
+    record { typed = subst (λ (s : List ℕ). IsWellTyped unit s) straight.0 sound.0; places = sound.1; straight = straight.1 }
 
-has_entry : (unit : UnitTree) (short : StraightForm) → IsStraight unit short → (f : FunctionTree) × IsEntry unit f
-has_entry unit short (without_struct statements) = (_, refl)
-has_entry unit short (with_struct (struct_is fields) statements) = (_, refl)
+has_main : (unit : UnitTree) (short : StraightForm) → IsStraight unit short → (f : FunctionTree) × IsEntry unit f
+has_main unit short (without_struct statements) = (_, refl)
+has_main unit short (with_struct (struct_is fields) statements) = (_, refl)
 
-pub safe_unit : RunAlike → (unit : UnitTree) (short : StraightForm) → IsWellFormed unit → IsStraight unit short → IsSafeFlow (flow_of short) [] → IsSafeUnit unit
-safe_unit alike unit short sound straight safe =
-    let entry = has_entry unit short straight in
-    let same = alike unit entry.0 short (reads_as unit short sound straight) entry.1 in
-    (entry.0, entry.1, λ n choices kind place reaches. let run = (same.flow choices (fault kind place)).0 (n, reaches) in safe run.0 choices kind place run.1)
+pub safe_form : RunAlike → (start : List ℕ) (unit : UnitTree) (defs : List Def) (short : StraightForm) → IsWellFormed start unit → IsShort start unit short
+    → IsSafeFlow (flow_of short) [] → IsSafeUnit start unit defs
+safe_form alike start unit defs short sound straight safe =
+    let main = has_main unit short straight.1 in
+    let same = alike unit main.0 short (reads_as start unit short sound straight) main.1 in
+    let found : called_function (tables_of unit) start ≡ Some main.0 = subst (λ (s : List ℕ). called_function (tables_of unit) s ≡ Some main.0) (sym straight.0) main.1 in
+    (main.0, found, inr ((short, straight), λ n choices kind place reaches. let run = (same.flow choices (fault kind place)).0 (n, reaches) in safe run.0 choices kind place run.1))
+
+-- ---- programs that are lowered
+
+abbrev pub SafeTrees : Type 0
+SafeTrees =
+    (unit : UnitTree) (defs : List Def) (entry : List ℕ) (f : FunctionTree) (g : Graph) (start : Function) (out count : ℕ)
+    → IsWellTyped unit entry → AreDistinct (declared_places unit) → called_function (tables_of unit) entry ≡ Some f
+    → g.program ≡ resolved_program (tables_of unit) defs entry → IsLowering g start out count → IsSafeFlow g.flow defs → IsSafeProgram (program_of unit defs) f
+
+abbrev pub Differ : Type 0
+Differ = (places : List Place) → AreAscending places → AreDistinct places
+
+abbrev pub HasEntries : Type 0
+HasEntries = (unit : UnitTree) (start : List ℕ) → IsWellTyped unit start → (f : FunctionTree) × (called_function (tables_of unit) start ≡ Some f)
+
+pub safe_graph : SafeTrees → Differ → HasEntries → (start : List ℕ) (unit : UnitTree) (defs : List Def) (flow : Flow) → IsWellFormed start unit → IsGraphOf start unit defs flow
+    → IsSafeFlow flow defs → IsSafeUnit start unit defs
+safe_graph trees differ entries start unit defs flow sound graph safe =
+    let main = entries unit start sound.0 in
+    let safe_too = subst (λ (f : Flow). IsSafeFlow f defs) (sym graph.is_its) safe in
+    (main.0, main.1, inl (trees unit defs start main.0 graph.graph graph.function graph.out graph.count sound.0 (differ (declared_places unit) sound.1) main.1 graph.program graph.lowered safe_too))
+
+-- ---- a well typed program has its entry
+
+found_first : {X : Type 0} (p q : X → Bool) (x : X) (xs : List X) (b d : Bool) → q x ≡ b → p x ≡ d → (p x ≡ true → q x ≡ true) → list_any p (x ∷ xs) ≡ true
+    → (list_any p xs ≡ true → (y : X) × (find q xs ≡ Some y)) → (y : X) × (find q (x ∷ xs) ≡ Some y)
+found_first p q x xs true d h g implies e later = (x, rw h refl)
+found_first p q x xs false true h g implies e later = let two : false ≡ true = sym h ∙ implies g in cc
+found_first p q x xs false false h g implies e later =
+    let rest : list_any p xs ≡ true = rw g at e in
+    let r = later rest in
+    (r.0, rw h r.1)
+
+find_any : {X : Type 0} (p q : X → Bool) (xs : List X) → ((x : X) → p x ≡ true → q x ≡ true) → list_any p xs ≡ true → (x : X) × (find q xs ≡ Some x)
+find_any p q [] implies e = cc
+find_any p q (x ∷ xs) implies e = found_first p q x xs (q x) (p x) refl refl (implies x) e (find_any p q xs implies)
+
+first_two : (a b : Bool) → (a && b) ≡ true → a ≡ true
+first_two true b e = refl
+first_two false b e = cc
+
+pub has_entry : HasEntries
+has_entry unit start typed =
+    find_any (is_entry start) (λ f. is_defined f && is_same f.name.text start) (tables_of unit).functions
+    (λ f e. first_two (is_defined f && is_same f.name.text start) _ e) typed.entered

@@ -10,7 +10,7 @@ use Rattle.mc_defparse.specs.Printing as defs
 use Rattle.mc_app.specs.declared.answer.Answer.{Answer}
 use Rattle.mc_app.specs.declared.answer.Answer.TheVariants.{Good, Alarms, Words, Program, Definitions, Document}
 use Rattle.mc_app.specs.declared.answer.ProgramFault.{ProgramFault}
-use Rattle.mc_app.specs.declared.answer.ProgramFault.TheVariants.{Unread, Misfit, NotYet}
+use Rattle.mc_app.specs.declared.answer.ProgramFault.TheVariants.{Unread, Misfit, TooLong, NotYet}
 use Rattle.mc_app.specs.declared.answer.NoProgram.TheVariants.{TooBig, Refused}
 use Rattle.mc_app.specs.declared.answer.NoDefinitions.{NoDefinitions}
 use Rattle.mc_app.specs.declared.answer.NoDefinitions.TheVariants as NoDefinitions
@@ -20,6 +20,7 @@ abbrev pub fault_text : ProgramFault → List ℕ
 fault_text (Unread TooBig) = codes "TooBig"
 fault_text (Unread (Refused refusal)) = refusal_text refusal
 fault_text (Misfit refusal) = refusal_text refusal
+fault_text TooLong = codes "TooLong"
 fault_text NotYet = codes "NotYet"
 
 -- why a text gives no definitions

@@ -1,29 +1,31 @@
 // The top call.
-ghost use Rattle.std.specs.Prelude.{◌≡◌, ◌<◌, ◌⊎◌, List, ℕ, IfOk, map, string_bytes};
-ghost use Rattle.mc_outside.specs.Outside.{HasCause, Stays, Rose, AddsIfTold, WhereTold};
-ghost use Rattle.mc_app.specs.Programs.{IsSafe};
+ghost use Rattle.std.specs.Prelude.{◌≡◌, ◌<◌, ◌⊎◌, IfOk, map, string_bytes};
+ghost use Rattle.mc_outside.specs.Outside.{HasCause, Stays, Rose, AddsIfTold};
+ghost use Rattle.mc_words.specs.declared.words.Check.{Check};
+ghost use Rattle.mc_words.specs.Words.{AsksCheck};
 ghost use Rattle.mc_app.specs.Printing.{text_of};
-ghost use Rattle.mc_app.specs.Answers.{Asks, IsWhyWords, EndsWith, PrintsPart};
+ghost use Rattle.mc_app.specs.Answers.{IsSafeWhereTold, IsWhyWords, EndsWith, PrintsPart};
 ghost use Rattle.mc_app.specs.Faults.{fault_status};
 
-use crate::words::asked;
 use crate::work::answer;
 use crate::{Answer, Status};
 use mc_outside::{FileFault, Files, Sink};
+use mc_words::{Request, asked};
 use std::alloc::Global;
 
 fn found<F: Files>(alloc: Global, words: &[String], files: &mut F) -> Result<Answer, FileFault>
     ensures why { IfOk result (λ a. IsWhyWords (F.holds files.old) (map string_bytes words.now) a) }
-    ensures safe { IfOk result (λ a. a ≡ Answer.Good → (p d c : List ℕ) → Asks (map string_bytes words.now) p d c → WhereTold (F.holds files.old p) IsSafe) }
+    ensures safe { IfOk result (λ a. a ≡ Answer.Good → (c : Check) → AsksCheck (map string_bytes words.now) c → IsSafeWhereTold (F.holds files.old) c) }
     ensures same { Stays (F.holds files.old) (F.holds files.new) }
     ensures cause { HasCause (F.faults files.old) (F.faults files.new) result }
 {
-    match asked(words) {
-        None => Ok(Answer::Words),
-        Some(command) => {
-            let answer = answer(alloc, files, command)?;
+    match asked(alloc, words)? {
+        Some(Request::Check(names)) => {
+            let answer = answer(alloc, files, names)?;
             Ok(answer)
         }
+        Some(Request::Run(_)) => Ok(Answer::Words),
+        None => Ok(Answer::Words),
     }
 }
 
@@ -52,7 +54,7 @@ pub fn memcad<F: Files, K: Sink>(
     out: &mut K,
 ) -> Status
     // Where the answer is that all is well, no run of the program has a fault.
-    ensures safe { result ≡ Status.Good → (p d c : List ℕ) → Asks (map string_bytes words.now) p d c → WhereTold (F.holds files.old p) IsSafe }
+    ensures safe { result ≡ Status.Good → (c : Check) → AsksCheck (map string_bytes words.now) c → IsSafeWhereTold (F.holds files.old) c }
     // Each answer has its cause and prints its text. A call without an answer ran out of memory, or the device failed.
     ensures why { EndsWith (F.holds files.old) (map string_bytes words.now) (K.written out.old) (K.written out.new) result }
     ensures device { result ≡ Status.Device → Rose (F.faults files.old) (F.faults files.new) ⊎ Rose (K.faults out.old) (K.faults out.new) }

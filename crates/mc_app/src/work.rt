@@ -1,5 +1,5 @@
-// Checks a certificate.
-ghost use Rattle.std.specs.Prelude.{◌≡◌, ◌↔◌, ◌≤◌, ◌^◌, [], IfOk, IsTrue, MatchResult, length};
+// Checks a document.
+ghost use Rattle.std.specs.Prelude.{◌≡◌, ◌≤◌, ◌^◌, [], List, IfOk, MatchResult, length};
 ghost use Rattle.mc_ast.specs.Views.{unit_of};
 ghost use Rattle.mc_outside.specs.Outside.{HasCause, Stays, WhereTold};
 ghost use Rattle.mc_flow.specs.Steps.{IsSafeFlow};
@@ -7,23 +7,27 @@ ghost use Rattle.mc_straight.specs.Typing.{IsTyped};
 ghost use Rattle.mc_straight.specs.Lowering.{flow_of};
 ghost use Rattle.mc_types.specs.Tables.{struct_infos};
 ghost use Rattle.mc_defs.specs.Conditions.{DefsFit};
+ghost use Rattle.mc_defs.specs.declared.rules.Def.{Def};
 ghost use Rattle.mc_app.specs.Documents.{IsVerdictOn};
-ghost use Rattle.mc_app.specs.Programs.{AreDefinitions, IsProgramHere, IsSafe, IsSafeUnit, IsUndefined, IsUnread, IsWellFormed};
-ghost use Rattle.mc_app.specs.Answers.{IsWhy, IsWhyBound, IsWhyFitting, IsWhyUnit};
+ghost use Rattle.mc_app.specs.Programs.{AreDefinitions, IsProgramHere, IsSafeUnit, IsUndefined, IsUnread, IsWellFormed};
+ghost use Rattle.mc_app.specs.Answers.{IsSafeWhereTold, IsWhy, IsWhyBound, IsWhyFitting, IsWhyUnit};
 
 use crate::contents::text;
 use crate::documents::verdict_in;
-use crate::words::Command;
+use crate::graphs::{NoGraph, form, graph};
 use crate::{Answer, NoDefinitions, NoProgram, ProgramFault};
 use mc_ast::Unit;
 use mc_defread::{DefFault, read_defs};
 use mc_defs::Defs;
 use mc_judge::Verdict;
 use mc_outside::{FileFault, Files};
+use mc_places::ascending_places_differ;
 use mc_read::{ReadFault, Refusal, programs_have_distinct_places};
-use mc_straight::{Program, lower, straight, trees_are_read_once, trees_run_alike};
-use mc_typed::{Typed, bind};
+use mc_scoped::safe_flow_graphs_mean_safe_trees;
+use mc_straight::{Program, lower, trees_run_alike};
+use mc_typed::{Bound, Typed, bind};
 use mc_types::TypeFault;
+use mc_words::Check;
 use std::alloc::{AllocError, Global};
 
 // How many bytes a program may have.
@@ -33,13 +37,18 @@ const PROGRAM_BYTES: u64 = 1_048_576;
 const DEFINITION_BYTES: u64 = 262_144;
 
 // The program of a text, or why there is none.
-fn read_program(alloc: Global, bytes: &[u8]) -> Result<Result<Typed, NoProgram>, AllocError>
+fn read_program(
+    alloc: Global,
+    bytes: &[u8],
+    start: &str,
+) -> Result<Result<Typed, NoProgram>, AllocError>
     requires { length bytes.now ≤ 2 ^ 20 }
-    ensures read { IfOk result (λ r. MatchResult r (λ t. IsProgramHere bytes.now (unit_of t.unit)) (IsUnread bytes.now)) }
-    ensures well_formed { IfOk result (λ r. IfOk r (λ t. IsWellFormed (unit_of t.unit))) }
+    ensures read { IfOk result (λ r. MatchResult r (λ t. IsProgramHere start.now bytes.now (unit_of t.unit)) (IsUnread start.now bytes.now)) }
+    ensures well_formed { IfOk result (λ r. IfOk r (λ t. IsWellFormed start.now (unit_of t.unit))) }
+    ensures start { IfOk result (λ r. IfOk r (λ t. t.entry ≡ start.now)) }
 {
     programs_have_distinct_places();
-    match mc_read::read(alloc, bytes, b"main") {
+    match mc_read::read(alloc, bytes, start.as_bytes()) {
         Ok(typed) => Ok(Ok(typed)),
         Err(ReadFault::Refused(refusal)) => Ok(Err(NoProgram::Refused(refusal))),
         Err(ReadFault::NoMemory) => Err(AllocError),
@@ -50,16 +59,18 @@ fn program_in<F: Files>(
     alloc: Global,
     files: &mut F,
     name: &str,
+    start: &str,
 ) -> Result<Result<Typed, NoProgram>, FileFault>
-    ensures told { WhereTold (F.holds files.old name.now) (λ text. IfOk result (λ r. MatchResult r (λ t. IsProgramHere text (unit_of t.unit)) (IsUnread text))) }
-    ensures well_formed { IfOk result (λ r. IfOk r (λ t. IsWellFormed (unit_of t.unit))) }
+    ensures told { WhereTold (F.holds files.old name.now) (λ text. IfOk result (λ r. MatchResult r (λ t. IsProgramHere start.now text (unit_of t.unit)) (IsUnread start.now text))) }
+    ensures well_formed { IfOk result (λ r. IfOk r (λ t. IsWellFormed start.now (unit_of t.unit))) }
+    ensures start { IfOk result (λ r. IfOk r (λ t. t.entry ≡ start.now)) }
     ensures same { Stays (F.holds files.old) (F.holds files.new) }
     ensures cause { HasCause (F.faults files.old) (F.faults files.new) result }
 {
     match text(alloc, files, name, PROGRAM_BYTES)? {
         None => Ok(Err(NoProgram::TooBig)),
         Some(bytes) => {
-            let read = read_program(alloc, &bytes)?;
+            let read = read_program(alloc, &bytes, start)?;
             Ok(read)
         }
     }
@@ -104,66 +115,96 @@ fn definitions_in<F: Files>(
 
 // The verdict on a document for the flow graph of a straight program. It has no shape commands, so its definitions play no
 // part.
-fn verdict_on<F: Files>(
+fn verdict_on_form<F: Files>(
     alloc: Global,
     files: &mut F,
     document: &str,
-    short: &Program,
+    form: &Program,
 ) -> Result<Verdict, FileFault>
-    requires { IsTyped short.now }
-    ensures verdict { WhereTold (F.holds files.old document.now) (λ text. IfOk result (IsVerdictOn (flow_of short.now) [] text)) }
-    ensures safe { IfOk result (λ v. v ≡ Verdict.Safe → IsSafeFlow (flow_of short.now) []) }
+    requires { IsTyped form.now }
+    ensures verdict { WhereTold (F.holds files.old document.now) (λ text. IfOk result (IsVerdictOn (flow_of form.now) [] text)) }
+    ensures safe { IfOk result (λ v. v ≡ Verdict.Safe → IsSafeFlow (flow_of form.now) []) }
     ensures same { Stays (F.holds files.old) (F.holds files.new) }
     ensures cause { HasCause (F.faults files.old) (F.faults files.new) result }
 {
-    let flow = lower(alloc, short)?;
+    let flow = lower(alloc, form)?;
     let defs = Defs::new(alloc);
     let verdict = verdict_in(alloc, files, document, &flow, &defs)?;
     Ok(verdict)
 }
 
-// Checks a certificate of a program whose shape commands fit.
-fn check_fitting<F: Files>(
+// Checks a document of a program that is not lowered: of a straight one.
+fn check_form<F: Files>(
     alloc: Global,
     files: &mut F,
-    document: &str,
-    unit: &Unit,
+    names: Check<'_>,
+    bound: &Bound,
 ) -> Result<Answer, FileFault>
-    requires { IsWellFormed (unit_of unit.now) }
-    ensures why { IfOk result (λ a. IsWhyFitting (F.holds files.old) document.now (unit_of unit.now) a) }
-    ensures safe { IfOk result (λ a. a ≡ Answer.Good → IsSafeUnit (unit_of unit.now)) }
+    requires { IsWellFormed names.start.now (unit_of bound.now.typed.unit) }
+    ensures why { IfOk result (λ a. IsWhyFitting (F.holds files.old) names.entry (unit_of bound.now.typed.unit) bound.now.defs a) }
+    ensures safe { IfOk result (λ a. a ≡ Answer.Good → IsSafeUnit names.entry.start.now (unit_of bound.now.typed.unit) bound.now.defs) }
     ensures same { Stays (F.holds files.old) (F.holds files.new) }
     ensures cause { HasCause (F.faults files.old) (F.faults files.new) result }
 {
+    // For the proof alone: the straight form runs as the program does.
     trees_run_alike();
-    trees_are_read_once();
-    let Some(short) = straight(alloc, unit)? else {
+    let Some(form) = form(alloc, bound.typed().unit(), names.start)? else {
         return Ok(Answer::Program(ProgramFault::NotYet));
     };
-    let verdict = verdict_on(alloc, files, document, &short)?;
+    let verdict = verdict_on_form(alloc, files, names.document, &form)?;
     Ok(Answer::of_verdict(verdict))
 }
 
-// Checks a certificate of a program with definitions.
+// Checks a document of a program whose shape commands fit.
+fn check_fitting<F: Files>(
+    alloc: Global,
+    files: &mut F,
+    names: Check<'_>,
+    bound: &Bound,
+) -> Result<Answer, FileFault>
+    requires well_formed { IsWellFormed names.start.now (unit_of bound.now.typed.unit) }
+    requires start { bound.now.typed.entry ≡ names.start.now }
+    ensures why { IfOk result (λ a. IsWhyBound (F.holds files.old) names.entry (unit_of bound.now.typed.unit) bound.now.defs a) }
+    ensures safe { IfOk result (λ a. a ≡ Answer.Good → IsSafeUnit names.entry.start.now (unit_of bound.now.typed.unit) bound.now.defs) }
+    ensures same { Stays (F.holds files.old) (F.holds files.new) }
+    ensures cause { HasCause (F.faults files.old) (F.faults files.new) result }
+{
+    // For the proof alone: a safe flow graph means a safe program.
+    safe_flow_graphs_mean_safe_trees();
+    ascending_places_differ();
+    let defs = bound.defs();
+    match graph(alloc, bound)? {
+        Ok(flow) => {
+            let verdict = verdict_in(alloc, files, names.document, &flow, defs)?;
+            Ok(Answer::of_verdict(verdict))
+        }
+        Err(NoGraph::TooLong) => Ok(Answer::Program(ProgramFault::TooLong)),
+        Err(NoGraph::NotYet) => {
+            let answer = check_form(alloc, files, names, bound)?;
+            Ok(answer)
+        }
+    }
+}
+
+// Checks a document of a program with definitions.
 fn check_defined<F: Files>(
     alloc: Global,
     files: &mut F,
-    document: &str,
+    names: Check<'_>,
     typed: Typed,
     defs: Defs,
 ) -> Result<Answer, FileFault>
-    requires well_formed { IsWellFormed (unit_of typed.unit) }
+    requires well_formed { IsWellFormed names.start.now (unit_of typed.unit) }
+    requires start { typed.entry ≡ names.start.now }
     requires fit { DefsFit (struct_infos (unit_of typed.unit)) defs }
-    ensures why { IfOk result (λ a. IsWhyBound (F.holds files.old) document.now (unit_of typed.unit) defs a) }
-    ensures safe { IfOk result (λ a. a ≡ Answer.Good → IsSafeUnit (unit_of typed.unit)) }
+    ensures why { IfOk result (λ a. IsWhyBound (F.holds files.old) names.entry (unit_of typed.unit) defs a) }
+    ensures safe { IfOk result (λ a. a ≡ Answer.Good → IsSafeUnit names.entry.start.now (unit_of typed.unit) defs) }
     ensures same { Stays (F.holds files.old) (F.holds files.new) }
     ensures cause { HasCause (F.faults files.old) (F.faults files.new) result }
 {
     match bind(alloc, typed, defs) {
         Ok(bound) => {
-            // Its shape commands fit these.
-            let _defs = bound.defs();
-            let answer = check_fitting(alloc, files, document, bound.typed().unit())?;
+            let answer = check_fitting(alloc, files, names, &bound)?;
             Ok(answer)
         }
         Err(TypeFault::Refused(fault)) => {
@@ -174,44 +215,44 @@ fn check_defined<F: Files>(
     }
 }
 
-// Checks a certificate of a program, whose definitions are read first.
+// Checks a document of a program, whose definitions are read first.
 fn check_program<F: Files>(
     alloc: Global,
     files: &mut F,
-    definitions: &str,
-    document: &str,
+    names: Check<'_>,
     typed: Typed,
 ) -> Result<Answer, FileFault>
-    requires { IsWellFormed (unit_of typed.unit) }
-    ensures why { IfOk result (λ a. IsWhyUnit (F.holds files.old) definitions.now document.now (unit_of typed.unit) a) }
-    ensures safe { IfOk result (λ a. a ≡ Answer.Good → IsSafeUnit (unit_of typed.unit)) }
+    requires well_formed { IsWellFormed names.start.now (unit_of typed.unit) }
+    requires start { typed.entry ≡ names.start.now }
+    ensures why { IfOk result (λ a. IsWhyUnit (F.holds files.old) names.entry (unit_of typed.unit) a) }
+    ensures safe { IfOk result (λ a. a ≡ Answer.Good → WhereTold (F.holds files.old names.entry.definitions.now) (λ text. (defs : List Def) × AreDefinitions (unit_of typed.unit) defs text × IsSafeUnit names.entry.start.now (unit_of typed.unit) defs)) }
     ensures same { Stays (F.holds files.old) (F.holds files.new) }
     ensures cause { HasCause (F.faults files.old) (F.faults files.new) result }
 {
-    match definitions_in(alloc, files, definitions, &typed)? {
+    match definitions_in(alloc, files, names.definitions, &typed)? {
         Err(fault) => Ok(Answer::Definitions(fault)),
         Ok(defs) => {
-            let answer = check_defined(alloc, files, document, typed, defs)?;
+            let answer = check_defined(alloc, files, names, typed, defs)?;
             Ok(answer)
         }
     }
 }
 
-/// Checks the certificate that a command names.
+/// Checks the document that a command names.
 pub fn answer<F: Files>(
     alloc: Global,
     files: &mut F,
-    command: Command<'_>,
+    names: Check<'_>,
 ) -> Result<Answer, FileFault>
-    ensures why { IfOk result (λ a. IsWhy (F.holds files.old) command.entry.program.now command.entry.definitions.now command.entry.document.now a) }
-    ensures safe { IfOk result (λ a. a ≡ Answer.Good → WhereTold (F.holds files.old command.entry.program.now) IsSafe) }
+    ensures why { IfOk result (λ a. IsWhy (F.holds files.old) names.entry a) }
+    ensures safe { IfOk result (λ a. a ≡ Answer.Good → IsSafeWhereTold (F.holds files.old) names.entry) }
     ensures same { Stays (F.holds files.old) (F.holds files.new) }
     ensures cause { HasCause (F.faults files.old) (F.faults files.new) result }
 {
-    match program_in(alloc, files, command.program)? {
+    match program_in(alloc, files, names.program, names.start)? {
         Err(fault) => Ok(Answer::Program(ProgramFault::Unread(fault))),
         Ok(typed) => {
-            let answer = check_program(alloc, files, command.definitions, command.document, typed)?;
+            let answer = check_program(alloc, files, names, typed)?;
             Ok(answer)
         }
     }

@@ -43,7 +43,9 @@ impl<'f> Judge<'f> {
     /// A judge that has heard nothing.
     pub fn new(alloc: Global, flow: &'f Flow, defs: &'f Defs) -> Judge<'f>
         requires { IsValid flow.now defs.now }
-        ensures { (k : Knowledge) (well : RawState → Bool) → IsJudge k well flow.now defs.now → HasHeard k well [] result }
+        ensures heard { (k : Knowledge) (well : RawState → Bool) → IsJudge k well flow.now defs.now → HasHeard k well [] result }
+        ensures flow { result.flow.now ≡ flow.now }
+        ensures defs { result.defs.now ≡ defs.now }
     {
         Judge {
             alloc,

@@ -1,3 +1,4 @@
+use Rattle.std.proofs.Common.{◌∙◌}
 use Rattle.mc_ast.specs.Views.{unit_of}
 use Rattle.mc_outside.specs.Outside.{WhereTold}
 use Rattle.mc_app.specs.Programs.{IsProgramHere}
@@ -12,14 +13,11 @@ returns-in_ok-answer-in-Ok-clause-why g c =
     let old = g.F.Files.holds c.args.files.now in
     let new = g.F.Files.holds c.program_in.new.files in
     let unit = unit_of c.in-Ok.typed.unit in
-    let p = c.args.command.program.now in
-    let d = c.args.command.definitions.now in
-    let t = c.args.command.document.now in
     let answer = c.in_ok-answer-in-Ok.answer in
-    let read : WhereTold (old p) (λ text. IsProgramHere text unit) = λ text h. at_ok c.in_ok-fault.field-0 c.in-Ok.typed _ _ c.in-Ok.is (c.in_ok-fault.ensures.told text h) in
-    why_of_unit old p d t unit answer read (stay_unit old new d t unit answer c.program_in.ensures.same c.in_ok-answer-in-Ok.ensures.why)
+    let read : WhereTold (old c.args.names.program.now) (λ text. IsProgramHere c.args.names.start.now text unit) = λ text h. at_ok c.in_ok-fault.field-0 c.in-Ok.typed _ _ c.in-Ok.is (c.in_ok-fault.ensures.told text h) in
+    why_of_unit old c.args.names unit answer read (stay_unit old new c.args.names unit answer c.program_in.ensures.same c.in_ok-answer-in-Ok.ensures.why)
 
 pub returns-in_ok-answer-in-Ok-clause-safe : goal.returns-in_ok-answer-in-Ok-clause-safe
-returns-in_ok-answer-in-Ok-clause-safe g c = λ good text h.
+returns-in_ok-answer-in-Ok-clause-safe g c = λ good text h definitions k.
     let read = at_ok c.in_ok-fault.field-0 c.in-Ok.typed _ _ c.in-Ok.is (c.in_ok-fault.ensures.told text h) in
-    (unit_of c.in-Ok.typed.unit, read, c.in_ok-answer-in-Ok.ensures.safe good)
+    (unit_of c.in-Ok.typed.unit, read, c.in_ok-answer-in-Ok.ensures.safe good definitions (c.program_in.ensures.same c.args.names.definitions.now ∙ k))

@@ -1,21 +1,40 @@
-use Rattle.std.proofs.Common.{sym, subst, ◌∙◌}
+use Rattle.std.proofs.Common.{◌≡◌, ◌∙◌, ◌≤◌, ℕ, List, length, sym, subst}
 use Rattle.mc_ast.specs.Views.{unit_of}
+use Rattle.mc_defs.specs.declared.rules.Def.{Def}
+use Rattle.mc_flow.specs.declared.graph.Flow.{Flow}
+use Rattle.mc_flow.specs.Steps.{IsSafeFlow}
 use Rattle.mc_app.specs.declared.answer.Answer.{Answer}
 use Rattle.mc_app.specs.Answers.{IsWhyFitting}
-use Rattle.mc_app.proofs.Safe.{safe_unit}
+use Rattle.mc_app.specs.Documents.{IsVerdictOn}
+use Rattle.mc_app.specs.Programs.{IsGraphOf, for_graph}
+use Rattle.mc_app.proofs.Safe.{has_entry, safe_graph}
 use Rattle.mc_app.proofs.Verdicts.{safe_of_good, why_of_verdict}
-use Rattle.mc_app.proofs.Whys.{at_some}
+use Rattle.mc_app.proofs.Whys.{only_ok, why_of_fitting}
 use Rattle.mc_app.proofs.work.check_fitting.Goals as goal
 
-pub returns-clause-why : goal.returns-clause-why
-returns-clause-why g c =
-    let straight = at_some c.in_ok-short.field-0 c.in-Some.short _ _ c.in-Some.is c.in_ok-short.ensures in
+pub returns-in_ok-verdict-in-Ok-clause-why : goal.returns-in_ok-verdict-in-Ok-clause-why
+returns-in_ok-verdict-in-Ok-clause-why g c =
     let holds = g.F.Files.holds c.args.files.now in
-    let why = why_of_verdict c.trees_are_read_once.ensures holds c.args.document.now (unit_of c.args.unit.now) c.in-Some.short c.in_ok-verdict.verdict straight c.in_ok-verdict.ensures.verdict in
-    subst (λ (a : Answer). IsWhyFitting holds c.args.document.now (unit_of c.args.unit.now) a) (sym c.of_verdict.ensures) why
+    let names = c.args.names in
+    let bound = c.args.bound.now in
+    let unit = unit_of bound.typed.unit in
+    let flow = c.in-Ok.flow in
+    let v = c.in_ok-verdict-in-Ok.verdict in
+    let made = only_ok c.in_ok-flow.field-0 flow (λ (f : Flow). IsGraphOf bound.typed.entry unit bound.defs f) c.in-Ok.is c.in_ok-flow.ensures.graph in
+    let graph = subst (λ (s : List ℕ). IsGraphOf s unit bound.defs flow) c.requires.start made in
+    let short = only_ok c.in_ok-flow.field-0 flow (λ (f : Flow). length f.points ≤ 10000) c.in-Ok.is c.in_ok-flow.ensures.short in
+    let judged = why_of_verdict holds names unit bound.defs v
+    (flow, bound.defs, for_graph graph short, λ text h. subst (λ (ds : List Def). IsVerdictOn flow ds text v) c.defs-defs.ensures.same (c.in_ok-verdict-in-Ok.ensures.verdict text h)) in
+    why_of_fitting holds names unit bound.defs c.of_verdict.result c.defs-defs.ensures.fit.bound
+    (subst (λ (a : Answer). IsWhyFitting holds names unit bound.defs a) (sym c.of_verdict.ensures) judged)
 
-pub returns-clause-safe : goal.returns-clause-safe
-returns-clause-safe g c = λ good.
-    let straight = at_some c.in_ok-short.field-0 c.in-Some.short _ _ c.in-Some.is c.in_ok-short.ensures in
-    let safe = safe_of_good c.in_ok-verdict.verdict (sym c.of_verdict.ensures ∙ good) in
-    safe_unit c.trees_run_alike.ensures.runs (unit_of c.args.unit.now) c.in-Some.short c.requires straight (c.in_ok-verdict.ensures.safe safe)
+pub returns-in_ok-verdict-in-Ok-clause-safe : goal.returns-in_ok-verdict-in-Ok-clause-safe
+returns-in_ok-verdict-in-Ok-clause-safe g c = λ good.
+    let bound = c.args.bound.now in
+    let unit = unit_of bound.typed.unit in
+    let flow = c.in-Ok.flow in
+    let made = only_ok c.in_ok-flow.field-0 flow (λ (f : Flow). IsGraphOf bound.typed.entry unit bound.defs f) c.in-Ok.is c.in_ok-flow.ensures.graph in
+    let graph = subst (λ (s : List ℕ). IsGraphOf s unit bound.defs flow) c.requires.start made in
+    let verdict = safe_of_good c.in_ok-verdict-in-Ok.verdict (sym c.of_verdict.ensures ∙ good) in
+    let safe = subst (λ (ds : List Def). IsSafeFlow flow ds) c.defs-defs.ensures.same (c.in_ok-verdict-in-Ok.ensures.safe verdict) in
+    safe_graph c.safe_flow_graphs_mean_safe_trees.ensures c.ascending_places_differ.ensures has_entry c.args.names.start.now unit bound.defs flow c.requires.well_formed graph safe
