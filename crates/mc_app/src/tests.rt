@@ -27,7 +27,7 @@ static TEXTS: [(&str, &str, &str); 30] = [
     ),
     ("", "", "program: NoEntry at 1:1"),
     ("intmain(){return 0;}", "", "program: Unexpected at 1:1"),
-    ("int main(){return 1;}", "", "program: NotYet"),
+    ("int main(){return 1;}", "", "safe"),
     ("int main(){return 0}", "", "program: Unexpected at 1:20"),
     ("int main(){return 0;", "", "program: Unexpected at 1:21"),
     ("int main(){return 0;}}", "", "program: Unexpected at 1:22"),
@@ -51,7 +51,7 @@ static TEXTS: [(&str, &str, &str); 30] = [
     (
         "int main() { int i = 0; while (i < 3) i = i + 1; return 0; }",
         "",
-        "program: NotYet",
+        "refused: line 2, S1, premise 1",
     ),
     (
         "#include <stdlib.h>\n// It ends.\nint main() { /* here */ return 0; }",
@@ -96,7 +96,7 @@ static TEXTS: [(&str, &str, &str); 30] = [
     (
         "struct node { int data; struct node *next; };\nint main() { struct node *l; assume_shape(list, l); return 0; }",
         LIST,
-        "program: NotYet",
+        "refused: line 3, S2, premise 1",
     ),
     (
         "struct node { int data; struct node *next; };\nint main() { struct node *l; assume_shape(lenlist, l); return 0; }",
@@ -196,7 +196,7 @@ static DOCUMENTS: [(&str, &str); 20] = [
 ];
 
 // Words beside files p, d and c that hold a program, no definitions and its document.
-static WORDS: [(&str, &str); 20] = [
+static WORDS: [(&str, &str); 25] = [
     ("check p d c", "safe"),
     ("", "words: refused"),
     ("check", "words: refused"),
@@ -207,11 +207,17 @@ static WORDS: [(&str, &str); 20] = [
     ("analyse p d", "words: refused"),
     ("Check p d c", "words: refused"),
     ("check -p d c", "words: refused"),
-    ("check p - c", "words: refused"),
     ("check p d --c", "words: refused"),
-    ("check x x -", "words: refused"),
+    ("check p d c --help", "words: refused"),
+    ("check p d c --fuel 7", "words: refused"),
+    ("run p d c", "words: refused"),
+    // The function that runs begin with.
+    ("check p d c --entry main", "safe"),
+    ("check --entry f p d c", "program: NoEntry at 1:1"),
     // A missing file is a fault, unless what comes before it is refused.
     ("check x d c", ""),
+    ("check p - c", ""),
+    ("check x x -", ""),
     ("check p x c", ""),
     ("check p d x", ""),
     ("check d x c", "program: NoEntry at 1:1"),

@@ -174,7 +174,7 @@ static BODIES: [(&str, &str, &str); 44] = [
         "S1 S2 S17 S17",
         "refused: line 5, S17, premise 1",
     ),
-    // No programs, and no straight ones.
+    // No programs, and others.
     (
         "struct node *p; struct node *p; return 0;",
         "S1 S3 S3 S2 S17",
@@ -218,9 +218,9 @@ static BODIES: [(&str, &str, &str); 44] = [
     (
         "struct node *p; if (p == 0) return 0; return 0;",
         "S1 S3 S13 S2 S17 S1 S2 S17",
-        "program: NotYet",
+        "refused: line 4, S13, premise 3",
     ),
-    ("int x; return 0;", "S1 S3 S2 S17", "program: NotYet"),
+    ("int x; return 0;", "S1 S3 S2 S17", "safe"),
 ];
 
 // The program with this body behind the struct.
