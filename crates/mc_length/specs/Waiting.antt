@@ -1,0 +1,2 @@
+-- What is still to be counted.
+use Rattle.std.specs.Prelude.{ℕ}

@@ -1,0 +1,6 @@
+//! How many points the flow graph of a program has, calls inlined, found without it.
+#![tactic(auto)]
+
+mod laws;
+
+pub use laws::flow_graphs_are_so_long;
