@@ -269,7 +269,7 @@ mutual
       let d = undefined undone in
       plainly (record { points = omega (arith, a.points, b.points, d.points); variables = omega (arith, a.variables, b.variables, d.variables) }) m
 
-  all_lowered : {g : Graph} {c : Around} {ss : Stmts} {s u : Stage} (table : List ℕ) → IsTable table g.program.functions → (made : List ℕ) → LowersAll g c ss s u → HasMade g c.out made (variables_of s)
+  pub all_lowered : {g : Graph} {c : Around} {ss : Stmts} {s u : Stage} (table : List ℕ) → IsTable table g.program.functions → (made : List ℕ) → LowersAll g c ss s u → HasMade g c.out made (variables_of s)
       → Leads g c.out (made ++ all_declared ss) (stretch_all table made c.blocks ss) s u
   all_lowered table right made lowers_none m = plainly (record { points = omega arith; variables = omega arith }) m
   all_lowered table right made (lowers_next {a = a} {more = more} first rest) m =

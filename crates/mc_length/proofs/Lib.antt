@@ -1,2 +1,4 @@
 pub mod Counting
 pub mod Least
+pub mod Most
+pub mod Owning
