@@ -67,7 +67,7 @@ taken (takes {ts = ts} {t = t} uses is) =
     let b = appended is in
     record { points = omega (arith, a.points, b.points); variables = omega (arith, a.variables, b.variables); temporaries = omega (arith, one_more ts t) }
 
-pub walked : {g : Graph} {place : Place} {y z : VarId} {fs : List FieldAt} {ts us : List VarId} {s u : Stage} {last : FieldAt} → Walks g place y fs ts s z last us u → IsEvaluated (loading fs) ts us s u
+pub walked : {g : Graph} {place : Place} {y z : VarId} {fs : List FieldAt} {ts us : List VarId} {s u : Stage} {last : FieldAt} → Walks g place y fs ts s z last us u → IsEvaluated (loading (length fs)) ts us s u
 walked walks_none = record { points = omega arith; variables = omega arith; temporaries = omega arith }
 walked (walks kind first rest) =
     let a = taken first in
@@ -152,7 +152,7 @@ tested_perhaps tests_always = record { points = omega arith; variables = omega a
 tested_perhaps (tests_once test) = tested test
 
 -- ---- assignments
-pub put : {g : Graph} {out : ℕ} {place : Place} {l : Left} {o : Operand} {ts : List VarId} {s u : Stage} → Puts g out place l o ts s u → Counts (putting l.fields (length ts)) s u
+pub put : {g : Graph} {out : ℕ} {place : Place} {l : Left} {o : Operand} {ts : List VarId} {s u : Stage} → Puts g out place l o ts s u → Counts (putting (length l.fields) (length ts)) s u
 put (puts_variable {ts = ts} made is undone) =
     let a = appended is in
     let b = undefined undone in
@@ -166,7 +166,7 @@ put (puts_field {ts = ts} {us = us} made walk is undone) =
     let clear = ap clearing w.temporaries in
     record { points = omega (arith, w.points, a.points, b.points, clear); variables = omega (arith, w.variables, a.variables, b.variables) }
 
-pub set : {g : Graph} {out : ℕ} {place : Place} {v : VarId} {right : Right} {s u : Stage} → (table : List ℕ) → SetsTo g out place v right s u → Counts (assigning table right []) s u
+pub set : {g : Graph} {out : ℕ} {place : Place} {v : VarId} {right : Right} {s u : Stage} → (table : List ℕ) → SetsTo g out place v right s u → Counts (assigning table right 0) s u
 set table (sets_operand {e = e} value is) =
     let x = evaluated value in
     let a = appended is in
@@ -182,13 +182,13 @@ set table (sets_computed {e = e} {ts = ts} value is undone) =
     record { points = omega (arith, x.points, a.points, b.points, some, more); variables = omega (arith, x.variables, a.variables, b.variables) }
 set table (sets_allocated count is) = appended is
 
-pub assigned : {g : Graph} {out : ℕ} {place : Place} {l : Left} {right : Right} {s u : Stage} → (table : List ℕ) → Assigns g out place l right s u → Counts (assigning table right l.fields) s u
+pub assigned : {g : Graph} {out : ℕ} {place : Place} {l : Left} {right : Right} {s u : Stage} → (table : List ℕ) → Assigns g out place l right s u → Counts (assigning table right (length l.fields)) s u
 assigned table (assigns_variable made sets) = set table sets
 assigned table (assigns_field {f = f} {fs = fs} {e = e} {ts = ts} value puts) =
     let x = evaluated value in
     let y = put puts in
     let same : length ts ≡ operations e = omega (arith, x.temporaries) in
-    let as_many : putting (f ∷ fs) (length ts) ≡ putting (f ∷ fs) (operations e) = ap (putting (f ∷ fs)) same in
+    let as_many : putting (suc (length fs)) (length ts) ≡ putting (suc (length fs)) (operations e) = ap (putting (suc (length fs))) same in
     record { points = omega (arith, x.points, y.points, as_many); variables = omega (arith, x.variables, y.variables) }
 assigned table (assigns_allocated count uses is puts) =
     let x = used uses in
@@ -197,7 +197,7 @@ assigned table (assigns_allocated count uses is puts) =
     record { points = omega (arith, x.points, a.points, y.points); variables = omega (arith, x.variables, a.variables, y.variables) }
 
 pub changed : {g : Graph} {out : ℕ} {place : Place} {operation : Operand → Operand → Operation} {l : Left} {e : Expr} {s u : Stage} → Changes g out place operation l e s u
-    → Counts (changing l.fields (operations e)) s u
+    → Counts (changing (length l.fields) (operations e)) s u
 changed (changes_variable {e = e} {ts = ts} value made is undone) =
     let x = evaluated value in
     let a = appended is in

@@ -194,7 +194,7 @@ mutual
       let between = on (owning.all_evaluated {out = suc inner} values) (on (owning.passed copies) (on (owning.undefined undone) (owning.awaited waiting))) in
       let own = parameters_only parameters free (omega (arith, end.0)) between through.points in
       let before = on (owning.received parameters) (on (owning.all_evaluated values) (on (owning.passed copies) (on (owning.undefined undone) (owning.awaited waiting)))) in
-      let inside = beyond (narrow {w = inner} free (omega (arith, end.0))) before (omega arith) (omega arith) in
+      let inside = beyond {u = inner} {w = inner} (narrow {w = inner} free (omega (arith, end.0))) before (omega arith) (omega arith) in
       let i = all_lowered table right (below f.parameters) body own inside (omega arith) in
       let same : length ts ≡ all_operations c.arguments = omega (arith, x.temporaries) in
       let clear : clearing (length ts) ≡ clearing (all_operations c.arguments) = ap clearing same in

@@ -4,7 +4,7 @@ use Rattle.core.specs.List.{list_any}
 use Rattle.mc_defs.specs.declared.rules.Def.{Def}
 use Rattle.mc_base.specs.declared.plain.Kind.{Kind}
 use Rattle.mc_resolved.specs.declared.program.Resolved.{Resolved}
-use Rattle.mc_resolved.specs.Programs.{FieldAt, Expr, number, input, value, minus, times, plus, difference}
+use Rattle.mc_resolved.specs.Programs.{Expr, number, input, value, minus, times, plus, difference}
 use Rattle.mc_resolved.specs.Programs.{Cond, plain, compare, negation, both, either, Call, Right, expression, result_of}
 use Rattle.mc_resolved.specs.Programs.{allocation, Action, assign, add, subtract, call, Simple, Initial, Start, nothing}
 use Rattle.mc_resolved.specs.Programs.{declares, performs, Stmt, declaration, block, empty, simple, free, assert, assume}
@@ -12,7 +12,7 @@ use Rattle.mc_resolved.specs.Programs.{assume_shape, assert_shape, assert_empty,
 use Rattle.mc_resolved.specs.Programs.{for_loop, break_loop, continue_loop, returns, Stmts, no_more, then, Function}
 use Rattle.mc_resolved.specs.Views.{program_of}
 use Rattle.mc_lowering.specs.Graphs.{Graph}
-use Rattle.mc_lowering.specs.Lowering.{IsLowering}
+use Rattle.mc_lowering.specs.Lowering.{IsLowering, IsMain}
 
 -- variables become undefined by one point, where there are any
 abbrev pub clearing : ℕ → ℕ
@@ -55,14 +55,14 @@ testing_perhaps None = 0
 testing_perhaps (Some c) = testing c
 
 -- ---- assignments and calls
--- the fields but the last one are loaded
-abbrev pub loading : List FieldAt → ℕ
-loading [] = 0
-loading (f ∷ fs) = length fs
+-- of so many fields behind a variable all but the last one are loaded
+abbrev pub loading : ℕ → ℕ
+loading zero = 0
+loading (suc n) = n
 
--- an operand is put into a variable or a field, and the temporaries become undefined, of which there were so many
-abbrev pub putting : List FieldAt → ℕ → ℕ
-putting fs t = loading fs + suc (clearing (t + loading fs))
+-- an operand is put into a variable, or behind so many fields, and the temporaries become undefined, of which there were so many
+abbrev pub putting : (fields temporaries : ℕ) → ℕ
+putting n t = loading n + suc (clearing (t + loading n))
 
 -- a variable is set to an expression with so many operations, by the last of them or by a Copy
 abbrev pub setting : ℕ → ℕ
@@ -70,31 +70,31 @@ setting zero = 1
 setting (suc t) = suc (t + clearing t)
 
 -- a field that is changed is loaded, computed and stored
-abbrev pub changing : List FieldAt → ℕ → ℕ
-changing [] t = t + suc (clearing t)
-changing (f ∷ fs) t = t + length fs + 3 + clearing (t + length fs + 2)
+abbrev pub changing : (fields temporaries : ℕ) → ℕ
+changing zero t = t + suc (clearing t)
+changing (suc n) t = t + n + 3 + clearing (t + n + 2)
 
 -- a call's arguments are evaluated and copied; the rest of it is in a table, by the number of the function
 abbrev pub calling : (table : List ℕ) → Call → ℕ
 calling table c =
     all_operations c.arguments + length c.arguments + clearing (all_operations c.arguments) + slice_index table c.function
 
-abbrev pub assigning : (table : List ℕ) → Right → List FieldAt → ℕ
-assigning table (expression e) [] = setting (operations e)
-assigning table (expression e) (f ∷ fs) = operations e + putting (f ∷ fs) (operations e)
-assigning table (allocation shape fields) [] = 1
-assigning table (allocation shape fields) (f ∷ fs) = suc (putting (f ∷ fs) 1)
-assigning table (result_of c) fs = calling table c + suc (putting fs 0)
+abbrev pub assigning : (table : List ℕ) → Right → (fields : ℕ) → ℕ
+assigning table (expression e) zero = setting (operations e)
+assigning table (expression e) (suc n) = operations e + putting (suc n) (operations e)
+assigning table (allocation shape fields) zero = 1
+assigning table (allocation shape fields) (suc n) = suc (putting (suc n) 1)
+assigning table (result_of c) n = calling table c + suc (putting n 0)
 
 abbrev pub acting : (table : List ℕ) → Action → ℕ
-acting table (assign l right) = assigning table right l.fields
-acting table (add l e) = changing l.fields (operations e)
-acting table (subtract l e) = changing l.fields (operations e)
+acting table (assign l right) = assigning table right (length l.fields)
+acting table (add l e) = changing (length l.fields) (operations e)
+acting table (subtract l e) = changing (length l.fields) (operations e)
 acting table (call c) = calling table c
 
 abbrev pub initializing : (table : List ℕ) → Option Right → ℕ
 initializing table None = 1
-initializing table (Some right) = assigning table right []
+initializing table (Some right) = assigning table right 0
 
 abbrev pub declaring : (table : List ℕ) → List Initial → ℕ
 declaring table [] = 0
@@ -195,6 +195,10 @@ below (suc n) = below n ++ n ∷ []
 -- what a call of a function comes to, but for its arguments
 abbrev pub calling_rest : (table : List ℕ) → Function → ℕ
 calling_rest table f = awaiting f.result + suc (stretch_all table (below f.parameters) [] f.body)
+
+-- behind the body of `main` its result is set
+abbrev pub IsFalling : Function → ℕ → Type 0
+IsFalling f n = (IsMain f → n ≡ 1) × ((IsMain f → ⊥) → n ≡ 0)
 
 -- it is so many, or, where the first number is more than 10,000, at least so many
 pub record IsSoMany (n m : ℕ) : Type 0 where

@@ -1,6 +1,8 @@
 //! How many points the flow graph of a program has, calls inlined, found without it.
 #![tactic(auto)]
 
+mod actions;
 mod laws;
+mod values;
 
 pub use laws::flow_graphs_are_so_long;
