@@ -4,7 +4,7 @@ use Rattle.std.proofs.lemmas.List.Elements.{Contains-append_left, Contains-push}
 use Rattle.std.proofs.lemmas.Bool.{cases_lt}
 use Rattle.std.proofs.lemmas.Option.{same_Some}
 use Rattle.std.proofs.lemmas.List.Folds.{list_any-from_Any}
-use Rattle.core.specs.List.{list_any, Any}
+use Rattle.std.specs.List.{list_any, Any}
 use Rattle.std.specs.Prelude.{All, Contains, slice_get, slice_index}
 use Rattle.mc_base.specs.declared.ids.VarId.{VarId}
 use Rattle.mc_base.specs.declared.plain.VarInfo.{VarInfo}

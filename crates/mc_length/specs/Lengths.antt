@@ -1,6 +1,6 @@
 -- How many points the flow graphs of a program have, read off the program.
 use Rattle.std.specs.Prelude.{◌≡◌, ◌≤◌, ◌+◌, ◌++◌, ℕ, zero, suc, List, [], ◌∷◌, Option, Some, None, cond, eqb, map, length, slice_get, slice_index}
-use Rattle.core.specs.List.{list_any}
+use Rattle.std.specs.List.{list_any}
 use Rattle.mc_defs.specs.declared.rules.Def.{Def}
 use Rattle.mc_base.specs.declared.plain.Kind.{Kind}
 use Rattle.mc_resolved.specs.declared.program.Resolved.{Resolved}

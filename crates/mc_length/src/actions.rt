@@ -28,13 +28,14 @@ fn putting(fields: usize, temporaries: usize) -> Result<usize, NoMemory>
 }
 
 // The points by which a variable is set to an expression with so many operations.
-fn setting(operations: usize) -> usize
-    ensures { result ≡ setting operations }
+fn setting(operations: usize) -> Result<usize, NoMemory>
+    ensures { IfOk result (λ n. n ≡ setting operations) }
 {
     if operations == 0 {
-        1
+        Ok(1)
     } else {
-        operations + clearing(operations - 1)
+        let count = sum(operations, clearing(operations - 1))?;
+        Ok(count)
     }
 }
 
@@ -55,7 +56,7 @@ fn changing(fields: usize, operations: usize) -> Result<usize, NoMemory>
 }
 
 // What a call of a function comes to, but for its arguments.
-fn rest_of(table: &[usize], function: usize) -> usize
+pub fn rest_of(table: &[usize], function: usize) -> usize
     ensures { result ≡ slice_index table.now function }
 {
     match table.get(function) {
@@ -81,7 +82,8 @@ fn assign_value(alloc: Global, value: &Expression, fields: usize) -> Result<usiz
 {
     let operations = operations(alloc, value)?;
     if fields == 0 {
-        Ok(setting(operations))
+        let count = setting(operations)?;
+        Ok(count)
     } else {
         let put = putting(fields, operations)?;
         let count = sum(operations, put)?;
@@ -219,7 +221,8 @@ fn return_right(alloc: Global, table: &[usize], right: &RightSide) -> Result<usi
     match right {
         RightSide::Expression(value) => {
             let operations = operations(alloc, value)?;
-            Ok(setting(operations))
+            let count = setting(operations)?;
+            Ok(count)
         }
         RightSide::Call(call) => {
             let called = calling(alloc, table, call)?;

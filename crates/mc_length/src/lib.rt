@@ -3,6 +3,9 @@
 
 mod actions;
 mod laws;
+mod statements;
+mod tables;
 mod values;
 
 pub use laws::flow_graphs_are_so_long;
+pub use tables::length;
