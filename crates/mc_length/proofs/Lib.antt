@@ -5,4 +5,5 @@ pub mod Most
 pub mod Owning
 pub mod Seen
 pub mod Stepping
+pub mod Tabling
 pub mod Whole

@@ -19,10 +19,10 @@ fn capped(count: usize) -> usize
 }
 
 // The point by which a result is undefined.
-fn awaiting(result: Option<Kind>) -> usize
-    ensures { result ≡ awaiting result.entry }
+fn awaiting(kind: Option<Kind>) -> usize
+    ensures { result ≡ awaiting kind }
 {
-    match result {
+    match kind {
         Some(_) => 1,
         None => 0,
     }
