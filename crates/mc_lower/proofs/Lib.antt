@@ -1,0 +1,14 @@
+pub mod Agreeing
+pub mod Assigning
+pub mod Calling
+pub mod Choosing
+pub mod Entering
+pub mod Firsts
+pub mod Gathering
+pub mod Meeting
+pub mod Owning
+pub mod Resting
+pub mod Seen
+pub mod Testing
+pub mod Valuing
+pub mod Worlding

@@ -1,0 +1,99 @@
+-- Where ways meet, in the finished flow graph.
+use Rattle.std.proofs.Common.{◌≡◌, ℕ, suc, List, [], ◌∷◌, Some, None, refl, sym, ap, ◌∙◌, subst, length, map}
+use Rattle.mc_base.specs.declared.ids.PointId.{PointId}
+use Rattle.mc_base.specs.declared.ids.VarId.{VarId}
+use Rattle.mc_text.specs.declared.place.Place.{Place}
+use Rattle.mc_flow.specs.declared.instr.Instr.{Instr}
+use Rattle.mc_flow.specs.declared.instr.Instr.TheVariants.{End, Fail, Skip}
+use Rattle.mc_resolved.specs.Programs.{Cond, Head, Right, Stmt, assert, assume, break_loop, continue_loop, returns, if_only, if_else, while_loop, do_loop, for_loop}
+use Rattle.mc_lowering.specs.Graphs.{Graph, Role, plain, head, merge, stop, result, IsMade, nowhere, Stage, stage, IsPoint, Appends, appends, Leaves}
+use Rattle.mc_lowering.specs.Values.{Tests, TestsPerhaps}
+use Rattle.mc_lowering.specs.Lowering.{Around, Loop, SetsTo, breaks, continues, returns_nothing, returns_value, asserts, assumes, in_loop, Starts, Finishes, Lowers, ifs, ifs_else, whiles, dos, fors}
+use Rattle.mc_lower.specs.Left.{EndsCall, ends_call, Checks, checks, Merges, merges, Otherwise, otherwise, ExitsTo, exits, EndsDo, ends_do, EndsFor, ends_for, TurnsFor, turns_for}
+use Rattle.mc_lower.specs.Owned.{Forgets}
+use Rattle.mc_lower.specs.Valued.{TestsOn, tests_on, TestsPerhapsOn, tests_perhaps_on}
+use Rattle.mc_lower.specs.Worlds.{GoesTo, goes_to}
+
+pub mapped_length : {A B : Type 0} (f : A → B) (xs : List A) → length (map f xs) ≡ length xs
+mapped_length f [] = refl
+mapped_length f (x ∷ xs) = ap suc (mapped_length f xs)
+
+-- a point is appended where it is
+pub appended_at : (g : Graph) (role : Role) (place : Place) (code : PointId → Instr) (a n k : ℕ) (u : Stage) → Appends g role place code (stage a n k) u → a ≡ n
+appended_at g role place code _ _ _ _ (appends there) = refl
+
+pub ended : (g : Graph) (out : ℕ) (place : Place) (count a n k : ℕ) (u : Stage) → a ≡ out → Forgets g out place count (stage a n k) u
+    → EndsCall g out place count (stage a n k) u
+ended g out place count a n k u is f =
+    let to : n ≡ out = sym (appended_at g plain place _ a n k u f.undefined) ∙ is in
+    subst (λ x. EndsCall g out place count (stage x n k) u) (sym is)
+    (subst (λ x. EndsCall g out place count (stage out x k) u) (sym to)
+    (ends_call (subst (λ x. Forgets g out place count (stage out x k) u) to (subst (λ x. Forgets g out place count (stage x n k) u) is f))))
+
+pub merged : (g : Graph) (place : Place) (a n k : ℕ) (u : Stage) → Appends g merge place (λ q. Skip q) (stage a n k) u → Merges g place a (stage a n k) u
+merged g place _ _ _ _ (appends there) = merges (appends there)
+
+pub exited : (g : Graph) (place : Place) (b e n k : ℕ) (u : Stage) → Appends g plain place (λ q. Skip q) (stage e n k) u → ExitsTo g place b e (stage b n k) u
+exited g place b _ _ _ _ (appends there) = exits (appends there)
+
+pub did : (g : Graph) (out : ℕ) (place : Place) (d : Cond) (b a n j e p l : ℕ) (m u : Stage) → Appends g plain place (λ q. Skip q) (stage a n j) m
+    → Tests g out d m b e p l → Appends g plain place (λ q. Skip q) (stage e p l) u → EndsDo g out place d b a e (stage a n j) u
+did g out place d b _ _ _ _ _ _ _ _ (appends there) tests (appends last) = ends_do (appends there) tests (appends last)
+
+pub checked : (g : Graph) (out : ℕ) (role : Role) (place : Place) (code : Instr) (d : Cond) (s : Stage) (b f n m k j : ℕ) → Tests g out d s b f n k
+    → f ≡ n → m ≡ suc n → j ≡ k → IsPoint g n role place code → Checks g out role place code d s (stage b m j)
+checked g out role place code d s b f n m k j tests at more same there =
+    subst (λ x. Checks g out role place code d s (stage b x j)) (sym more)
+    (subst (λ x. Checks g out role place code d s (stage b (suc n) x)) (sym same)
+    (checks (subst (λ x. Tests g out d s b x n k) at tests) there))
+
+pub turned : (g : Graph) (out : ℕ) (h : Head) (b a n k e : ℕ) (r m u : Stage) → Appends g plain h.place (λ q. Skip q) (stage a n k) r
+    → Finishes g out h.last r m → EndsFor g out h b e m u → TurnsFor g out h b a e (stage a n k) u
+turned g out h b _ _ _ e r m u (appends there) last ends = turns_for (appends there) last ends
+
+-- ---- jumps
+pub broken : (g : Graph) (c : Around) (place : Place) (l : Loop) (s m u : Stage) → c.loop ≡ Some l → Leaves g c.out place c.blocks s m → GoesTo l.exit m u
+    → Lowers g c (break_loop place) s u
+broken g c place l s _ _ is left goes_to = breaks is left
+
+pub continued : (g : Graph) (c : Around) (place : Place) (l : Loop) (s m u : Stage) → c.loop ≡ Some l → Leaves g c.out place c.blocks s m → GoesTo l.turn m u
+    → Lowers g c (continue_loop place) s u
+continued g c place l s _ _ is left goes_to = continues is left
+
+pub returned_nothing : (g : Graph) (c : Around) (place : Place) (s u : Stage) → GoesTo c.out s u → Lowers g c (returns place None) s u
+returned_nothing g c place _ _ goes_to = returns_nothing
+
+pub returned_value : (g : Graph) (c : Around) (place : Place) (right : Right) (v : VarId) (s m u : Stage) → IsMade g (result c.out) v s
+    → SetsTo g c.out place v right s m → GoesTo c.out m u → Lowers g c (returns place (Some right)) s u
+returned_value g c place right v s _ _ made set goes_to = returns_value made set
+
+pub checked_fail : (g : Graph) (c : Around) (place : Place) (d : Cond) (s u : Stage) → Checks g c.out plain place Fail d s u → Lowers g c (assert place d) s u
+checked_fail g c place d s _ (checks tests there) = asserts tests there
+
+pub checked_end : (g : Graph) (c : Around) (place : Place) (d : Cond) (s u : Stage) → Checks g c.out stop place End d s u → Lowers g c (assume place d) s u
+checked_end g c place d s _ (checks tests there) = assumes tests there
+
+-- ---- statements with statements inside
+pub if_met : (g : Graph) (c : Around) (place : Place) (d : Cond) (a : Stmt) (n : ℕ) (s r m u : Stage) → TestsOn g c.out d n s r → Lowers g c a r m
+    → Merges g place n m u → Lowers g c (if_only place d a) s u
+if_met g c place d a _ _ _ _ _ (tests_on tests) body (merges last) = ifs tests body last
+
+pub if_else_met : (g : Graph) (c : Around) (place : Place) (d : Cond) (a b : Stmt) (f n : ℕ) (s r m i j u : Stage) → TestsOn g c.out d f s r
+    → Lowers g c a r m → Otherwise f n m i → Lowers g c b i j → Merges g place n j u → Lowers g c (if_else place d a b) s u
+if_else_met g c place d a b _ _ _ _ _ _ _ _ (tests_on tests) body otherwise other (merges last) = ifs_else tests body other last
+
+pub while_met : (g : Graph) (c : Around) (place : Place) (d : Cond) (a : Stmt) (b n k e : ℕ) (s r m u : Stage)
+    → Appends g head place (λ q. Skip q) (stage b n k) s → TestsOn g c.out d e s r → Lowers g (in_loop c e b) a r m → ExitsTo g place b e m u
+    → Lowers g c (while_loop place d a) (stage b n k) u
+while_met g c place d a _ _ _ _ _ _ _ _ (appends there) (tests_on tests) body (exits last) = whiles (appends there) tests body last
+
+pub do_met : (g : Graph) (c : Around) (place : Place) (d : Cond) (a : Stmt) (b n k i e : ℕ) (s m u : Stage)
+    → Appends g head place (λ q. Skip q) (stage b n k) s → Lowers g (in_loop c e i) a s m → EndsDo g c.out place d b i e m u
+    → Lowers g c (do_loop place a d) (stage b n k) u
+do_met g c place d a _ _ _ _ _ _ _ _ (appends there) body (ends_do turn tests last) = dos (appends there) body turn tests last
+
+pub for_met : (g : Graph) (c : Around) (h : Head) (a : Stmt) (b n k i e : ℕ) (r s m t u : Stage) → Starts g c.function c.out h.start r (stage b n k)
+    → Appends g head h.place (λ q. Skip q) (stage b n k) s → TestsPerhapsOn g c.out h.condition e s m → Lowers g (in_loop c e i) a m t
+    → TurnsFor g c.out h b i e t u → Lowers g c (for_loop h a) r u
+for_met g c h a _ _ _ _ _ _ _ _ _ _ starts (appends there) (tests_perhaps_on tests) body (turns_for turn last (ends_for (exits last_point) gone)) =
+    fors starts (appends there) tests body turn last last_point gone

@@ -1,0 +1,20 @@
+use Rattle.std.proofs.Common.{◌≡◌, ap, ◌∙◌, rules, sym, subst}
+use mir.Syntax.{w64}
+use mir.Val.{to_z, of_z}
+use Rattle.mc_flow.specs.declared.instr.Operand.TheVariants.{Const, Var}
+use Rattle.mc_resolved.specs.Programs.{constant}
+use Rattle.mc_resolved.specs.Views.{argument_of}
+use Rattle.mc_lowering.specs.Lowering.{IsArgument, is_variable, is_constant}
+use Rattle.mc_lower.specs.Worlds.{stage_of}
+use Rattle.mc_lower.proofs.builder.Builder.argument.Goals as goal
+
+pub returns-in_ok-variable-in-Variable : goal.returns-in_ok-variable-in-Variable
+returns-in_ok-variable-in-Variable c = λ w agrees.
+    subst (λ a. IsArgument w.graph (w.out c.args.occurrence) (stage_of w c.args.self.now) (argument_of a) (Var c.in_ok-variable-in-Variable.variable)) (sym c.in-Variable.is)
+    (is_variable (c.in_ok-variable-in-Variable.ensures w agrees))
+
+pub returns-in-Constant : goal.returns-in-Constant
+returns-in-Constant c = λ w agrees.
+    let same : to_z w64 (of_z w64 c.in-Constant.value) ≡ c.in-Constant.value = search rules in
+    subst (λ a. IsArgument w.graph (w.out c.args.occurrence) (stage_of w c.args.self.now) (argument_of a) c.constant.result) (sym c.in-Constant.is)
+    (subst (λ o. IsArgument w.graph (w.out c.args.occurrence) (stage_of w c.args.self.now) (constant c.in-Constant.value) o) (sym (c.constant.ensures ∙ ap (λ v. Const v) same)) is_constant)

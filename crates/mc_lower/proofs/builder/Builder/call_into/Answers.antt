@@ -1,0 +1,16 @@
+use Rattle.std.proofs.Common.{◌∷◌}
+use Rattle.mc_resolved.specs.Views.{call_of}
+use Rattle.mc_lower.specs.declared.tasks.Task.{Task}
+use Rattle.mc_lower.specs.Worlds.{stage_of}
+use Rattle.mc_lower.proofs.Calling.{taken_result}
+use Rattle.mc_lower.proofs.Resting.{pushed}
+use Rattle.mc_lower.proofs.builder.Builder.call_into.Goals as goal
+
+pub returns : goal.returns
+returns c = λ w u agrees rest.
+    let s = stage_of w c.args.self.now in
+    let answer = c.in_ok-entered.entered.answer in
+    let o = c.in_ok-push_body.ensures w (stage_of w c.enter_call.new.self) u rest in
+    let r = pushed w _ (Task.Take c.args.place c.args.target answer c.args.context.occurrence ∷ c.args.tasks.now) o.2.0 u c.in_ok-push.ensures o.2.2 in
+    let entered = c.in_ok-entered.ensures w agrees in
+    (entered.0, (r.0, taken_result w.graph (w.out c.args.context.occurrence) c.args.place (call_of c.args.call.now) c.args.target answer s o.2.0 r.0 (entered.1 o.0 o.2.0 o.1 o.2.1) r.1, r.2))

@@ -1,0 +1,34 @@
+use Rattle.std.proofs.Common.{◌≡◌, ◌∷◌, arith, ◌-◌, List, length, map, take, drop, sym, ap, ◌∙◌, subst}
+use Rattle.std.proofs.lemmas.List.{take_rest}
+use Rattle.mc_resolved.specs.declared.program.Initial.{Initial as InitialCode}
+use Rattle.mc_resolved.specs.Views.{function_of, initial_of}
+use Rattle.mc_lowering.specs.Lowering.{Declares, declares_none}
+use Rattle.mc_lower.specs.Worlds.{stage_of}
+use Rattle.mc_lower.proofs.Agreeing.{first_of, is_none}
+use Rattle.mc_lower.proofs.Resting.{pushed}
+use Rattle.mc_lower.proofs.builder.Builder.declare.Goals as goal
+
+pub returns : goal.returns
+returns c = λ w u agrees rest.
+    let items : List InitialCode = c.args.items.now in
+    let first = c.first-item.result in
+    let more : List InitialCode = take (length items - 1) (drop 1 items) in
+    let split : items ≡ first ∷ more =
+    first_of items first c.in-len1-up.len_at_least c.first-item.is ∙ ap (λ (l : List InitialCode). first ∷ l) (sym (take_rest items 1)) in
+    let r = c.in_ok-declare_one.ensures w u agrees rest in
+    let q = pushed w _ _ r.1.0 u c.in_ok-push.ensures r.1.2 in (
+      r.0,
+      (
+        q.0,
+        subst (λ l. Declares w.graph (function_of c.args.context.function.now) (w.out c.args.context.occurrence) c.args.place (map initial_of l) (stage_of w c.args.self.now) q.0) (sym split)
+            (r.1.1 (map initial_of more) q.0 q.1),
+        q.2,
+      ),
+    )
+
+pub returns-in_default : goal.returns-in_default
+returns-in_default c = λ w u agrees rest.
+    let s = stage_of w c.args.self.now in
+    let below = c.in_default.len_below in
+    let count : length c.args.items.now ≡ 0 = omega arith in
+    (agrees, (s, subst (λ l. Declares w.graph (function_of c.args.context.function.now) (w.out c.args.context.occurrence) c.args.place (map initial_of l) s s) (sym (is_none c.args.items.now count)) declares_none, rest))

@@ -1,0 +1,27 @@
+use Rattle.std.proofs.Common.{◌≡◌, ◌∷◌, ap, ◌∙◌, subst, sym}
+use Rattle.std.specs.Prelude.{option_map}
+use Rattle.mc_resolved.specs.Views.{condition_of, head_of, statement_of}
+use Rattle.mc_lowering.specs.Lowering.{Lowers}
+use Rattle.mc_lower.specs.declared.tasks.Task.{Task}
+use Rattle.mc_lower.specs.Left.{around_of}
+use Rattle.mc_lower.specs.Valued.{TestsPerhapsOn}
+use Rattle.mc_lower.specs.Worlds.{stage_of}
+use Rattle.mc_lower.proofs.Meeting.{for_met}
+use Rattle.mc_lower.proofs.Resting.{copied_map, pushed_two}
+use Rattle.mc_lower.proofs.builder.Builder.enter_for.Goals as goal
+
+pub returns : goal.returns
+returns c = λ w u agrees rest.
+    let h = head_of c.args.head.now in
+    let exit = c.in_ok-exit.exit in
+    let m = stage_of w c.test_perhaps.new.self in
+    let r = pushed_two w _ _ _ _ _ m u c.in_ok-push-2.ensures c.in_ok-push.ensures rest in
+    let tested = c.in_ok-test_perhaps.ensures w agrees in
+    let last = c.in_ok-exit.ensures.kept w tested.0 in
+    let first = c.in_ok-turn.ensures.kept w last.0 in
+    let skipped = c.in_ok-skip.ensures w first.0 in
+    let condition = subst (λ o. TestsPerhapsOn w.graph (w.out c.args.context.occurrence) o (w.at exit.0) (stage_of w c.label-2.new.self) m)
+    (sym (copied_map condition_of c.as_ref.result) ∙ ap (λ o. option_map condition_of o) c.as_ref.ensures.value) tested.1 in
+    let tests = subst (λ s. TestsPerhapsOn w.graph (w.out c.args.context.occurrence) h.condition (w.at exit.0) s m) (sym (first.1 ∙ last.1)) condition in
+    let inside = subst (λ x. Lowers w.graph (around_of w x) (statement_of c.args.body.now) m r.0) c.in_loop.ensures r.1 in
+    (skipped.0, (r.2.0, (λ q starts. for_met w.graph (around_of w c.args.context) h (statement_of c.args.body.now) _ _ _ _ _ q _ _ _ _ starts skipped.1 tests inside r.2.1), r.2.2))

@@ -1,0 +1,15 @@
+use Rattle.std.proofs.Common.{List}
+use Rattle.mc_base.specs.declared.ids.VarId.{VarId}
+use Rattle.mc_flow.specs.declared.instr.Operand.{Operand}
+use Rattle.mc_resolved.specs.Views.{expression_of}
+use Rattle.mc_lowering.specs.Graphs.{Stage}
+use Rattle.mc_lowering.specs.Values.{Evaluates}
+use Rattle.mc_lower.specs.Valued.{Finishes}
+use Rattle.mc_lower.specs.Worlds.{World, Agrees, stage_of}
+use Rattle.mc_lower.proofs.builder.Builder.evaluate.Given as goal
+
+abbrev pub invariant-parts : goal.invariant-parts
+invariant-parts l =
+    (w : World) (o : Operand) (ts : List VarId) (u : Stage) → Agrees w l.self
+    → Finishes w.graph (w.out l.site.occurrence) l.site.place l.work l.made l.temporaries.items (stage_of w l.self) o ts u
+    → Agrees w l.fn.self × Evaluates w.graph (w.out l.site.occurrence) l.site.place (expression_of l.expression) l.fn.temporaries.items (stage_of w l.fn.self) o ts u

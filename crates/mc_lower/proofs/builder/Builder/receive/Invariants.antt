@@ -1,0 +1,14 @@
+use Rattle.std.proofs.Common.{◌-◌, ◌++◌, List}
+use Rattle.mc_base.specs.declared.ids.VarId.{VarId}
+use Rattle.mc_resolved.specs.Views.{function_of}
+use Rattle.mc_lowering.specs.Graphs.{Stage}
+use Rattle.mc_lowering.specs.Lowering.{Receives}
+use Rattle.mc_lower.specs.Worlds.{World, Agrees, stage_of}
+use Rattle.mc_lower.proofs.builder.Builder.receive.Given as goal
+
+abbrev pub invariant-loop-number : goal.invariant-loop-number
+invariant-loop-number l =
+    (w : World) (vs : List VarId) (u : Stage) → Agrees w l.self
+    → Receives w.graph (function_of l.function) (w.out l.occurrence) l.number (l.function.parameters - l.number) (stage_of w l.self) vs u
+    → Agrees w l.fn.self
+    × Receives w.graph (function_of l.function) (w.out l.occurrence) 0 l.function.parameters (stage_of w l.fn.self) (l.parameters.items ++ vs) u

@@ -1,0 +1,26 @@
+use Rattle.std.proofs.Common.{sym, subst, length}
+use Rattle.std.specs.Prelude.{option_map}
+use Rattle.mc_resolved.specs.Views.{condition_of}
+use Rattle.mc_lower.specs.Valued.{TestsPerhapsOn}
+use Rattle.mc_lower.specs.Worlds.{stage_of}
+use Rattle.mc_lower.proofs.Testing.{perhaps_some, perhaps_none}
+use Rattle.mc_lower.proofs.builder.Builder.test_perhaps.Goals as goal
+
+pub returns-in_ok-test_or-in-Some : goal.returns-in_ok-test_or-in-Some
+returns-in_ok-test_or-in-Some c = λ w agrees.
+    let tested = c.in_ok-test_or-in-Some.ensures w agrees in
+    let s = stage_of w c.args.self.now in
+    let u = stage_of w c.test_or.new.self in (
+      tested.0,
+      subst (λ o. TestsPerhapsOn w.graph (w.out c.args.occurrence) (option_map (λ d. condition_of d.now) o) (w.at c.args.no.0) s u) (sym c.in-Some.is)
+          (perhaps_some w.graph (w.out c.args.occurrence) _ (w.at c.args.no.0) s u tested.1),
+    )
+
+pub returns-in-None : goal.returns-in-None
+returns-in-None c = λ w agrees.
+    let s = stage_of w c.args.self.now in
+    let b = c.args.self.now in (
+      agrees,
+      subst (λ o. TestsPerhapsOn w.graph (w.out c.args.occurrence) (option_map (λ d. condition_of d.now) o) (w.at c.args.no.0) s s) (sym c.in-None.is)
+          (perhaps_none w.graph (w.out c.args.occurrence) (w.at c.args.no.0) (w.at b.goal.0) (length b.points.items) (length b.variables.items)),
+    )

@@ -1,0 +1,16 @@
+use Rattle.std.proofs.Common.{ap, ◌∙◌}
+use Rattle.mc_flow.specs.declared.instr.Instr.TheVariants.{Undef}
+use Rattle.mc_lowering.specs.Graphs.{point}
+use Rattle.mc_lower.proofs.Agreeing.{appended}
+use Rattle.mc_lower.proofs.builder.Builder.undefine_all.Goals as goal
+
+pub returns : goal.returns
+returns c = λ w agrees.
+    let later = c.in_ok-append.ensures w agrees in
+    let first = c.in_ok-next.ensures.kept w later.0 in (
+      first.0,
+      appended w _ c.args.place _ c.in_ok-next.next (λ q. Undef c.args.variables.now q) _ _ _ first.1
+          (ap (λ q. Undef c.of-list.result (point (w.at q.0))) c.target.ensures
+          ∙ ap (λ vs. Undef vs (point (w.at c.in_ok-next.next.0))) (c.of-list.ensures ∙ c.in_ok-from_slice.ensures.items))
+          later.1,
+    )

@@ -1,0 +1,86 @@
+-- Labels become points: the flow graph that the code answers.
+use Rattle.std.specs.Prelude.{◌≡◌, ℕ, suc, List, map, Some, Option, length, slice_get, slice_index_or}
+use Rattle.mc_base.specs.declared.ids.PointId.{PointId}
+use Rattle.mc_defs.specs.declared.rules.Def.{Def}
+use Rattle.mc_defs.specs.declared.shapes.Structs.{Structs}
+use Rattle.mc_flow.specs.declared.graph.Point.{Point}
+use Rattle.mc_resolved.specs.declared.program.Resolved.{Resolved}
+use Rattle.mc_resolved.specs.Programs.{Function}
+use Rattle.mc_resolved.specs.Views.{program_of}
+use Rattle.mc_lowering.specs.Graphs.{Graph, Owner, Role, plain, head, merge, stop, nowhere, Stage, stage, IsPoint}
+use Rattle.mc_lowering.specs.Lowering.{AreThresholds, IsLowering, IsTooLong}
+use Rattle.mc_flow.specs.declared.instr.Instr.TheVariants.{End}
+use Rattle.std.specs.Prelude.{◌<◌, ◌≤◌, AllPairs, All, Contains}
+use Rattle.mc_lowering.specs.Graphs.{point}
+use Rattle.mc_lower.specs.declared.builder.Builder.{Builder}
+use Rattle.mc_lower.specs.declared.builder.Draft.{Draft}
+use Rattle.mc_lower.specs.declared.builder.Label.{Label}
+use Rattle.mc_lower.specs.declared.builder.Opened.{Opened}
+use Rattle.mc_lower.specs.declared.builder.Variable.{Variable}
+use Rattle.mc_lower.specs.declared.lowering.Lowered.{Lowered}
+use Rattle.mc_lower.specs.Worlds.{World, AllAt, IsMarked, point_in, role_of, stage_of}
+
+-- the point of a label in a table
+abbrev pub point_at : List ℕ → ℕ → ℕ
+point_at table l = slice_index_or table l 0
+
+-- different labels of these are different points
+abbrev pub AreApart : (ℕ → ℕ) → List Label → Type 0
+AreApart at outs =
+    (i j : ℕ) (l m : Label) → slice_get outs i ≡ Some l → slice_get outs j ≡ Some m → at l.0 ≡ at m.0 → i ≡ j
+
+-- no two variables have one owner
+abbrev pub AreOnce : List Variable → Type 0
+AreOnce variables =
+    (i j : ℕ) (v u : Variable) → slice_get variables i ≡ Some v → slice_get variables j ≡ Some u → v.owner ≡ u.owner
+    → i ≡ j
+
+-- a block stands inside an earlier one, or inside none
+abbrev pub IsInner : ℕ → Opened → Type 0
+IsInner i o = (j : ℕ) → o.around ≡ Some j → j < i
+
+-- these are the points of a role, ascending
+pub record AreThose (drafts : List Draft) (role : Role) (ps : List PointId) : Type 0 where
+  pub ascending : AllPairs (λ p q. p.0 < q.0) ps
+  pub all : (n : ℕ) (d : Draft) → slice_get drafts n ≡ Some d → role_of d.role ≡ role → Contains ps (point n)
+  pub only : All (λ p. (d : Draft) × (slice_get drafts p.0 ≡ Some d) × (role_of d.role ≡ role)) ps
+
+-- the last point, where the `return` of an occurrence goes
+pub data Ends (g : Graph) (out : ℕ) : Stage → Stage → Type 0 where
+  ends : {a k : ℕ} → IsPoint g out plain nowhere End → Ends g out (stage out out k) (stage a (suc out) k)
+
+-- there are at most 10,000 points, and labels have points, with which all that is known of them holds
+pub record AreSettled (b : Builder) (table : List ℕ) : Type 0 where
+  pub short : length b.points.items ≤ 10000
+  pub marks : AllAt (λ i m. IsMarked (point_at table) m) b.marks.items
+  pub apart : AreApart (point_at table) b.outs.items
+  pub once : AreOnce b.variables.items
+  pub inner : AllAt IsInner b.blocks.items
+
+-- the flow graph, with points in place of labels
+pub record IsFinished (b : Builder) (x : Lowered) : Type 0 where
+  pub table : List ℕ
+  pub settled : AreSettled b table
+  pub points : x.flow.points ≡ map (point_in (point_at table)) b.points.items
+  pub vars : x.flow.vars ≡ map (λ v. v.info) b.variables.items
+  pub structs : x.flow.structs ≡ b.structs.now
+  pub heads : AreThose b.points.items head x.flow.heads
+  pub merges : AreThose b.points.items merge x.flow.merges
+  pub stops : AreThose b.points.items stop x.stops
+  pub thresholds : AreThresholds x.flow.points x.flow.thresholds
+
+-- with some owners and roles, whatever the definitions of its shapes are, this is the flow graph of a program
+abbrev pub IsFlowOf : Resolved → Structs → Lowered → Type 0
+IsFlowOf program structs x =
+    (defs : List Def)
+    → (owners : List Owner) × (roles : List Role) × (entry : Function) × (out : ℕ) × (count : ℕ)
+    × IsLowering
+    (record { program = program_of program defs; flow = x.flow; owners = owners; roles = roles; stops = x.stops })
+    entry out count
+    × (x.flow.structs ≡ structs)
+
+-- each flow graph of a program has more than 10,000 points
+abbrev pub AreTooLong : Resolved → Structs → Type 0
+AreTooLong program structs =
+    (g : Graph) (defs : List Def) (entry : Function) (out count : ℕ) → g.program ≡ program_of program defs → g.flow.structs ≡ structs
+    → IsLowering g entry out count → IsTooLong g

@@ -1,0 +1,291 @@
+// A flow graph while it is made: its points go on to labels, which become points at the end.
+ghost use Rattle.std.specs.Prelude.{[], ◌≡◌, ◌++◌, OnOk, IfOk, suc, length};
+ghost use Rattle.mc_lowering.specs.Graphs.{Appends, Undefines, plain, point, stage};
+ghost use Rattle.mc_flow.specs.declared.instr.Instr.TheVariants.{Skip, Copy, Undef};
+ghost use Rattle.mc_lower.specs.Worlds.{GoesTo, World, Agrees, IsPut, Lays, Leads, blocks_in, role_of, stage_of};
+
+use mc_base::{Items, Kind, PointId, VarId, VarInfo};
+use mc_defs::Structs;
+use mc_flow::{Instr, Operand};
+use mc_resolved::Resolved;
+use mc_text::Place;
+use std::alloc::{AllocError, AllocFailed, Global};
+
+/// The most points that a flow graph has.
+pub const MAX_POINTS: usize = 10000;
+
+/// The place of a point that has none of its own.
+pub const NOWHERE: Place = Place { line: 1, column: 1 };
+
+/// Why there is no flow graph.
+#[derive(Clone, Copy, Debug, PartialEq, Eq)]
+pub enum LowerFault {
+    /// Each has more than 10,000 points; also where the program has none at all, since it names what is not there.
+    TooLong,
+    NoMemory,
+}
+
+impl From<AllocError> for LowerFault {
+    fn from(_: AllocError) -> LowerFault {
+        LowerFault::NoMemory
+    }
+}
+
+impl<T: Drop> From<AllocFailed<T>> for LowerFault {
+    fn from(_e: AllocFailed<T>) -> LowerFault {
+        LowerFault::NoMemory
+    }
+}
+
+/// A program that names what is not there has no flow graph, of any length.
+pub const ABSENT: LowerFault = LowerFault::TooLong;
+
+/// A point that may not be known yet.
+#[derive(Clone, Copy, Debug, PartialEq, Eq)]
+pub struct Label(pub u64);
+
+impl Label {
+    /// The label as the target of an instruction, until labels become points.
+    pub fn target(self) -> PointId
+        ensures { result ≡ point self.0 }
+    {
+        PointId(self.0)
+    }
+}
+
+/// What is known of a label: its point, or that it is the point of another.
+#[derive(Clone, Copy)]
+pub enum Mark {
+    At(Label, usize),
+    Same(Label, Label),
+}
+
+/// What a point is: a loop's head, where the ways of an `if` meet, an End that counts as a stop, or none of these.
+#[derive(Clone, Copy, Debug, PartialEq, Eq)]
+pub enum Role {
+    Plain,
+    Head,
+    Merge,
+    Stop,
+}
+
+/// A point whose targets are labels.
+#[derive(Drop)]
+pub struct Draft {
+    pub role: Role,
+    pub code: Instr,
+    pub place: Place,
+}
+
+/// Whose a variable is: that of a number in an occurrence of a function, the result of an occurrence, or a temporary by its number
+/// and kind.
+#[derive(Clone, Copy, PartialEq, Eq)]
+pub enum Owner {
+    Local(usize, usize),
+    Result(usize),
+    Temporary(usize, Kind),
+}
+
+/// A variable of the flow graph.
+#[derive(Drop)]
+pub struct Variable {
+    pub owner: Owner,
+    pub info: VarInfo,
+}
+
+/// The variables of a block, and the block around it in the same loop, by its number.
+#[derive(Clone, Copy)]
+pub struct Opened<'a> {
+    pub numbers: &'a [usize],
+    pub around: Option<usize>,
+}
+
+/// A flow graph so far.
+#[derive(Drop)]
+pub struct Builder<'a> {
+    pub alloc: Global,
+    pub program: &'a Resolved,
+    pub structs: &'a Structs,
+    pub points: Vec<Draft>,
+    pub variables: Vec<Variable>,
+    pub marks: Vec<Mark>,
+    /// Where the `return` of each occurrence of a function goes.
+    pub outs: Vec<Label>,
+    pub blocks: Vec<Opened<'a>>,
+    /// How many labels there are.
+    pub labels: u64,
+    /// What was made goes on to this label.
+    pub goal: Label,
+}
+
+impl<'a> Builder<'a> {
+    /// The empty flow graph, whose goal is its first point.
+    pub fn new(alloc: Global, program: &'a Resolved, structs: &'a Structs) -> Builder<'a>
+        ensures points { result.points.items ≡ [] }
+        ensures variables { result.variables.items ≡ [] }
+        ensures program { result.program.now ≡ program.now }
+        ensures structs { result.structs.now ≡ structs.now }
+    {
+        Builder {
+            alloc,
+            program,
+            structs,
+            points: Vec::new(alloc),
+            variables: Vec::new(alloc),
+            marks: Vec::new(alloc),
+            outs: Vec::new(alloc),
+            blocks: Vec::new(alloc),
+            labels: 1,
+            goal: Label(0),
+        }
+    }
+
+    /// A new label.
+    pub fn label(&mut self) -> Result<Label, LowerFault>
+        ensures kept { OnOk result (Leads (λ w s u. s ≡ u) self.old self.new) }
+        ensures goal { OnOk result (self.new.goal ≡ self.old.goal) }
+    {
+        let label = Label(self.labels);
+        match self.labels.checked_add(1) {
+            Some(labels) => self.labels = labels,
+            None => return Err(LowerFault::NoMemory),
+        }
+        Ok(label)
+    }
+
+    /// A new occurrence of a function.
+    pub fn occur(&mut self) -> Result<usize, LowerFault>
+        ensures { OnOk result (Leads (λ w s u. s ≡ u) self.old self.new) }
+    {
+        let label = self.label()?;
+        let occurrence = self.outs.len();
+        self.outs.push(label)?;
+        Ok(occurrence)
+    }
+
+    /// Where the `return` of an occurrence goes.
+    pub fn out(&self, occurrence: usize) -> Result<Label, LowerFault>
+        ensures { IfOk result (λ l. (w : World) → Agrees w self.now → w.at l.0 ≡ w.out occurrence) }
+    {
+        match self.outs.get(occurrence) {
+            Some(label) => Ok(*label),
+            None => Err(ABSENT),
+        }
+    }
+
+    /// A block with these variables, inside another one.
+    pub fn open(&mut self, numbers: &'a [usize], around: Option<usize>) -> Result<usize, LowerFault>
+        ensures kept { OnOk result (Leads (λ w s u. s ≡ u) self.old self.new) }
+        ensures opened { IfOk result (λ i. (w : World) → Agrees w self.new → w.blocks i ≡ numbers.now ++ blocks_in w around) }
+    {
+        let block = self.blocks.len();
+        self.blocks.push(Opened { numbers, around })?;
+        Ok(block)
+    }
+
+    // What was made goes on to this label.
+    fn join(&mut self, label: Label) -> Result<(), LowerFault>
+        ensures joined { OnOk result (Leads (λ w s u. (w.at self.old.goal.0 ≡ w.at label.0) × (s ≡ u)) self.old self.new) }
+        ensures goal { OnOk result (self.new.goal ≡ self.old.goal) }
+    {
+        self.marks.push(Mark::Same(self.goal, label))?;
+        Ok(())
+    }
+
+    /// What was made goes on to this label, and so does what is made next.
+    pub fn meet(&mut self, label: Label) -> Result<(), LowerFault>
+        ensures kept { OnOk result (Leads (λ w s u. s ≡ u) self.old self.new) }
+        ensures goal { OnOk result (self.new.goal ≡ label) }
+    {
+        self.join(label)?;
+        self.goal = label;
+        Ok(())
+    }
+
+    /// What was made goes on to this label, and what is made next is reached from elsewhere alone.
+    pub fn go(&mut self, label: Label) -> Result<(), LowerFault>
+        ensures { OnOk result (Leads (λ w s u. GoesTo (w.at label.0) s u) self.old self.new) }
+    {
+        self.join(label)?;
+        let next = self.label()?;
+        self.goal = next;
+        Ok(())
+    }
+
+    /// A point at the goal. There is no 10,001st.
+    pub fn put(&mut self, role: Role, place: Place, code: Instr) -> Result<(), LowerFault>
+        ensures { OnOk result ((w : World) → Agrees w self.new → Agrees w self.old × IsPut w role place code self.old self.new) }
+    {
+        let at = self.points.len();
+        if at >= MAX_POINTS {
+            return Err(LowerFault::TooLong);
+        }
+        self.marks.push(Mark::At(self.goal, at))?;
+        self.points.push(Draft { role, code, place })?;
+        Ok(())
+    }
+
+    /// A point at the goal that goes on to this label, which is the goal then.
+    pub fn append(
+        &mut self,
+        role: Role,
+        place: Place,
+        code: Instr,
+        next: Label,
+    ) -> Result<(), LowerFault>
+        ensures { OnOk result (Leads (λ w s u. Lays w role place code next s u) self.old self.new) }
+    {
+        self.put(role, place, code)?;
+        self.goal = next;
+        Ok(())
+    }
+
+    /// A Skip.
+    pub fn skip(&mut self, role: Role, place: Place) -> Result<(), LowerFault>
+        ensures { OnOk result (Leads (λ w s u. Appends w.graph (role_of role) place (λ q. Skip q) s u) self.old self.new) }
+    {
+        let next = self.label()?;
+        self.append(role, place, Instr::Skip(next.target()), next)?;
+        Ok(())
+    }
+
+    /// A Copy.
+    pub fn copy(
+        &mut self,
+        place: Place,
+        variable: VarId,
+        operand: Operand,
+    ) -> Result<(), LowerFault>
+        ensures { OnOk result (Leads (λ w s u. Appends w.graph plain place (λ q. Copy variable operand q) s u) self.old self.new) }
+    {
+        let next = self.label()?;
+        self.append(
+            Role::Plain,
+            place,
+            Instr::Copy(variable, operand, next.target()),
+            next,
+        )?;
+        Ok(())
+    }
+
+    /// Variables become undefined by one point, though there may be none.
+    pub fn undefine_all(&mut self, place: Place, variables: &[VarId]) -> Result<(), LowerFault>
+        ensures { OnOk result (Leads (λ w s u. Appends w.graph plain place (λ q. Undef variables.now q) s u) self.old self.new) }
+    {
+        let next = self.label()?;
+        let list = Items::of(Vec::from_slice(self.alloc, variables)?);
+        self.append(Role::Plain, place, Instr::Undef(list, next.target()), next)?;
+        Ok(())
+    }
+
+    /// Variables become undefined by one point, where there are any.
+    pub fn undefine(&mut self, place: Place, variables: &[VarId]) -> Result<(), LowerFault>
+        ensures { OnOk result (Leads (λ w s u. Undefines w.graph place variables.now s u) self.old self.new) }
+    {
+        if variables.is_empty() {
+            return Ok(());
+        }
+        self.undefine_all(place, variables)?;
+        Ok(())
+    }
+}

@@ -1,0 +1,278 @@
+// The points that test conditions.
+ghost use Rattle.std.specs.Prelude.{ℕ, ◌≡◌, ◌∷◌, OnOk, length, option_map};
+ghost use Rattle.mc_lowering.specs.Graphs.{Undefines, plain, point, stage};
+ghost use Rattle.mc_lowering.specs.Values.{Compares, decides};
+ghost use Rattle.mc_resolved.specs.Programs.{compare, plain as plain_condition};
+ghost use Rattle.mc_resolved.specs.Views.{condition_of, expression_of};
+ghost use Rattle.mc_lower.specs.Valued.{Testing, TestsOn, TestsPerhapsOn, TestsTo};
+ghost use Rattle.mc_lower.specs.Worlds.{Agrees, Leads, World, stage_of};
+
+use crate::builder::{Builder, Label, LowerFault, Role};
+use crate::values::{Site, nothing};
+use mc_ast::Comparison;
+use mc_base::VarId;
+use mc_flow::{Instr, Operand};
+use mc_resolved::{Condition, Expression};
+use mc_stack::Stack;
+use mc_text::Place;
+
+/// Where a condition goes to where it is true, and where it is false.
+#[derive(Clone, Copy)]
+pub struct Ways {
+    pub yes: Label,
+    pub no: Label,
+}
+
+// What is still to be tested: a condition from a label on.
+#[derive(Clone, Copy)]
+pub struct Work<'c> {
+    pub from: Label,
+    pub condition: &'c Condition,
+    pub ways: Ways,
+}
+
+// The test that goes the one way where the comparison is true, else the other.
+fn decides(comparison: Comparison, left: Operand, right: Operand, ways: Ways) -> Instr
+    ensures { result ≡ decides comparison left right (point ways.yes.0) (point ways.no.0) }
+{
+    let yes = ways.yes.target();
+    let no = ways.no.target();
+    match comparison {
+        Comparison::Equal => Instr::TestEq(left, right, yes, no),
+        Comparison::Unequal => Instr::TestEq(left, right, no, yes),
+        Comparison::AtMost => Instr::TestLe(left, right, yes, no),
+        Comparison::Above => Instr::TestLe(left, right, no, yes),
+        Comparison::AtLeast => Instr::TestLe(right, left, yes, no),
+        Comparison::Below => Instr::TestLe(right, left, no, yes),
+    }
+}
+
+// A condition is next, from a label on.
+fn push<'c>(
+    work: &mut Stack<Work<'c>>,
+    from: Label,
+    condition: &'c Condition,
+    ways: Ways,
+) -> Result<(), LowerFault>
+    ensures { OnOk result (work.new ≡ record { from = from; condition = condition.entry; ways = ways } ∷ work.old) }
+{
+    work.push(Work {
+        from,
+        condition,
+        ways,
+    })?;
+    Ok(())
+}
+
+impl<'a> Builder<'a> {
+    // From a label on, temporaries become undefined, and it goes on to another.
+    fn clear(
+        &mut self,
+        place: Place,
+        temporaries: &[VarId],
+        from: Label,
+        to: Label,
+    ) -> Result<(), LowerFault>
+        ensures { OnOk result ((w : World) → Agrees w self.new → Agrees w self.old × Undefines w.graph place temporaries.now (stage (w.at from.0) (length self.old.points.items) (length self.old.variables.items)) (stage (w.at to.0) (length self.new.points.items) (length self.new.variables.items))) }
+    {
+        self.goal = from;
+        self.undefine(place, temporaries)?;
+        self.meet(to)?;
+        Ok(())
+    }
+
+    // Two operands are compared, and behind the test the temporaries become undefined on both ways.
+    fn compare(
+        &mut self,
+        place: Place,
+        comparison: Comparison,
+        left: Operand,
+        right: Operand,
+        temporaries: &[VarId],
+        ways: Ways,
+    ) -> Result<(), LowerFault>
+        ensures { OnOk result ((w : World) → Agrees w self.new → Agrees w self.old × Compares w.graph place comparison left right temporaries.now (stage_of w self.old) (w.at ways.yes.0) (w.at ways.no.0) (length self.new.points.items) (length self.new.variables.items)) }
+    {
+        let yes = self.label()?;
+        let no = self.label()?;
+        let code = decides(comparison, left, right, Ways { yes, no });
+        self.put(Role::Plain, place, code)?;
+        self.clear(place, temporaries, yes, ways.yes)?;
+        self.clear(place, temporaries, no, ways.no)?;
+        Ok(())
+    }
+
+    // An expression is not 0 or null.
+    fn test_plain(
+        &mut self,
+        site: Site,
+        expression: &Expression,
+        ways: Ways,
+    ) -> Result<(), LowerFault>
+        ensures { OnOk result ((w : World) → Agrees w self.new → Agrees w self.old × TestsTo w site.occurrence (plain_condition site.place (expression_of expression.now)) ways self.old self.new) }
+    {
+        let mut temporaries = Vec::new(self.alloc);
+        let operand = self.evaluate(site, expression, &mut temporaries)?;
+        self.compare(
+            site.place,
+            Comparison::Unequal,
+            operand,
+            nothing(),
+            temporaries.as_slice(),
+            ways,
+        )?;
+        Ok(())
+    }
+
+    // Two expressions compare so.
+    fn test_comparison(
+        &mut self,
+        site: Site,
+        comparison: Comparison,
+        left: &Expression,
+        right: &Expression,
+        ways: Ways,
+    ) -> Result<(), LowerFault>
+        ensures { OnOk result ((w : World) → Agrees w self.new → Agrees w self.old × TestsTo w site.occurrence (compare site.place comparison (expression_of left.now) (expression_of right.now)) ways self.old self.new) }
+    {
+        let mut temporaries = Vec::new(self.alloc);
+        let left = self.evaluate(site, left, &mut temporaries)?;
+        let right = self.evaluate(site, right, &mut temporaries)?;
+        self.compare(
+            site.place,
+            comparison,
+            left,
+            right,
+            temporaries.as_slice(),
+            ways,
+        )?;
+        Ok(())
+    }
+
+    // A condition is tested from the goal on, or its parts are next.
+    fn enter_condition<'c>(
+        &mut self,
+        occurrence: usize,
+        condition: &'c Condition,
+        ways: Ways,
+        work: &mut Stack<Work<'c>>,
+    ) -> Result<(), LowerFault>
+        ensures { OnOk result ((w : World) (n k : ℕ) → Agrees w self.new → Testing w occurrence work.new (length self.new.points.items) (length self.new.variables.items) n k → Agrees w self.old × Testing w occurrence (record { from = self.old.goal; condition = condition.entry; ways = ways } ∷ work.old) (length self.old.points.items) (length self.old.variables.items) n k) }
+    {
+        let from = self.goal;
+        match condition {
+            Condition::Plain(place, expression) => {
+                let site = Site {
+                    occurrence,
+                    place: *place,
+                };
+                self.test_plain(site, expression, ways)?;
+                Ok(())
+            }
+            Condition::Compare(place, comparison, left, right) => {
+                let site = Site {
+                    occurrence,
+                    place: *place,
+                };
+                self.test_comparison(site, *comparison, left, right, ways)?;
+                Ok(())
+            }
+            Condition::Not(part) => {
+                let swapped = Ways {
+                    yes: ways.no,
+                    no: ways.yes,
+                };
+                push(work, from, part, swapped)?;
+                Ok(())
+            }
+            Condition::Both(first, second) => {
+                let middle = self.label()?;
+                let before = Ways {
+                    yes: middle,
+                    no: ways.no,
+                };
+                push(work, middle, second, ways)?;
+                push(work, from, first, before)?;
+                Ok(())
+            }
+            Condition::Either(first, second) => {
+                let middle = self.label()?;
+                let before = Ways {
+                    yes: ways.yes,
+                    no: middle,
+                };
+                push(work, middle, second, ways)?;
+                push(work, from, first, before)?;
+                Ok(())
+            }
+        }
+    }
+
+    // What is next is tested from its label on, or its parts are next.
+    fn test_next<'c>(
+        &mut self,
+        occurrence: usize,
+        next: Work<'c>,
+        work: &mut Stack<Work<'c>>,
+    ) -> Result<(), LowerFault>
+        ensures { OnOk result ((w : World) (n k : ℕ) → Agrees w self.new → Testing w occurrence work.new (length self.new.points.items) (length self.new.variables.items) n k → Agrees w self.old × Testing w occurrence (next.entry ∷ work.old) (length self.old.points.items) (length self.old.variables.items) n k) }
+    {
+        self.goal = next.from;
+        self.enter_condition(occurrence, next.condition, next.ways, work)?;
+        Ok(())
+    }
+
+    /// A condition goes one way where it is true, else the other; a loop, so that none is too deep. The goal is none of
+    /// them then.
+    pub fn test(
+        &mut self,
+        occurrence: usize,
+        condition: &Condition,
+        ways: Ways,
+    ) -> Result<(), LowerFault>
+        ensures { OnOk result ((w : World) → Agrees w self.new → Agrees w self.old × TestsTo w occurrence (condition_of condition.now) ways self.old self.new) }
+    {
+        let mut work = Stack::new(self.alloc);
+        push(&mut work, self.goal, condition, ways)?;
+        'parts: for _ in 0..u64::MAX {
+            match work.pop() {
+                Some(next) => self.test_next(occurrence, next, &mut work)?,
+                None => return Ok(()),
+            }
+        }
+        Err(LowerFault::NoMemory)
+    }
+
+    /// A condition that goes on where it is true, and else to a label.
+    pub fn test_or(
+        &mut self,
+        occurrence: usize,
+        condition: &Condition,
+        no: Label,
+    ) -> Result<(), LowerFault>
+        ensures { OnOk result (Leads (λ w s u. TestsOn w.graph (w.out occurrence) (condition_of condition.now) (w.at no.0) s u) self.old self.new) }
+    {
+        let yes = self.label()?;
+        self.test(occurrence, condition, Ways { yes, no })?;
+        self.goal = yes;
+        Ok(())
+    }
+
+    /// A condition that may be missing, which goes on where it is true, and else to a label.
+    pub fn test_perhaps(
+        &mut self,
+        occurrence: usize,
+        condition: Option<&Condition>,
+        no: Label,
+    ) -> Result<(), LowerFault>
+        ensures { OnOk result (Leads (λ w s u. TestsPerhapsOn w.graph (w.out occurrence) (option_map (λ c. condition_of c.now) condition.entry) (w.at no.0) s u) self.old self.new) }
+    {
+        match condition {
+            Some(condition) => {
+                self.test_or(occurrence, condition, no)?;
+                Ok(())
+            }
+            None => Ok(()),
+        }
+    }
+}

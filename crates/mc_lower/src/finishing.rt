@@ -1,0 +1,356 @@
+// Labels become points, and the lists of a flow graph are made.
+ghost use Rattle.std.specs.Prelude.{◌≡◌, ◌↔◌, IfOk, OnOk, IsTrue, map};
+ghost use Rattle.mc_flow.specs.declared.graph.Point.{Point};
+ghost use Rattle.mc_lowering.specs.Lowering.{AreThresholds};
+ghost use Rattle.mc_lower.specs.Finished.{AreApart, AreOnce, AreSettled, AreThose, IsFinished, IsInner, point_at};
+ghost use Rattle.mc_lower.specs.Worlds.{AllAt, IsMarked, point_in, role_of, settled, target as point_of_target};
+
+use crate::builder::{
+    ABSENT, Builder, Draft, Label, LowerFault, MAX_POINTS, Mark, Opened, Role, Variable,
+};
+use crate::lowering::Lowered;
+use crate::owners::find;
+use mc_base::{Items, PointId, VarInfo};
+use mc_defs::{FieldInfo, StructInfo, Structs};
+use mc_flow::{Flow, Instr, Operand, Point};
+use std::alloc::Global;
+
+// The point of a label; of one that nothing goes on to, any.
+fn point_of(table: &[usize], label: Label) -> usize
+    ensures { result ≡ point_at table.now label.0 }
+{
+    match table.get(label.0 as usize) {
+        Some(point) => *point,
+        None => 0,
+    }
+}
+
+// The point of a label is put into the table.
+fn set_point(table: &mut Vec<usize>, label: Label, point: usize) {
+    if let Some(slot) = table.get_mut(label.0 as usize) {
+        *slot = point;
+    }
+}
+
+// A table of the points of labels: of those that are known first, and then of those that are the points of others. A label that is
+// the point of another is that before the other is known, so the last of these come first.
+fn points_of(alloc: Global, labels: u64, marks: &[Mark]) -> Result<Vec<usize>, LowerFault> {
+    let mut table = Vec::new(alloc);
+    for _ in 0..labels {
+        table.push(0)?;
+    }
+    for mark in marks {
+        if let Mark::At(label, point) = mark {
+            set_point(&mut table, *label, *point);
+        }
+    }
+    for mark in marks.iter().rev() {
+        if let Mark::Same(label, other) = mark {
+            let point = point_of(table.as_slice(), *other);
+            set_point(&mut table, *label, point);
+        }
+    }
+    Ok(table)
+}
+
+// Whether what is known of a label holds of the table.
+fn holds(table: &[usize], mark: Mark) -> bool
+    ensures { IsTrue result ↔ IsMarked (point_at table.now) mark }
+{
+    match mark {
+        Mark::At(label, point) => point_of(table, label) == point,
+        Mark::Same(label, other) => point_of(table, label) == point_of(table, other),
+    }
+}
+
+// Whether all that is known of labels holds of the table.
+fn all_hold(table: &[usize], marks: &[Mark]) -> bool
+    ensures { IsTrue result → AllAt (λ i m. IsMarked (point_at table.now) m) marks.now }
+{
+    for at in 0..marks.len() {
+        if !holds(table, marks[at]) {
+            return false;
+        }
+    }
+    true
+}
+
+// For each point, the last of these labels that it is the point of.
+fn last_labels(
+    alloc: Global,
+    table: &[usize],
+    outs: &[Label],
+    count: usize,
+) -> Result<Vec<usize>, LowerFault> {
+    let mut lasts = Vec::new(alloc);
+    for _ in 0..count {
+        lasts.push(0)?;
+    }
+    for at in 0..outs.len() {
+        if let Some(slot) = lasts.get_mut(point_of(table, outs[at])) {
+            *slot = at;
+        }
+    }
+    Ok(lasts)
+}
+
+// Whether these labels are different points, by a table that has for each point the number of its label.
+fn are_apart(table: &[usize], outs: &[Label], lasts: &[usize]) -> bool
+    ensures { IsTrue result → AreApart (point_at table.now) outs.now }
+{
+    for at in 0..outs.len() {
+        if lasts.get(point_of(table, outs[at])).copied() != Some(at) {
+            return false;
+        }
+    }
+    true
+}
+
+// Whether no two variables have one owner.
+fn are_once(variables: &[Variable]) -> bool
+    ensures { IsTrue result → AreOnce variables.now }
+{
+    for at in 0..variables.len() {
+        if find(variables, variables[at].owner) != Some(at) {
+            return false;
+        }
+    }
+    true
+}
+
+// Whether each block stands inside an earlier one, or inside none.
+fn are_inner(blocks: &[Opened]) -> bool
+    ensures { IsTrue result → AllAt IsInner blocks.now }
+{
+    for at in 0..blocks.len() {
+        if let Some(around) = blocks[at].around {
+            if around >= at {
+                return false;
+            }
+        }
+    }
+    true
+}
+
+// The point that a target stands for.
+fn settled(table: &[usize], target: PointId) -> PointId
+    ensures { result ≡ point_of_target (point_at table.now) target }
+{
+    PointId(point_of(table, Label(target.0)) as u64)
+}
+
+// An instruction with points in place of labels.
+fn with_points(table: &[usize], code: Instr) -> Instr
+    ensures { result ≡ settled (point_at table.now) code }
+{
+    match code {
+        Instr::Skip(q) => Instr::Skip(settled(table, q)),
+        Instr::Copy(x, o, q) => Instr::Copy(x, o, settled(table, q)),
+        Instr::Undef(xs, q) => Instr::Undef(xs, settled(table, q)),
+        Instr::Input(x, q) => Instr::Input(x, settled(table, q)),
+        Instr::Add(x, a, b, q) => Instr::Add(x, a, b, settled(table, q)),
+        Instr::Sub(x, a, b, q) => Instr::Sub(x, a, b, settled(table, q)),
+        Instr::Mul(x, a, b, q) => Instr::Mul(x, a, b, settled(table, q)),
+        Instr::Load(x, y, s, f, q) => Instr::Load(x, y, s, f, settled(table, q)),
+        Instr::Store(y, s, f, o, q) => Instr::Store(y, s, f, o, settled(table, q)),
+        Instr::Malloc(x, s, q) => Instr::Malloc(x, s, settled(table, q)),
+        Instr::Free(o, q) => Instr::Free(o, settled(table, q)),
+        Instr::TestEq(a, b, t, f) => Instr::TestEq(a, b, settled(table, t), settled(table, f)),
+        Instr::TestLe(a, b, t, f) => Instr::TestLe(a, b, settled(table, t), settled(table, f)),
+        Instr::AssumeShape(p, x, os, q) => Instr::AssumeShape(p, x, os, settled(table, q)),
+        Instr::AssertShape(p, o, os, q) => Instr::AssertShape(p, o, os, settled(table, q)),
+        Instr::AssertEmpty(q) => Instr::AssertEmpty(settled(table, q)),
+        Instr::End => Instr::End,
+        Instr::Fail => Instr::Fail,
+    }
+}
+
+// Whether a point is of a role.
+#[tactic(auto, using(crate::proofs::Choosing::same_role))]
+fn has_role(point: &Draft, role: Role) -> bool
+    ensures { IsTrue result ↔ (role_of point.now.role ≡ role_of role) }
+{
+    point.role == role
+}
+
+// The points of a role, ascending.
+fn of_role(alloc: Global, points: &[Draft], role: Role) -> Result<Items<PointId>, LowerFault>
+    ensures { IfOk result (λ ps. AreThose points.now (role_of role) ps) }
+{
+    let mut list = Vec::new(alloc);
+    for number in 0..points.len() {
+        if has_role(&points[number], role) {
+            list.push(PointId(number as u64))?;
+        }
+    }
+    Ok(Items::of(list))
+}
+
+// An operand's constant joins a list.
+fn add_constant(list: &mut Vec<i64>, operand: Operand) -> Result<(), LowerFault> {
+    if let Operand::Const(value) = operand {
+        list.push(value)?;
+    }
+    Ok(())
+}
+
+// The constants of an instruction's operands join a list.
+fn add_constants(list: &mut Vec<i64>, code: &Instr) -> Result<(), LowerFault> {
+    match code {
+        Instr::Copy(_, o, _) => add_constant(list, *o),
+        Instr::Add(_, a, b, _)
+        | Instr::Sub(_, a, b, _)
+        | Instr::Mul(_, a, b, _)
+        | Instr::TestEq(a, b, _, _)
+        | Instr::TestLe(a, b, _, _) => {
+            add_constant(list, *a)?;
+            add_constant(list, *b)
+        }
+        Instr::Store(_, _, _, o, _) => add_constant(list, *o),
+        Instr::Free(o, _) => add_constant(list, *o),
+        Instr::AssumeShape(_, _, os, _) => add_all(list, os.as_slice()),
+        Instr::AssertShape(_, o, os, _) => {
+            add_constant(list, *o)?;
+            add_all(list, os.as_slice())
+        }
+        Instr::Skip(_)
+        | Instr::Undef(_, _)
+        | Instr::Input(_, _)
+        | Instr::Load(_, _, _, _, _)
+        | Instr::Malloc(_, _, _)
+        | Instr::AssertEmpty(_)
+        | Instr::End
+        | Instr::Fail => Ok(()),
+    }
+}
+
+// The constants of operands join a list.
+fn add_all(list: &mut Vec<i64>, operands: &[Operand]) -> Result<(), LowerFault> {
+    for operand in operands {
+        add_constant(list, *operand)?;
+    }
+    Ok(())
+}
+
+// The constants of all operands, ascending, each once.
+fn thresholds(alloc: Global, table: &[usize], points: &[Draft]) -> Result<Items<i64>, LowerFault>
+    ensures { IfOk result (λ cs. AreThresholds (map (point_in (point_at table.now)) points.now) cs) }
+{
+    let mut all = Vec::new(alloc);
+    for point in points {
+        add_constants(&mut all, &point.code)?;
+    }
+    all.sort()?;
+    let mut once = Vec::new(alloc);
+    for value in all.as_slice() {
+        if once.last() != Some(value) {
+            once.push(*value)?;
+        }
+    }
+    Ok(Items::of(once))
+}
+
+// The points of a flow graph.
+fn settle(alloc: Global, table: &[usize], drafts: Vec<Draft>) -> Result<Items<Point>, LowerFault>
+    ensures { IfOk result (λ points. points ≡ map (point_in (point_at table.now)) drafts.items) }
+{
+    let mut points = Vec::new(alloc);
+    for draft in drafts {
+        let code = with_points(table, draft.code);
+        points.push(Point {
+            code,
+            place: draft.place,
+        })?;
+    }
+    Ok(Items::of(points))
+}
+
+// The variables of a flow graph.
+fn infos(alloc: Global, variables: Vec<Variable>) -> Result<Items<VarInfo>, LowerFault>
+    ensures { IfOk result (λ infos. infos ≡ map (λ v. v.info) variables.items) }
+{
+    let mut infos = Vec::new(alloc);
+    for variable in variables {
+        infos.push(variable.info)?;
+    }
+    Ok(Items::of(infos))
+}
+
+// A field again.
+fn field_again(alloc: Global, field: &FieldInfo) -> Result<FieldInfo, LowerFault>
+    ensures { IfOk result (λ again. again ≡ field.now) }
+{
+    Ok(FieldInfo {
+        name: field.name.copy(alloc)?,
+        kind: field.kind,
+    })
+}
+
+// A struct again.
+fn struct_again(alloc: Global, info: &StructInfo) -> Result<StructInfo, LowerFault>
+    ensures { IfOk result (λ again. again ≡ info.now) }
+{
+    let mut fields = Vec::new(alloc);
+    for field in info.fields.as_slice() {
+        fields.push(field_again(alloc, field)?)?;
+    }
+    Ok(StructInfo {
+        name: info.name.copy(alloc)?,
+        fields: Items::of(fields),
+    })
+}
+
+// The same structs again.
+fn structs_again(alloc: Global, structs: &Structs) -> Result<Structs, LowerFault>
+    ensures { IfOk result (λ again. again ≡ structs.now) }
+{
+    let mut list = Vec::new(alloc);
+    for info in structs.list.as_slice() {
+        list.push(struct_again(alloc, info)?)?;
+    }
+    Ok(Structs {
+        list: Items::of(list),
+    })
+}
+
+// The table of the points of labels, with which all that is known of them holds.
+fn checked_points(builder: &Builder) -> Result<Vec<usize>, LowerFault>
+    ensures { IfOk result (λ table. AreSettled builder.now table.items) }
+{
+    let marks = builder.marks.as_slice();
+    let outs = builder.outs.as_slice();
+    let table = points_of(builder.alloc, builder.labels, marks)?;
+    let lasts = last_labels(builder.alloc, table.as_slice(), outs, builder.points.len())?;
+    let fits = builder.points.len() <= MAX_POINTS
+        && all_hold(table.as_slice(), marks)
+        && are_apart(table.as_slice(), outs, lasts.as_slice())
+        && are_once(builder.variables.as_slice())
+        && are_inner(builder.blocks.as_slice());
+    if fits { Ok(table) } else { Err(ABSENT) }
+}
+
+/// The flow graph with these points and variables.
+pub fn finish(builder: Builder) -> Result<Lowered, LowerFault>
+    ensures { IfOk result (λ x. IsFinished builder.entry x) }
+{
+    let alloc = builder.alloc;
+    let table = checked_points(&builder)?;
+    let structs = structs_again(alloc, builder.structs)?;
+    let heads = of_role(alloc, builder.points.as_slice(), Role::Head)?;
+    let merges = of_role(alloc, builder.points.as_slice(), Role::Merge)?;
+    let stops = of_role(alloc, builder.points.as_slice(), Role::Stop)?;
+    let thresholds = thresholds(alloc, table.as_slice(), builder.points.as_slice())?;
+    let points = settle(alloc, table.as_slice(), builder.points)?;
+    let vars = infos(alloc, builder.variables)?;
+    Ok(Lowered {
+        flow: Flow {
+            points,
+            vars,
+            heads,
+            merges,
+            thresholds,
+            structs,
+        },
+        stops,
+    })
+}

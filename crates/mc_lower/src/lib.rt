@@ -1,0 +1,16 @@
+//! From resolved programs to their flow graphs, calls inlined.
+#![tactic(auto)]
+
+mod assignments;
+mod builder;
+mod calls;
+mod conditions;
+mod finishing;
+mod lowering;
+mod owners;
+mod statements;
+mod tasks;
+mod values;
+
+pub use builder::LowerFault;
+pub use lowering::{Lowered, lower};

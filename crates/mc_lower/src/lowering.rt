@@ -1,0 +1,131 @@
+// A program is lowered: a loop over what is left, with a stack of its own.
+ghost use Rattle.std.specs.Prelude.{[], ℕ, ◌≡◌, ◌≤◌, ◌↔◌, IfErr, IfOk, OnOk, IsTrue, length, suc};
+ghost use Rattle.mc_lowering.specs.Lowering.{Answers, Falls, IsMain, LowersAll, Makes, in_body};
+ghost use Rattle.mc_resolved.specs.Views.{function_of};
+ghost use Rattle.mc_lower.specs.Finished.{AreTooLong, Ends, IsFlowOf};
+ghost use Rattle.mc_lower.specs.declared.builder.LowerFault.TheVariants.{TooLong};
+ghost use Rattle.mc_lower.specs.Left.{Rest};
+ghost use Rattle.mc_lower.specs.Worlds.{Agrees, Leads, World, stage_of};
+
+use crate::builder::{ABSENT, Builder, LowerFault, NOWHERE, Role};
+use crate::finishing::finish;
+use crate::tasks::{Context, Task, push};
+use crate::values::nothing;
+use mc_base::{Items, Kind, PointId};
+use mc_defs::Structs;
+use mc_flow::{Flow, Instr};
+use mc_resolved::{Function, Resolved};
+use mc_stack::Stack;
+use std::alloc::Global;
+
+/// The flow graph of a program, and its points whose End counts as a stop.
+#[derive(Drop)]
+pub struct Lowered {
+    pub flow: Flow,
+    pub stops: Items<PointId>,
+}
+
+// Whether it is `main` with a number as its result.
+fn is_main(function: &Function) -> bool
+    ensures { IsTrue result ↔ IsMain (function_of function.now) }
+{
+    function.name.as_slice() == b"main".as_slice() && function.result == Some(Kind::Int)
+}
+
+impl<'a> Builder<'a> {
+    // All that is left is lowered.
+    fn run(&mut self, tasks: &mut Stack<Task<'a>>) -> Result<(), LowerFault>
+        ensures { OnOk result ((w : World) → Agrees w self.new → Agrees w self.old × Rest w tasks.old (stage_of w self.old) (stage_of w self.new)) }
+    {
+        'tasks: for _ in 0..u64::MAX {
+            match tasks.pop() {
+                Some(task) => self.step(tasks, task)?,
+                None => return Ok(()),
+            }
+        }
+        Err(LowerFault::NoMemory)
+    }
+
+    // The result of the entry, where it has one.
+    fn begin(&mut self, entry: &Function, occurrence: usize) -> Result<(), LowerFault>
+        ensures { OnOk result (Leads (λ w s u. Answers w.graph (w.out occurrence) (function_of entry.now).result s u) self.old self.new) }
+    {
+        match entry.result {
+            Some(kind) => {
+                self.create_result(occurrence, kind)?;
+                Ok(())
+            }
+            None => Ok(()),
+        }
+    }
+
+    // The body of the entry.
+    fn body(&mut self, entry: &'a Function, occurrence: usize) -> Result<(), LowerFault>
+        ensures { OnOk result (Leads (λ w s u. LowersAll w.graph (in_body (function_of entry.now) (w.out occurrence)) (function_of entry.now).body s u) self.old self.new) }
+    {
+        let context = Context {
+            function: entry,
+            occurrence,
+            depth: 1,
+            block: None,
+            turns: None,
+        };
+        let mut tasks = Stack::new(self.alloc);
+        push(&mut tasks, Task::Statements(entry.body.as_slice(), context))?;
+        self.run(&mut tasks)?;
+        Ok(())
+    }
+
+    // Behind the body of `main` its result is 0.
+    fn fall(&mut self, entry: &Function, occurrence: usize) -> Result<(), LowerFault>
+        ensures { OnOk result (Leads (λ w s u. Falls w.graph (function_of entry.now) (w.out occurrence) s u) self.old self.new) }
+    {
+        if !is_main(entry) {
+            return Ok(());
+        }
+        let own = self.own_result(occurrence)?;
+        self.copy(NOWHERE, own, nothing())?;
+        Ok(())
+    }
+
+    // An End, where the `return` of the entry goes.
+    fn end(&mut self, occurrence: usize) -> Result<(), LowerFault>
+        ensures { OnOk result (Leads (λ w s u. Ends w.graph (w.out occurrence) s u) self.old self.new) }
+    {
+        let out = self.out(occurrence)?;
+        self.meet(out)?;
+        self.put(Role::Plain, NOWHERE, Instr::End)?;
+        Ok(())
+    }
+
+    // A Skip, the entry, and an End.
+    fn make_entry(&mut self, entry: &'a Function) -> Result<(), LowerFault>
+        requires no_points { self.old.points.items ≡ [] }
+        requires no_variables { self.old.variables.items ≡ [] }
+        ensures { OnOk result ((w : World) → Agrees w self.new → Agrees w self.old × (out : ℕ) × Makes w.graph (function_of entry.now) out (length self.new.variables.items) × (length self.new.points.items ≡ suc out)) }
+    {
+        self.skip(Role::Plain, NOWHERE)?;
+        let occurrence = self.occur()?;
+        self.begin(entry, occurrence)?;
+        self.body(entry, occurrence)?;
+        self.fall(entry, occurrence)?;
+        self.end(occurrence)?;
+        Ok(())
+    }
+}
+
+/// The flow graph of a program with these structs, calls inlined.
+pub fn lower(alloc: Global, program: &Resolved, structs: &Structs) -> Result<Lowered, LowerFault>
+    ensures flow { IfOk result (λ x. IsFlowOf program.now structs.now x) }
+    ensures short { IfOk result (λ x. length x.flow.points ≤ 10000) }
+    ensures long { IfErr result (λ e. e ≡ TooLong → AreTooLong program.now structs.now) }
+{
+    let mut builder = Builder::new(alloc, program, structs);
+    let entry = builder.function(program.entry)?;
+    if entry.parameters != 0 {
+        return Err(ABSENT);
+    }
+    builder.make_entry(entry)?;
+    let lowered = finish(builder)?;
+    Ok(lowered)
+}
