@@ -1,13 +1,15 @@
 -- What is still to be lowered, and what it comes to in the finished flow graph.
-use Rattle.std.specs.Prelude.{◌≡◌, ◌<◌, ℕ, suc, List, [], ◌∷◌, Option, Some, None, ⊤, ⊥, map, option_map, length}
+use Rattle.std.specs.Prelude.{◌≡◌, ◌<◌, ℕ, suc, List, [], ◌∷◌, Option, Some, None, ⊤, map, option_map, length}
 use Rattle.mc_base.specs.declared.ids.VarId.{VarId}
 use Rattle.mc_text.specs.declared.place.Place.{Place}
 use Rattle.mc_flow.specs.declared.instr.Operand.{Operand}
 use Rattle.mc_flow.specs.declared.instr.Operand.TheVariants.{Var}
 use Rattle.mc_flow.specs.declared.instr.Instr.{Instr}
 use Rattle.mc_flow.specs.declared.instr.Instr.TheVariants.{Skip, Copy}
-use Rattle.mc_resolved.specs.declared.program.Statement.{Statement}
-use Rattle.mc_resolved.specs.Programs.{Expr, Cond, Call, Simple, Initial, Head, Stmt, Stmts, for_loop}
+use Rattle.mc_resolved.specs.Programs.{Expr, Cond, Call, Simple, Initial, Head, Stmt, Stmts, declaration, block, empty}
+use Rattle.mc_resolved.specs.Programs.{simple, free, assert, assume, assume_shape, assert_shape, assert_empty}
+use Rattle.mc_resolved.specs.Programs.{if_only, if_else, while_loop, do_loop, for_loop, break_loop, continue_loop}
+use Rattle.mc_resolved.specs.Programs.{returns}
 use Rattle.mc_resolved.specs.Views.{action_of, condition_of, function_of, head_of, initial_of, simple_of, statement_of}
 use Rattle.mc_resolved.specs.Views.{stmts_of}
 use Rattle.mc_lowering.specs.Graphs.{Graph, Role, plain, merge, nowhere, Stage, stage, IsPoint, Appends}
@@ -41,46 +43,46 @@ around_of w c =
 
 -- ---- kinds of statements and tasks
 -- a statement with statements inside
-abbrev pub HasParts : Statement → Type 0
-HasParts (Statement.Declaration place items) = ⊥
-HasParts (Statement.Block numbers parts) = ⊤
-HasParts Statement.Empty = ⊥
-HasParts (Statement.Simple simple) = ⊥
-HasParts (Statement.Free place pointer) = ⊥
-HasParts (Statement.Assert place d) = ⊥
-HasParts (Statement.Assume place d) = ⊥
-HasParts (Statement.AssumeShape shape) = ⊥
-HasParts (Statement.AssertShape shape) = ⊥
-HasParts (Statement.AssertEmpty place) = ⊥
-HasParts (Statement.If place d a) = ⊤
-HasParts (Statement.IfElse place d a b) = ⊤
-HasParts (Statement.While place d a) = ⊤
-HasParts (Statement.Do place a d) = ⊤
-HasParts (Statement.For h a) = ⊤
-HasParts (Statement.Break place) = ⊥
-HasParts (Statement.Continue place) = ⊥
-HasParts (Statement.Return place value) = ⊥
+abbrev pub HasParts : Stmt → Type 0
+HasParts (declaration place items) = ⊥
+HasParts (block xs ss) = ⊤
+HasParts empty = ⊥
+HasParts (simple x) = ⊥
+HasParts (free place e) = ⊥
+HasParts (assert place d) = ⊥
+HasParts (assume place d) = ⊥
+HasParts (assume_shape place predicate x os) = ⊥
+HasParts (assert_shape place predicate a os) = ⊥
+HasParts (assert_empty place) = ⊥
+HasParts (if_only place d a) = ⊤
+HasParts (if_else place d a b) = ⊤
+HasParts (while_loop place d a) = ⊤
+HasParts (do_loop place a d) = ⊤
+HasParts (for_loop h a) = ⊤
+HasParts (break_loop place) = ⊥
+HasParts (continue_loop place) = ⊥
+HasParts (returns place right) = ⊥
 
--- a statement that no part of it, and no call, has to be lowered for
-abbrev pub IsCommand : Statement → Type 0
-IsCommand (Statement.Declaration place items) = ⊥
-IsCommand (Statement.Block numbers parts) = ⊥
-IsCommand Statement.Empty = ⊥
-IsCommand (Statement.Simple simple) = ⊥
-IsCommand (Statement.Free place pointer) = ⊤
-IsCommand (Statement.Assert place d) = ⊤
-IsCommand (Statement.Assume place d) = ⊤
-IsCommand (Statement.AssumeShape shape) = ⊤
-IsCommand (Statement.AssertShape shape) = ⊤
-IsCommand (Statement.AssertEmpty place) = ⊤
-IsCommand (Statement.If place d a) = ⊥
-IsCommand (Statement.IfElse place d a b) = ⊥
-IsCommand (Statement.While place d a) = ⊥
-IsCommand (Statement.Do place a d) = ⊥
-IsCommand (Statement.For h a) = ⊥
-IsCommand (Statement.Break place) = ⊤
-IsCommand (Statement.Continue place) = ⊤
-IsCommand (Statement.Return place value) = ⊥
+-- a statement that is lowered at once: it has no statements inside, and nothing of it may be a call
+abbrev pub IsCommand : Stmt → Type 0
+IsCommand (declaration place items) = ⊥
+IsCommand (block xs ss) = ⊥
+IsCommand empty = ⊥
+IsCommand (simple x) = ⊥
+IsCommand (free place e) = ⊤
+IsCommand (assert place d) = ⊤
+IsCommand (assume place d) = ⊤
+IsCommand (assume_shape place predicate x os) = ⊤
+IsCommand (assert_shape place predicate a os) = ⊤
+IsCommand (assert_empty place) = ⊤
+IsCommand (if_only place d a) = ⊥
+IsCommand (if_else place d a b) = ⊥
+IsCommand (while_loop place d a) = ⊥
+IsCommand (do_loop place a d) = ⊥
+IsCommand (for_loop h a) = ⊥
+IsCommand (break_loop place) = ⊤
+IsCommand (continue_loop place) = ⊤
+IsCommand (returns place right) = ⊥
 
 -- what stands behind the parts of a statement or of a call
 abbrev pub IsBehind : Task → Type 0

@@ -433,7 +433,7 @@ impl<'a> Builder<'a> {
 
     // A statement that needs nothing else is lowered.
     fn command(&mut self, statement: &Statement, context: Context<'a>) -> Result<(), LowerFault>
-        requires { IsCommand statement.now }
+        requires { IsCommand (statement_of statement.now) }
         ensures { OnOk result (Leads (λ w s u. Lowers w.graph (around_of w context.entry) (statement_of statement.now) s u) self.old self.new) }
     {
         let occurrence = context.occurrence;
@@ -485,7 +485,7 @@ impl<'a> Builder<'a> {
         statement: &'a Statement,
         context: Context<'a>,
     ) -> Result<(), LowerFault>
-        requires { HasParts statement.now }
+        requires { HasParts (statement_of statement.now) }
         ensures { OnOk result (Begins (λ w s m. Lowers w.graph (around_of w context.entry) (statement_of statement.now) s m) self.old tasks.old self.new tasks.new) }
     {
         match statement {
@@ -513,7 +513,18 @@ impl<'a> Builder<'a> {
                 self.for_loop(tasks, head, body, context)?;
                 Ok(())
             }
-            _ => unreachable!(),
+            Statement::Declaration(_, _)
+            | Statement::Empty
+            | Statement::Simple(_)
+            | Statement::Free(_, _)
+            | Statement::Assert(_, _)
+            | Statement::Assume(_, _)
+            | Statement::AssumeShape(_)
+            | Statement::AssertShape(_)
+            | Statement::AssertEmpty(_)
+            | Statement::Break(_)
+            | Statement::Continue(_)
+            | Statement::Return(_, _) => unreachable!(),
         }
     }
 
@@ -582,7 +593,7 @@ impl<'a> Builder<'a> {
 
     // What stands behind the parts of a statement or of a call is lowered.
     fn behind(&mut self, task: Task<'a>) -> Result<(), LowerFault>
-        requires { IsBehind task.entry }
+        requires { IsBehind task }
         ensures { OnOk result (Leads (λ w s u. Met w task.entry s u) self.old self.new) }
     {
         match task {
