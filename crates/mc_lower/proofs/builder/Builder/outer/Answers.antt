@@ -15,7 +15,7 @@ use Rattle.mc_lower.proofs.builder.Builder.outer.Goals as goal
 pub returns-in_ok-block-in-Block : goal.returns-in_ok-block-in-Block
 returns-in_ok-block-in-Block c = λ w u agrees rest.
     let e = c.in_ok-block-in-Block.ensures w u agrees rest in
-    (e.0, (e.1.0, subst (λ x. Lowers w.graph (around_of w c.args.context) x (stage_of w c.args.self.now) (e.1.0)) (sym (ap statement_of c.in-Block.is ∙ block_statement_seen c.in-Block.numbers c.in-Block.inner ∙ ap (λ l. block l (stmts_of (map statement_of c.in-Block.inner.items))) (sym c.as_slice-in-Block.ensures.value) ∙ ap (λ l. block c.as_slice-in-Block.result.now (stmts_of (map statement_of l))) (sym c.as_slice-in-Block-2.ensures.value))) (e.1.1), e.1.2))
+    (e.0, (e.1.0, subst (λ x. Lowers w.graph (around_of w c.args.context) x (stage_of w c.args.self.now) (e.1.0)) (sym (ap statement_of c.in-Block.is ∙ block_statement_seen c.in-Block.numbers c.in-Block.inner ∙ ap (λ l. block l (stmts_of (map statement_of c.in-Block.inner.items))) (sym c.as_slice.ensures.value) ∙ ap (λ l. block c.as_slice.result.now (stmts_of (map statement_of l))) (sym c.as_slice-in-Block.ensures.value))) (e.1.1), e.1.2))
 
 pub returns-in_ok-if_only-in-If : goal.returns-in_ok-if_only-in-If
 returns-in_ok-if_only-in-If c = λ w u agrees rest.

@@ -38,57 +38,7 @@ returns-in_ok-returns-in-Return c = λ w u agrees rest.
 pub returns-in_ok-outer-in-Block : goal.returns-in_ok-outer-in-Block
 returns-in_ok-outer-in-Block c = c.in_ok-outer-in-Block.ensures
 
-pub returns-in_ok-outer-in-If : goal.returns-in_ok-outer-in-If
-returns-in_ok-outer-in-If c = c.in_ok-outer-in-If.ensures
-
-pub returns-in_ok-outer-in-IfElse : goal.returns-in_ok-outer-in-IfElse
-returns-in_ok-outer-in-IfElse c = c.in_ok-outer-in-IfElse.ensures
-
-pub returns-in_ok-outer-in-While : goal.returns-in_ok-outer-in-While
-returns-in_ok-outer-in-While c = c.in_ok-outer-in-While.ensures
-
-pub returns-in_ok-outer-in-Do : goal.returns-in_ok-outer-in-Do
-returns-in_ok-outer-in-Do c = c.in_ok-outer-in-Do.ensures
-
-pub returns-in_ok-outer-in-For : goal.returns-in_ok-outer-in-For
-returns-in_ok-outer-in-For c = c.in_ok-outer-in-For.ensures
-
 pub returns-in_ok-command-in-Free : goal.returns-in_ok-command-in-Free
 returns-in_ok-command-in-Free c = λ w u agrees rest.
     let e = c.in_ok-command-in-Free.ensures w agrees in
-    (e.0, (stage_of w c.command.new.self, e.1, rest))
-
-pub returns-in_ok-command-in-Assert : goal.returns-in_ok-command-in-Assert
-returns-in_ok-command-in-Assert c = λ w u agrees rest.
-    let e = c.in_ok-command-in-Assert.ensures w agrees in
-    (e.0, (stage_of w c.command.new.self, e.1, rest))
-
-pub returns-in_ok-command-in-Assume : goal.returns-in_ok-command-in-Assume
-returns-in_ok-command-in-Assume c = λ w u agrees rest.
-    let e = c.in_ok-command-in-Assume.ensures w agrees in
-    (e.0, (stage_of w c.command.new.self, e.1, rest))
-
-pub returns-in_ok-command-in-AssumeShape : goal.returns-in_ok-command-in-AssumeShape
-returns-in_ok-command-in-AssumeShape c = λ w u agrees rest.
-    let e = c.in_ok-command-in-AssumeShape.ensures w agrees in
-    (e.0, (stage_of w c.command.new.self, e.1, rest))
-
-pub returns-in_ok-command-in-AssertShape : goal.returns-in_ok-command-in-AssertShape
-returns-in_ok-command-in-AssertShape c = λ w u agrees rest.
-    let e = c.in_ok-command-in-AssertShape.ensures w agrees in
-    (e.0, (stage_of w c.command.new.self, e.1, rest))
-
-pub returns-in_ok-command-in-AssertEmpty : goal.returns-in_ok-command-in-AssertEmpty
-returns-in_ok-command-in-AssertEmpty c = λ w u agrees rest.
-    let e = c.in_ok-command-in-AssertEmpty.ensures w agrees in
-    (e.0, (stage_of w c.command.new.self, e.1, rest))
-
-pub returns-in_ok-command-in-Break : goal.returns-in_ok-command-in-Break
-returns-in_ok-command-in-Break c = λ w u agrees rest.
-    let e = c.in_ok-command-in-Break.ensures w agrees in
-    (e.0, (stage_of w c.command.new.self, e.1, rest))
-
-pub returns-in_ok-command-in-Continue : goal.returns-in_ok-command-in-Continue
-returns-in_ok-command-in-Continue c = λ w u agrees rest.
-    let e = c.in_ok-command-in-Continue.ensures w agrees in
     (e.0, (stage_of w c.command.new.self, e.1, rest))

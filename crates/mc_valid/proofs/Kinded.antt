@@ -1,0 +1,264 @@
+-- Each point of a flow graph names what is there and of its kind, where the program is of its kinds.
+use Rattle.std.proofs.Common.{◌≡◌, ◌<◌, ◌≤◌, ◌==◌, ◌⊎◌, ℕ, zero, suc, ℤ, pos, Bool, true, false, List, [], ◌∷◌, ◌++◌, Option, Some, None, refl, sym, ap, ◌∙◌, subst, length, option_map, if◌then◌else◌, take, drop, arith, inl, inr}
+use Rattle.std.proofs.lemmas.Bool.{cases_lt}
+use Rattle.std.proofs.lemmas.Bool.Decides.{eqb_tells}
+use Rattle.std.proofs.lemmas.Int.{ints}
+use Rattle.std.proofs.lemmas.List.Elements.{All-nil, All-cons, All-append, All-weaker}
+use Rattle.std.proofs.lemmas.Option.{same_Some, slice_get_within}
+use Rattle.std.specs.List.{AllZip}
+use Rattle.std.specs.Prelude.{All, Contains, slice_get}
+use Rattle.mc_base.specs.declared.ids.PointId.{PointId}
+use Rattle.mc_base.specs.declared.ids.VarId.{VarId}
+use Rattle.mc_base.specs.declared.plain.Kind.{Kind}
+use Rattle.mc_base.specs.declared.plain.Kind.TheVariants.{Int, Ptr}
+use Rattle.mc_base.specs.declared.plain.VarInfo.{VarInfo}
+use Rattle.mc_ast.specs.declared.trees.Comparison.{Comparison}
+use Rattle.mc_ast.specs.declared.trees.Comparison.TheVariants.{Equal, Unequal, Below, AtMost, Above, AtLeast}
+use Rattle.mc_text.specs.declared.place.Place.{Place}
+use Rattle.mc_defs.specs.declared.shapes.Structs.{Structs}
+use Rattle.mc_flow.specs.declared.instr.Instr.{Instr}
+use Rattle.mc_flow.specs.declared.instr.Instr.TheVariants.{Skip, Undef, End, Fail}
+use Rattle.mc_flow.specs.declared.instr.Operand.{Operand}
+use Rattle.mc_flow.specs.declared.instr.Operand.TheVariants.{Var, Const}
+use Rattle.mc_flow.specs.Valid.{IsVar, IsOperand, IsField, IsStruct, FitsKinds, ArgsFit}
+use Rattle.mc_resolved.specs.Programs.{FieldAt, Left, Expr, number, input, value, minus, times, plus as add_expr, difference, Cond, Call, Right, expression, result_of, allocation}
+use Rattle.mc_resolved.specs.Programs.{Action, assign, add, subtract, call, Simple, Initial, Argument, variable, constant, Start, Head, Stmt, Stmts, Local, Function}
+use Rattle.mc_lowering.specs.Graphs.{Graph, Owner, local, result, temporary, Role, plain, head, merge, stop, Stage, stage, point, var, nowhere, IsPoint, Appends, appends, Undefines, undefines_none, undefines, Creates, creates, IsMade, is_made, Uses, uses_first, uses_again, AreMade, Leaves, leaves}
+use Rattle.mc_lowering.specs.Values.{struct_at, Operation, an_input, a_field, a_sum, a_difference, a_product, sets, decides, Takes, takes, Walks, walks_none, walks, Evaluates, of_number, of_variable, of_operation, Computes, of_input, of_field, of_minus, of_times, of_plus, of_difference, EvaluatesAll, evaluates_none, evaluates_next, Compares, compares, Tests, tests_plain, tests_compare, tests_negation, tests_both, tests_either, TestsPerhaps, tests_always, tests_once, Puts, puts_variable, puts_field}
+use Rattle.mc_lowering.specs.Lowering.{SetsTo, sets_operand, sets_computed, sets_allocated, Assigns, assigns_variable, assigns_field, assigns_allocated, Changes, changes_variable, changes_field}
+use Rattle.mc_valid.specs.Kinds.{Here, IsVariable, LeadsTo, IsLeft, IsOf, AreCompared, IsCondition, IsConditionPerhaps, IsRight}
+
+abbrev pub points_of : Stage → ℕ
+points_of (stage a n k) = n
+
+abbrev pub variables_of : Stage → ℕ
+variables_of (stage a n k) = k
+
+abbrev pub here : Graph → Function → Here
+here g f = record { structs = g.flow.structs; program = g.program; function = f }
+
+-- ---- points
+pub record FitsAt (g : Graph) (n : ℕ) : Type 0 where
+  pub role : Role
+  pub place : Place
+  pub code : Instr
+  pub is : IsPoint g n role place code
+  pub fits : FitsKinds g.flow.vars g.flow.structs g.program.defs code
+
+pub record AllFit (g : Graph) (n m : ℕ) : Type 0 where
+  pub at : (p : ℕ) → n ≤ p → p < m → FitsAt g p
+
+pub both_fit : {g : Graph} {n m l : ℕ} → AllFit g n m → AllFit g m l → AllFit g n l
+both_fit {m = m} first second =
+    record {
+      at = λ p le lt. elim (cases_lt p m) [
+        | inl low ↦ first.at p le low
+        | inr high ↦ second.at p (omega arith) lt
+      ];
+    }
+
+pub none_fit : {g : Graph} {n : ℕ} → AllFit g n n
+none_fit = record { at = λ p le lt. absurd (omega arith) }
+
+pub one_fits : {g : Graph} {n : ℕ} {role : Role} {place : Place} {code : Instr} → IsPoint g n role place code → FitsKinds g.flow.vars g.flow.structs g.program.defs code → AllFit g n (suc n)
+one_fits {g = g} {n = n} {role = role} {place = place} {code = code} is fits =
+    record { at = λ p le lt. let same : n ≡ p = omega arith in subst (λ i. FitsAt g i) same (record { role = role; place = place; code = code; is = is; fits = fits }) }
+
+abbrev pub FitsAs : Graph → Instr → Type 0
+FitsAs g code = FitsKinds g.flow.vars g.flow.structs g.program.defs code
+
+pub appended : {g : Graph} {role : Role} {place : Place} {code : PointId → Instr} {s u : Stage} → Appends g role place code s u → ((q : PointId) → FitsAs g (code q)) → AllFit g (points_of s) (points_of u)
+appended (appends {b = b} is) fits = one_fits is (fits (point b))
+
+pub record AreInside (g : Graph) (vs : List VarId) : Type 0 where
+  pub all : All (λ x. x.0 < length g.flow.vars) vs
+
+pub none_inside : {g : Graph} → AreInside g []
+none_inside {g = g} = record { all = All-nil (λ x. x.0 < length g.flow.vars) }
+
+pub undefined : {g : Graph} {place : Place} {vs : List VarId} {s u : Stage} → Undefines g place vs s u → AreInside g vs → AllFit g (points_of s) (points_of u)
+undefined undefines_none inside = none_fit
+undefined (undefines is) inside = appended is (λ q. inside.all)
+
+-- ---- variables
+-- the function of each occurrence
+abbrev pub Functions : Type 0
+Functions = ℕ → Option Function
+
+pub record IsOfKind (g : Graph) (kind : Kind) (v : VarId) : Type 0 where
+  pub is : IsVar g.flow.vars kind v
+
+pub record SuitsLocal (g : Graph) (F : Functions) (i x v : ℕ) : Type 0 where
+  pub function : Function
+  pub known : F i ≡ Some function
+  pub info : Local
+  pub there : slice_get function.locals x ≡ Some info
+  pub kind : IsOfKind g info.kind (var v)
+
+pub record SuitsResult (g : Graph) (F : Functions) (i v : ℕ) : Type 0 where
+  pub function : Function
+  pub known : F i ≡ Some function
+  pub result : Kind
+  pub there : function.result ≡ Some result
+  pub kind : IsOfKind g result (var v)
+
+abbrev pub Suits : Graph → Functions → Owner → ℕ → Type 0
+Suits g F (local i x) v = SuitsLocal g F i x v
+Suits g F (result i) v = SuitsResult g F i v
+Suits g F (temporary j kind) v = IsOfKind g kind (var v)
+
+-- each of the first k variables is of its owner's kind
+pub record Knows (g : Graph) (F : Functions) (k : ℕ) : Type 0 where
+  pub each : (v : ℕ) (o : Owner) → v < k → slice_get g.owners v ≡ Some o → Suits g F o v
+
+pub kind_at : {g : Graph} {k : ℕ} {info : VarInfo} → slice_get g.flow.vars k ≡ Some info → IsOfKind g info.kind (var k)
+kind_at is = record { is = ap (λ o. option_map (λ (x : VarInfo). x.kind) o) is }
+
+inside_at : (vars : List VarInfo) (v : ℕ) (kind : Kind) (o : Option VarInfo) → slice_get vars v ≡ o → option_map (λ (x : VarInfo). x.kind) o ≡ Some kind → v < length vars
+inside_at vars v kind (Some info) is same = slice_get_within vars v info is
+inside_at vars v kind None is same = absurd (cc same)
+
+pub inside : {g : Graph} {kind : Kind} {v : VarId} → IsOfKind g kind v → v.0 < length g.flow.vars
+inside {g = g} {kind = kind} {v = v} is = inside_at g.flow.vars v.0 kind (slice_get g.flow.vars v.0) refl is.is
+
+pub one_inside : {g : Graph} {kind : Kind} {v : VarId} → IsOfKind g kind v → AreInside g (v ∷ [])
+one_inside {g = g} {v = v} is = record { all = All-cons (λ x. x.0 < length g.flow.vars) v [] (inside is) (All-nil (λ x. x.0 < length g.flow.vars)) }
+
+pub more_inside : {g : Graph} {kind : Kind} {v : VarId} (vs : List VarId) → AreInside g vs → IsOfKind g kind v → AreInside g (vs ++ v ∷ [])
+more_inside {g = g} {v = v} vs all is = record { all = All-append (λ x. x.0 < length g.flow.vars) vs (v ∷ []) all.all (one_inside is).all }
+
+pub created : {g : Graph} {F : Functions} {owner : Owner} {info : VarInfo} {s u : Stage} {v : VarId} → Creates g owner info s v u → (IsOfKind g info.kind v → Suits g F owner v.0)
+    → Knows g F (variables_of s) → Knows g F (variables_of u) × IsOfKind g info.kind v
+created {g = g} {F = F} {owner = owner} (creates {k = k} owned is) suits knows =
+    let kind = kind_at is in
+    (record {
+      each = λ v o lt there. elim (cases_lt v k) [
+        | inl low ↦ knows.each v o low there
+        | inr high ↦ let same : k ≡ v = omega arith in
+            let one : owner ≡ o = same_Some _ _ (sym owned ∙ ap (λ i. slice_get g.owners i) same ∙ there) in
+            subst (λ i. Suits g F o i) same (subst (λ p. Suits g F p k) one (suits kind))
+      ];
+    }, kind)
+
+pub used : {g : Graph} {F : Functions} {j : ℕ} {kind : Kind} {s u : Stage} {v : VarId} → Uses g j kind s v u → Knows g F (variables_of s) → Knows g F (variables_of u) × IsOfKind g kind v
+used (uses_first is) knows = created is (λ k. k) knows
+used {j = j} {kind = kind} (uses_again (is_made {v = v} there lt)) knows = (knows, knows.each v.0 (temporary j kind) lt there)
+
+pub used_points : {g : Graph} {j : ℕ} {kind : Kind} {s u : Stage} {v : VarId} {m : ℕ} → Uses g j kind s v u → AllFit g (points_of u) m → AllFit g (points_of s) m
+used_points (uses_first (creates owned is)) fit = fit
+used_points (uses_again made) fit = fit
+
+same_kind : {g : Graph} {kind other : Kind} {v : VarId} → kind ≡ other → IsOfKind g kind v → IsOfKind g other v
+same_kind {g = g} {v = v} same is = subst (λ k. IsOfKind g k v) same is
+
+-- a variable of a function is of its kind
+pub local_kind : {g : Graph} {F : Functions} {f : Function} {out x : ℕ} {v : VarId} {s : Stage} {kind : Kind} → F out ≡ Some f → IsMade g (local out x) v s
+    → IsVariable (here g f) kind x → Knows g F (variables_of s) → IsOfKind g kind v
+local_kind {g = g} {f = f} {out = out} {x = x} {kind = kind} known (is_made {v = v} there lt) is knows =
+    let suits = knows.each v.0 (local out x) lt there in
+    let one : suits.function ≡ f = same_Some _ _ (sym suits.known ∙ known) in
+    let found : slice_get f.locals x ≡ Some suits.info = subst (λ (h : Function). slice_get h.locals x ≡ Some suits.info) one suits.there in
+    same_kind (same_Some suits.info.kind kind (sym (ap (λ o. option_map (λ (l : Local). l.kind) o) found) ∙ is)) suits.kind
+
+pub result_kind : {g : Graph} {F : Functions} {f : Function} {out : ℕ} {v : VarId} {s : Stage} {kind : Kind} → F out ≡ Some f → IsMade g (result out) v s
+    → f.result ≡ Some kind → Knows g F (variables_of s) → IsOfKind g kind v
+result_kind {f = f} {out = out} {kind = kind} known (is_made {v = v} there lt) is knows =
+    let suits = knows.each v.0 (result out) lt there in
+    let one : suits.function ≡ f = same_Some _ _ (sym suits.known ∙ known) in
+    same_kind (same_Some suits.result kind (sym suits.there ∙ ap (λ (h : Function). h.result) one ∙ is)) suits.kind
+
+-- ---- operations
+pub record IsValueOf (g : Graph) (kind : Kind) (o : Operand) : Type 0 where
+  pub is : IsOperand g.flow.vars kind o
+
+pub of_var : {g : Graph} {kind : Kind} {v : VarId} → IsOfKind g kind v → IsValueOf g kind (Var v)
+of_var {kind = Int} is = record { is = is.is }
+of_var {kind = Ptr} is = record { is = is.is }
+
+constant_in : (vars : List VarInfo) (kind : Kind) (c : ℤ) → IsOperand [] kind (Const c) → IsOperand vars kind (Const c)
+constant_in vars Int c is = is
+constant_in vars Ptr c is = is
+
+pub of_constant : {g : Graph} {kind : Kind} {c : ℤ} → IsOperand [] kind (Const c) → IsValueOf g kind (Const c)
+of_constant {g = g} {kind = kind} {c = c} is = record { is = constant_in g.flow.vars kind c is }
+
+same_value : {g : Graph} {kind other : Kind} {o : Operand} → kind ≡ other → IsValueOf g kind o → IsValueOf g other o
+same_value {g = g} {o = o} same is = subst (λ k. IsValueOf g k o) same is
+
+-- what an operation names is of its kind
+abbrev pub FitsOperation : Graph → Kind → Operation → Type 0
+FitsOperation g kind an_input = kind ≡ Int
+FitsOperation g kind (a_field y f) = IsOfKind g Ptr y × IsField g.flow.structs (struct_at f.shape) f.field kind
+FitsOperation g kind (a_sum a b) = (kind ≡ Int) × IsValueOf g Int a × IsValueOf g Int b
+FitsOperation g kind (a_difference a b) = (kind ≡ Int) × IsValueOf g Int a × IsValueOf g Int b
+FitsOperation g kind (a_product a b) = (kind ≡ Int) × IsValueOf g Int a × IsValueOf g Int b
+
+pub operation_fits : (g : Graph) (kind : Kind) (operation : Operation) (v : VarId) → FitsOperation g kind operation → IsOfKind g kind v → (q : PointId) → FitsAs g (sets operation v q)
+operation_fits g kind an_input v fits is q = (same_kind fits is).is
+operation_fits g kind (a_field y f) v fits is q = (kind, is.is, fits.0.is, fits.1)
+operation_fits g kind (a_sum a b) v fits is q = ((same_kind fits.0 is).is, fits.1.is, fits.2.is)
+operation_fits g kind (a_difference a b) v fits is q = ((same_kind fits.0 is).is, fits.1.is, fits.2.is)
+operation_fits g kind (a_product a b) v fits is q = ((same_kind fits.0 is).is, fits.1.is, fits.2.is)
+
+-- ---- expressions
+-- the points fit, the variables are known, and the temporaries are there
+pub record Stays (g : Graph) (F : Functions) (s : Stage) (ts : List VarId) (u : Stage) : Type 0 where
+  pub fit : AllFit g (points_of s) (points_of u)
+  pub knows : Knows g F (variables_of u)
+  pub inside : AreInside g ts
+
+taken : {g : Graph} {F : Functions} {place : Place} {kind : Kind} {operation : Operation} {ts us : List VarId} {s u : Stage} {t : VarId} → Takes g place kind operation ts s t us u
+    → FitsOperation g kind operation → AreInside g ts → Knows g F (variables_of s) → Stays g F s us u × IsOfKind g kind t
+taken {g = g} {F = F} {kind = kind} {operation = operation} {ts = ts} {t = t} (takes uses (appends {b = b} is)) fits inside knows =
+    let one = used uses knows in
+    (record { fit = used_points uses (one_fits is (operation_fits g kind operation t fits one.1 (point b))); knows = one.0; inside = more_inside ts inside one.1 }, one.1)
+
+walked : {g : Graph} {F : Functions} {place : Place} {y z : VarId} {fs : List FieldAt} {ts us : List VarId} {s u : Stage} {last : FieldAt} {from kind : Kind} → Walks g place y fs ts s z last us u
+    → IsOfKind g from y → LeadsTo g.flow.structs from fs kind → AreInside g ts → Knows g F (variables_of s)
+    → Stays g F s us u × IsOfKind g Ptr z × IsField g.flow.structs (struct_at last.shape) last.field kind
+walked {g = g} (walks_none {f = f}) is leads inside knows =
+    (record { fit = none_fit; knows = knows; inside = inside }, same_kind leads.0 is, subst (λ k. IsField g.flow.structs (struct_at f.shape) f.field k) leads.1.2 leads.1.1)
+walked {g = g} {kind = kind} (walks {h = h} {fs = fs} {kind = first_kind} there first rest) is leads inside knows =
+    let one = taken first (same_kind leads.0 is, there) inside knows in
+    let same : leads.1.0 ≡ first_kind = same_Some _ _ (sym leads.1.1 ∙ there) in
+    let two = walked rest one.1 (subst (λ k. LeadsTo g.flow.structs k (h ∷ fs) kind) same leads.1.2) one.0.inside one.0.knows in
+    (record { fit = both_fit one.0.fit two.0.fit; knows = two.0.knows; inside = two.0.inside }, two.1, two.2)
+
+pub joined : {g : Graph} {F : Functions} {s m u : Stage} {ts us : List VarId} → Stays g F s ts m → Stays g F m us u → Stays g F s us u
+joined first second = record { fit = both_fit first.fit second.fit; knows = second.knows; inside = second.inside }
+
+zero_is : IsOperand [] Int (Const (pos 0))
+zero_is = (omega (arith, ints), omega (arith, ints))
+
+mutual
+  pub evaluated : {g : Graph} {F : Functions} {f : Function} {out : ℕ} {place : Place} {e : Expr} {ts us : List VarId} {s u : Stage} {o : Operand} {kind : Kind} → F out ≡ Some f
+      → Evaluates g out place e ts s o us u → IsOf (here g f) kind e → AreInside g ts → Knows g F (variables_of s) → Stays g F s us u × IsValueOf g kind o
+  evaluated known of_number is inside knows = (record { fit = none_fit; knows = knows; inside = inside }, of_constant is)
+  evaluated known (of_variable made) is inside knows =
+      (record { fit = none_fit; knows = knows; inside = inside }, of_var (same_kind is.2 (local_kind known made is.1 knows)))
+  evaluated known (of_operation first rest) is inside knows =
+      let one = computed known first is inside knows in
+      let two = taken rest one.1 one.0.inside one.0.knows in
+      (joined one.0 two.0, of_var (same_kind one.2 two.1))
+
+  pub computed : {g : Graph} {F : Functions} {f : Function} {out : ℕ} {place : Place} {e : Expr} {ts us : List VarId} {s u : Stage} {kind wanted : Kind} {operation : Operation} → F out ≡ Some f
+      → Computes g out place e ts s kind operation us u → IsOf (here g f) wanted e → AreInside g ts → Knows g F (variables_of s)
+      → Stays g F s us u × FitsOperation g kind operation × (kind ≡ wanted)
+  computed known of_input is inside knows = (record { fit = none_fit; knows = knows; inside = inside }, refl, sym is)
+  computed known (of_field made walk there) is inside knows =
+      let one = walked walk (local_kind known made is.1 knows) is.2 inside knows in
+      (one.0, (one.1, there), same_Some _ _ (sym there ∙ one.2))
+  computed known (of_minus first) is inside knows =
+      let one = evaluated known first is.1 inside knows in (one.0, (refl, of_constant zero_is, one.1), sym is.0)
+  computed known (of_times first second) is inside knows =
+      let one = evaluated known first is.1 inside knows in
+      let two = evaluated known second is.2 one.0.inside one.0.knows in
+      (joined one.0 two.0, (refl, one.1, two.1), sym is.0)
+  computed known (of_plus first second) is inside knows =
+      let one = evaluated known first is.1 inside knows in
+      let two = evaluated known second is.2 one.0.inside one.0.knows in
+      (joined one.0 two.0, (refl, one.1, two.1), sym is.0)
+  computed known (of_difference first second) is inside knows =
+      let one = evaluated known first is.1 inside knows in
+      let two = evaluated known second is.2 one.0.inside one.0.knows in
+      (joined one.0 two.0, (refl, one.1, two.1), sym is.0)
