@@ -21,8 +21,7 @@ use Rattle.mc_flow.specs.declared.instr.Instr.TheVariants.{Skip, Undef, End, Fai
 use Rattle.mc_flow.specs.declared.instr.Operand.{Operand}
 use Rattle.mc_flow.specs.declared.instr.Operand.TheVariants.{Var, Const}
 use Rattle.mc_flow.specs.Valid.{IsVar, IsOperand, IsField, IsStruct, FitsKinds, ArgsFit}
-use Rattle.mc_resolved.specs.Programs.{FieldAt, Left, Expr, number, input, value, minus, times, plus as add_expr, difference, Cond, Call, Right, expression, result_of, allocation}
-use Rattle.mc_resolved.specs.Programs.{Action, assign, add, subtract, call, Simple, Initial, Argument, variable, constant, Start, Head, Stmt, Stmts, Local, Function}
+use Rattle.mc_resolved.specs.Programs.{FieldAt, Left, Expr, Cond, Right, Local, Function}
 use Rattle.mc_lowering.specs.Graphs.{Graph, Owner, local, result, temporary, Role, plain, head, merge, stop, Stage, stage, point, var, nowhere, IsPoint, Appends, appends, Undefines, undefines_none, undefines, Creates, creates, IsMade, is_made, Uses, uses_first, uses_again, AreMade, Leaves, leaves}
 use Rattle.mc_lowering.specs.Values.{struct_at, Operation, an_input, a_field, a_sum, a_difference, a_product, sets, decides, Takes, takes, Walks, walks_none, walks, Evaluates, of_number, of_variable, of_operation, Computes, of_input, of_field, of_minus, of_times, of_plus, of_difference, EvaluatesAll, evaluates_none, evaluates_next, Compares, compares, Tests, tests_plain, tests_compare, tests_negation, tests_both, tests_either, TestsPerhaps, tests_always, tests_once, Puts, puts_variable, puts_field}
 use Rattle.mc_lowering.specs.Lowering.{SetsTo, sets_operand, sets_computed, sets_allocated, Assigns, assigns_variable, assigns_field, assigns_allocated, Changes, changes_variable, changes_field}
@@ -262,3 +261,173 @@ mutual
       let one = evaluated known first is.1 inside knows in
       let two = evaluated known second is.2 one.0.inside one.0.knows in
       (joined one.0 two.0, (refl, one.1, two.1), sym is.0)
+
+abbrev pub IsOfLocal : Graph → Function → Expr → Local → Type 0
+IsOfLocal g f e l = IsOf (here g f) l.kind e
+
+-- operands of the kinds of some variables
+abbrev pub AreOperands : Graph → List Operand → List Local → Type 0
+AreOperands g os ls = AllZip (λ o l. IsValueOf g l.kind o) os ls
+
+pub record Evaluated (g : Graph) (F : Functions) (s : Stage) (ts : List VarId) (u : Stage) (os : List Operand) (ls : List Local) : Type 0 where
+  pub stays : Stays g F s ts u
+  pub operands : AreOperands g os ls
+
+pub all_evaluated : {g : Graph} {F : Functions} {f : Function} {out : ℕ} {place : Place} {es : List Expr} {ts us : List VarId} {s u : Stage} {os : List Operand} (ls : List Local) → F out ≡ Some f
+    → EvaluatesAll g out place es ts s os us u → AllZip (λ e l. IsOf (here g f) l.kind e) es ls → AreInside g ts → Knows g F (variables_of s) → Evaluated g F s us u os ls
+all_evaluated [] known evaluates_none are inside knows = record { stays = record { fit = none_fit; knows = knows; inside = inside }; operands = tt }
+all_evaluated (l ∷ ls) known evaluates_none are inside knows = absurd are
+all_evaluated [] known (evaluates_next first rest) are inside knows = absurd are
+all_evaluated (l ∷ ls) known (evaluates_next first rest) are inside knows =
+    let one = evaluated known first are.0 inside knows in
+    let two = all_evaluated ls known rest are.1 one.0.inside one.0.knows in
+    record { stays = joined one.0 two.stays; operands = (one.1, two.operands) }
+
+-- ---- conditions
+-- what is compared is of one kind
+abbrev pub FitComparison : Graph → Comparison → Operand → Operand → Type 0
+FitComparison g Equal a b = (kind : Kind) × IsValueOf g kind a × IsValueOf g kind b
+FitComparison g Unequal a b = (kind : Kind) × IsValueOf g kind a × IsValueOf g kind b
+FitComparison g Below a b = IsValueOf g Int a × IsValueOf g Int b
+FitComparison g AtMost a b = IsValueOf g Int a × IsValueOf g Int b
+FitComparison g Above a b = IsValueOf g Int a × IsValueOf g Int b
+FitComparison g AtLeast a b = IsValueOf g Int a × IsValueOf g Int b
+
+decision_fits : (g : Graph) (c : Comparison) (a b : Operand) (t f : PointId) → FitComparison g c a b → FitsAs g (decides c a b t f)
+decision_fits g Equal a b t f fits = (fits.0, fits.1.is, fits.2.is)
+decision_fits g Unequal a b t f fits = (fits.0, fits.1.is, fits.2.is)
+decision_fits g Below a b t f fits = (fits.1.is, fits.0.is)
+decision_fits g AtMost a b t f fits = (fits.0.is, fits.1.is)
+decision_fits g Above a b t f fits = (fits.0.is, fits.1.is)
+decision_fits g AtLeast a b t f fits = (fits.1.is, fits.0.is)
+
+pub record StaysTo (g : Graph) (F : Functions) (s : Stage) (n k : ℕ) : Type 0 where
+  pub fit : AllFit g (points_of s) n
+  pub knows : Knows g F k
+
+pub onto : {g : Graph} {F : Functions} {s m : Stage} {ts : List VarId} {n k : ℕ} → Stays g F s ts m → StaysTo g F m n k → StaysTo g F s n k
+onto first second = record { fit = both_fit first.fit second.fit; knows = second.knows }
+
+undefined_variables : {g : Graph} {F : Functions} {place : Place} {vs : List VarId} {s u : Stage} → Undefines g place vs s u → Knows g F (variables_of s) → Knows g F (variables_of u)
+undefined_variables undefines_none knows = knows
+undefined_variables (undefines (appends is)) knows = knows
+
+appended_variables : {g : Graph} {F : Functions} {role : Role} {place : Place} {code : PointId → Instr} {s u : Stage} → Appends g role place code s u → Knows g F (variables_of s) → Knows g F (variables_of u)
+appended_variables (appends is) knows = knows
+
+pub point_stays : {g : Graph} {F : Functions} {role : Role} {place : Place} {code : PointId → Instr} {s u : Stage} {ts : List VarId} → Appends g role place code s u → ((q : PointId) → FitsAs g (code q))
+    → AreInside g ts → Knows g F (variables_of s) → Stays g F s ts u
+point_stays is fits inside knows = record { fit = appended is fits; knows = appended_variables is knows; inside = inside }
+
+pub undefined_stays : {g : Graph} {F : Functions} {place : Place} {vs : List VarId} {s u : Stage} → Undefines g place vs s u → AreInside g vs → Knows g F (variables_of s) → Stays g F s [] u
+undefined_stays undone inside knows = record { fit = undefined undone inside; knows = undefined_variables undone knows; inside = none_inside }
+
+compared : {g : Graph} {F : Functions} {place : Place} {c : Comparison} {a b : Operand} {ts : List VarId} {s : Stage} {t f n k : ℕ} → Compares g place c a b ts s t f n k
+    → FitComparison g c a b → AreInside g ts → Knows g F (variables_of s) → StaysTo g F s n k
+compared {g = g} {c = c} {a = a} {b = b} (compares {y = y} {z = z} is first second) fits inside knows =
+    let one = undefined_stays first inside knows in
+    let two = undefined_stays second inside one.knows in
+    record { fit = both_fit (one_fits is (decision_fits g c a b (point y) (point z) fits)) (both_fit one.fit two.fit); knows = two.knows }
+
+zero_of : {g : Graph} (kind : Kind) → IsValueOf g kind (Const (pos 0))
+zero_of Int = record { is = zero_is }
+zero_of Ptr = record { is = refl }
+
+comparison_fits : (g : Graph) (f : Function) (c : Comparison) (a b : Expr) (o p : Operand) → AreCompared (here g f) c a b
+    → ((kind : Kind) → IsOf (here g f) kind a → IsValueOf g kind o) → ((kind : Kind) → IsOf (here g f) kind b → IsValueOf g kind p) → FitComparison g c o p
+comparison_fits g f Equal a b o p are first second = (are.0, first are.0 are.1, second are.0 are.2)
+comparison_fits g f Unequal a b o p are first second = (are.0, first are.0 are.1, second are.0 are.2)
+comparison_fits g f Below a b o p are first second = (first Int are.0, second Int are.1)
+comparison_fits g f AtMost a b o p are first second = (first Int are.0, second Int are.1)
+comparison_fits g f Above a b o p are first second = (first Int are.0, second Int are.1)
+comparison_fits g f AtLeast a b o p are first second = (first Int are.0, second Int are.1)
+
+-- the kinds of two expressions that are compared
+compared_kind : (g : Graph) (f : Function) (c : Comparison) (a b : Expr) → AreCompared (here g f) c a b → (first second : Kind) × IsOf (here g f) first a × IsOf (here g f) second b
+compared_kind g f Equal a b are = (are.0, are.0, are.1, are.2)
+compared_kind g f Unequal a b are = (are.0, are.0, are.1, are.2)
+compared_kind g f Below a b are = (Int, Int, are.0, are.1)
+compared_kind g f AtMost a b are = (Int, Int, are.0, are.1)
+compared_kind g f Above a b are = (Int, Int, are.0, are.1)
+compared_kind g f AtLeast a b are = (Int, Int, are.0, are.1)
+
+pub tested : {g : Graph} {F : Functions} {h : Function} {out : ℕ} {c : Cond} {s : Stage} {t f n k : ℕ} → F out ≡ Some h → Tests g out c s t f n k → IsCondition (here g h) c
+    → Knows g F (variables_of s) → StaysTo g F s n k
+tested known (tests_plain first test) is knows =
+    let one = evaluated known first is.1 none_inside knows in
+    onto one.0 (compared test (is.0, one.1, zero_of is.0) one.0.inside one.0.knows)
+tested {g = g} {h = h} known (tests_compare {c = c} {a = a} {b = b} {o = o} {p = p} first second test) is knows =
+    let kinds = compared_kind g h c a b is in
+    let one = evaluated known first kinds.2 none_inside knows in
+    let two = evaluated known second kinds.3 one.0.inside one.0.knows in
+    let fits = comparison_fits g h c a b o p is (λ kind of. (evaluated {kind = kind} known first of none_inside knows).1)
+        (λ kind of. (evaluated {kind = kind} known second of one.0.inside one.0.knows).1) in
+    onto one.0 (onto two.0 (compared test fits two.0.inside two.0.knows))
+tested known (tests_negation test) is knows = tested known test is knows
+tested known (tests_both {a = a} {m = m} {j = j} first second) is knows =
+    let one = tested known first is.0 knows in
+    let two = tested known second is.1 one.knows in
+    record { fit = both_fit one.fit two.fit; knows = two.knows }
+tested known (tests_either {a = a} {m = m} {j = j} first second) is knows =
+    let one = tested known first is.0 knows in
+    let two = tested known second is.1 one.knows in
+    record { fit = both_fit one.fit two.fit; knows = two.knows }
+
+pub tested_perhaps : {g : Graph} {F : Functions} {h : Function} {out : ℕ} {c : Option Cond} {s : Stage} {t f n k : ℕ} → F out ≡ Some h → TestsPerhaps g out c s t f n k
+    → IsConditionPerhaps (here g h) c → Knows g F (variables_of s) → StaysTo g F s n k
+tested_perhaps known tests_always is knows = record { fit = none_fit; knows = knows }
+tested_perhaps known (tests_once test) is knows = tested known test is knows
+
+-- ---- assignments
+copy_fits : {g : Graph} {kind : Kind} {v : VarId} {o : Operand} → IsOfKind g kind v → IsValueOf g kind o → (k : Kind) × IsVar g.flow.vars k v × IsOperand g.flow.vars k o
+copy_fits {kind = kind} is value = (kind, is.is, value.is)
+
+pub put : {g : Graph} {F : Functions} {f : Function} {out : ℕ} {place : Place} {l : Left} {o : Operand} {ts : List VarId} {s u : Stage} {kind : Kind} → F out ≡ Some f → Puts g out place l o ts s u
+    → IsLeft (here g f) kind l → IsValueOf g kind o → AreInside g ts → Knows g F (variables_of s) → Stays g F s [] u
+put known (puts_variable made is undone) left value inside knows =
+    let kind = same_kind left.2 (local_kind known made left.1 knows) in
+    let one = point_stays is (λ q. copy_fits kind value) inside knows in
+    joined one (undefined_stays undone inside one.knows)
+put {kind = kind} known (puts_field made walk is undone) left value inside knows =
+    let one = walked walk (local_kind known made left.1 knows) left.2 inside knows in
+    let two = point_stays is (λ q. (kind, one.1.is, one.2, value.is)) one.0.inside one.0.knows in
+    joined one.0 (joined two (undefined_stays undone one.0.inside two.knows))
+
+pub set : {g : Graph} {F : Functions} {f : Function} {out : ℕ} {place : Place} {v : VarId} {right : Right} {s u : Stage} {kind : Kind} → F out ≡ Some f → SetsTo g out place v right s u
+    → IsOfKind g kind v → IsRight (here g f) kind right → Knows g F (variables_of s) → Stays g F s [] u
+set known (sets_operand value is) variable right knows =
+    let one = evaluated known value right none_inside knows in point_stays is (λ q. copy_fits variable one.1) none_inside knows
+set {g = g} {v = v} known (sets_computed {kind = found} {operation = operation} value is undone) variable right knows =
+    let one = computed known value right none_inside knows in
+    let two = point_stays is (operation_fits g found operation v one.1 (same_kind (sym one.2) variable)) one.0.inside one.0.knows in
+    joined one.0 (joined two (undefined_stays undone one.0.inside two.knows))
+set known (sets_allocated count is) variable right knows = point_stays is (λ q. ((same_kind right.0 variable).is, right.1)) none_inside knows
+
+pub assigned : {g : Graph} {F : Functions} {f : Function} {out : ℕ} {place : Place} {l : Left} {right : Right} {s u : Stage} (kind : Kind) → F out ≡ Some f → Assigns g out place l right s u
+    → IsLeft (here g f) kind l → IsRight (here g f) kind right → Knows g F (variables_of s) → Stays g F s [] u
+assigned kind known (assigns_variable made sets) left right knows = set known sets (same_kind left.2 (local_kind known made left.1 knows)) right knows
+assigned kind known (assigns_field value puts) left right knows =
+    let one = evaluated known value right none_inside knows in
+    joined one.0 (put known puts left one.1 one.0.inside one.0.knows)
+assigned {g = g} {F = F} kind known (assigns_allocated {t = t} count uses is puts) left right knows =
+    let one = used uses knows in
+    let two = point_stays is (λ q. (one.1.is, right.1)) (one_inside one.1) one.0 in
+    let three = put known puts left (same_value (sym right.0) (of_var one.1)) two.inside two.knows in
+    record { fit = used_points uses (both_fit two.fit three.fit); knows = three.knows; inside = three.inside }
+
+pub changed : {g : Graph} {F : Functions} {f : Function} {out : ℕ} {place : Place} {operation : Operand → Operand → Operation} {l : Left} {e : Expr} {s u : Stage} → F out ≡ Some f
+    → ((a b : Operand) → IsValueOf g Int a → IsValueOf g Int b → FitsOperation g Int (operation a b)) → Changes g out place operation l e s u
+    → IsLeft (here g f) Int l → IsOf (here g f) Int e → Knows g F (variables_of s) → Stays g F s [] u
+changed {g = g} {operation = operation} known fits (changes_variable {v = v} {o = o} value made is undone) left of knows =
+    let one = evaluated known value of none_inside knows in
+    let kind = same_kind left.2 (local_kind known made left.1 one.0.knows) in
+    let two = point_stays is (operation_fits g Int (operation (Var v) o) v (fits (Var v) o (of_var kind) one.1) kind) one.0.inside one.0.knows in
+    joined one.0 (joined two (undefined_stays undone one.0.inside two.knows))
+changed {g = g} {operation = operation} known fits (changes_field {old = old} {o = o} value made walk there loads computes is undone) left of knows =
+    let one = evaluated known value of none_inside knows in
+    let two = walked walk (local_kind known made left.1 one.0.knows) left.2 one.0.inside one.0.knows in
+    let three = taken loads (two.1, there) two.0.inside two.0.knows in
+    let number_kind = same_kind (same_Some _ _ (sym there ∙ two.2)) three.1 in
+    let four = taken computes (fits (Var old) o (of_var number_kind) one.1) three.0.inside three.0.knows in
+    let five = point_stays is (λ q. (Int, two.1.is, two.2, four.1.is)) four.0.inside four.0.knows in
+    joined one.0 (joined two.0 (joined three.0 (joined four.0 (joined five (undefined_stays undone four.0.inside five.knows)))))
