@@ -312,7 +312,7 @@ undefined_variables : {g : Graph} {F : Functions} {place : Place} {vs : List Var
 undefined_variables undefines_none knows = knows
 undefined_variables (undefines (appends is)) knows = knows
 
-appended_variables : {g : Graph} {F : Functions} {role : Role} {place : Place} {code : PointId → Instr} {s u : Stage} → Appends g role place code s u → Knows g F (variables_of s) → Knows g F (variables_of u)
+pub appended_variables : {g : Graph} {F : Functions} {role : Role} {place : Place} {code : PointId → Instr} {s u : Stage} → Appends g role place code s u → Knows g F (variables_of s) → Knows g F (variables_of u)
 appended_variables (appends is) knows = knows
 
 pub point_stays : {g : Graph} {F : Functions} {role : Role} {place : Place} {code : PointId → Instr} {s u : Stage} {ts : List VarId} → Appends g role place code s u → ((q : PointId) → FitsAs g (code q))
@@ -329,7 +329,7 @@ compared {g = g} {c = c} {a = a} {b = b} (compares {y = y} {z = z} is first seco
     let two = undefined_stays second inside one.knows in
     record { fit = both_fit (one_fits is (decision_fits g c a b (point y) (point z) fits)) (both_fit one.fit two.fit); knows = two.knows }
 
-zero_of : {g : Graph} (kind : Kind) → IsValueOf g kind (Const (pos 0))
+pub zero_of : {g : Graph} (kind : Kind) → IsValueOf g kind (Const (pos 0))
 zero_of Int = record { is = zero_is }
 zero_of Ptr = record { is = refl }
 
