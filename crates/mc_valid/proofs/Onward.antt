@@ -11,6 +11,7 @@ use Rattle.mc_base.specs.declared.plain.VarInfo.{VarInfo}
 use Rattle.mc_ast.specs.declared.trees.Comparison.{Comparison}
 use Rattle.mc_ast.specs.declared.trees.Comparison.TheVariants.{Equal, Unequal, Below, AtMost, Above, AtLeast}
 use Rattle.mc_text.specs.declared.place.Place.{Place}
+use Rattle.mc_flow.specs.declared.graph.Flow.{Flow}
 use Rattle.mc_flow.specs.declared.graph.Point.{Point}
 use Rattle.mc_flow.specs.declared.instr.Instr.{Instr}
 use Rattle.mc_flow.specs.declared.instr.Instr.TheVariants.{Skip, End, Fail}
@@ -25,7 +26,14 @@ use Rattle.mc_lowering.specs.Lowering.{Declares, declares_none, declares_undefin
 use Rattle.mc_lowering.specs.Lowering.{Lowers, declarations, blocks, empties, simples, frees, asserts, assumes, shapes_assumed, shapes_asserted, emptiness_asserted, ifs, ifs_else, whiles, dos, fors, breaks, continues, returns_nothing, returns_value, returns_result, LowersAll, lowers_none, lowers_next}
 use Rattle.mc_lowering.specs.Lowering.{Answers, answers_none, answers, Falls, falls_in_main, falls, Makes, makes, AreOfRole, IsLowering}
 use Rattle.mc_lowering.proofs.Growing as grown
-use Rattle.mc_valid.specs.Going.{GoesOnWell}
+
+-- there is a first point, each point goes on to points behind it or to loop heads, and loop heads and the points where
+-- ways meet are Skips
+pub record GoesOnWell (flow : Flow) : Type 0 where
+  pub begins : 0 < length flow.points
+  pub follows : (p : ℕ) (point : Point) → slice_get flow.points p ≡ Some point → All (GoesOn flow p) (targets point.code)
+  pub heads : All (IsSkip flow.points) flow.heads
+  pub merges : All (IsSkip flow.points) flow.merges
 
 abbrev goal_of : Stage → ℕ
 goal_of (stage a n k) = a

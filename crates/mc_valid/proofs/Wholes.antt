@@ -425,3 +425,35 @@ mutual
       let after : points_of m ≤ points_of u = (grown.all_lowered rest).points in
       let one = lowered whole known apart (omega arith) are.0 first knows in
       kept_then one (all_lowered whole (one.keeps c.out c.function known) (apart_kept one before apart) le are.1 rest one.knows) after
+
+-- ---- programs
+
+answered : {g : Graph} {F : Functions} {f : Function} {out : ℕ} {kind : Option Kind} {s u : Stage} → F out ≡ Some f → f.result ≡ kind → Answers g out kind s u → Knows g F (variables_of s) → Stays g F s [] u
+answered known is answers_none knows = record { fit = none_fit; knows = knows; inside = none_inside }
+answered {f = f} known is (answers {kind = kind} creating) knows =
+    let one = created creating (λ it. record { function = f; known = known; result = kind; there = is; kind = it }) knows in
+    record { fit = created_points creating none_fit; knows = one.0; inside = none_inside }
+
+fallen : {g : Graph} {F : Functions} {f : Function} {out : ℕ} {s u : Stage} → F out ≡ Some f → Falls g f out s u → Knows g F (variables_of s) → Stays g F s [] u
+fallen {g = g} known (falls_in_main is made copies) knows =
+    let own = result_kind known made is.1 knows in point_stays copies (λ q. (Int, own.is, (zero_of {g = g} Int).is)) none_inside knows
+fallen known (falls other) knows = record { fit = none_fit; knows = knows; inside = none_inside }
+
+fallen_grows : {g : Graph} {f : Function} {out : ℕ} {s u : Stage} → Falls g f out s u → points_of s ≤ points_of u
+fallen_grows (falls_in_main is made copies) = (grown.appended copies).points
+fallen_grows (falls other) = omega arith
+
+pub made_fits : {g : Graph} {f : Function} {out count : ℕ} → Whole g → AreOfKinds (here g f) f.body → Makes g f out count → AllFit g 0 (suc out)
+made_fits {g = g} {f = f} {out = out} whole are (makes {s = s} {m = m} {n = n} begins kind body falling is) =
+    let F : Functions = adding (λ i. None) out f in
+    let own : F out ≡ Some f = added_here (λ i. None) out f in
+    let nothing : Knows g F 0 = record { each = λ v o lt there. absurd (omega arith) } in
+    let one = point_stays begins (λ q. tt) none_inside nothing in
+    let two = answered own refl kind one.knows in
+    let apart : Apart F (points_of m) out = record { is = λ i h found. elim (added_from (λ i. None) out f i h found) [
+        | inl same ↦ inr (omega arith)
+        | inr old ↦ absurd (cc old)
+      ] } in
+    let three = all_lowered whole own apart (fallen_grows falling) are body two.knows in
+    let four = fallen (three.keeps out f own) falling three.knows in
+    both_fit one.fit (both_fit two.fit (both_fit three.fit (both_fit four.fit (one_fits is tt))))

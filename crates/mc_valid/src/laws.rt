@@ -1,12 +1,13 @@
 // Laws of the flow graphs of resolved programs.
+ghost use Rattle.mc_flow.specs.Valid.{IsValid};
 ghost use Rattle.mc_lowering.specs.Graphs.{Graph};
 ghost use Rattle.mc_lowering.specs.Lowering.{IsLowering};
 ghost use Rattle.mc_resolved.specs.Programs.{Function};
-ghost use Rattle.mc_valid.specs.Going.{GoesOnWell};
+ghost use Rattle.mc_valid.specs.Kinds.{IsWellMade};
 ghost use Rattle.std.specs.Prelude.{ℕ};
 
-/// Each point of a flow graph of a program goes on to points behind it or to loop heads, and loop heads and the points where ways
-/// meet are Skips.
-pub fn lowerings_go_on()
-    ensures { (g : Graph) (entry : Function) (out count : ℕ) → IsLowering g entry out count → GoesOnWell g.flow }
+/// A flow graph of a program whose values are of the kinds that are wanted, and whose definitions fit its structs, is valid.
+pub fn lowerings_are_valid()
+    ensures { (g : Graph) (entry : Function) (out count : ℕ) → IsWellMade g.flow.structs g.program
+        → IsLowering g entry out count → IsValid g.flow g.program.defs }
 {}
