@@ -1,12 +1,11 @@
 -- Each point of a flow graph names what is there and of its kind, where the program is of its kinds.
-use Rattle.std.proofs.Common.{◌≡◌, ◌<◌, ◌≤◌, ◌==◌, ◌⊎◌, ℕ, zero, suc, ℤ, pos, Bool, true, false, List, [], ◌∷◌, ◌++◌, Option, Some, None, refl, sym, ap, ◌∙◌, subst, length, option_map, if◌then◌else◌, take, drop, arith, inl, inr}
+use Rattle.std.proofs.Common.{◌≡◌, ◌<◌, ◌≤◌, ℕ, suc, ℤ, pos, List, [], ◌∷◌, ◌++◌, Option, Some, None, refl, sym, ap, ◌∙◌, subst, length, option_map, arith, inl, inr}
 use Rattle.std.proofs.lemmas.Bool.{cases_lt}
-use Rattle.std.proofs.lemmas.Bool.Decides.{eqb_tells}
 use Rattle.std.proofs.lemmas.Int.{ints}
-use Rattle.std.proofs.lemmas.List.Elements.{All-nil, All-cons, All-append, All-weaker}
+use Rattle.std.proofs.lemmas.List.Elements.{All-nil, All-cons, All-append}
 use Rattle.std.proofs.lemmas.Option.{same_Some, slice_get_within}
 use Rattle.std.specs.List.{AllZip}
-use Rattle.std.specs.Prelude.{All, Contains, slice_get}
+use Rattle.std.specs.Prelude.{All, slice_get}
 use Rattle.mc_base.specs.declared.ids.PointId.{PointId}
 use Rattle.mc_base.specs.declared.ids.VarId.{VarId}
 use Rattle.mc_base.specs.declared.plain.Kind.{Kind}
@@ -15,14 +14,12 @@ use Rattle.mc_base.specs.declared.plain.VarInfo.{VarInfo}
 use Rattle.mc_ast.specs.declared.trees.Comparison.{Comparison}
 use Rattle.mc_ast.specs.declared.trees.Comparison.TheVariants.{Equal, Unequal, Below, AtMost, Above, AtLeast}
 use Rattle.mc_text.specs.declared.place.Place.{Place}
-use Rattle.mc_defs.specs.declared.shapes.Structs.{Structs}
 use Rattle.mc_flow.specs.declared.instr.Instr.{Instr}
-use Rattle.mc_flow.specs.declared.instr.Instr.TheVariants.{Skip, Undef, End, Fail}
 use Rattle.mc_flow.specs.declared.instr.Operand.{Operand}
 use Rattle.mc_flow.specs.declared.instr.Operand.TheVariants.{Var, Const}
-use Rattle.mc_flow.specs.Valid.{IsVar, IsOperand, IsField, IsStruct, FitsKinds, ArgsFit}
+use Rattle.mc_flow.specs.Valid.{IsVar, IsOperand, IsField, FitsKinds}
 use Rattle.mc_resolved.specs.Programs.{FieldAt, Left, Expr, Cond, Right, Local, Function}
-use Rattle.mc_lowering.specs.Graphs.{Graph, Owner, local, result, temporary, Role, plain, head, merge, stop, Stage, stage, point, var, nowhere, IsPoint, Appends, appends, Undefines, undefines_none, undefines, Creates, creates, IsMade, is_made, Uses, uses_first, uses_again, AreMade, Leaves, leaves}
+use Rattle.mc_lowering.specs.Graphs.{Graph, Owner, local, result, temporary, Role, Stage, stage, point, var, IsPoint, Appends, appends, Undefines, undefines_none, undefines, Creates, creates, IsMade, is_made, Uses, uses_first, uses_again}
 use Rattle.mc_lowering.specs.Values.{struct_at, Operation, an_input, a_field, a_sum, a_difference, a_product, sets, decides, Takes, takes, Walks, walks_none, walks, Evaluates, of_number, of_variable, of_operation, Computes, of_input, of_field, of_minus, of_times, of_plus, of_difference, EvaluatesAll, evaluates_none, evaluates_next, Compares, compares, Tests, tests_plain, tests_compare, tests_negation, tests_both, tests_either, TestsPerhaps, tests_always, tests_once, Puts, puts_variable, puts_field}
 use Rattle.mc_lowering.specs.Lowering.{SetsTo, sets_operand, sets_computed, sets_allocated, Assigns, assigns_variable, assigns_field, assigns_allocated, Changes, changes_variable, changes_field}
 use Rattle.mc_valid.specs.Kinds.{Here, IsVariable, LeadsTo, IsLeft, IsOf, AreCompared, IsCondition, IsConditionPerhaps, IsRight}

@@ -1,10 +1,10 @@
 -- Calls, statements and programs: each point of a flow graph names what is there and of its kind.
-use Rattle.std.proofs.Common.{◌≡◌, ◌<◌, ◌≤◌, ◌==◌, ◌⊎◌, ℕ, zero, suc, ℤ, pos, Bool, true, false, List, [], ◌∷◌, Option, Some, None, refl, sym, ap, ◌∙◌, subst, length, take, drop, arith, inl, inr}
+use Rattle.std.proofs.Common.{◌≡◌, ◌<◌, ◌≤◌, ◌==◌, ◌⊎◌, ℕ, zero, suc, Bool, true, false, List, [], ◌∷◌, Option, Some, None, refl, sym, ap, ◌∙◌, subst, length, take, drop, arith, inl, inr}
 use Rattle.std.proofs.lemmas.Bool.Decides.{eqb_tells}
-use Rattle.std.proofs.lemmas.List.Elements.{All-nil, All-cons, All-weaker, All-contains}
+use Rattle.std.proofs.lemmas.List.Elements.{All-weaker}
 use Rattle.std.proofs.lemmas.Option.{same_Some, slice_get_within}
 use Rattle.std.specs.List.{AllZip}
-use Rattle.std.specs.Prelude.{All, Contains, slice_get}
+use Rattle.std.specs.Prelude.{slice_get}
 use Rattle.mc_base.specs.declared.ids.PointId.{PointId}
 use Rattle.mc_base.specs.declared.ids.PredId.{PredId}
 use Rattle.mc_base.specs.declared.ids.VarId.{VarId}
@@ -14,18 +14,17 @@ use Rattle.mc_base.specs.declared.plain.VarInfo.{VarInfo}
 use Rattle.mc_text.specs.declared.place.Place.{Place}
 use Rattle.mc_flow.specs.declared.instr.Instr.{Instr}
 use Rattle.mc_flow.specs.declared.instr.Operand.{Operand}
-use Rattle.mc_flow.specs.declared.instr.Operand.TheVariants.{Var, Const}
-use Rattle.mc_flow.specs.Valid.{IsOperand, IsVar, FitsPredicate}
-use Rattle.mc_resolved.specs.Programs.{Expr, Call, Action, Simple, Initial, Argument, Start, Stmt, Stmts, Local, Function}
-use Rattle.mc_lowering.specs.Graphs.{Graph, Owner, local, result, temporary, Role, plain, Stage, stage, var, IsPoint, Appends, appends, Undefines, Creates, creates, IsMade, is_made, AreMade, Leaves, leaves}
-use Rattle.mc_lowering.specs.Lowering.{Around, in_body, in_block, in_loop, IsArgument as IsArgumentOf, is_variable, is_constant, AreArguments as AreArgumentsOf, are_none, are_arguments, IsMain}
+use Rattle.mc_flow.specs.Valid.{IsOperand, FitsPredicate}
+use Rattle.mc_resolved.specs.Programs.{Call, Action, Simple, Initial, Argument, Start, Stmt, Stmts, Local, Function}
+use Rattle.mc_lowering.specs.Graphs.{Graph, Owner, local, result, temporary, Role, Stage, stage, Appends, appends, Creates, creates, IsMade, is_made, AreMade, Leaves, leaves}
+use Rattle.mc_lowering.specs.Lowering.{Around, IsArgument as IsArgumentOf, is_variable, is_constant, AreArguments as AreArgumentsOf, are_none, are_arguments}
 use Rattle.mc_lowering.specs.Lowering.{Receives, receives_none, receives, Passes, passes_none, passes, Awaits, awaits_none, awaits, Calls, calls, Performs, performs_assign, performs_result, performs_add, performs_subtract, performs_call}
 use Rattle.mc_lowering.specs.Lowering.{Declares, declares_none, declares_undefined, declares_value, Starts, starts_nothing, starts_declaring, starts_performing, Finishes, finishes_none, finishes}
 use Rattle.mc_lowering.specs.Lowering.{Lowers, declarations, blocks, empties, simples, frees, asserts, assumes, shapes_assumed, shapes_asserted, emptiness_asserted, ifs, ifs_else, whiles, dos, fors, breaks, continues, returns_nothing, returns_value, returns_result, LowersAll, lowers_none, lowers_next}
 use Rattle.mc_lowering.specs.Lowering.{Answers, answers_none, answers, Falls, falls_in_main, falls, Makes, makes}
 use Rattle.mc_lowering.proofs.Growing as grown
-use Rattle.mc_valid.specs.Kinds.{Here, IsArgument, AreArguments, IsCall, IsAction, AreDeclared, IsStart, IsLast, IsOf, IsOfKinds, AreOfKinds}
-use Rattle.mc_valid.proofs.Kinded.{points_of, variables_of, here, AllFit, both_fit, none_fit, one_fits, appended, FitsAs, AreInside, none_inside, one_inside, Functions, IsOfKind, Suits, Knows, IsValueOf, Stays, StaysTo, AreOperands}
+use Rattle.mc_valid.specs.Kinds.{IsArgument, AreArguments, IsCall, IsAction, AreDeclared, IsStart, IsLast, IsOf, IsOfKinds, AreOfKinds}
+use Rattle.mc_valid.proofs.Kinded.{points_of, variables_of, here, AllFit, both_fit, none_fit, one_fits, appended, AreInside, none_inside, one_inside, Functions, IsOfKind, Suits, Knows, IsValueOf, Stays, StaysTo, AreOperands}
 use Rattle.mc_valid.proofs.Kinded.{created, local_kind, result_kind, of_var, of_constant, joined, point_stays, undefined_stays, appended_variables, evaluated, all_evaluated, tested, tested_perhaps, put, set, assigned, changed, zero_of}
 
 -- what the whole flow graph and program are

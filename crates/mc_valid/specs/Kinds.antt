@@ -1,5 +1,5 @@
 -- Resolved programs whose values are of the kinds that are wanted.
-use Rattle.std.specs.Prelude.{◌≡◌, ◌<◌, ℕ, pos, List, [], ◌∷◌, Option, Some, None, length, map, option_map, slice_get, take}
+use Rattle.std.specs.Prelude.{◌≡◌, ℕ, pos, List, [], ◌∷◌, Option, Some, None, option_map, slice_get, take}
 use Rattle.std.specs.List.{AllZip}
 use Rattle.mc_base.specs.declared.ids.PredId.{PredId}
 use Rattle.mc_base.specs.declared.plain.Kind.{Kind}
@@ -15,7 +15,7 @@ use Rattle.mc_lowering.specs.Values.{struct_at}
 use Rattle.mc_resolved.specs.Programs.{FieldAt, Left, Expr, number, input, value, minus, times, plus, difference}
 use Rattle.mc_resolved.specs.Programs.{Cond, plain, compare, negation, both, either, Call, Right, expression}
 use Rattle.mc_resolved.specs.Programs.{result_of, allocation, Action, assign, add, subtract, call, Simple, Initial}
-use Rattle.mc_resolved.specs.Programs.{Argument, variable, constant, Start, nothing, declares, performs, Head, Stmt}
+use Rattle.mc_resolved.specs.Programs.{Argument, variable, constant, Start, nothing, declares, performs, Stmt}
 use Rattle.mc_resolved.specs.Programs.{declaration, block, empty, simple, free, assert, assume, assume_shape}
 use Rattle.mc_resolved.specs.Programs.{assert_shape, assert_empty, if_only, if_else, while_loop, do_loop, for_loop}
 use Rattle.mc_resolved.specs.Programs.{break_loop, continue_loop, returns, Stmts, no_more, then, Function, Program}
