@@ -1,5 +1,8 @@
 // Each of these programs' flow graphs is the one that was worked out by hand.
-use crate::forms::{COMPARISONS, POINTERS, STEPS, NEGATIONS, EITHERS, PARTS, DECLARED, GETS, CALLS_IN_CALLS, MAKES, ELSES, SHAPES, WALKS, LEAVES, SAME_NAMES, RETURNS_IN_LOOPS, TERMS};
+use crate::forms::{
+    CALLS_IN_CALLS, COMPARISONS, DECLARED, EITHERS, ELSES, GETS, LEAVES, MAKES, NEGATIONS, PARTS,
+    POINTERS, RETURNS_IN_LOOPS, SAME_NAMES, SHAPES, STEPS, TERMS, WALKS,
+};
 use crate::graphs::other;
 use std::test::Fail;
 

@@ -1,6 +1,9 @@
 // Each program's flow graph is the one that was worked out by hand.
 use crate::print::shown;
-use crate::programs::{VALUES, FIELDS, CONDITIONS, WHILES, DOS, FORS, COMMANDS, CALLS, RETURNED, NOTHING, CALLS_IN_HEADS, JUMPS, RESULTS_IN_FIELDS, ASSERTS, Program};
+use crate::programs::{
+    ASSERTS, CALLS, CALLS_IN_HEADS, COMMANDS, CONDITIONS, DOS, FIELDS, FORS, JUMPS, NOTHING,
+    Program, RESULTS_IN_FIELDS, RETURNED, VALUES, WHILES,
+};
 use mc_base::NoMemory;
 use std::alloc::Global;
 use std::test::Fail;

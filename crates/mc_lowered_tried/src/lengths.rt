@@ -6,9 +6,11 @@ use std::alloc::Global;
 use std::test::Fail;
 
 /// Each function but the first calls the one before it twice: the point of each call is the one behind its body.
-static LONGEST: &'static str = "void f0() { }\nvoid f1() { f0(); f0(); }\nvoid f2() { f1(); f1(); }\nvoid f3() { f2(); f2(); }\nvoid f4() { f3(); f3(); }\nvoid f5() { f4(); f4(); }\nvoid f6() { f5(); f5(); }\nvoid f7() { f6(); f6(); }\nvoid f8() { f7(); f7(); }\nvoid f9() { f8(); f8(); }\nvoid f10() { f9(); f9(); }\nvoid f11() { f10(); f10(); }\nvoid f12() { f11(); f11(); }\nvoid run() { f12(); f9(); f8(); f7(); f3(); f1(); }\n";
+static LONGEST: &'static str =
+    "void f0() { }\nvoid f1() { f0(); f0(); }\nvoid f2() { f1(); f1(); }\nvoid f3() { f2(); f2(); }\nvoid f4() { f3(); f3(); }\nvoid f5() { f4(); f4(); }\nvoid f6() { f5(); f5(); }\nvoid f7() { f6(); f6(); }\nvoid f8() { f7(); f7(); }\nvoid f9() { f8(); f8(); }\nvoid f10() { f9(); f9(); }\nvoid f11() { f10(); f10(); }\nvoid f12() { f11(); f11(); }\nvoid run() { f12(); f9(); f8(); f7(); f3(); f1(); }\n";
 
-static TOO_LONG: &'static str = "void f0() { }\nvoid f1() { f0(); f0(); }\nvoid f2() { f1(); f1(); }\nvoid f3() { f2(); f2(); }\nvoid f4() { f3(); f3(); }\nvoid f5() { f4(); f4(); }\nvoid f6() { f5(); f5(); }\nvoid f7() { f6(); f6(); }\nvoid f8() { f7(); f7(); }\nvoid f9() { f8(); f8(); }\nvoid f10() { f9(); f9(); }\nvoid f11() { f10(); f10(); }\nvoid f12() { f11(); f11(); }\nvoid run() { f12(); f9(); f8(); f7(); f3(); f1(); f0(); }\n";
+static TOO_LONG: &'static str =
+    "void f0() { }\nvoid f1() { f0(); f0(); }\nvoid f2() { f1(); f1(); }\nvoid f3() { f2(); f2(); }\nvoid f4() { f3(); f3(); }\nvoid f5() { f4(); f4(); }\nvoid f6() { f5(); f5(); }\nvoid f7() { f6(); f6(); }\nvoid f8() { f7(); f7(); }\nvoid f9() { f8(); f8(); }\nvoid f10() { f9(); f9(); }\nvoid f11() { f10(); f10(); }\nvoid f12() { f11(); f11(); }\nvoid run() { f12(); f9(); f8(); f7(); f3(); f1(); f0(); }\n";
 
 #[test]
 fn ten_thousand_points(rt: HostRuntime) -> Result<(), Fail> {
@@ -67,7 +69,8 @@ fn one_point_more_in_a_row(rt: HostRuntime) -> Result<(), Fail> {
 }
 
 /// Each function calls the next one twice.
-static DOUBLED: &'static str = "void f20() { }\nvoid f19() { f20(); f20(); }\nvoid f18() { f19(); f19(); }\nvoid f17() { f18(); f18(); }\nvoid f16() { f17(); f17(); }\nvoid f15() { f16(); f16(); }\nvoid f14() { f15(); f15(); }\nvoid f13() { f14(); f14(); }\nvoid f12() { f13(); f13(); }\nvoid f11() { f12(); f12(); }\nvoid f10() { f11(); f11(); }\nvoid f9() { f10(); f10(); }\nvoid f8() { f9(); f9(); }\nvoid f7() { f8(); f8(); }\nvoid f6() { f7(); f7(); }\nvoid f5() { f6(); f6(); }\nvoid f4() { f5(); f5(); }\nvoid f3() { f4(); f4(); }\nvoid f2() { f3(); f3(); }\nvoid f1() { f2(); f2(); }\n";
+static DOUBLED: &'static str =
+    "void f20() { }\nvoid f19() { f20(); f20(); }\nvoid f18() { f19(); f19(); }\nvoid f17() { f18(); f18(); }\nvoid f16() { f17(); f17(); }\nvoid f15() { f16(); f16(); }\nvoid f14() { f15(); f15(); }\nvoid f13() { f14(); f14(); }\nvoid f12() { f13(); f13(); }\nvoid f11() { f12(); f12(); }\nvoid f10() { f11(); f11(); }\nvoid f9() { f10(); f10(); }\nvoid f8() { f9(); f9(); }\nvoid f7() { f8(); f8(); }\nvoid f6() { f7(); f7(); }\nvoid f5() { f6(); f6(); }\nvoid f4() { f5(); f5(); }\nvoid f3() { f4(); f4(); }\nvoid f2() { f3(); f3(); }\nvoid f1() { f2(); f2(); }\n";
 
 #[test]
 fn twenty_functions_that_call_twice(rt: HostRuntime) -> Result<(), Fail> {

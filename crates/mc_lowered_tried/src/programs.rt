@@ -90,4 +90,3 @@ pub static ASSERTS: Program = Program {
     entry: "main",
     graph: "1:1 skip > 1\n2:1 copy v1 1 > 2\n2:1 copy v2 2 > 3\n5:1 eq v1 0 > 10 4\n6:1 eq v2 0 > 10 5\n7:1 input v3 > 6\n7:1 le 1 v3 > 8 7\n7:1 undef v3 > 10\n7:1 undef v3 > 9\n4:1 fail\n1:1 copy v0 0 > 11\n1:1 end\nvariables int:$ret int:a int:b int:\nheads\nmerges\nthresholds 0 1 2\nstops\n",
 };
-

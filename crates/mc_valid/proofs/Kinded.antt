@@ -126,15 +126,17 @@ more_inside {g = g} {v = v} vs all is = record { all = All-append (λ x. x.0 < l
 pub created : {g : Graph} {F : Functions} {owner : Owner} {info : VarInfo} {s u : Stage} {v : VarId} → Creates g owner info s v u → (IsOfKind g info.kind v → Suits g F owner v.0)
     → Knows g F (variables_of s) → Knows g F (variables_of u) × IsOfKind g info.kind v
 created {g = g} {F = F} {owner = owner} (creates {k = k} owned is) suits knows =
-    let kind = kind_at is in
-    (record {
-      each = λ v o lt there. elim (cases_lt v k) [
-        | inl low ↦ knows.each v o low there
-        | inr high ↦ let same : k ≡ v = omega arith in
-            let one : owner ≡ o = same_Some _ _ (sym owned ∙ ap (λ i. slice_get g.owners i) same ∙ there) in
-            subst (λ i. Suits g F o i) same (subst (λ p. Suits g F p k) one (suits kind))
-      ];
-    }, kind)
+    let kind = kind_at is in (
+      record {
+        each = λ v o lt there. elim (cases_lt v k) [
+          | inl low ↦ knows.each v o low there
+          | inr high ↦ let same : k ≡ v = omega arith in
+              let one : owner ≡ o = same_Some _ _ (sym owned ∙ ap (λ i. slice_get g.owners i) same ∙ there) in
+              subst (λ i. Suits g F o i) same (subst (λ p. Suits g F p k) one (suits kind))
+        ];
+      },
+      kind,
+    )
 
 pub used : {g : Graph} {F : Functions} {j : ℕ} {kind : Kind} {s u : Stage} {v : VarId} → Uses g j kind s v u → Knows g F (variables_of s) → Knows g F (variables_of u) × IsOfKind g kind v
 used (uses_first is) knows = created is (λ k. k) knows
@@ -358,7 +360,7 @@ tested {g = g} {h = h} known (tests_compare {c = c} {a = a} {b = b} {o = o} {p =
     let one = evaluated known first kinds.2 none_inside knows in
     let two = evaluated known second kinds.3 one.0.inside one.0.knows in
     let fits = comparison_fits g h c a b o p is (λ kind of. (evaluated {kind = kind} known first of none_inside knows).1)
-        (λ kind of. (evaluated {kind = kind} known second of one.0.inside one.0.knows).1) in
+    (λ kind of. (evaluated {kind = kind} known second of one.0.inside one.0.knows).1) in
     onto one.0 (onto two.0 (compared test fits two.0.inside two.0.knows))
 tested known (tests_negation test) is knows = tested known test is knows
 tested known (tests_both {a = a} {m = m} {j = j} first second) is knows =

@@ -85,10 +85,13 @@ earlier le r =
     }
 
 goes_on : {g : Graph} {n b : ℕ} → Reaches g (suc n) b → GoesOn g.flow n (point b)
-goes_on r = (r.inside, elim r.forward [
+goes_on r = (
+  r.inside,
+  elim r.forward [
     | inl behind ↦ inl (omega arith)
     | inr is_head ↦ inr is_head
-  ])
+  ],
+)
 
 both_between : {g : Graph} {n m l : ℕ} → Between g n m → Between g m l → Between g n l
 both_between {m = m} first second =
@@ -421,7 +424,7 @@ mutual
       let turn_grows = grown.appended turn in
       let late = earlier turn_grows.points (earlier test_grows.points five.reaches) in
       let two = lowered heads body
-          (jumps_in_loop late three.reaches (jumps_earlier turn_grows.points (jumps_earlier test_grows.points (jumps_earlier grows.points j)))) three.reaches in
+      (jumps_in_loop late three.reaches (jumps_earlier turn_grows.points (jumps_earlier test_grows.points (jumps_earlier grows.points j)))) three.reaches in
       let one = appended (λ q. (refl, (q, refl))) is two.reaches in
       on (on (on (on one two.points) three.points) four.points) five.points
   lowered {g = g} heads (fors {e = e} start is test body turn last ends leave) j r =

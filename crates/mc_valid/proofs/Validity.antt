@@ -77,7 +77,7 @@ valid g entry out count well lowering =
     let goes = goes_on_well g entry out count lowering in
     let points = lowering.points in
     let fits : (n : ℕ) (p : Point) → slice_get g.flow.points n ≡ Some p → FitsAs g p.code = λ n p is.
-        let inside = slice_get_within g.flow.points n p is in fits_there g n p is (all.at n (omega arith) (omega arith)) in
+    let inside = slice_get_within g.flow.points n p is in fits_there g n p is (all.at n (omega arith) (omega arith)) in
     record {
       begins = goes.begins;
       points = λ n p is. record { follows = goes.follows n p is; kinds = fits n p is };
@@ -85,7 +85,7 @@ valid g entry out count well lowering =
       merges = goes.merges;
       thresholds = All-weaker (λ c. (n : ℕ) × (p : Point) × (slice_get g.flow.points n ≡ Some p) × Contains (operands p.code) (Const c)) (InKind Int)
           (λ c found.
-            let its = All-contains (HasKind g) (operands found.1.code) (Const c) (operands_fit g found.1.code (fits found.0 found.1 found.2)) found.3 in
-            constant_fits g its.0 c its.1) g.flow.thresholds lowering.thresholds.only;
+          let its = All-contains (HasKind g) (operands found.1.code) (Const c) (operands_fit g found.1.code (fits found.0 found.1 found.2)) found.3 in
+          constant_fits g its.0 c its.1) g.flow.thresholds lowering.thresholds.only;
       definitions = well.definitions;
     }

@@ -42,21 +42,21 @@ adding F inner f = λ i. chosen (i == inner) (Some f) (F i)
 
 added_here : (F : Functions) (inner : ℕ) (f : Function) → adding F inner f inner ≡ Some f
 added_here F inner f = elim (eqb_tells inner inner) [
-    | inl is ↦ ap (λ b. chosen b (Some f) (F inner)) is.0
-    | inr other ↦ absurd (other.1 refl)
-  ]
+  | inl is ↦ ap (λ b. chosen b (Some f) (F inner)) is.0
+  | inr other ↦ absurd (other.1 refl)
+]
 
 added_other : (F : Functions) (inner : ℕ) (f : Function) (i : ℕ) (h : Function) → (i ≡ inner → ⊥) → F i ≡ Some h → adding F inner f i ≡ Some h
 added_other F inner f i h apart known = elim (eqb_tells i inner) [
-    | inl is ↦ absurd (apart is.1)
-    | inr other ↦ ap (λ b. chosen b (Some f) (F i)) other.0 ∙ known
-  ]
+  | inl is ↦ absurd (apart is.1)
+  | inr other ↦ ap (λ b. chosen b (Some f) (F i)) other.0 ∙ known
+]
 
 added_from : (F : Functions) (inner : ℕ) (f : Function) (i : ℕ) (h : Function) → adding F inner f i ≡ Some h → (i ≡ inner) ⊎ (F i ≡ Some h)
 added_from F inner f i h known = elim (eqb_tells i inner) [
-    | inl is ↦ inl is.1
-    | inr other ↦ inr (sym (ap (λ b. chosen b (Some f) (F i)) other.0) ∙ known)
-  ]
+  | inl is ↦ inl is.1
+  | inr other ↦ inr (sym (ap (λ b. chosen b (Some f) (F i)) other.0) ∙ known)
+]
 
 -- ---- what is known after some points
 pub record Kept (g : Graph) (F : Functions) (s u : Stage) : Type 0 where
@@ -103,20 +103,24 @@ record Apart (F : Functions) (n out : ℕ) : Type 0 where
 
 apart_later : {F : Functions} {n m out : ℕ} → n ≤ m → Apart F n out → Apart F m out
 apart_later le apart =
-    record { is = λ i f known. elim (apart.is i f known) [
-      | inl lt ↦ inl (omega arith)
-      | inr around ↦ inr around
-    ] }
+    record {
+      is = λ i f known. elim (apart.is i f known) [
+        | inl lt ↦ inl (omega arith)
+        | inr around ↦ inr around
+      ];
+    }
 
 apart_kept : {g : Graph} {F : Functions} {s u : Stage} {out : ℕ} (kept : Kept g F s u) → points_of s ≤ points_of u → Apart F (points_of s) out → Apart kept.functions (points_of u) out
 apart_kept kept le apart =
-    record { is = λ i f known. elim (kept.adds i f known) [
-      | inl old ↦ elim (apart.is i f old) [
-        | inl lt ↦ inl (omega arith)
-        | inr around ↦ inr around
-      ]
-      | inr lt ↦ inl lt
-    ] }
+    record {
+      is = λ i f known. elim (kept.adds i f known) [
+        | inl old ↦ elim (apart.is i f old) [
+          | inl lt ↦ inl (omega arith)
+          | inr around ↦ inr around
+        ]
+        | inr lt ↦ inl lt
+      ];
+    }
 
 abbrev Extends : Functions → Functions → Type 0
 Extends F G = (i : ℕ) (f : Function) → F i ≡ Some f → G i ≡ Some f
@@ -135,8 +139,10 @@ made_within {g = g} (is_made {v = v} there lt) = slice_get_within g.owners v.0 _
 
 made_inside : {g : Graph} {out : ℕ} {Meant : ℕ → Type 0} {s : Stage} {vs : List VarId} → Whole g → AreMade g out Meant s vs → AreInside g vs
 made_inside {g = g} {out = out} {Meant = Meant} {s = s} {vs = vs} whole made =
-    record { all = All-weaker (λ v. (x : ℕ) × Meant x × IsMade g (local out x) v s) (λ v. v.0 < length g.flow.vars)
-      (λ v is. let lt : v.0 < length g.owners = made_within is.2 in let same = whole.lengths in omega arith) vs made.only }
+    record {
+      all = All-weaker (λ v. (x : ℕ) × Meant x × IsMade g (local out x) v s) (λ v. v.0 < length g.flow.vars)
+          (λ v is. let lt : v.0 < length g.owners = made_within is.2 in let same = whole.lengths in omega arith) vs made.only;
+    }
 
 left : {g : Graph} {F : Functions} {out : ℕ} {place : Place} {xs : List ℕ} {s u : Stage} → Whole g → Leaves g out place xs s u → Knows g F (variables_of s) → Stays g F s [] u
 left whole (leaves made undone) knows = undefined_stays undone (made_inside whole made) knows
@@ -232,16 +238,16 @@ mutual
       (calls {f = callee} {vs = vs} {inner = inner} {k = k} {r = r} there parameters values copies undone waiting body made ends) knows =
       let one_callee : is.callee ≡ callee = same_Some _ _ (sym is.there ∙ there) in
       let before : grown.Grows s r =
-          grown.on (grown.received parameters) (grown.on (grown.all_evaluated values) (grown.on (grown.passed copies) (grown.on (grown.undefined undone) (grown.awaited waiting)))) in
+      grown.on (grown.received parameters) (grown.on (grown.all_evaluated values) (grown.on (grown.passed copies) (grown.on (grown.undefined undone) (grown.awaited waiting)))) in
       let inner_grows = grown.all_lowered body in
       let last : points_of u ≡ suc inner = next_point ends in
       let start : points_of s ≤ points_of r = before.points in
       let end : points_of r ≤ inner = inner_grows.points in
       let more : Extends F (adding F inner callee) = λ i h old. added_other F inner callee i h
-          (λ same. elim (apart.is i h old) [
-            | inl lt ↦ omega arith
-            | inr around ↦ omega arith
-          ]) old in
+      (λ same. elim (apart.is i h old) [
+        | inl lt ↦ omega arith
+        | inr around ↦ omega arith
+      ]) old in
       let their : adding F inner callee inner ≡ Some callee = added_here F inner callee in
       let first = received parameters their (extended (adding F inner callee) more knows) in
       let locals = take callee.parameters callee.locals in
@@ -250,13 +256,15 @@ mutual
       let third = passed locals copies first.variables second.operands second.stays.knows in
       let fourth = undefined_stays undone second.stays.inside third.knows in
       let fifth = awaited their refl waiting fourth.knows in
-      let inner_apart : Apart (adding F inner callee) (points_of r) inner = record { is = λ i h found. elim (added_from F inner callee i h found) [
+      let inner_apart : Apart (adding F inner callee) (points_of r) inner = record {
+        is = λ i h found. elim (added_from F inner callee i h found) [
           | inl same ↦ inr (omega arith)
           | inr old ↦ elim (apart.is i h old) [
             | inl lt ↦ inl (omega arith)
             | inr around ↦ inr (omega arith)
           ]
-        ] } in
+        ];
+      } in
       let sixth = all_lowered whole their inner_apart (omega arith) (whole.functions c.function callee there) body fifth.stays.knows in
       let left_inside = made_inside whole made in
       let seventh = appended ends (λ q. left_inside.all) in
@@ -449,10 +457,12 @@ made_fits {g = g} {f = f} {out = out} whole are (makes {s = s} {m = m} {n = n} b
     let nothing : Knows g F 0 = record { each = λ v o lt there. absurd (omega arith) } in
     let one = point_stays begins (λ q. tt) none_inside nothing in
     let two = answered own refl kind one.knows in
-    let apart : Apart F (points_of m) out = record { is = λ i h found. elim (added_from (λ i. None) out f i h found) [
+    let apart : Apart F (points_of m) out = record {
+      is = λ i h found. elim (added_from (λ i. None) out f i h found) [
         | inl same ↦ inr (omega arith)
         | inr old ↦ absurd (cc old)
-      ] } in
+      ];
+    } in
     let three = all_lowered whole own apart (fallen_grows falling) are body two.knows in
     let four = fallen (three.keeps out f own) falling three.knows in
     both_fit one.fit (both_fit two.fit (both_fit three.fit (both_fit four.fit (one_fits is tt))))
