@@ -2,6 +2,7 @@ pub mod Agreeing
 pub mod Assigning
 pub mod Calling
 pub mod Choosing
+pub mod Constants
 pub mod Entering
 pub mod Firsts
 pub mod Gathering

@@ -1,5 +1,5 @@
 -- Labels become points: the flow graph that the code answers.
-use Rattle.std.specs.Prelude.{◌≡◌, ℕ, suc, List, map, Some, Option, length, slice_get, slice_index_or}
+use Rattle.std.specs.Prelude.{◌≡◌, ℕ, suc, ℤ, List, map, Some, None, Option, filter_map, length, slice_get, slice_index_or}
 use Rattle.mc_base.specs.declared.ids.PointId.{PointId}
 use Rattle.mc_defs.specs.declared.rules.Def.{Def}
 use Rattle.mc_defs.specs.declared.shapes.Structs.{Structs}
@@ -8,7 +8,9 @@ use Rattle.mc_resolved.specs.declared.program.Resolved.{Resolved}
 use Rattle.mc_resolved.specs.Programs.{Function}
 use Rattle.mc_resolved.specs.Views.{program_of}
 use Rattle.mc_lowering.specs.Graphs.{Graph, Owner, Role, plain, head, merge, stop, nowhere, Stage, stage, IsPoint}
-use Rattle.mc_lowering.specs.Lowering.{AreThresholds, IsLowering, IsTooLong}
+use Rattle.mc_lowering.specs.Lowering.{AreThresholds, IsLowering, IsTooLong, operands}
+use Rattle.mc_flow.specs.declared.instr.Operand.{Operand}
+use Rattle.mc_flow.specs.declared.instr.Operand.TheVariants.{Var, Const}
 use Rattle.mc_flow.specs.declared.instr.Instr.TheVariants.{End}
 use Rattle.std.specs.Prelude.{◌<◌, ◌≤◌, AllPairs, All, Contains}
 use Rattle.mc_lowering.specs.Graphs.{point}
@@ -44,6 +46,20 @@ pub record AreThose (drafts : List Draft) (role : Role) (ps : List PointId) : Ty
   pub ascending : AllPairs (λ p q. p.0 < q.0) ps
   pub all : (n : ℕ) (d : Draft) → slice_get drafts n ≡ Some d → role_of d.role ≡ role → Contains ps (point n)
   pub only : All (λ p. (d : Draft) × (slice_get drafts p.0 ≡ Some d) × (role_of d.role ≡ role)) ps
+
+-- the constants among operands
+abbrev pub constant_of : Operand → Option ℤ
+constant_of (Var x) = None
+constant_of (Const c) = Some c
+
+abbrev pub constants : List Operand → List ℤ
+constants os = filter_map constant_of os
+
+-- these are the constants of the operands of points
+pub record AreConstants (drafts : List Draft) (cs : List ℤ) : Type 0 where
+  pub all : (n : ℕ) (d : Draft) (c : ℤ) → slice_get drafts n ≡ Some d → Contains (operands d.code) (Const c)
+      → Contains cs c
+  pub only : All (λ c. (n : ℕ) × (d : Draft) × (slice_get drafts n ≡ Some d) × Contains (operands d.code) (Const c)) cs
 
 -- the last point, where the `return` of an occurrence goes
 pub data Ends (g : Graph) (out : ℕ) : Stage → Stage → Type 0 where

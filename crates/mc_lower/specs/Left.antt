@@ -1,12 +1,15 @@
 -- What is still to be lowered, and what it comes to in the finished flow graph.
-use Rattle.std.specs.Prelude.{◌≡◌, ◌<◌, ℕ, suc, List, [], ◌∷◌, Option, Some, None, map, option_map, length}
+use Rattle.std.specs.Prelude.{◌≡◌, ◌<◌, ℕ, suc, List, [], ◌∷◌, Option, Some, None, ⊤, map, option_map, length}
 use Rattle.mc_base.specs.declared.ids.VarId.{VarId}
 use Rattle.mc_text.specs.declared.place.Place.{Place}
 use Rattle.mc_flow.specs.declared.instr.Operand.{Operand}
 use Rattle.mc_flow.specs.declared.instr.Operand.TheVariants.{Var}
 use Rattle.mc_flow.specs.declared.instr.Instr.{Instr}
 use Rattle.mc_flow.specs.declared.instr.Instr.TheVariants.{Skip, Copy}
-use Rattle.mc_resolved.specs.Programs.{Expr, Cond, Call, Simple, Initial, Head, Stmt, Stmts, for_loop}
+use Rattle.mc_resolved.specs.Programs.{Expr, Cond, Call, Simple, Initial, Head, Stmt, Stmts, declaration, block, empty}
+use Rattle.mc_resolved.specs.Programs.{simple, free, assert, assume, assume_shape, assert_shape, assert_empty}
+use Rattle.mc_resolved.specs.Programs.{if_only, if_else, while_loop, do_loop, for_loop, break_loop, continue_loop}
+use Rattle.mc_resolved.specs.Programs.{returns}
 use Rattle.mc_resolved.specs.Views.{action_of, condition_of, function_of, head_of, initial_of, simple_of, statement_of}
 use Rattle.mc_resolved.specs.Views.{stmts_of}
 use Rattle.mc_lowering.specs.Graphs.{Graph, Role, plain, merge, nowhere, Stage, stage, IsPoint, Appends}
@@ -37,6 +40,67 @@ around_of w c =
       blocks = blocks_in w c.block;
       loop = option_map (λ t. turns_in w t) c.turns;
     }
+
+-- ---- kinds of statements and tasks
+-- a statement with statements inside
+abbrev pub HasParts : Stmt → Type 0
+HasParts (declaration place items) = ⊥
+HasParts (block xs ss) = ⊤
+HasParts empty = ⊥
+HasParts (simple x) = ⊥
+HasParts (free place e) = ⊥
+HasParts (assert place d) = ⊥
+HasParts (assume place d) = ⊥
+HasParts (assume_shape place predicate x os) = ⊥
+HasParts (assert_shape place predicate a os) = ⊥
+HasParts (assert_empty place) = ⊥
+HasParts (if_only place d a) = ⊤
+HasParts (if_else place d a b) = ⊤
+HasParts (while_loop place d a) = ⊤
+HasParts (do_loop place a d) = ⊤
+HasParts (for_loop h a) = ⊤
+HasParts (break_loop place) = ⊥
+HasParts (continue_loop place) = ⊥
+HasParts (returns place right) = ⊥
+
+-- a statement that is lowered at once: it has no statements inside, and nothing of it may be a call
+abbrev pub IsCommand : Stmt → Type 0
+IsCommand (declaration place items) = ⊥
+IsCommand (block xs ss) = ⊥
+IsCommand empty = ⊥
+IsCommand (simple x) = ⊥
+IsCommand (free place e) = ⊤
+IsCommand (assert place d) = ⊤
+IsCommand (assume place d) = ⊤
+IsCommand (assume_shape place predicate x os) = ⊤
+IsCommand (assert_shape place predicate a os) = ⊤
+IsCommand (assert_empty place) = ⊤
+IsCommand (if_only place d a) = ⊥
+IsCommand (if_else place d a b) = ⊥
+IsCommand (while_loop place d a) = ⊥
+IsCommand (do_loop place a d) = ⊥
+IsCommand (for_loop h a) = ⊥
+IsCommand (break_loop place) = ⊤
+IsCommand (continue_loop place) = ⊤
+IsCommand (returns place right) = ⊥
+
+-- what stands behind the parts of a statement or of a call
+abbrev pub IsBehind : Task → Type 0
+IsBehind (Task.Statements ss c) = ⊥
+IsBehind (Task.Statement a c) = ⊥
+IsBehind (Task.Simple x c) = ⊥
+IsBehind (Task.Declare place items c) = ⊥
+IsBehind (Task.EndBlock xs i) = ⊤
+IsBehind (Task.Otherwise l m) = ⊤
+IsBehind (Task.Merge place l) = ⊤
+IsBehind (Task.EndWhile place begin exit) = ⊤
+IsBehind (Task.EndDo place d begin turns i) = ⊤
+IsBehind (Task.For h a c) = ⊥
+IsBehind (Task.ForTurn h begin turns c) = ⊥
+IsBehind (Task.EndFor h begin exit i) = ⊤
+IsBehind (Task.EndCall place c) = ⊤
+IsBehind (Task.Take place target answer i) = ⊤
+IsBehind (Task.Answer place own answer i) = ⊤
 
 -- ---- parts
 -- behind the body of a call its variables become undefined

@@ -1,8 +1,8 @@
 // Labels become points, and the lists of a flow graph are made.
-ghost use Rattle.std.specs.Prelude.{◌≡◌, ◌↔◌, IfOk, OnOk, IsTrue, map};
+ghost use Rattle.std.specs.Prelude.{ℕ, ◌≡◌, ◌↔◌, ◌++◌, ◌∷◌, [], IfOk, OnOk, IsTrue, map};
 ghost use Rattle.mc_flow.specs.declared.graph.Point.{Point};
-ghost use Rattle.mc_lowering.specs.Lowering.{AreThresholds};
-ghost use Rattle.mc_lower.specs.Finished.{AreApart, AreOnce, AreSettled, AreThose, IsFinished, IsInner, point_at};
+ghost use Rattle.mc_lowering.specs.Lowering.{AreThresholds, operands};
+ghost use Rattle.mc_lower.specs.Finished.{AreApart, AreConstants, AreOnce, AreSettled, AreThose, IsFinished, IsInner, constants, point_at};
 ghost use Rattle.mc_lower.specs.Worlds.{AllAt, IsMarked, point_in, role_of, settled, target as point_of_target};
 
 use crate::builder::{
@@ -187,31 +187,62 @@ fn of_role(alloc: Global, points: &[Draft], role: Role) -> Result<Items<PointId>
 }
 
 // An operand's constant joins a list.
-fn add_constant(list: &mut Vec<i64>, operand: Operand) -> Result<(), LowerFault> {
-    if let Operand::Const(value) = operand {
-        list.push(value)?;
+fn add_constant(list: &mut Vec<i64>, operand: Operand) -> Result<(), LowerFault>
+    ensures { OnOk result (list.new.items ≡ list.old.items ++ constants (operand ∷ [])) }
+{
+    match operand {
+        Operand::Var(_) => Ok(()),
+        Operand::Const(value) => {
+            list.push(value)?;
+            Ok(())
+        }
+    }
+}
+
+// The constants of two operands join a list.
+fn add_both(list: &mut Vec<i64>, first: Operand, second: Operand) -> Result<(), LowerFault>
+    ensures { OnOk result (list.new.items ≡ list.old.items ++ constants (first ∷ second ∷ [])) }
+{
+    add_constant(list, first)?;
+    add_constant(list, second)?;
+    Ok(())
+}
+
+// The constants of operands join a list.
+fn add_all(list: &mut Vec<i64>, operands: &[Operand]) -> Result<(), LowerFault>
+    ensures { OnOk result (list.new.items ≡ list.old.items ++ constants operands.now) }
+{
+    for operand in operands {
+        add_constant(list, *operand)?;
     }
     Ok(())
 }
 
 // The constants of an instruction's operands join a list.
-fn add_constants(list: &mut Vec<i64>, code: &Instr) -> Result<(), LowerFault> {
+fn add_constants(list: &mut Vec<i64>, code: &Instr) -> Result<(), LowerFault>
+    ensures { OnOk result (list.new.items ≡ list.old.items ++ constants (operands code.now)) }
+{
     match code {
-        Instr::Copy(_, o, _) => add_constant(list, *o),
+        Instr::Copy(_, o, _) | Instr::Store(_, _, _, o, _) | Instr::Free(o, _) => {
+            add_constant(list, *o)?;
+            Ok(())
+        }
         Instr::Add(_, a, b, _)
         | Instr::Sub(_, a, b, _)
         | Instr::Mul(_, a, b, _)
         | Instr::TestEq(a, b, _, _)
         | Instr::TestLe(a, b, _, _) => {
-            add_constant(list, *a)?;
-            add_constant(list, *b)
+            add_both(list, *a, *b)?;
+            Ok(())
         }
-        Instr::Store(_, _, _, o, _) => add_constant(list, *o),
-        Instr::Free(o, _) => add_constant(list, *o),
-        Instr::AssumeShape(_, _, os, _) => add_all(list, os.as_slice()),
+        Instr::AssumeShape(_, _, os, _) => {
+            add_all(list, os.as_slice())?;
+            Ok(())
+        }
         Instr::AssertShape(_, o, os, _) => {
             add_constant(list, *o)?;
-            add_all(list, os.as_slice())
+            add_all(list, os.as_slice())?;
+            Ok(())
         }
         Instr::Skip(_)
         | Instr::Undef(_, _)
@@ -224,30 +255,33 @@ fn add_constants(list: &mut Vec<i64>, code: &Instr) -> Result<(), LowerFault> {
     }
 }
 
-// The constants of operands join a list.
-fn add_all(list: &mut Vec<i64>, operands: &[Operand]) -> Result<(), LowerFault> {
-    for operand in operands {
-        add_constant(list, *operand)?;
-    }
+// The constants of a point's operands join a list.
+fn add_point(list: &mut Vec<i64>, point: &Draft) -> Result<(), LowerFault>
+    ensures { OnOk result (list.new.items ≡ list.old.items ++ constants (operands point.now.code)) }
+{
+    add_constants(list, &point.code)?;
     Ok(())
 }
 
-// The constants of all operands, ascending, each once.
-fn thresholds(alloc: Global, table: &[usize], points: &[Draft]) -> Result<Items<i64>, LowerFault>
-    ensures { IfOk result (λ cs. AreThresholds (map (point_in (point_at table.now)) points.now) cs) }
+// The constants of all operands.
+fn constants_of(alloc: Global, points: &[Draft]) -> Result<Vec<i64>, LowerFault>
+    ensures { IfOk result (λ cs. AreConstants points.now cs.items) }
 {
-    let mut all = Vec::new(alloc);
-    for point in points {
-        add_constants(&mut all, &point.code)?;
+    let mut list = Vec::new(alloc);
+    for at in 0..points.len() {
+        add_point(&mut list, &points[at])?;
     }
-    all.sort()?;
-    let mut once = Vec::new(alloc);
-    for value in all.as_slice() {
-        if once.last() != Some(value) {
-            once.push(*value)?;
-        }
-    }
-    Ok(Items::of(once))
+    Ok(list)
+}
+
+// The constants of all operands, ascending, each once.
+fn thresholds(alloc: Global, points: &[Draft]) -> Result<Items<i64>, LowerFault>
+    ensures { IfOk result (λ cs. (at : ℕ → ℕ) → AreThresholds (map (point_in at) points.now) cs) }
+{
+    let mut list = constants_of(alloc, points)?;
+    list.sort()?;
+    list.dedup();
+    Ok(Items::of(list))
 }
 
 // The points of a flow graph.
@@ -339,7 +373,7 @@ pub fn finish(builder: Builder) -> Result<Lowered, LowerFault>
     let heads = of_role(alloc, builder.points.as_slice(), Role::Head)?;
     let merges = of_role(alloc, builder.points.as_slice(), Role::Merge)?;
     let stops = of_role(alloc, builder.points.as_slice(), Role::Stop)?;
-    let thresholds = thresholds(alloc, table.as_slice(), builder.points.as_slice())?;
+    let thresholds = thresholds(alloc, builder.points.as_slice())?;
     let points = settle(alloc, table.as_slice(), builder.points)?;
     let vars = infos(alloc, builder.variables)?;
     Ok(Lowered {

@@ -5,7 +5,7 @@ ghost use Rattle.mc_lowering.specs.Graphs.{Appends, Leaves, plain};
 ghost use Rattle.mc_lowering.specs.Lowering.{AreArguments, Lowers, LowersAll};
 ghost use Rattle.mc_resolved.specs.Programs.{assert_shape, assume_shape, block, break_loop, continue_loop, do_loop, for_loop, if_else, if_only, returns, while_loop};
 ghost use Rattle.mc_resolved.specs.Views.{argument_of, condition_of, function_of, head_of, right_of, statement_of, stmts_of};
-ghost use Rattle.mc_lower.specs.Left.{Begins, Checks, EndsDo, EndsFor, EntersFor, ExitsTo, Merges, Met, Otherwise, TurnsFor, around_of};
+ghost use Rattle.mc_lower.specs.Left.{Begins, Checks, EndsDo, EndsFor, EntersFor, ExitsTo, HasParts, IsBehind, IsCommand, Merges, Met, Otherwise, TurnsFor, around_of};
 ghost use Rattle.mc_lower.specs.Worlds.{Agrees, Leads, World, role_of, settled, stage_of};
 
 use crate::builder::{ABSENT, Builder, Label, LowerFault, NOWHERE, Role};
@@ -431,30 +431,13 @@ impl<'a> Builder<'a> {
         }
     }
 
-    // A statement is lowered, or what is inside it is next.
-    fn statement(
-        &mut self,
-        tasks: &mut Stack<Task<'a>>,
-        statement: &'a Statement,
-        context: Context<'a>,
-    ) -> Result<(), LowerFault>
-        ensures { OnOk result (Begins (λ w s m. Lowers w.graph (around_of w context.entry) (statement_of statement.now) s m) self.old tasks.old self.new tasks.new) }
+    // A statement that needs nothing else is lowered.
+    fn command(&mut self, statement: &Statement, context: Context<'a>) -> Result<(), LowerFault>
+        requires { IsCommand (statement_of statement.now) }
+        ensures { OnOk result (Leads (λ w s u. Lowers w.graph (around_of w context.entry) (statement_of statement.now) s u) self.old self.new) }
     {
         let occurrence = context.occurrence;
         match statement {
-            Statement::Declaration(place, items) => {
-                push(tasks, Task::Declare(*place, items.as_slice(), context))?;
-                Ok(())
-            }
-            Statement::Block(numbers, inner) => {
-                self.block(tasks, numbers.as_slice(), inner.as_slice(), context)?;
-                Ok(())
-            }
-            Statement::Empty => Ok(()),
-            Statement::Simple(simple) => {
-                push(tasks, Task::Simple(simple, context))?;
-                Ok(())
-            }
             Statement::Free(place, pointer) => {
                 let site = Site {
                     occurrence,
@@ -483,6 +466,33 @@ impl<'a> Builder<'a> {
                 self.assert_empty(*place)?;
                 Ok(())
             }
+            Statement::Break(place) => {
+                self.break_loop(*place, context)?;
+                Ok(())
+            }
+            Statement::Continue(place) => {
+                self.continue_loop(*place, context)?;
+                Ok(())
+            }
+            _ => unreachable!(),
+        }
+    }
+
+    // A statement with statements inside: these are next.
+    fn outer(
+        &mut self,
+        tasks: &mut Stack<Task<'a>>,
+        statement: &'a Statement,
+        context: Context<'a>,
+    ) -> Result<(), LowerFault>
+        requires { HasParts (statement_of statement.now) }
+        ensures { OnOk result (Begins (λ w s m. Lowers w.graph (around_of w context.entry) (statement_of statement.now) s m) self.old tasks.old self.new tasks.new) }
+    {
+        match statement {
+            Statement::Block(numbers, inner) => {
+                self.block(tasks, numbers.as_slice(), inner.as_slice(), context)?;
+                Ok(())
+            }
             Statement::If(place, condition, part) => {
                 self.if_only(tasks, *place, condition, part, context)?;
                 Ok(())
@@ -503,16 +513,62 @@ impl<'a> Builder<'a> {
                 self.for_loop(tasks, head, body, context)?;
                 Ok(())
             }
-            Statement::Break(place) => {
-                self.break_loop(*place, context)?;
+            Statement::Declaration(_, _)
+            | Statement::Empty
+            | Statement::Simple(_)
+            | Statement::Free(_, _)
+            | Statement::Assert(_, _)
+            | Statement::Assume(_, _)
+            | Statement::AssumeShape(_)
+            | Statement::AssertShape(_)
+            | Statement::AssertEmpty(_)
+            | Statement::Break(_)
+            | Statement::Continue(_)
+            | Statement::Return(_, _) => unreachable!(),
+        }
+    }
+
+    // A statement is lowered, or what is inside it is next.
+    fn statement(
+        &mut self,
+        tasks: &mut Stack<Task<'a>>,
+        statement: &'a Statement,
+        context: Context<'a>,
+    ) -> Result<(), LowerFault>
+        ensures { OnOk result (Begins (λ w s m. Lowers w.graph (around_of w context.entry) (statement_of statement.now) s m) self.old tasks.old self.new tasks.new) }
+    {
+        match statement {
+            Statement::Declaration(place, items) => {
+                push(tasks, Task::Declare(*place, items.as_slice(), context))?;
                 Ok(())
             }
-            Statement::Continue(place) => {
-                self.continue_loop(*place, context)?;
+            Statement::Empty => Ok(()),
+            Statement::Simple(simple) => {
+                push(tasks, Task::Simple(simple, context))?;
                 Ok(())
             }
             Statement::Return(place, value) => {
                 self.returns(tasks, *place, value.as_ref(), context)?;
+                Ok(())
+            }
+            Statement::Block(_, _)
+            | Statement::If(_, _, _)
+            | Statement::IfElse(_, _, _, _)
+            | Statement::While(_, _, _)
+            | Statement::Do(_, _, _)
+            | Statement::For(_, _) => {
+                self.outer(tasks, statement, context)?;
+                Ok(())
+            }
+            Statement::Free(_, _)
+            | Statement::Assert(_, _)
+            | Statement::Assume(_, _)
+            | Statement::AssumeShape(_)
+            | Statement::AssertShape(_)
+            | Statement::AssertEmpty(_)
+            | Statement::Break(_)
+            | Statement::Continue(_) => {
+                self.command(statement, context)?;
                 Ok(())
             }
         }
@@ -533,6 +589,52 @@ impl<'a> Builder<'a> {
         push(tasks, Task::Statements(more, context))?;
         push(tasks, Task::Statement(first, context))?;
         Ok(())
+    }
+
+    // What stands behind the parts of a statement or of a call is lowered.
+    fn behind(&mut self, task: Task<'a>) -> Result<(), LowerFault>
+        requires { IsBehind task }
+        ensures { OnOk result (Leads (λ w s u. Met w task.entry s u) self.old self.new) }
+    {
+        match task {
+            Task::EndBlock(numbers, occurrence) => {
+                self.leave(NOWHERE, occurrence, numbers)?;
+                Ok(())
+            }
+            Task::Otherwise(no, merge) => {
+                self.otherwise(no, merge)?;
+                Ok(())
+            }
+            Task::Merge(place, merge) => {
+                self.merge(place, merge)?;
+                Ok(())
+            }
+            Task::EndWhile(place, head, exit) => {
+                self.end_while(place, head, exit)?;
+                Ok(())
+            }
+            Task::EndDo(place, condition, head, turns, occurrence) => {
+                self.end_do(place, condition, head, turns, occurrence)?;
+                Ok(())
+            }
+            Task::EndFor(head, begin, exit, occurrence) => {
+                self.end_for(head, begin, exit, occurrence)?;
+                Ok(())
+            }
+            Task::EndCall(place, callee) => {
+                self.end_call(place, callee)?;
+                Ok(())
+            }
+            Task::Take(place, target, answer, occurrence) => {
+                self.take_result(Site { occurrence, place }, target, answer)?;
+                Ok(())
+            }
+            Task::Answer(place, own, answer, occurrence) => {
+                self.answer_result(Site { occurrence, place }, own, answer)?;
+                Ok(())
+            }
+            _ => unreachable!(),
+        }
     }
 
     /// What is next is lowered, or what it is made of is next.
@@ -556,26 +658,6 @@ impl<'a> Builder<'a> {
                 self.declare(tasks, place, items, context)?;
                 Ok(())
             }
-            Task::EndBlock(numbers, occurrence) => {
-                self.leave(NOWHERE, occurrence, numbers)?;
-                Ok(())
-            }
-            Task::Otherwise(no, merge) => {
-                self.otherwise(no, merge)?;
-                Ok(())
-            }
-            Task::Merge(place, merge) => {
-                self.merge(place, merge)?;
-                Ok(())
-            }
-            Task::EndWhile(place, head, exit) => {
-                self.end_while(place, head, exit)?;
-                Ok(())
-            }
-            Task::EndDo(place, condition, head, turns, occurrence) => {
-                self.end_do(place, condition, head, turns, occurrence)?;
-                Ok(())
-            }
             Task::For(head, body, context) => {
                 self.enter_for(tasks, head, body, context)?;
                 Ok(())
@@ -584,20 +666,16 @@ impl<'a> Builder<'a> {
                 self.turn_for(tasks, head, begin, turns, context)?;
                 Ok(())
             }
-            Task::EndFor(head, begin, exit, occurrence) => {
-                self.end_for(head, begin, exit, occurrence)?;
-                Ok(())
-            }
-            Task::EndCall(place, callee) => {
-                self.end_call(place, callee)?;
-                Ok(())
-            }
-            Task::Take(place, target, answer, occurrence) => {
-                self.take_result(Site { occurrence, place }, target, answer)?;
-                Ok(())
-            }
-            Task::Answer(place, own, answer, occurrence) => {
-                self.answer_result(Site { occurrence, place }, own, answer)?;
+            Task::EndBlock(_, _)
+            | Task::Otherwise(_, _)
+            | Task::Merge(_, _)
+            | Task::EndWhile(_, _, _)
+            | Task::EndDo(_, _, _, _, _)
+            | Task::EndFor(_, _, _, _)
+            | Task::EndCall(_, _)
+            | Task::Take(_, _, _, _)
+            | Task::Answer(_, _, _, _) => {
+                self.behind(task)?;
                 Ok(())
             }
         }

@@ -1,0 +1,4 @@
+pub mod Onward
+pub mod Kinded
+pub mod Wholes
+pub mod Validity
