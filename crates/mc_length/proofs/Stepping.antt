@@ -13,9 +13,12 @@ some_left xs made i within among =
     let (j, j_within, j_there) = among in
     let inner : list_any (eqb (get_or xs i 0)) made ≡ true = list_any-from_Any (eqb (get_or xs i 0)) made (j, get_or xs i 0, j_within, j_there, eq-eqb (get_or xs i 0) (get_or xs i 0) refl) in
     let outer : list_any (λ x. list_any (eqb x) made) xs ≡ true = list_any_at (λ x. list_any (eqb x) made) xs i 0 within inner in
-    ap (λ b. cond b 1 0) outer
+    ap one_if outer
 
-no_left : (xs made : List ℕ) (b : Bool) → list_any (λ x. list_any (eqb x) made) xs ≡ b → ((x : ℕ) → Contains xs x → Contains made x → ⊥) → cond b 1 0 ≡ 0
+abbrev one_if : Bool → ℕ
+one_if b = cond b 1 0
+
+no_left : (xs made : List ℕ) (b : Bool) → list_any (λ x. list_any (eqb x) made) xs ≡ b → ((x : ℕ) → Contains xs x → Contains made x → ⊥) → one_if b ≡ 0
 no_left xs made false is none = refl
 no_left xs made true is none =
     let (i, x, i_within, x_there, x_made) = Any-from_list_any (λ x. list_any (eqb x) made) xs is in

@@ -98,7 +98,7 @@ impl<'a> Counter<'a> {
     // These blocks are around; those that were around before.
     fn enter(&mut self, blocks: Vec<usize>) -> Vec<usize>
         ensures outer { result.items ≡ self.old.blocks.items }
-        ensures inner { (tasks : List Waiting) → total self.new tasks ≡ self.old.points + left self.old.table.now self.old.made.items blocks.entry.items tasks }
+        ensures inner { (tasks : List Waiting) → total self.new tasks ≡ self.old.points + left self.old.table.now self.old.made.items blocks.items tasks }
     {
         mem::replace(&mut self.blocks, blocks)
     }
@@ -137,7 +137,7 @@ impl<'a> Counter<'a> {
 
     // Variables are left, and the blocks are those around.
     fn end(&mut self, numbers: &[usize], outer: Vec<usize>) -> Result<(), NoMemory>
-        ensures { OnOk result ((tasks : List Waiting) → total self.new tasks ≡ self.old.points + (leaving numbers.now self.old.made.items + left self.old.table.now self.old.made.items outer.entry.items tasks)) }
+        ensures { OnOk result ((tasks : List Waiting) → total self.new tasks ≡ self.old.points + (leaving numbers.now self.old.made.items + left self.old.table.now self.old.made.items outer.items tasks)) }
     {
         let more = leaving(numbers, self.made.as_slice());
         self.enter(outer);
@@ -257,7 +257,14 @@ impl<'a> Counter<'a> {
                 self.returns(value.as_ref())?;
                 Ok(())
             }
-            _ => unreachable!(),
+            Statement::Declaration(_, _)
+            | Statement::Block(_, _)
+            | Statement::Empty
+            | Statement::If(_, _, _)
+            | Statement::IfElse(_, _, _, _)
+            | Statement::While(_, _, _)
+            | Statement::Do(_, _, _)
+            | Statement::For(_, _) => unreachable!(),
         }
     }
 
@@ -300,7 +307,18 @@ impl<'a> Counter<'a> {
                 self.for_loop(tasks, head, body)?;
                 Ok(())
             }
-            _ => unreachable!(),
+            Statement::Declaration(_, _)
+            | Statement::Empty
+            | Statement::Simple(_)
+            | Statement::Free(_, _)
+            | Statement::Assert(_, _)
+            | Statement::Assume(_, _)
+            | Statement::AssumeShape(_)
+            | Statement::AssertShape(_)
+            | Statement::AssertEmpty(_)
+            | Statement::Break(_)
+            | Statement::Continue(_)
+            | Statement::Return(_, _) => unreachable!(),
         }
     }
 

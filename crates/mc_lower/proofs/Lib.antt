@@ -6,6 +6,7 @@ pub mod Constants
 pub mod Entering
 pub mod Firsts
 pub mod Gathering
+pub mod Measuring
 pub mod Meeting
 pub mod Owning
 pub mod Resting

@@ -100,3 +100,9 @@ abbrev pub AreTooLong : Resolved → Structs → Type 0
 AreTooLong program structs =
     (g : Graph) (defs : List Def) (entry : Function) (out count : ℕ) → g.program ≡ program_of program defs → g.flow.structs ≡ structs
     → IsLowering g entry out count → IsTooLong g
+
+-- each flow graph of a program has at most 10,000 points
+abbrev pub AreShort : Resolved → Structs → Type 0
+AreShort program structs =
+    (g : Graph) (defs : List Def) (entry : Function) (out count : ℕ) → g.program ≡ program_of program defs → g.flow.structs ≡ structs
+    → IsLowering g entry out count → length g.flow.points ≤ 10000

@@ -10,7 +10,7 @@ ghost use Rattle.mc_resolved.specs.Views.{expression_of, left_of, right_of};
 ghost use Rattle.mc_lower.specs.Valued.{Frees, PutsField, joined, target_of};
 ghost use Rattle.mc_lower.specs.Worlds.{Agrees, Leads, World, stage_of};
 
-use crate::builder::{ABSENT, Builder, LowerFault, Role};
+use crate::builder::{ABSENT, Builder, BuildFault, Role};
 use crate::values::{How, Operation, Site, Target, Value};
 use mc_base::{Kind, StructId, VarId};
 use mc_flow::{Instr, Operand};
@@ -19,7 +19,7 @@ use mc_text::Place;
 
 impl<'a> Builder<'a> {
     // A variable gets new memory.
-    fn allocate(&mut self, place: Place, variable: VarId, shape: StructId) -> Result<(), LowerFault>
+    fn allocate(&mut self, place: Place, variable: VarId, shape: StructId) -> Result<(), BuildFault>
         ensures { OnOk result (Leads (λ w s u. Appends w.graph plain place (λ q. Malloc variable shape q) s u) self.old self.new) }
     {
         let next = self.label()?;
@@ -39,7 +39,7 @@ impl<'a> Builder<'a> {
         base: VarId,
         field: FieldAt,
         operand: Operand,
-    ) -> Result<(), LowerFault>
+    ) -> Result<(), BuildFault>
         ensures { OnOk result (Leads (λ w s u. Appends w.graph plain place (λ q. Store base field.shape field.field operand q) s u) self.old self.new) }
     {
         let next = self.label()?;
@@ -64,7 +64,7 @@ impl<'a> Builder<'a> {
         site: Site,
         variable: VarId,
         expression: &Expression,
-    ) -> Result<(), LowerFault>
+    ) -> Result<(), BuildFault>
         ensures { OnOk result (Leads (λ w s u. SetsTo w.graph (w.out site.occurrence) site.place variable (value_of (expression_of expression.now)) s u) self.old self.new) }
     {
         let mut temporaries = Vec::new(self.alloc);
@@ -88,7 +88,7 @@ impl<'a> Builder<'a> {
         variable: VarId,
         shape: StructId,
         count: usize,
-    ) -> Result<(), LowerFault>
+    ) -> Result<(), BuildFault>
         ensures { OnOk result ((i : ℕ) → Leads (λ w s u. SetsTo w.graph (w.out i) place variable (allocation shape.0 count) s u) self.old self.new) }
     {
         self.check_count(shape, count)?;
@@ -102,7 +102,7 @@ impl<'a> Builder<'a> {
         site: Site,
         variable: VarId,
         right: &RightSide,
-    ) -> Result<(), LowerFault>
+    ) -> Result<(), BuildFault>
         ensures { OnOk result (Leads (λ w s u. SetsTo w.graph (w.out site.occurrence) site.place variable (right_of right.now) s u) self.old self.new) }
     {
         match right {
@@ -125,7 +125,7 @@ impl<'a> Builder<'a> {
         number: usize,
         operand: Operand,
         temporaries: &[VarId],
-    ) -> Result<(), LowerFault>
+    ) -> Result<(), BuildFault>
         ensures { OnOk result (Leads (λ w s u. Puts w.graph (w.out site.occurrence) site.place (record { variable = number; fields = [] }) operand temporaries.now s u) self.old self.new) }
     {
         let variable = self.local(site.occurrence, number)?;
@@ -141,7 +141,7 @@ impl<'a> Builder<'a> {
         target: Target,
         operand: Operand,
         temporaries: &mut Vec<VarId>,
-    ) -> Result<(), LowerFault>
+    ) -> Result<(), BuildFault>
         ensures { OnOk result (Leads (λ w s u. PutsField w.graph (w.out site.occurrence) site.place (target_of target.entry) operand temporaries.old.items s u) self.old self.new) }
     {
         let variable = self.local(site.occurrence, target.variable)?;
@@ -158,7 +158,7 @@ impl<'a> Builder<'a> {
         target: Target,
         operand: Operand,
         temporaries: &mut Vec<VarId>,
-    ) -> Result<(), LowerFault>
+    ) -> Result<(), BuildFault>
         ensures { OnOk result (Leads (λ w s u. Puts w.graph (w.out site.occurrence) site.place (target_of target.entry) operand temporaries.old.items s u) self.old self.new) }
     {
         if target.fields.is_empty() {
@@ -175,7 +175,7 @@ impl<'a> Builder<'a> {
         site: Site,
         target: Target,
         expression: &Expression,
-    ) -> Result<(), LowerFault>
+    ) -> Result<(), BuildFault>
         ensures { OnOk result (Leads (λ w s u. Assigns w.graph (w.out site.occurrence) site.place (target_of target.entry) (value_of (expression_of expression.now)) s u) self.old self.new) }
     {
         let mut temporaries = Vec::new(self.alloc);
@@ -191,7 +191,7 @@ impl<'a> Builder<'a> {
         target: Target,
         shape: StructId,
         count: usize,
-    ) -> Result<(), LowerFault>
+    ) -> Result<(), BuildFault>
         ensures { OnOk result (Leads (λ w s u. Assigns w.graph (w.out site.occurrence) site.place (target_of target.entry) (allocation shape.0 count) s u) self.old self.new) }
     {
         self.check_count(shape, count)?;
@@ -209,7 +209,7 @@ impl<'a> Builder<'a> {
         site: Site,
         target: Target,
         right: &RightSide,
-    ) -> Result<(), LowerFault>
+    ) -> Result<(), BuildFault>
         ensures { OnOk result (Leads (λ w s u. Assigns w.graph (w.out site.occurrence) site.place (target_of target.entry) (right_of right.now) s u) self.old self.new) }
     {
         match right {
@@ -231,7 +231,7 @@ impl<'a> Builder<'a> {
         site: Site,
         target: Target,
         right: &RightSide,
-    ) -> Result<(), LowerFault>
+    ) -> Result<(), BuildFault>
         ensures { OnOk result (Leads (λ w s u. Assigns w.graph (w.out site.occurrence) site.place (target_of target.entry) (right_of right.now) s u) self.old self.new) }
     {
         if target.fields.is_empty() {
@@ -251,7 +251,7 @@ impl<'a> Builder<'a> {
         number: usize,
         operand: Operand,
         temporaries: &[VarId],
-    ) -> Result<(), LowerFault>
+    ) -> Result<(), BuildFault>
         ensures { OnOk result (Leads (λ w s u. (e : Expr) (r : Stage) → Evaluates w.graph (w.out site.occurrence) site.place e [] r operand temporaries.now s → Changes w.graph (w.out site.occurrence) site.place (joined how) (record { variable = number; fields = [] }) e r u) self.old self.new) }
     {
         let variable = self.local(site.occurrence, number)?;
@@ -272,7 +272,7 @@ impl<'a> Builder<'a> {
         left: &LeftValue,
         operand: Operand,
         temporaries: &mut Vec<VarId>,
-    ) -> Result<(), LowerFault>
+    ) -> Result<(), BuildFault>
         ensures { OnOk result (Leads (λ w s u. (e : Expr) (r : Stage) → Evaluates w.graph (w.out site.occurrence) site.place e [] r operand temporaries.old.items s → Changes w.graph (w.out site.occurrence) site.place (joined how) (left_of left.now) e r u) self.old self.new) }
     {
         let variable = self.local(site.occurrence, left.variable)?;
@@ -294,7 +294,7 @@ impl<'a> Builder<'a> {
         how: How,
         left: &LeftValue,
         expression: &Expression,
-    ) -> Result<(), LowerFault>
+    ) -> Result<(), BuildFault>
         ensures { OnOk result (Leads (λ w s u. Changes w.graph (w.out site.occurrence) site.place (joined how) (left_of left.now) (expression_of expression.now) s u) self.old self.new) }
     {
         let mut temporaries = Vec::new(self.alloc);
@@ -308,7 +308,7 @@ impl<'a> Builder<'a> {
     }
 
     // A block is freed.
-    fn release(&mut self, place: Place, operand: Operand) -> Result<(), LowerFault>
+    fn release(&mut self, place: Place, operand: Operand) -> Result<(), BuildFault>
         ensures { OnOk result (Leads (λ w s u. Appends w.graph plain place (λ q. Free operand q) s u) self.old self.new) }
     {
         let next = self.label()?;
@@ -322,7 +322,7 @@ impl<'a> Builder<'a> {
     }
 
     /// `free`.
-    pub fn free(&mut self, site: Site, pointer: &Expression) -> Result<(), LowerFault>
+    pub fn free(&mut self, site: Site, pointer: &Expression) -> Result<(), BuildFault>
         ensures { OnOk result (Leads (λ w s u. Frees w.graph (w.out site.occurrence) site.place (expression_of pointer.now) s u) self.old self.new) }
     {
         let mut temporaries = Vec::new(self.alloc);

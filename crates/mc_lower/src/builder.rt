@@ -17,28 +17,28 @@ pub const MAX_POINTS: usize = 10000;
 /// The place of a point that has none of its own.
 pub const NOWHERE: Place = Place { line: 1, column: 1 };
 
-/// Why there is no flow graph.
+/// Why no flow graph is made.
 #[derive(Clone, Copy, Debug, PartialEq, Eq)]
-pub enum LowerFault {
-    /// Each has more than 10,000 points; also where the program has none at all, since it names what is not there.
-    TooLong,
+pub enum BuildFault {
+    /// The program names what is not there.
+    Absent,
     NoMemory,
 }
 
-impl From<AllocError> for LowerFault {
-    fn from(_: AllocError) -> LowerFault {
-        LowerFault::NoMemory
+impl From<AllocError> for BuildFault {
+    fn from(_: AllocError) -> BuildFault {
+        BuildFault::NoMemory
     }
 }
 
-impl<T: Drop> From<AllocFailed<T>> for LowerFault {
-    fn from(_e: AllocFailed<T>) -> LowerFault {
-        LowerFault::NoMemory
+impl<T: Drop> From<AllocFailed<T>> for BuildFault {
+    fn from(_e: AllocFailed<T>) -> BuildFault {
+        BuildFault::NoMemory
     }
 }
 
 /// A program that names what is not there has no flow graph, of any length.
-pub const ABSENT: LowerFault = LowerFault::TooLong;
+pub const ABSENT: BuildFault = BuildFault::Absent;
 
 /// A point that may not be known yet.
 #[derive(Clone, Copy, Debug, PartialEq, Eq)]
@@ -141,20 +141,20 @@ impl<'a> Builder<'a> {
     }
 
     /// A new label.
-    pub fn label(&mut self) -> Result<Label, LowerFault>
+    pub fn label(&mut self) -> Result<Label, BuildFault>
         ensures kept { OnOk result (Leads (λ w s u. s ≡ u) self.old self.new) }
         ensures goal { OnOk result (self.new.goal ≡ self.old.goal) }
     {
         let label = Label(self.labels);
         match self.labels.checked_add(1) {
             Some(labels) => self.labels = labels,
-            None => return Err(LowerFault::NoMemory),
+            None => return Err(BuildFault::NoMemory),
         }
         Ok(label)
     }
 
     /// A new occurrence of a function.
-    pub fn occur(&mut self) -> Result<usize, LowerFault>
+    pub fn occur(&mut self) -> Result<usize, BuildFault>
         ensures { OnOk result (Leads (λ w s u. s ≡ u) self.old self.new) }
     {
         let label = self.label()?;
@@ -164,7 +164,7 @@ impl<'a> Builder<'a> {
     }
 
     /// Where the `return` of an occurrence goes.
-    pub fn out(&self, occurrence: usize) -> Result<Label, LowerFault>
+    pub fn out(&self, occurrence: usize) -> Result<Label, BuildFault>
         ensures { IfOk result (λ l. (w : World) → Agrees w self.now → w.at l.0 ≡ w.out occurrence) }
     {
         match self.outs.get(occurrence) {
@@ -174,7 +174,7 @@ impl<'a> Builder<'a> {
     }
 
     /// A block with these variables, inside another one.
-    pub fn open(&mut self, numbers: &'a [usize], around: Option<usize>) -> Result<usize, LowerFault>
+    pub fn open(&mut self, numbers: &'a [usize], around: Option<usize>) -> Result<usize, BuildFault>
         ensures kept { OnOk result (Leads (λ w s u. s ≡ u) self.old self.new) }
         ensures opened { IfOk result (λ i. (w : World) → Agrees w self.new → w.blocks i ≡ numbers.now ++ blocks_in w around) }
     {
@@ -184,7 +184,7 @@ impl<'a> Builder<'a> {
     }
 
     // What was made goes on to this label.
-    fn join(&mut self, label: Label) -> Result<(), LowerFault>
+    fn join(&mut self, label: Label) -> Result<(), BuildFault>
         ensures joined { OnOk result (Leads (λ w s u. (w.at self.old.goal.0 ≡ w.at label.0) × (s ≡ u)) self.old self.new) }
         ensures goal { OnOk result (self.new.goal ≡ self.old.goal) }
     {
@@ -193,7 +193,7 @@ impl<'a> Builder<'a> {
     }
 
     /// What was made goes on to this label, and so does what is made next.
-    pub fn meet(&mut self, label: Label) -> Result<(), LowerFault>
+    pub fn meet(&mut self, label: Label) -> Result<(), BuildFault>
         ensures kept { OnOk result (Leads (λ w s u. s ≡ u) self.old self.new) }
         ensures goal { OnOk result (self.new.goal ≡ label) }
     {
@@ -203,7 +203,7 @@ impl<'a> Builder<'a> {
     }
 
     /// What was made goes on to this label, and what is made next is reached from elsewhere alone.
-    pub fn go(&mut self, label: Label) -> Result<(), LowerFault>
+    pub fn go(&mut self, label: Label) -> Result<(), BuildFault>
         ensures { OnOk result (Leads (λ w s u. GoesTo (w.at label.0) s u) self.old self.new) }
     {
         self.join(label)?;
@@ -212,13 +212,13 @@ impl<'a> Builder<'a> {
         Ok(())
     }
 
-    /// A point at the goal. There is no 10,001st.
-    pub fn put(&mut self, role: Role, place: Place, code: Instr) -> Result<(), LowerFault>
+    /// A point at the goal. There is no 10,001st: the points of a program are counted before.
+    pub fn put(&mut self, role: Role, place: Place, code: Instr) -> Result<(), BuildFault>
         ensures { OnOk result ((w : World) → Agrees w self.new → Agrees w self.old × IsPut w role place code self.old self.new) }
     {
         let at = self.points.len();
         if at >= MAX_POINTS {
-            return Err(LowerFault::TooLong);
+            return Err(ABSENT);
         }
         self.marks.push(Mark::At(self.goal, at))?;
         self.points.push(Draft { role, code, place })?;
@@ -232,7 +232,7 @@ impl<'a> Builder<'a> {
         place: Place,
         code: Instr,
         next: Label,
-    ) -> Result<(), LowerFault>
+    ) -> Result<(), BuildFault>
         ensures { OnOk result (Leads (λ w s u. Lays w role place code next s u) self.old self.new) }
     {
         self.put(role, place, code)?;
@@ -241,7 +241,7 @@ impl<'a> Builder<'a> {
     }
 
     /// A Skip.
-    pub fn skip(&mut self, role: Role, place: Place) -> Result<(), LowerFault>
+    pub fn skip(&mut self, role: Role, place: Place) -> Result<(), BuildFault>
         ensures { OnOk result (Leads (λ w s u. Appends w.graph (role_of role) place (λ q. Skip q) s u) self.old self.new) }
     {
         let next = self.label()?;
@@ -255,7 +255,7 @@ impl<'a> Builder<'a> {
         place: Place,
         variable: VarId,
         operand: Operand,
-    ) -> Result<(), LowerFault>
+    ) -> Result<(), BuildFault>
         ensures { OnOk result (Leads (λ w s u. Appends w.graph plain place (λ q. Copy variable operand q) s u) self.old self.new) }
     {
         let next = self.label()?;
@@ -269,7 +269,7 @@ impl<'a> Builder<'a> {
     }
 
     /// Variables become undefined by one point, though there may be none.
-    pub fn undefine_all(&mut self, place: Place, variables: &[VarId]) -> Result<(), LowerFault>
+    pub fn undefine_all(&mut self, place: Place, variables: &[VarId]) -> Result<(), BuildFault>
         ensures { OnOk result (Leads (λ w s u. Appends w.graph plain place (λ q. Undef variables.now q) s u) self.old self.new) }
     {
         let next = self.label()?;
@@ -279,7 +279,7 @@ impl<'a> Builder<'a> {
     }
 
     /// Variables become undefined by one point, where there are any.
-    pub fn undefine(&mut self, place: Place, variables: &[VarId]) -> Result<(), LowerFault>
+    pub fn undefine(&mut self, place: Place, variables: &[VarId]) -> Result<(), BuildFault>
         ensures { OnOk result (Leads (λ w s u. Undefines w.graph place variables.now s u) self.old self.new) }
     {
         if variables.is_empty() {

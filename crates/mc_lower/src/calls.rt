@@ -8,7 +8,7 @@ ghost use Rattle.mc_lower.specs.Left.{AnswersResult, Begins, DeclaresFirst, Ends
 ghost use Rattle.mc_lower.specs.Valued.{target_of};
 ghost use Rattle.mc_lower.specs.Worlds.{Agrees, GoesTo, Leads, World, stage_of};
 
-use crate::builder::{ABSENT, Builder, LowerFault, Owner};
+use crate::builder::{ABSENT, Builder, BuildFault, Owner};
 use crate::tasks::{Context, Task, push};
 use crate::values::{How, Site, Target};
 use mc_base::VarId;
@@ -26,7 +26,7 @@ pub struct Entered<'a> {
 
 impl<'a> Builder<'a> {
     /// A function by its number.
-    pub fn function(&self, number: usize) -> Result<&'a Function, LowerFault>
+    pub fn function(&self, number: usize) -> Result<&'a Function, BuildFault>
         ensures { IfOk result (λ f. (w : World) → Agrees w self.now → slice_get w.graph.program.functions number ≡ Some (function_of f.now)) }
     {
         match self.program.functions.get(number) {
@@ -36,7 +36,7 @@ impl<'a> Builder<'a> {
     }
 
     // A variable is made for each parameter of an occurrence of a function.
-    fn receive(&mut self, function: &Function, occurrence: usize) -> Result<Vec<VarId>, LowerFault>
+    fn receive(&mut self, function: &Function, occurrence: usize) -> Result<Vec<VarId>, BuildFault>
         ensures { IfOk result (λ vs. (w : World) → Agrees w self.new → Agrees w self.old × Receives w.graph (function_of function.now) (w.out occurrence) 0 function.now.parameters (stage_of w self.old) vs.items (stage_of w self.new)) }
     {
         let mut parameters = Vec::new(self.alloc);
@@ -53,7 +53,7 @@ impl<'a> Builder<'a> {
         place: Place,
         parameters: &[VarId],
         operands: &[Operand],
-    ) -> Result<(), LowerFault>
+    ) -> Result<(), BuildFault>
         ensures { OnOk result (Leads (λ w s u. Passes w.graph place parameters.now operands.now s u) self.old self.new) }
     {
         if parameters.len() != operands.len() {
@@ -66,7 +66,7 @@ impl<'a> Builder<'a> {
     }
 
     // The arguments are evaluated, and copied to the parameters.
-    fn give(&mut self, site: Site, call: &Call, parameters: &[VarId]) -> Result<(), LowerFault>
+    fn give(&mut self, site: Site, call: &Call, parameters: &[VarId]) -> Result<(), BuildFault>
         ensures { OnOk result (Leads (λ w s u. PassesAll w.graph (w.out site.occurrence) site.place (map expression_of call.now.arguments.items) parameters.now s u) self.old self.new) }
     {
         let mut temporaries = Vec::new(self.alloc);
@@ -82,7 +82,7 @@ impl<'a> Builder<'a> {
         place: Place,
         function: &Function,
         occurrence: usize,
-    ) -> Result<Option<VarId>, LowerFault>
+    ) -> Result<Option<VarId>, BuildFault>
         ensures { IfOk result (λ r. (w : World) → Agrees w self.new → Agrees w self.old × Awaits w.graph (w.out occurrence) place function.now.result (stage_of w self.old) r (stage_of w self.new)) }
     {
         match function.result {
@@ -102,7 +102,7 @@ impl<'a> Builder<'a> {
         place: Place,
         call: &Call,
         context: Context<'a>,
-    ) -> Result<Entered<'a>, LowerFault>
+    ) -> Result<Entered<'a>, BuildFault>
         ensures { IfOk result (λ e. (w : World) → Agrees w self.new → Agrees w self.old × IsEntered w place (call_of call.now) context.entry e (stage_of w self.old) (stage_of w self.new)) }
     {
         if context.depth >= self.program.functions.len() {
@@ -128,7 +128,7 @@ impl<'a> Builder<'a> {
     }
 
     /// The body of a call is behind: its variables become undefined.
-    pub fn end_call(&mut self, place: Place, callee: Context<'a>) -> Result<(), LowerFault>
+    pub fn end_call(&mut self, place: Place, callee: Context<'a>) -> Result<(), BuildFault>
         ensures { OnOk result (Leads (λ w s u. EndsCall w.graph (w.out callee.entry.occurrence) place (length (function_of callee.entry.function.now).locals) s u) self.old self.new) }
     {
         let out = self.out(callee.occurrence)?;
@@ -143,7 +143,7 @@ impl<'a> Builder<'a> {
         site: Site,
         target: Target,
         answer: Option<VarId>,
-    ) -> Result<(), LowerFault>
+    ) -> Result<(), BuildFault>
         ensures { OnOk result (Leads (λ w s u. TakesResult w.graph (w.out site.occurrence) site.place target.entry answer s u) self.old self.new) }
     {
         let Some(returned) = answer else {
@@ -161,7 +161,7 @@ impl<'a> Builder<'a> {
         site: Site,
         own: VarId,
         answer: Option<VarId>,
-    ) -> Result<(), LowerFault>
+    ) -> Result<(), BuildFault>
         ensures { OnOk result (Leads (λ w s u. AnswersResult w.graph (w.out site.occurrence) site.place own answer s u) self.old self.new) }
     {
         let Some(returned) = answer else {
@@ -174,7 +174,7 @@ impl<'a> Builder<'a> {
     }
 
     /// What was made goes on where `return` goes.
-    pub fn go_out(&mut self, occurrence: usize) -> Result<(), LowerFault>
+    pub fn go_out(&mut self, occurrence: usize) -> Result<(), BuildFault>
         ensures { OnOk result (Leads (λ w s u. GoesTo (w.out occurrence) s u) self.old self.new) }
     {
         let out = self.out(occurrence)?;
@@ -188,7 +188,7 @@ fn push_body<'a>(
     tasks: &mut Stack<Task<'a>>,
     place: Place,
     callee: Context<'a>,
-) -> Result<(), LowerFault>
+) -> Result<(), BuildFault>
     ensures { OnOk result ((w : World) (s u : Stage) → Rest w tasks.new s u → (m : Stage) × LowersAll w.graph (around_of w callee.entry) (function_of callee.entry.function.now).body s m × ((n : Stage) × EndsCall w.graph (w.out callee.entry.occurrence) place (length (function_of callee.entry.function.now).locals) m n × Rest w tasks.old n u)) }
 {
     push(tasks, Task::EndCall(place, callee))?;
@@ -207,7 +207,7 @@ impl<'a> Builder<'a> {
         place: Place,
         call: &Call,
         context: Context<'a>,
-    ) -> Result<(), LowerFault>
+    ) -> Result<(), BuildFault>
         ensures { OnOk result (Begins (λ w s m. Performs w.graph (w.out context.entry.occurrence) place (performs_call (call_of call.now)) s m) self.old tasks.old self.new tasks.new) }
     {
         let entered = self.enter_call(place, call, context)?;
@@ -223,7 +223,7 @@ impl<'a> Builder<'a> {
         target: Target<'a>,
         call: &Call,
         context: Context<'a>,
-    ) -> Result<(), LowerFault>
+    ) -> Result<(), BuildFault>
         ensures { OnOk result (Begins (λ w s m. Performs w.graph (w.out context.entry.occurrence) place (assign (target_of target.entry) (result_of (call_of call.now))) s m) self.old tasks.old self.new tasks.new) }
     {
         let entered = self.enter_call(place, call, context)?;
@@ -242,7 +242,7 @@ impl<'a> Builder<'a> {
         place: Place,
         call: &Call,
         context: Context<'a>,
-    ) -> Result<(), LowerFault>
+    ) -> Result<(), BuildFault>
         ensures { OnOk result (Begins (λ w s m. Lowers w.graph (around_of w context.entry) (returns place (Some (result_of (call_of call.now)))) s m) self.old tasks.old self.new tasks.new) }
     {
         let own = self.own_result(context.occurrence)?;
@@ -263,7 +263,7 @@ impl<'a> Builder<'a> {
         target: Target<'a>,
         right: &'a RightSide,
         context: Context<'a>,
-    ) -> Result<(), LowerFault>
+    ) -> Result<(), BuildFault>
         ensures { OnOk result (Begins (λ w s m. Performs w.graph (w.out context.entry.occurrence) place (assign (target_of target.entry) (right_of right.now)) s m) self.old tasks.old self.new tasks.new) }
     {
         let site = Site {
@@ -292,7 +292,7 @@ impl<'a> Builder<'a> {
         tasks: &mut Stack<Task<'a>>,
         simple: &'a Simple,
         context: Context<'a>,
-    ) -> Result<(), LowerFault>
+    ) -> Result<(), BuildFault>
         ensures { OnOk result (Begins (λ w s m. Performs w.graph (w.out context.entry.occurrence) simple.now.place (action_of simple.now.action) s m) self.old tasks.old self.new tasks.new) }
     {
         let place = simple.place;
@@ -327,7 +327,7 @@ impl<'a> Builder<'a> {
         place: Place,
         item: &'a Initial,
         context: Context<'a>,
-    ) -> Result<(), LowerFault>
+    ) -> Result<(), BuildFault>
         ensures { OnOk result (Begins (λ w s m. DeclaresFirst w context.entry place (initial_of item.now) s m) self.old tasks.old self.new tasks.new) }
     {
         let variable = self.create_local(context.function, context.occurrence, item.variable)?;
@@ -354,7 +354,7 @@ impl<'a> Builder<'a> {
         place: Place,
         items: &'a [Initial],
         context: Context<'a>,
-    ) -> Result<(), LowerFault>
+    ) -> Result<(), BuildFault>
         ensures { OnOk result (Begins (λ w s m. Declares w.graph (function_of context.entry.function.now) (w.out context.entry.occurrence) place (map initial_of items.now) s m) self.old tasks.old self.new tasks.new) }
     {
         let [first, more @ ..] = items else {

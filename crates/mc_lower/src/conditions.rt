@@ -7,7 +7,7 @@ ghost use Rattle.mc_resolved.specs.Views.{condition_of, expression_of};
 ghost use Rattle.mc_lower.specs.Valued.{Testing, TestsOn, TestsPerhapsOn, TestsTo};
 ghost use Rattle.mc_lower.specs.Worlds.{Agrees, Leads, World, stage_of};
 
-use crate::builder::{Builder, Label, LowerFault, Role};
+use crate::builder::{Builder, Label, BuildFault, Role};
 use crate::values::{Site, nothing};
 use mc_ast::Comparison;
 use mc_base::VarId;
@@ -53,7 +53,7 @@ fn push<'c>(
     from: Label,
     condition: &'c Condition,
     ways: Ways,
-) -> Result<(), LowerFault>
+) -> Result<(), BuildFault>
     ensures { OnOk result (work.new ≡ record { from = from; condition = condition.entry; ways = ways } ∷ work.old) }
 {
     work.push(Work {
@@ -72,7 +72,7 @@ impl<'a> Builder<'a> {
         temporaries: &[VarId],
         from: Label,
         to: Label,
-    ) -> Result<(), LowerFault>
+    ) -> Result<(), BuildFault>
         ensures { OnOk result ((w : World) → Agrees w self.new → Agrees w self.old × Undefines w.graph place temporaries.now (stage (w.at from.0) (length self.old.points.items) (length self.old.variables.items)) (stage (w.at to.0) (length self.new.points.items) (length self.new.variables.items))) }
     {
         self.goal = from;
@@ -90,7 +90,7 @@ impl<'a> Builder<'a> {
         right: Operand,
         temporaries: &[VarId],
         ways: Ways,
-    ) -> Result<(), LowerFault>
+    ) -> Result<(), BuildFault>
         ensures { OnOk result ((w : World) → Agrees w self.new → Agrees w self.old × Compares w.graph place comparison left right temporaries.now (stage_of w self.old) (w.at ways.yes.0) (w.at ways.no.0) (length self.new.points.items) (length self.new.variables.items)) }
     {
         let yes = self.label()?;
@@ -108,7 +108,7 @@ impl<'a> Builder<'a> {
         site: Site,
         expression: &Expression,
         ways: Ways,
-    ) -> Result<(), LowerFault>
+    ) -> Result<(), BuildFault>
         ensures { OnOk result ((w : World) → Agrees w self.new → Agrees w self.old × TestsTo w site.occurrence (plain_condition site.place (expression_of expression.now)) ways self.old self.new) }
     {
         let mut temporaries = Vec::new(self.alloc);
@@ -132,7 +132,7 @@ impl<'a> Builder<'a> {
         left: &Expression,
         right: &Expression,
         ways: Ways,
-    ) -> Result<(), LowerFault>
+    ) -> Result<(), BuildFault>
         ensures { OnOk result ((w : World) → Agrees w self.new → Agrees w self.old × TestsTo w site.occurrence (compare site.place comparison (expression_of left.now) (expression_of right.now)) ways self.old self.new) }
     {
         let mut temporaries = Vec::new(self.alloc);
@@ -156,7 +156,7 @@ impl<'a> Builder<'a> {
         condition: &'c Condition,
         ways: Ways,
         work: &mut Stack<Work<'c>>,
-    ) -> Result<(), LowerFault>
+    ) -> Result<(), BuildFault>
         ensures { OnOk result ((w : World) (n k : ℕ) → Agrees w self.new → Testing w occurrence work.new (length self.new.points.items) (length self.new.variables.items) n k → Agrees w self.old × Testing w occurrence (record { from = self.old.goal; condition = condition.entry; ways = ways } ∷ work.old) (length self.old.points.items) (length self.old.variables.items) n k) }
     {
         let from = self.goal;
@@ -214,7 +214,7 @@ impl<'a> Builder<'a> {
         occurrence: usize,
         next: Work<'c>,
         work: &mut Stack<Work<'c>>,
-    ) -> Result<(), LowerFault>
+    ) -> Result<(), BuildFault>
         ensures { OnOk result ((w : World) (n k : ℕ) → Agrees w self.new → Testing w occurrence work.new (length self.new.points.items) (length self.new.variables.items) n k → Agrees w self.old × Testing w occurrence (next.entry ∷ work.old) (length self.old.points.items) (length self.old.variables.items) n k) }
     {
         self.goal = next.from;
@@ -229,7 +229,7 @@ impl<'a> Builder<'a> {
         occurrence: usize,
         condition: &Condition,
         ways: Ways,
-    ) -> Result<(), LowerFault>
+    ) -> Result<(), BuildFault>
         ensures { OnOk result ((w : World) → Agrees w self.new → Agrees w self.old × TestsTo w occurrence (condition_of condition.now) ways self.old self.new) }
     {
         let mut work = Stack::new(self.alloc);
@@ -240,7 +240,7 @@ impl<'a> Builder<'a> {
                 None => return Ok(()),
             }
         }
-        Err(LowerFault::NoMemory)
+        Err(BuildFault::NoMemory)
     }
 
     /// A condition that goes on where it is true, and else to a label.
@@ -249,7 +249,7 @@ impl<'a> Builder<'a> {
         occurrence: usize,
         condition: &Condition,
         no: Label,
-    ) -> Result<(), LowerFault>
+    ) -> Result<(), BuildFault>
         ensures { OnOk result (Leads (λ w s u. TestsOn w.graph (w.out occurrence) (condition_of condition.now) (w.at no.0) s u) self.old self.new) }
     {
         let yes = self.label()?;
@@ -264,7 +264,7 @@ impl<'a> Builder<'a> {
         occurrence: usize,
         condition: Option<&Condition>,
         no: Label,
-    ) -> Result<(), LowerFault>
+    ) -> Result<(), BuildFault>
         ensures { OnOk result (Leads (λ w s u. TestsPerhapsOn w.graph (w.out occurrence) (option_map (λ c. condition_of c.now) condition.entry) (w.at no.0) s u) self.old self.new) }
     {
         match condition {

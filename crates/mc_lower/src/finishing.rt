@@ -6,7 +6,7 @@ ghost use Rattle.mc_lower.specs.Finished.{AreApart, AreConstants, AreOnce, AreSe
 ghost use Rattle.mc_lower.specs.Worlds.{AllAt, IsMarked, point_in, role_of, settled, target as point_of_target};
 
 use crate::builder::{
-    ABSENT, Builder, Draft, Label, LowerFault, MAX_POINTS, Mark, Opened, Role, Variable,
+    ABSENT, Builder, Draft, Label, BuildFault, MAX_POINTS, Mark, Opened, Role, Variable,
 };
 use crate::lowering::Lowered;
 use crate::owners::find;
@@ -34,7 +34,7 @@ fn set_point(table: &mut Vec<usize>, label: Label, point: usize) {
 
 // A table of the points of labels: of those that are known first, and then of those that are the points of others. A label that is
 // the point of another is that before the other is known, so the last of these come first.
-fn points_of(alloc: Global, labels: u64, marks: &[Mark]) -> Result<Vec<usize>, LowerFault> {
+fn points_of(alloc: Global, labels: u64, marks: &[Mark]) -> Result<Vec<usize>, BuildFault> {
     let mut table = Vec::new(alloc);
     for _ in 0..labels {
         table.push(0)?;
@@ -81,7 +81,7 @@ fn last_labels(
     table: &[usize],
     outs: &[Label],
     count: usize,
-) -> Result<Vec<usize>, LowerFault> {
+) -> Result<Vec<usize>, BuildFault> {
     let mut lasts = Vec::new(alloc);
     for _ in 0..count {
         lasts.push(0)?;
@@ -174,7 +174,7 @@ fn has_role(point: &Draft, role: Role) -> bool
 }
 
 // The points of a role, ascending.
-fn of_role(alloc: Global, points: &[Draft], role: Role) -> Result<Items<PointId>, LowerFault>
+fn of_role(alloc: Global, points: &[Draft], role: Role) -> Result<Items<PointId>, BuildFault>
     ensures { IfOk result (λ ps. AreThose points.now (role_of role) ps) }
 {
     let mut list = Vec::new(alloc);
@@ -187,7 +187,7 @@ fn of_role(alloc: Global, points: &[Draft], role: Role) -> Result<Items<PointId>
 }
 
 // An operand's constant joins a list.
-fn add_constant(list: &mut Vec<i64>, operand: Operand) -> Result<(), LowerFault>
+fn add_constant(list: &mut Vec<i64>, operand: Operand) -> Result<(), BuildFault>
     ensures { OnOk result (list.new.items ≡ list.old.items ++ constants (operand ∷ [])) }
 {
     match operand {
@@ -200,7 +200,7 @@ fn add_constant(list: &mut Vec<i64>, operand: Operand) -> Result<(), LowerFault>
 }
 
 // The constants of two operands join a list.
-fn add_both(list: &mut Vec<i64>, first: Operand, second: Operand) -> Result<(), LowerFault>
+fn add_both(list: &mut Vec<i64>, first: Operand, second: Operand) -> Result<(), BuildFault>
     ensures { OnOk result (list.new.items ≡ list.old.items ++ constants (first ∷ second ∷ [])) }
 {
     add_constant(list, first)?;
@@ -209,7 +209,7 @@ fn add_both(list: &mut Vec<i64>, first: Operand, second: Operand) -> Result<(), 
 }
 
 // The constants of operands join a list.
-fn add_all(list: &mut Vec<i64>, operands: &[Operand]) -> Result<(), LowerFault>
+fn add_all(list: &mut Vec<i64>, operands: &[Operand]) -> Result<(), BuildFault>
     ensures { OnOk result (list.new.items ≡ list.old.items ++ constants operands.now) }
 {
     for operand in operands {
@@ -219,7 +219,7 @@ fn add_all(list: &mut Vec<i64>, operands: &[Operand]) -> Result<(), LowerFault>
 }
 
 // The constants of an instruction's operands join a list.
-fn add_constants(list: &mut Vec<i64>, code: &Instr) -> Result<(), LowerFault>
+fn add_constants(list: &mut Vec<i64>, code: &Instr) -> Result<(), BuildFault>
     ensures { OnOk result (list.new.items ≡ list.old.items ++ constants (operands code.now)) }
 {
     match code {
@@ -256,7 +256,7 @@ fn add_constants(list: &mut Vec<i64>, code: &Instr) -> Result<(), LowerFault>
 }
 
 // The constants of a point's operands join a list.
-fn add_point(list: &mut Vec<i64>, point: &Draft) -> Result<(), LowerFault>
+fn add_point(list: &mut Vec<i64>, point: &Draft) -> Result<(), BuildFault>
     ensures { OnOk result (list.new.items ≡ list.old.items ++ constants (operands point.now.code)) }
 {
     add_constants(list, &point.code)?;
@@ -264,7 +264,7 @@ fn add_point(list: &mut Vec<i64>, point: &Draft) -> Result<(), LowerFault>
 }
 
 // The constants of all operands.
-fn constants_of(alloc: Global, points: &[Draft]) -> Result<Vec<i64>, LowerFault>
+fn constants_of(alloc: Global, points: &[Draft]) -> Result<Vec<i64>, BuildFault>
     ensures { IfOk result (λ cs. AreConstants points.now cs.items) }
 {
     let mut list = Vec::new(alloc);
@@ -275,7 +275,7 @@ fn constants_of(alloc: Global, points: &[Draft]) -> Result<Vec<i64>, LowerFault>
 }
 
 // The constants of all operands, ascending, each once.
-fn thresholds(alloc: Global, points: &[Draft]) -> Result<Items<i64>, LowerFault>
+fn thresholds(alloc: Global, points: &[Draft]) -> Result<Items<i64>, BuildFault>
     ensures { IfOk result (λ cs. (at : ℕ → ℕ) → AreThresholds (map (point_in at) points.now) cs) }
 {
     let mut list = constants_of(alloc, points)?;
@@ -285,7 +285,7 @@ fn thresholds(alloc: Global, points: &[Draft]) -> Result<Items<i64>, LowerFault>
 }
 
 // The points of a flow graph.
-fn settle(alloc: Global, table: &[usize], drafts: Vec<Draft>) -> Result<Items<Point>, LowerFault>
+fn settle(alloc: Global, table: &[usize], drafts: Vec<Draft>) -> Result<Items<Point>, BuildFault>
     ensures { IfOk result (λ points. points ≡ map (point_in (point_at table.now)) drafts.items) }
 {
     let mut points = Vec::new(alloc);
@@ -300,7 +300,7 @@ fn settle(alloc: Global, table: &[usize], drafts: Vec<Draft>) -> Result<Items<Po
 }
 
 // The variables of a flow graph.
-fn infos(alloc: Global, variables: Vec<Variable>) -> Result<Items<VarInfo>, LowerFault>
+fn infos(alloc: Global, variables: Vec<Variable>) -> Result<Items<VarInfo>, BuildFault>
     ensures { IfOk result (λ infos. infos ≡ map (λ v. v.info) variables.items) }
 {
     let mut infos = Vec::new(alloc);
@@ -311,7 +311,7 @@ fn infos(alloc: Global, variables: Vec<Variable>) -> Result<Items<VarInfo>, Lowe
 }
 
 // A field again.
-fn field_again(alloc: Global, field: &FieldInfo) -> Result<FieldInfo, LowerFault>
+fn field_again(alloc: Global, field: &FieldInfo) -> Result<FieldInfo, BuildFault>
     ensures { IfOk result (λ again. again ≡ field.now) }
 {
     Ok(FieldInfo {
@@ -321,7 +321,7 @@ fn field_again(alloc: Global, field: &FieldInfo) -> Result<FieldInfo, LowerFault
 }
 
 // A struct again.
-fn struct_again(alloc: Global, info: &StructInfo) -> Result<StructInfo, LowerFault>
+fn struct_again(alloc: Global, info: &StructInfo) -> Result<StructInfo, BuildFault>
     ensures { IfOk result (λ again. again ≡ info.now) }
 {
     let mut fields = Vec::new(alloc);
@@ -335,7 +335,7 @@ fn struct_again(alloc: Global, info: &StructInfo) -> Result<StructInfo, LowerFau
 }
 
 // The same structs again.
-fn structs_again(alloc: Global, structs: &Structs) -> Result<Structs, LowerFault>
+fn structs_again(alloc: Global, structs: &Structs) -> Result<Structs, BuildFault>
     ensures { IfOk result (λ again. again ≡ structs.now) }
 {
     let mut list = Vec::new(alloc);
@@ -348,7 +348,7 @@ fn structs_again(alloc: Global, structs: &Structs) -> Result<Structs, LowerFault
 }
 
 // The table of the points of labels, with which all that is known of them holds.
-fn checked_points(builder: &Builder) -> Result<Vec<usize>, LowerFault>
+fn checked_points(builder: &Builder) -> Result<Vec<usize>, BuildFault>
     ensures { IfOk result (λ table. AreSettled builder.now table.items) }
 {
     let marks = builder.marks.as_slice();
@@ -364,7 +364,7 @@ fn checked_points(builder: &Builder) -> Result<Vec<usize>, LowerFault>
 }
 
 /// The flow graph with these points and variables.
-pub fn finish(builder: Builder) -> Result<Lowered, LowerFault>
+pub fn finish(builder: Builder) -> Result<Lowered, BuildFault>
     ensures { IfOk result (λ x. IsFinished builder.entry x) }
 {
     let alloc = builder.alloc;

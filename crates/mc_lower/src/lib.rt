@@ -12,5 +12,4 @@ mod statements;
 mod tasks;
 mod values;
 
-pub use builder::LowerFault;
-pub use lowering::{Lowered, lower};
+pub use lowering::{LowerFault, Lowered, lower};

@@ -2,18 +2,19 @@
 ghost use Rattle.std.specs.Prelude.{[], ℕ, ◌≡◌, ◌≤◌, ◌↔◌, IfErr, IfOk, OnOk, IsTrue, length, suc};
 ghost use Rattle.mc_lowering.specs.Lowering.{Answers, Falls, IsMain, LowersAll, Makes, in_body};
 ghost use Rattle.mc_resolved.specs.Views.{function_of};
-ghost use Rattle.mc_lower.specs.Finished.{AreTooLong, Ends, IsFlowOf};
-ghost use Rattle.mc_lower.specs.declared.builder.LowerFault.TheVariants.{TooLong};
+ghost use Rattle.mc_lower.specs.Finished.{AreShort, AreTooLong, Ends, IsFlowOf};
+ghost use Rattle.mc_lower.specs.declared.lowering.LowerFault.TheVariants.{Absent, TooLong};
 ghost use Rattle.mc_lower.specs.Left.{Rest};
 ghost use Rattle.mc_lower.specs.Worlds.{Agrees, Leads, World, stage_of};
 
-use crate::builder::{ABSENT, Builder, LowerFault, NOWHERE, Role};
+use crate::builder::{ABSENT, BuildFault, Builder, MAX_POINTS, NOWHERE, Role};
 use crate::finishing::finish;
 use crate::tasks::{Context, Task, push};
 use crate::values::nothing;
 use mc_base::{Items, Kind, PointId};
 use mc_defs::Structs;
 use mc_flow::{Flow, Instr};
+use mc_length::length;
 use mc_resolved::{Function, Resolved};
 use mc_stack::Stack;
 use std::alloc::Global;
@@ -34,7 +35,7 @@ fn is_main(function: &Function) -> bool
 
 impl<'a> Builder<'a> {
     // All that is left is lowered.
-    fn run(&mut self, tasks: &mut Stack<Task<'a>>) -> Result<(), LowerFault>
+    fn run(&mut self, tasks: &mut Stack<Task<'a>>) -> Result<(), BuildFault>
         ensures { OnOk result ((w : World) → Agrees w self.new → Agrees w self.old × Rest w tasks.old (stage_of w self.old) (stage_of w self.new)) }
     {
         'tasks: for _ in 0..u64::MAX {
@@ -43,11 +44,11 @@ impl<'a> Builder<'a> {
                 None => return Ok(()),
             }
         }
-        Err(LowerFault::NoMemory)
+        Err(BuildFault::NoMemory)
     }
 
     // The result of the entry, where it has one.
-    fn begin(&mut self, entry: &Function, occurrence: usize) -> Result<(), LowerFault>
+    fn begin(&mut self, entry: &Function, occurrence: usize) -> Result<(), BuildFault>
         ensures { OnOk result (Leads (λ w s u. Answers w.graph (w.out occurrence) (function_of entry.now).result s u) self.old self.new) }
     {
         match entry.result {
@@ -60,7 +61,7 @@ impl<'a> Builder<'a> {
     }
 
     // The body of the entry.
-    fn body(&mut self, entry: &'a Function, occurrence: usize) -> Result<(), LowerFault>
+    fn body(&mut self, entry: &'a Function, occurrence: usize) -> Result<(), BuildFault>
         ensures { OnOk result (Leads (λ w s u. LowersAll w.graph (in_body (function_of entry.now) (w.out occurrence)) (function_of entry.now).body s u) self.old self.new) }
     {
         let context = Context {
@@ -77,7 +78,7 @@ impl<'a> Builder<'a> {
     }
 
     // Behind the body of `main` its result is 0.
-    fn fall(&mut self, entry: &Function, occurrence: usize) -> Result<(), LowerFault>
+    fn fall(&mut self, entry: &Function, occurrence: usize) -> Result<(), BuildFault>
         ensures { OnOk result (Leads (λ w s u. Falls w.graph (function_of entry.now) (w.out occurrence) s u) self.old self.new) }
     {
         if !is_main(entry) {
@@ -89,7 +90,7 @@ impl<'a> Builder<'a> {
     }
 
     // An End, where the `return` of the entry goes.
-    fn end(&mut self, occurrence: usize) -> Result<(), LowerFault>
+    fn end(&mut self, occurrence: usize) -> Result<(), BuildFault>
         ensures { OnOk result (Leads (λ w s u. Ends w.graph (w.out occurrence) s u) self.old self.new) }
     {
         let out = self.out(occurrence)?;
@@ -99,7 +100,7 @@ impl<'a> Builder<'a> {
     }
 
     // A Skip, the entry, and an End.
-    fn make_entry(&mut self, entry: &'a Function) -> Result<(), LowerFault>
+    fn make_entry(&mut self, entry: &'a Function) -> Result<(), BuildFault>
         requires no_points { self.old.points.items ≡ [] }
         requires no_variables { self.old.variables.items ≡ [] }
         ensures { OnOk result ((w : World) → Agrees w self.new → Agrees w self.old × (out : ℕ) × Makes w.graph (function_of entry.now) out (length self.new.variables.items) × (length self.new.points.items ≡ suc out)) }
@@ -114,11 +115,10 @@ impl<'a> Builder<'a> {
     }
 }
 
-/// The flow graph of a program with these structs, calls inlined.
-pub fn lower(alloc: Global, program: &Resolved, structs: &Structs) -> Result<Lowered, LowerFault>
+// The flow graph of a program with these structs.
+fn build(alloc: Global, program: &Resolved, structs: &Structs) -> Result<Lowered, BuildFault>
     ensures flow { IfOk result (λ x. IsFlowOf program.now structs.now x) }
     ensures short { IfOk result (λ x. length x.flow.points ≤ 10000) }
-    ensures long { IfErr result (λ e. e ≡ TooLong → AreTooLong program.now structs.now) }
 {
     let mut builder = Builder::new(alloc, program, structs);
     let entry = builder.function(program.entry)?;
@@ -128,4 +128,36 @@ pub fn lower(alloc: Global, program: &Resolved, structs: &Structs) -> Result<Low
     builder.make_entry(entry)?;
     let lowered = finish(builder)?;
     Ok(lowered)
+}
+
+/// Why there is no flow graph.
+#[derive(Clone, Copy, Debug, PartialEq, Eq)]
+pub enum LowerFault {
+    /// Each has more than 10,000 points; also where there is none at all that is as long as the program makes it.
+    TooLong,
+    /// The program names what is not there. A flow graph of it would have at most 10,000 points.
+    Absent,
+    NoMemory,
+}
+
+/// The flow graph of a program with these structs, calls inlined. How long it is is found before it is made.
+pub fn lower(alloc: Global, program: &Resolved, structs: &Structs) -> Result<Lowered, LowerFault>
+    ensures flow { IfOk result (λ x. IsFlowOf program.now structs.now x) }
+    ensures short { IfOk result (λ x. length x.flow.points ≤ 10000) }
+    ensures long { IfErr result (λ e. e ≡ TooLong → AreTooLong program.now structs.now) }
+    ensures absent { IfErr result (λ e. e ≡ Absent → AreShort program.now structs.now) }
+{
+    match length(alloc, program) {
+        Ok(points) => {
+            if points > MAX_POINTS {
+                return Err(LowerFault::TooLong);
+            }
+        }
+        Err(_) => return Err(LowerFault::NoMemory),
+    }
+    match build(alloc, program, structs) {
+        Ok(lowered) => Ok(lowered),
+        Err(BuildFault::Absent) => Err(LowerFault::Absent),
+        Err(BuildFault::NoMemory) => Err(LowerFault::NoMemory),
+    }
 }

@@ -6,7 +6,7 @@ ghost use Rattle.mc_resolved.specs.Views.{function_of};
 ghost use Rattle.mc_lower.specs.Owned.{CreatesLocal, Forgets, IsFirst, IsLocalOf};
 ghost use Rattle.mc_lower.specs.Worlds.{Agrees, Leads, World, blocks_in, owner_of, stage_of};
 
-use crate::builder::{ABSENT, Builder, LowerFault, Owner, Variable};
+use crate::builder::{ABSENT, Builder, BuildFault, Owner, Variable};
 use mc_base::{Items, Kind, VarId, VarInfo};
 use mc_resolved::{Function, Local};
 use mc_text::Place;
@@ -22,7 +22,7 @@ pub fn find(variables: &[Variable], owner: Owner) -> Option<usize>
 }
 
 // The name and kind of a variable in the flow graph.
-fn info_of(alloc: Global, local: &Local) -> Result<VarInfo, LowerFault>
+fn info_of(alloc: Global, local: &Local) -> Result<VarInfo, BuildFault>
     ensures name { IfOk result (λ info. info.name ≡ local.now.name) }
     ensures kind { IfOk result (λ info. info.kind ≡ local.now.kind) }
 {
@@ -67,7 +67,7 @@ impl<'a> Builder<'a> {
     }
 
     // The next variable, for an owner who has none.
-    fn create(&mut self, owner: Owner, info: VarInfo) -> Result<VarId, LowerFault>
+    fn create(&mut self, owner: Owner, info: VarInfo) -> Result<VarId, BuildFault>
         ensures { IfOk result (λ v. (w : World) → Agrees w self.new → Agrees w self.old × Creates w.graph (owner_of w.out owner) info (stage_of w self.old) v (stage_of w self.new)) }
     {
         if self.owned(owner).is_some() {
@@ -79,7 +79,7 @@ impl<'a> Builder<'a> {
     }
 
     /// A variable of an occurrence, which is made.
-    pub fn local(&self, occurrence: usize, number: usize) -> Result<VarId, LowerFault>
+    pub fn local(&self, occurrence: usize, number: usize) -> Result<VarId, BuildFault>
         ensures { IfOk result (λ v. (w : World) → Agrees w self.now → IsMade w.graph (local (w.out occurrence) number) v (stage_of w self.now)) }
     {
         match self.owned(Owner::Local(occurrence, number)) {
@@ -89,7 +89,7 @@ impl<'a> Builder<'a> {
     }
 
     /// The result of an occurrence.
-    pub fn own_result(&self, occurrence: usize) -> Result<VarId, LowerFault>
+    pub fn own_result(&self, occurrence: usize) -> Result<VarId, BuildFault>
         ensures { IfOk result (λ v. (w : World) → Agrees w self.now → IsMade w.graph (result_of (w.out occurrence)) v (stage_of w self.now)) }
     {
         match self.owned(Owner::Result(occurrence)) {
@@ -104,7 +104,7 @@ impl<'a> Builder<'a> {
         function: &Function,
         occurrence: usize,
         number: usize,
-    ) -> Result<VarId, LowerFault>
+    ) -> Result<VarId, BuildFault>
         ensures { IfOk result (λ v. (w : World) → Agrees w self.new → Agrees w self.old × CreatesLocal w.graph (function_of function.now) (w.out occurrence) number (stage_of w self.old) v (stage_of w self.new)) }
     {
         let Some(local) = function.locals.get(number) else {
@@ -116,7 +116,7 @@ impl<'a> Builder<'a> {
     }
 
     /// Makes the result of an occurrence.
-    pub fn create_result(&mut self, occurrence: usize, kind: Kind) -> Result<VarId, LowerFault>
+    pub fn create_result(&mut self, occurrence: usize, kind: Kind) -> Result<VarId, BuildFault>
         ensures { IfOk result (λ v. (w : World) → Agrees w self.new → Agrees w self.old × Creates w.graph (result_of (w.out occurrence)) (result_info kind) (stage_of w self.old) v (stage_of w self.new)) }
     {
         let name = Items::of(Vec::from_slice(self.alloc, b"$ret")?);
@@ -125,7 +125,7 @@ impl<'a> Builder<'a> {
     }
 
     /// The temporary of this number and kind, made at its first use.
-    pub fn temporary(&mut self, number: usize, kind: Kind) -> Result<VarId, LowerFault>
+    pub fn temporary(&mut self, number: usize, kind: Kind) -> Result<VarId, BuildFault>
         ensures { IfOk result (λ v. (w : World) → Agrees w self.new → Agrees w self.old × Uses w.graph number kind (stage_of w self.old) v (stage_of w self.new)) }
     {
         if let Some(variable) = self.owned(Owner::Temporary(number, kind)) {
@@ -137,7 +137,7 @@ impl<'a> Builder<'a> {
     }
 
     // Those of these variables of an occurrence that are made by now, ascending.
-    fn made_among(&self, occurrence: usize, numbers: &[usize]) -> Result<Vec<VarId>, LowerFault>
+    fn made_among(&self, occurrence: usize, numbers: &[usize]) -> Result<Vec<VarId>, BuildFault>
         ensures { IfOk result (λ vs. (w : World) → Agrees w self.now → AreMade w.graph (w.out occurrence) (λ x. Contains numbers.now x) (stage_of w self.now) vs.items) }
     {
         let mut made = Vec::new(self.alloc);
@@ -150,7 +150,7 @@ impl<'a> Builder<'a> {
     }
 
     // Those of the first so many variables of an occurrence that are made by now, ascending.
-    fn made_below(&self, occurrence: usize, count: usize) -> Result<Vec<VarId>, LowerFault>
+    fn made_below(&self, occurrence: usize, count: usize) -> Result<Vec<VarId>, BuildFault>
         ensures { IfOk result (λ vs. (w : World) → Agrees w self.now → AreMade w.graph (w.out occurrence) (λ x. x < count) (stage_of w self.now) vs.items) }
     {
         let mut made = Vec::new(self.alloc);
@@ -168,7 +168,7 @@ impl<'a> Builder<'a> {
         place: Place,
         occurrence: usize,
         numbers: &[usize],
-    ) -> Result<(), LowerFault>
+    ) -> Result<(), BuildFault>
         ensures { OnOk result (Leads (λ w s u. Leaves w.graph (w.out occurrence) place numbers.now s u) self.old self.new) }
     {
         let made = self.made_among(occurrence, numbers)?;
@@ -182,7 +182,7 @@ impl<'a> Builder<'a> {
         place: Place,
         occurrence: usize,
         count: usize,
-    ) -> Result<(), LowerFault>
+    ) -> Result<(), BuildFault>
         ensures { OnOk result (Leads (λ w s u. Forgets w.graph (w.out occurrence) place count s u) self.old self.new) }
     {
         let made = self.made_below(occurrence, count)?;
@@ -195,7 +195,7 @@ impl<'a> Builder<'a> {
         &self,
         number: usize,
         numbers: &mut Vec<usize>,
-    ) -> Result<Option<usize>, LowerFault>
+    ) -> Result<Option<usize>, BuildFault>
         ensures { IfOk result (λ around. (w : World) → Agrees w self.now → numbers.old.items ++ w.blocks number ≡ numbers.new.items ++ blocks_in w around) }
     {
         let Some(opened) = self.blocks.get(number) else {
@@ -206,7 +206,7 @@ impl<'a> Builder<'a> {
     }
 
     // The variables of a block and of those around it in the same loop.
-    fn numbers_in(&self, block: Option<usize>) -> Result<Vec<usize>, LowerFault>
+    fn numbers_in(&self, block: Option<usize>) -> Result<Vec<usize>, BuildFault>
         ensures { IfOk result (λ xs. (w : World) → Agrees w self.now → xs.items ≡ blocks_in w block) }
     {
         let mut numbers = Vec::new(self.alloc);
@@ -217,7 +217,7 @@ impl<'a> Builder<'a> {
                 None => return Ok(numbers),
             }
         }
-        Err(LowerFault::NoMemory)
+        Err(BuildFault::NoMemory)
     }
 
     /// Of the variables of a block and of those around it in the same loop, those that are made by now become undefined.
@@ -226,7 +226,7 @@ impl<'a> Builder<'a> {
         place: Place,
         occurrence: usize,
         block: Option<usize>,
-    ) -> Result<(), LowerFault>
+    ) -> Result<(), BuildFault>
         ensures { OnOk result (Leads (λ w s u. Leaves w.graph (w.out occurrence) place (blocks_in w block) s u) self.old self.new) }
     {
         let numbers = self.numbers_in(block)?;

@@ -8,7 +8,7 @@ ghost use Rattle.mc_resolved.specs.Views.{argument_of, condition_of, function_of
 ghost use Rattle.mc_lower.specs.Left.{Begins, Checks, EndsDo, EndsFor, EntersFor, ExitsTo, HasParts, IsBehind, IsCommand, Merges, Met, Otherwise, TurnsFor, around_of};
 ghost use Rattle.mc_lower.specs.Worlds.{Agrees, Leads, World, role_of, settled, stage_of};
 
-use crate::builder::{ABSENT, Builder, Label, LowerFault, NOWHERE, Role};
+use crate::builder::{ABSENT, Builder, Label, BuildFault, NOWHERE, Role};
 use crate::conditions::Ways;
 use crate::tasks::{Context, Task, Turns, push};
 use crate::values::Site;
@@ -30,7 +30,7 @@ impl<'a> Builder<'a> {
         role: Role,
         otherwise: Instr,
         occurrence: usize,
-    ) -> Result<(), LowerFault>
+    ) -> Result<(), BuildFault>
         ensures { OnOk result (Leads (λ w s u. Checks w.graph (w.out occurrence) (role_of role) place (settled w.at otherwise) (condition_of condition.now) s u) self.old self.new) }
     {
         let yes = self.label()?;
@@ -47,7 +47,7 @@ impl<'a> Builder<'a> {
         &self,
         occurrence: usize,
         arguments: &[Argument],
-    ) -> Result<Items<Operand>, LowerFault>
+    ) -> Result<Items<Operand>, BuildFault>
         ensures { IfOk result (λ os. (w : World) → Agrees w self.now → AreArguments w.graph (w.out occurrence) (stage_of w self.now) (map argument_of arguments.now) os) }
     {
         let mut operands = Vec::new(self.alloc);
@@ -59,7 +59,7 @@ impl<'a> Builder<'a> {
     }
 
     // `assume_shape`.
-    fn assume_shape(&mut self, shape: &AssumeShape, context: Context<'a>) -> Result<(), LowerFault>
+    fn assume_shape(&mut self, shape: &AssumeShape, context: Context<'a>) -> Result<(), BuildFault>
         ensures { OnOk result (Leads (λ w s u. Lowers w.graph (around_of w context.entry) (assume_shape shape.now.place shape.now.predicate shape.now.variable (map argument_of shape.now.arguments.items)) s u) self.old self.new) }
     {
         let occurrence = context.occurrence;
@@ -72,7 +72,7 @@ impl<'a> Builder<'a> {
     }
 
     // `assert_shape`.
-    fn assert_shape(&mut self, shape: &AssertShape, context: Context<'a>) -> Result<(), LowerFault>
+    fn assert_shape(&mut self, shape: &AssertShape, context: Context<'a>) -> Result<(), BuildFault>
         ensures { OnOk result (Leads (λ w s u. Lowers w.graph (around_of w context.entry) (assert_shape shape.now.place shape.now.predicate (argument_of shape.now.start) (map argument_of shape.now.arguments.items)) s u) self.old self.new) }
     {
         let occurrence = context.occurrence;
@@ -85,7 +85,7 @@ impl<'a> Builder<'a> {
     }
 
     // `assert_empty`.
-    fn assert_empty(&mut self, place: Place) -> Result<(), LowerFault>
+    fn assert_empty(&mut self, place: Place) -> Result<(), BuildFault>
         ensures { OnOk result (Leads (λ w s u. Appends w.graph plain place (λ q. EmptinessAsserted q) s u) self.old self.new) }
     {
         let next = self.label()?;
@@ -101,7 +101,7 @@ impl<'a> Builder<'a> {
         numbers: &'a [usize],
         statements: &'a [Statement],
         context: Context<'a>,
-    ) -> Result<(), LowerFault>
+    ) -> Result<(), BuildFault>
         ensures { OnOk result (Begins (λ w s m. Lowers w.graph (around_of w context.entry) (block numbers.now (stmts_of (map statement_of statements.now))) s m) self.old tasks.old self.new tasks.new) }
     {
         let block = self.open(numbers, context.block)?;
@@ -118,7 +118,7 @@ impl<'a> Builder<'a> {
         condition: &Condition,
         part: &'a Statement,
         context: Context<'a>,
-    ) -> Result<(), LowerFault>
+    ) -> Result<(), BuildFault>
         ensures { OnOk result (Begins (λ w s m. Lowers w.graph (around_of w context.entry) (if_only place (condition_of condition.now) (statement_of part.now)) s m) self.old tasks.old self.new tasks.new) }
     {
         let merge = self.label()?;
@@ -137,7 +137,7 @@ impl<'a> Builder<'a> {
         first: &'a Statement,
         second: &'a Statement,
         context: Context<'a>,
-    ) -> Result<(), LowerFault>
+    ) -> Result<(), BuildFault>
         ensures { OnOk result (Begins (λ w s m. Lowers w.graph (around_of w context.entry) (if_else place (condition_of condition.now) (statement_of first.now) (statement_of second.now)) s m) self.old tasks.old self.new tasks.new) }
     {
         let no = self.label()?;
@@ -151,7 +151,7 @@ impl<'a> Builder<'a> {
     }
 
     // The second part of an `if` begins.
-    fn otherwise(&mut self, no: Label, merge: Label) -> Result<(), LowerFault>
+    fn otherwise(&mut self, no: Label, merge: Label) -> Result<(), BuildFault>
         ensures { OnOk result (Leads (λ w s u. Otherwise (w.at no.0) (w.at merge.0) s u) self.old self.new) }
     {
         self.meet(merge)?;
@@ -160,7 +160,7 @@ impl<'a> Builder<'a> {
     }
 
     // The ways of an `if` meet at a Skip.
-    fn merge(&mut self, place: Place, merge: Label) -> Result<(), LowerFault>
+    fn merge(&mut self, place: Place, merge: Label) -> Result<(), BuildFault>
         ensures { OnOk result (Leads (λ w s u. Merges w.graph place (w.at merge.0) s u) self.old self.new) }
     {
         self.meet(merge)?;
@@ -176,7 +176,7 @@ impl<'a> Builder<'a> {
         condition: &Condition,
         body: &'a Statement,
         context: Context<'a>,
-    ) -> Result<(), LowerFault>
+    ) -> Result<(), BuildFault>
         ensures { OnOk result (Begins (λ w s m. Lowers w.graph (around_of w context.entry) (while_loop place (condition_of condition.now) (statement_of body.now)) s m) self.old tasks.old self.new tasks.new) }
     {
         let head = self.goal;
@@ -189,7 +189,7 @@ impl<'a> Builder<'a> {
     }
 
     // The body of a `while` goes to the head.
-    fn end_while(&mut self, place: Place, head: Label, exit: Label) -> Result<(), LowerFault>
+    fn end_while(&mut self, place: Place, head: Label, exit: Label) -> Result<(), BuildFault>
         ensures { OnOk result (Leads (λ w s u. ExitsTo w.graph place (w.at head.0) (w.at exit.0) s u) self.old self.new) }
     {
         self.meet(head)?;
@@ -206,7 +206,7 @@ impl<'a> Builder<'a> {
         body: &'a Statement,
         condition: &'a Condition,
         context: Context<'a>,
-    ) -> Result<(), LowerFault>
+    ) -> Result<(), BuildFault>
         ensures { OnOk result (Begins (λ w s m. Lowers w.graph (around_of w context.entry) (do_loop place (statement_of body.now) (condition_of condition.now)) s m) self.old tasks.old self.new tasks.new) }
     {
         let head = self.goal;
@@ -235,7 +235,7 @@ impl<'a> Builder<'a> {
         head: Label,
         turns: Turns,
         occurrence: usize,
-    ) -> Result<(), LowerFault>
+    ) -> Result<(), BuildFault>
         ensures { OnOk result (Leads (λ w s u. EndsDo w.graph (w.out occurrence) place (condition_of condition.now) (w.at head.0) (w.at turns.turn.0) (w.at turns.exit.0) s u) self.old self.new) }
     {
         self.meet(turns.turn)?;
@@ -257,7 +257,7 @@ impl<'a> Builder<'a> {
         head: &'a ForHead,
         body: &'a Statement,
         context: Context<'a>,
-    ) -> Result<(), LowerFault>
+    ) -> Result<(), BuildFault>
         ensures { OnOk result (Begins (λ w s m. Lowers w.graph (around_of w context.entry) (for_loop (head_of head.now) (statement_of body.now)) s m) self.old tasks.old self.new tasks.new) }
     {
         push(tasks, Task::For(head, body, context))?;
@@ -281,7 +281,7 @@ impl<'a> Builder<'a> {
         head: &'a ForHead,
         body: &'a Statement,
         context: Context<'a>,
-    ) -> Result<(), LowerFault>
+    ) -> Result<(), BuildFault>
         ensures { OnOk result (Begins (λ w s m. EntersFor w.graph (around_of w context.entry) (head_of head.now) (statement_of body.now) s m) self.old tasks.old self.new tasks.new) }
     {
         let begin = self.goal;
@@ -305,7 +305,7 @@ impl<'a> Builder<'a> {
         begin: Label,
         turns: Turns,
         context: Context<'a>,
-    ) -> Result<(), LowerFault>
+    ) -> Result<(), BuildFault>
         ensures { OnOk result (Begins (λ w s m. TurnsFor w.graph (w.out context.entry.occurrence) (head_of head.now) (w.at begin.0) (w.at turns.turn.0) (w.at turns.exit.0) s m) self.old tasks.old self.new tasks.new) }
     {
         self.meet(turns.turn)?;
@@ -330,7 +330,7 @@ impl<'a> Builder<'a> {
         begin: Label,
         exit: Label,
         occurrence: usize,
-    ) -> Result<(), LowerFault>
+    ) -> Result<(), BuildFault>
         ensures { OnOk result (Leads (λ w s u. EndsFor w.graph (w.out occurrence) (head_of head.now) (w.at begin.0) (w.at exit.0) s u) self.old self.new) }
     {
         self.meet(begin)?;
@@ -342,7 +342,7 @@ impl<'a> Builder<'a> {
 
     // ---- jumps
     // `break` and `continue`: the variables of the blocks that are left become undefined.
-    fn break_loop(&mut self, place: Place, context: Context<'a>) -> Result<(), LowerFault>
+    fn break_loop(&mut self, place: Place, context: Context<'a>) -> Result<(), BuildFault>
         ensures { OnOk result (Leads (λ w s u. Lowers w.graph (around_of w context.entry) (break_loop place) s u) self.old self.new) }
     {
         let Some(turns) = context.turns else {
@@ -353,7 +353,7 @@ impl<'a> Builder<'a> {
         Ok(())
     }
 
-    fn continue_loop(&mut self, place: Place, context: Context<'a>) -> Result<(), LowerFault>
+    fn continue_loop(&mut self, place: Place, context: Context<'a>) -> Result<(), BuildFault>
         ensures { OnOk result (Leads (λ w s u. Lowers w.graph (around_of w context.entry) (continue_loop place) s u) self.old self.new) }
     {
         let Some(turns) = context.turns else {
@@ -370,7 +370,7 @@ impl<'a> Builder<'a> {
         place: Place,
         right: &RightSide,
         context: Context<'a>,
-    ) -> Result<(), LowerFault>
+    ) -> Result<(), BuildFault>
         ensures { OnOk result (Leads (λ w s u. Lowers w.graph (around_of w context.entry) (returns place (Some (right_of right.now))) s u) self.old self.new) }
     {
         let site = Site {
@@ -390,7 +390,7 @@ impl<'a> Builder<'a> {
         place: Place,
         right: &'a RightSide,
         context: Context<'a>,
-    ) -> Result<(), LowerFault>
+    ) -> Result<(), BuildFault>
         ensures { OnOk result (Begins (λ w s m. Lowers w.graph (around_of w context.entry) (returns place (Some (right_of right.now))) s m) self.old tasks.old self.new tasks.new) }
     {
         match right {
@@ -416,7 +416,7 @@ impl<'a> Builder<'a> {
         place: Place,
         value: Option<&'a RightSide>,
         context: Context<'a>,
-    ) -> Result<(), LowerFault>
+    ) -> Result<(), BuildFault>
         ensures { OnOk result (Begins (λ w s m. Lowers w.graph (around_of w context.entry) (returns place (option_map (λ r. right_of r.now) value.entry)) s m) self.old tasks.old self.new tasks.new) }
     {
         match value {
@@ -432,7 +432,7 @@ impl<'a> Builder<'a> {
     }
 
     // A statement that needs nothing else is lowered.
-    fn command(&mut self, statement: &Statement, context: Context<'a>) -> Result<(), LowerFault>
+    fn command(&mut self, statement: &Statement, context: Context<'a>) -> Result<(), BuildFault>
         requires { IsCommand (statement_of statement.now) }
         ensures { OnOk result (Leads (λ w s u. Lowers w.graph (around_of w context.entry) (statement_of statement.now) s u) self.old self.new) }
     {
@@ -484,7 +484,7 @@ impl<'a> Builder<'a> {
         tasks: &mut Stack<Task<'a>>,
         statement: &'a Statement,
         context: Context<'a>,
-    ) -> Result<(), LowerFault>
+    ) -> Result<(), BuildFault>
         requires { HasParts (statement_of statement.now) }
         ensures { OnOk result (Begins (λ w s m. Lowers w.graph (around_of w context.entry) (statement_of statement.now) s m) self.old tasks.old self.new tasks.new) }
     {
@@ -534,7 +534,7 @@ impl<'a> Builder<'a> {
         tasks: &mut Stack<Task<'a>>,
         statement: &'a Statement,
         context: Context<'a>,
-    ) -> Result<(), LowerFault>
+    ) -> Result<(), BuildFault>
         ensures { OnOk result (Begins (λ w s m. Lowers w.graph (around_of w context.entry) (statement_of statement.now) s m) self.old tasks.old self.new tasks.new) }
     {
         match statement {
@@ -580,7 +580,7 @@ impl<'a> Builder<'a> {
         tasks: &mut Stack<Task<'a>>,
         statements: &'a [Statement],
         context: Context<'a>,
-    ) -> Result<(), LowerFault>
+    ) -> Result<(), BuildFault>
         ensures { OnOk result (Begins (λ w s m. LowersAll w.graph (around_of w context.entry) (stmts_of (map statement_of statements.now)) s m) self.old tasks.old self.new tasks.new) }
     {
         let [first, more @ ..] = statements else {
@@ -592,7 +592,7 @@ impl<'a> Builder<'a> {
     }
 
     // What stands behind the parts of a statement or of a call is lowered.
-    fn behind(&mut self, task: Task<'a>) -> Result<(), LowerFault>
+    fn behind(&mut self, task: Task<'a>) -> Result<(), BuildFault>
         requires { IsBehind task }
         ensures { OnOk result (Leads (λ w s u. Met w task.entry s u) self.old self.new) }
     {
@@ -638,7 +638,7 @@ impl<'a> Builder<'a> {
     }
 
     /// What is next is lowered, or what it is made of is next.
-    pub fn step(&mut self, tasks: &mut Stack<Task<'a>>, task: Task<'a>) -> Result<(), LowerFault>
+    pub fn step(&mut self, tasks: &mut Stack<Task<'a>>, task: Task<'a>) -> Result<(), BuildFault>
         ensures { OnOk result (Begins (λ w s m. Met w task.entry s m) self.old tasks.old self.new tasks.new) }
     {
         match task {

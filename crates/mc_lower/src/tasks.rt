@@ -1,7 +1,7 @@
 // What is still to be lowered, and where it stands.
 ghost use Rattle.std.specs.Prelude.{None, Some, ◌≡◌, ◌∷◌, OnOk};
 
-use crate::builder::{Label, LowerFault};
+use crate::builder::{Label, BuildFault};
 use crate::values::Target;
 use mc_base::VarId;
 use mc_resolved::{Condition, ForHead, Function, Initial, Simple, Statement};
@@ -87,7 +87,7 @@ pub enum Task<'a> {
 }
 
 /// A task is next.
-pub fn push<'a>(tasks: &mut Stack<Task<'a>>, task: Task<'a>) -> Result<(), LowerFault>
+pub fn push<'a>(tasks: &mut Stack<Task<'a>>, task: Task<'a>) -> Result<(), BuildFault>
     ensures { OnOk result (tasks.new ≡ task.entry ∷ tasks.old) }
 {
     tasks.push(task)?;

@@ -14,7 +14,7 @@ ghost use Rattle.mc_lower.specs.Valued.{Finishes, IsOperand, IsValue, JoinsParts
 ghost use Rattle.mc_lower.specs.Worlds.{Agrees, Leads, World, stage_of};
 ghost use Rattle.mc_lower.specs.declared.values.Work.TheVariants.{Join, Whole};
 
-use crate::builder::{ABSENT, Builder, LowerFault, Role};
+use crate::builder::{ABSENT, Builder, BuildFault, Role};
 use mc_base::{Kind, PointId, StructId, VarId};
 use mc_defs::Structs;
 use mc_flow::{Instr, Operand};
@@ -117,7 +117,7 @@ fn enter_join<'e>(
     how: How,
     left: &'e Expression,
     right: &'e Expression,
-) -> Result<(), LowerFault>
+) -> Result<(), BuildFault>
     ensures { OnOk result (work.new ≡ Whole left.entry ∷ Whole right.entry ∷ Join how ∷ work.old) }
 {
     work.push(Work::Join(how))?;
@@ -127,7 +127,7 @@ fn enter_join<'e>(
 }
 
 // The operand that was made last.
-fn last_made(made: &mut Stack<Operand>) -> Result<Operand, LowerFault>
+fn last_made(made: &mut Stack<Operand>) -> Result<Operand, BuildFault>
     ensures { IfOk result (λ o. made.old ≡ o ∷ made.new) }
 {
     match made.pop() {
@@ -182,7 +182,7 @@ impl<'a> Builder<'a> {
         place: Place,
         variable: VarId,
         operation: Operation,
-    ) -> Result<(), LowerFault>
+    ) -> Result<(), BuildFault>
         ensures { OnOk result (Leads (λ w s u. Appends w.graph plain place (λ q. sets (operation_of operation) variable q) s u) self.old self.new) }
     {
         let next = self.label()?;
@@ -202,7 +202,7 @@ impl<'a> Builder<'a> {
         kind: Kind,
         operation: Operation,
         temporaries: &mut Vec<VarId>,
-    ) -> Result<VarId, LowerFault>
+    ) -> Result<VarId, BuildFault>
         ensures { IfOk result (λ t. (w : World) → Agrees w self.new → Agrees w self.old × Takes w.graph place kind (operation_of operation) temporaries.old.items (stage_of w self.old) t temporaries.new.items (stage_of w self.new)) }
     {
         let variable = self.temporary(temporaries.len(), kind)?;
@@ -212,7 +212,7 @@ impl<'a> Builder<'a> {
     }
 
     /// The kind of a field, which is there.
-    pub fn field_kind(&self, field: FieldAt) -> Result<Kind, LowerFault>
+    pub fn field_kind(&self, field: FieldAt) -> Result<Kind, BuildFault>
         ensures { IfOk result (λ kind. (w : World) → Agrees w self.now → IsOfKind w.graph (field_of field) kind) }
     {
         match kind_of(self.structs, field) {
@@ -222,7 +222,7 @@ impl<'a> Builder<'a> {
     }
 
     /// A struct has so many fields.
-    pub fn check_count(&self, shape: StructId, count: usize) -> Result<(), LowerFault>
+    pub fn check_count(&self, shape: StructId, count: usize) -> Result<(), BuildFault>
         ensures { OnOk result ((w : World) → Agrees w self.now → field_count w.graph.flow.structs shape ≡ count) }
     {
         if count_of(self.structs, shape) == count {} else {
@@ -238,7 +238,7 @@ impl<'a> Builder<'a> {
         start: VarId,
         fields: &[FieldAt],
         temporaries: &mut Vec<VarId>,
-    ) -> Result<(VarId, FieldAt), LowerFault>
+    ) -> Result<(VarId, FieldAt), BuildFault>
         ensures { IfOk result (λ r. (w : World) → Agrees w self.new → Agrees w self.old × Walks w.graph place start (map field_of fields.now) temporaries.old.items (stage_of w self.old) r.0 (field_of r.1) temporaries.new.items (stage_of w self.new)) }
     {
         let mut base = start;
@@ -258,7 +258,7 @@ impl<'a> Builder<'a> {
         site: Site,
         left: &LeftValue,
         temporaries: &mut Vec<VarId>,
-    ) -> Result<Value, LowerFault>
+    ) -> Result<Value, BuildFault>
         ensures { IfOk result (λ v. (w : World) → Agrees w self.new → Agrees w self.old × IsValue w.graph (w.out site.occurrence) site.place (value (left_of left.now)) temporaries.old.items (stage_of w self.old) v temporaries.new.items (stage_of w self.new)) }
     {
         let variable = self.local(site.occurrence, left.variable)?;
@@ -276,7 +276,7 @@ impl<'a> Builder<'a> {
         place: Place,
         known: Value,
         temporaries: &mut Vec<VarId>,
-    ) -> Result<Operand, LowerFault>
+    ) -> Result<Operand, BuildFault>
         ensures { IfOk result (λ o. (w : World) → Agrees w self.new → Agrees w self.old × IsOperand w.graph place known temporaries.old.items (stage_of w self.old) o temporaries.new.items (stage_of w self.new)) }
     {
         match known {
@@ -295,7 +295,7 @@ impl<'a> Builder<'a> {
         operation: Operation,
         made: &mut Stack<Operand>,
         temporaries: &mut Vec<VarId>,
-    ) -> Result<(), LowerFault>
+    ) -> Result<(), BuildFault>
         ensures { OnOk result ((w : World) → Agrees w self.new → Agrees w self.old × Made w.graph place (operation_of operation) temporaries.old.items (stage_of w self.old) made.old temporaries.new.items (stage_of w self.new) made.new) }
     {
         let variable = self.take(place, Kind::Int, operation, temporaries)?;
@@ -311,7 +311,7 @@ impl<'a> Builder<'a> {
         work: &mut Stack<Work<'e>>,
         made: &mut Stack<Operand>,
         temporaries: &mut Vec<VarId>,
-    ) -> Result<(), LowerFault>
+    ) -> Result<(), BuildFault>
         ensures { OnOk result ((w : World) (o : Operand) (ts : List VarId) (u : Stage) → Agrees w self.new → Finishes w.graph (w.out site.occurrence) site.place work.new made.new temporaries.new.items (stage_of w self.new) o ts u → Agrees w self.old × Finishes w.graph (w.out site.occurrence) site.place (Whole expression.entry ∷ work.old) made.old temporaries.old.items (stage_of w self.old) o ts u) }
     {
         match expression {
@@ -357,7 +357,7 @@ impl<'a> Builder<'a> {
         work: &mut Stack<Work<'e>>,
         made: &mut Stack<Operand>,
         temporaries: &mut Vec<VarId>,
-    ) -> Result<(), LowerFault>
+    ) -> Result<(), BuildFault>
         ensures { OnOk result ((w : World) (o : Operand) (ts : List VarId) (u : Stage) → Agrees w self.new → Finishes w.graph (w.out site.occurrence) site.place work.new made.new temporaries.new.items (stage_of w self.new) o ts u → Agrees w self.old × Finishes w.graph (w.out site.occurrence) site.place (next.entry ∷ work.old) made.old temporaries.old.items (stage_of w self.old) o ts u) }
     {
         match next {
@@ -386,7 +386,7 @@ impl<'a> Builder<'a> {
         site: Site,
         expression: &Expression,
         temporaries: &mut Vec<VarId>,
-    ) -> Result<Operand, LowerFault>
+    ) -> Result<Operand, BuildFault>
         ensures { IfOk result (λ o. (w : World) → Agrees w self.new → Agrees w self.old × Evaluates w.graph (w.out site.occurrence) site.place (expression_of expression.now) temporaries.old.items (stage_of w self.old) o temporaries.new.items (stage_of w self.new)) }
     {
         let mut work = Stack::new(self.alloc);
@@ -401,7 +401,7 @@ impl<'a> Builder<'a> {
                 }
             }
         }
-        Err(LowerFault::NoMemory)
+        Err(BuildFault::NoMemory)
     }
 
     // Two parts are evaluated, which an operation joins.
@@ -412,7 +412,7 @@ impl<'a> Builder<'a> {
         left: &Expression,
         right: &Expression,
         temporaries: &mut Vec<VarId>,
-    ) -> Result<Value, LowerFault>
+    ) -> Result<Value, BuildFault>
         ensures { IfOk result (λ v. (w : World) → Agrees w self.new → Agrees w self.old × JoinsParts w.graph (w.out site.occurrence) site.place how (expression_of left.now) (expression_of right.now) temporaries.old.items (stage_of w self.old) v temporaries.new.items (stage_of w self.new)) }
     {
         let left = self.evaluate(site, left, temporaries)?;
@@ -426,7 +426,7 @@ impl<'a> Builder<'a> {
         site: Site,
         expression: &Expression,
         temporaries: &mut Vec<VarId>,
-    ) -> Result<Value, LowerFault>
+    ) -> Result<Value, BuildFault>
         ensures { IfOk result (λ v. (w : World) → Agrees w self.new → Agrees w self.old × IsValue w.graph (w.out site.occurrence) site.place (expression_of expression.now) temporaries.old.items (stage_of w self.old) v temporaries.new.items (stage_of w self.new)) }
     {
         match expression {
@@ -462,7 +462,7 @@ impl<'a> Builder<'a> {
         site: Site,
         expressions: &[Expression],
         temporaries: &mut Vec<VarId>,
-    ) -> Result<Vec<Operand>, LowerFault>
+    ) -> Result<Vec<Operand>, BuildFault>
         ensures { IfOk result (λ os. (w : World) → Agrees w self.new → Agrees w self.old × EvaluatesAll w.graph (w.out site.occurrence) site.place (map expression_of expressions.now) temporaries.old.items (stage_of w self.old) os.items temporaries.new.items (stage_of w self.new)) }
     {
         let mut operands = Vec::new(self.alloc);
@@ -474,7 +474,7 @@ impl<'a> Builder<'a> {
     }
 
     // The operand of a shape's argument.
-    pub fn argument(&self, occurrence: usize, argument: Argument) -> Result<Operand, LowerFault>
+    pub fn argument(&self, occurrence: usize, argument: Argument) -> Result<Operand, BuildFault>
         ensures { IfOk result (λ o. (w : World) → Agrees w self.now → IsArgument w.graph (w.out occurrence) (stage_of w self.now) (argument_of argument) o) }
     {
         match argument {

@@ -1,6 +1,6 @@
 use Rattle.std.proofs.Common.{◌≡◌, arith}
 use Rattle.mc_lower.proofs.Worlding.{flow_there, short_there}
-use Rattle.mc_lower.proofs.lowering.lower.Goals as goal
+use Rattle.mc_lower.proofs.lowering.build.Goals as goal
 
 pub returns-clause-flow : goal.returns-clause-flow
 returns-clause-flow c =

@@ -1,0 +1,13 @@
+-- What the length of a program says of its flow graphs.
+use Rattle.std.proofs.Common.{◌<◌, ◌≤◌, ℕ, arith}
+use Rattle.mc_defs.specs.declared.shapes.Structs.{Structs}
+use Rattle.mc_resolved.specs.declared.program.Resolved.{Resolved}
+use Rattle.mc_length.specs.Lengths.{IsLength}
+use Rattle.mc_lower.specs.Finished.{AreShort, AreTooLong}
+
+pub are_too_long : (program : Resolved) (structs : Structs) (n : ℕ) → IsLength program n → 10000 < n → AreTooLong program structs
+are_too_long program structs n right more = λ g defs entry out count is same lowering. let l = right g defs entry out count is lowering in omega (arith, more, l.least)
+
+pub are_short : (program : Resolved) (structs : Structs) (n : ℕ) → IsLength program n → n ≤ 10000 → AreShort program structs
+are_short program structs n right less = λ g defs entry out count is same lowering.
+    let l = right g defs entry out count is lowering in let most = l.most less in omega (arith, less, most)
