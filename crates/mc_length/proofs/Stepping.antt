@@ -7,6 +7,9 @@ use Rattle.std.specs.Prelude.{Contains, slice_get}
 use Rattle.mc_length.proofs.Firsts.{AllTo}
 use Rattle.mc_length.specs.Lengths.{leaving}
 
+abbrev one_if : Bool → ℕ
+one_if b = cond b 1 0
+
 -- one of the variables is made
 pub some_left : (xs made : List ℕ) (i : ℕ) → i < length xs → Contains made (get_or xs i 0) → leaving xs made ≡ 1
 some_left xs made i within among =
@@ -14,9 +17,6 @@ some_left xs made i within among =
     let inner : list_any (eqb (get_or xs i 0)) made ≡ true = list_any-from_Any (eqb (get_or xs i 0)) made (j, get_or xs i 0, j_within, j_there, eq-eqb (get_or xs i 0) (get_or xs i 0) refl) in
     let outer : list_any (λ x. list_any (eqb x) made) xs ≡ true = list_any_at (λ x. list_any (eqb x) made) xs i 0 within inner in
     ap one_if outer
-
-abbrev one_if : Bool → ℕ
-one_if b = cond b 1 0
 
 no_left : (xs made : List ℕ) (b : Bool) → list_any (λ x. list_any (eqb x) made) xs ≡ b → ((x : ℕ) → Contains xs x → Contains made x → ⊥) → one_if b ≡ 0
 no_left xs made false is none = refl
