@@ -49,6 +49,7 @@ fn points_of_lines(alloc: Global, count: usize) -> Result<Option<usize>, NoMemor
     match lowered(alloc, text.as_str(), "main", "")? {
         Some(Ok(lowered)) => Ok(Some(lowered.flow.points.len())),
         Some(Err(LowerFault::TooLong)) => Ok(Some(0)),
+        Some(Err(LowerFault::Absent)) => Ok(None),
         Some(Err(LowerFault::NoMemory)) => Ok(None),
         None => Ok(None),
     }

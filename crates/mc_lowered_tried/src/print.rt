@@ -243,6 +243,7 @@ pub fn shown(alloc: Global, text: &str, entry: &str) -> Result<String, NoMemory>
             add_points(alloc, &mut out, "stops", graph.stops.as_slice())?;
         }
         Some(Err(LowerFault::TooLong)) => out.push_str("too long")?,
+        Some(Err(LowerFault::Absent)) => out.push_str("absent")?,
         Some(Err(LowerFault::NoMemory)) => out.push_str("no memory")?,
         None => out.push_str("no program")?,
     }
