@@ -57,7 +57,7 @@ fn refine_one(
     Ok(())
 }
 
-// Each entry of the table is what the table makes it, from the first to the last one and back.
+// Each entry of the table is what the table makes it, from the first to the last one.
 fn refine(
     alloc: Global,
     functions: &[Function],
@@ -66,6 +66,15 @@ fn refine(
     for number in 0..functions.len() {
         refine_one(alloc, functions, table, number)?;
     }
+    Ok(())
+}
+
+// The same, from the last to the first one.
+fn refine_back(
+    alloc: Global,
+    functions: &[Function],
+    table: &mut Vec<usize>,
+) -> Result<(), NoMemory> {
     for back in 0..functions.len() {
         refine_one(alloc, functions, table, functions.len() - 1 - back)?;
     }
@@ -85,7 +94,7 @@ fn is_right(alloc: Global, functions: &[Function], table: &[usize]) -> Result<bo
     Ok(true)
 }
 
-// The table of what calls come to: in rounds, until nothing changes. Functions that stand behind those that they call need one.
+// The table of what calls come to: in rounds, until nothing changes. One is enough where functions stand behind those that they call.
 fn table_of(alloc: Global, functions: &[Function]) -> Result<Vec<usize>, NoMemory>
     ensures { IfOk result (λ table. IsTable table.items (map function_of functions.now)) }
 {
@@ -98,6 +107,7 @@ fn table_of(alloc: Global, functions: &[Function]) -> Result<Vec<usize>, NoMemor
         if is_right(alloc, functions, table.as_slice())? {
             return Ok(table);
         }
+        refine_back(alloc, functions, &mut table)?;
     }
     Err(AllocError)
 }
