@@ -2,7 +2,7 @@
 ghost use Rattle.std.specs.Prelude.{[], ℕ, ◌≡◌, ◌≤◌, ◌↔◌, IfErr, IfOk, OnOk, IsTrue, length, suc};
 ghost use Rattle.mc_lowering.specs.Lowering.{Answers, Falls, IsMain, LowersAll, Makes, in_body};
 ghost use Rattle.mc_resolved.specs.Views.{function_of};
-ghost use Rattle.mc_lower.specs.Finished.{AreTooLong, Ends, IsFlowOf};
+ghost use Rattle.mc_lower.specs.Finished.{AreTooLong, Ends, IsFlowOf, IsValidFlow};
 ghost use Rattle.mc_lower.specs.declared.builder.LowerFault.TheVariants.{TooLong};
 ghost use Rattle.mc_lower.specs.Left.{Rest};
 ghost use Rattle.mc_lower.specs.Worlds.{Agrees, Leads, World, stage_of};
@@ -16,6 +16,7 @@ use mc_defs::Structs;
 use mc_flow::{Flow, Instr};
 use mc_resolved::{Function, Resolved};
 use mc_stack::Stack;
+use mc_valid::lowerings_are_valid;
 use std::alloc::Global;
 
 /// The flow graph of a program, and its points whose End counts as a stop.
@@ -117,6 +118,7 @@ impl<'a> Builder<'a> {
 /// The flow graph of a program with these structs, calls inlined.
 pub fn lower(alloc: Global, program: &Resolved, structs: &Structs) -> Result<Lowered, LowerFault>
     ensures flow { IfOk result (λ x. IsFlowOf program.now structs.now x) }
+    ensures valid { IfOk result (λ x. IsValidFlow program.now structs.now x) }
     ensures short { IfOk result (λ x. length x.flow.points ≤ 10000) }
     ensures long { IfErr result (λ e. e ≡ TooLong → AreTooLong program.now structs.now) }
 {
@@ -127,5 +129,7 @@ pub fn lower(alloc: Global, program: &Resolved, structs: &Structs) -> Result<Low
     }
     builder.make_entry(entry)?;
     let lowered = finish(builder)?;
+    // This law is called for the proof alone.
+    lowerings_are_valid();
     Ok(lowered)
 }
