@@ -39,9 +39,9 @@ only_item o p there = All-contains (λ q. o ≡ q) (o ∷ []) p (All-cons (λ q.
 pub all_constants : (os : List Operand) (c : ℤ) → Contains os (Const c) → Contains (constants os) c
 all_constants [] c there = absurd (omega arith)
 all_constants (o ∷ os) c there = elim (Contains-append_cases (o ∷ []) os (Const c) there) [
-    | inl first ↦ head_constant o os c (only_item o (Const c) first)
-    | inr later ↦ later_constant o os c (all_constants os c later)
-  ]
+  | inl first ↦ head_constant o os c (only_item o (Const c) first)
+  | inr later ↦ later_constant o os c (all_constants os c later)
+]
 
 pub only_constants : (os : List Operand) → All (λ c. Contains os (Const c)) (constants os)
 only_constants [] = All-nil (λ c. Contains [] (Const c))
@@ -146,6 +146,10 @@ thresholds_settled at drafts cs up g =
           (subst (λ (x : Point). Contains (operands x.code) (Const c)) (sym from.2) among));
       only = All-weaker (λ c. (n : ℕ) × (d : Draft) × (slice_get drafts n ≡ Some d) × Contains (operands d.code) (Const c))
           (λ c. (n : ℕ) × (p : Point) × (slice_get (map (point_in at) drafts) n ≡ Some p) × Contains (operands p.code) (Const c))
-          (λ c found. (found.0, point_in at found.1, slice_get-map (point_in at) drafts found.0 ∙ ap (option_map (point_in at)) found.2,
-          subst (λ os. Contains os (Const c)) (sym (operands_settled at found.1.code)) found.3)) cs g.only;
+          (λ c found. (
+            found.0,
+            point_in at found.1,
+            slice_get-map (point_in at) drafts found.0 ∙ ap (option_map (point_in at)) found.2,
+            subst (λ os. Contains os (Const c)) (sym (operands_settled at found.1.code)) found.3,
+          )) cs g.only;
     }

@@ -10,8 +10,10 @@ use Rattle.mc_defs.specs.declared.rules.Def.{Def}
 use Rattle.mc_defs.specs.declared.shapes.Structs.{Structs}
 use Rattle.mc_resolved.specs.declared.program.Function.{Function as FunctionCode}
 use Rattle.mc_resolved.specs.declared.program.Resolved.{Resolved}
-use Rattle.mc_resolved.specs.Programs.{Program}
-use Rattle.mc_resolved.specs.Views.{function_of}
+use Rattle.mc_flow.specs.Valid.{IsValid}
+use Rattle.mc_resolved.specs.Programs.{Function, Program}
+use Rattle.mc_resolved.specs.Views.{function_of, program_of}
+use Rattle.mc_valid.specs.Kinds.{IsWellMade}
 use Rattle.mc_lowering.specs.Graphs.{head, merge, stop}
 use Rattle.mc_lowering.specs.Lowering.{AreOfRole, IsLowering, Makes}
 use Rattle.mc_lower.specs.declared.builder.Builder.{Builder}
@@ -21,7 +23,7 @@ use Rattle.mc_lower.specs.declared.builder.Label.{Label}
 use Rattle.mc_lower.specs.declared.builder.Opened.{Opened}
 use Rattle.mc_lower.specs.declared.builder.Owner.{Owner as OwnerCode}
 use Rattle.mc_lower.specs.declared.builder.Variable.{Variable}
-use Rattle.mc_lower.specs.Finished.{AreApart, AreOnce, AreThose, IsFinished, IsFlowOf, IsInner, point_at}
+use Rattle.mc_lower.specs.Finished.{AreApart, AreOnce, AreThose, IsFinished, IsFlowOf, IsInner, IsValidFlow, point_at}
 use Rattle.mc_lower.specs.Worlds.{World, Agrees, AllAt, blocks_in, owner_of, point_in, role_of}
 
 -- ---- blocks
@@ -230,3 +232,12 @@ pub short_there : (b : Builder) (x : Lowered) → IsFinished b x → length x.fl
 short_there b x f =
     let same : length x.flow.points ≡ length b.points.items = ap (λ l. length l) f.points ∙ length-map b.points.items (point_in (point_at f.table)) in
     subst (λ n. n ≤ 10000) (sym same) f.settled.short
+
+-- ---- validity
+pub valid_there : (program : Resolved) (structs : Structs) (x : Lowered)
+    → ((g : Graph) (entry : Function) (out count : ℕ) → IsWellMade g.flow.structs g.program → IsLowering g entry out count → IsValid g.flow g.program.defs)
+    → IsFlowOf program structs x → IsValidFlow program structs x
+valid_there program structs x law flow = λ defs well.
+    let f = flow defs in
+    law (record { program = program_of program defs; flow = x.flow; owners = f.0; roles = f.1; stops = x.stops }) f.2 f.3 f.4
+    (subst (λ s. IsWellMade s (program_of program defs)) (sym f.6) well) f.5

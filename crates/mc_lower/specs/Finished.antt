@@ -4,6 +4,7 @@ use Rattle.mc_base.specs.declared.ids.PointId.{PointId}
 use Rattle.mc_defs.specs.declared.rules.Def.{Def}
 use Rattle.mc_defs.specs.declared.shapes.Structs.{Structs}
 use Rattle.mc_flow.specs.declared.graph.Point.{Point}
+use Rattle.mc_flow.specs.Valid.{IsValid}
 use Rattle.mc_resolved.specs.declared.program.Resolved.{Resolved}
 use Rattle.mc_resolved.specs.Programs.{Function}
 use Rattle.mc_resolved.specs.Views.{program_of}
@@ -14,6 +15,7 @@ use Rattle.mc_flow.specs.declared.instr.Operand.TheVariants.{Var, Const}
 use Rattle.mc_flow.specs.declared.instr.Instr.TheVariants.{End}
 use Rattle.std.specs.Prelude.{◌<◌, ◌≤◌, AllPairs, All, Contains}
 use Rattle.mc_lowering.specs.Graphs.{point}
+use Rattle.mc_valid.specs.Kinds.{IsWellMade}
 use Rattle.mc_lower.specs.declared.builder.Builder.{Builder}
 use Rattle.mc_lower.specs.declared.builder.Draft.{Draft}
 use Rattle.mc_lower.specs.declared.builder.Label.{Label}
@@ -94,6 +96,11 @@ IsFlowOf program structs x =
     (record { program = program_of program defs; flow = x.flow; owners = owners; roles = roles; stops = x.stops })
     entry out count
     × (x.flow.structs ≡ structs)
+
+-- it is valid with whatever definitions the program is of its kinds with
+abbrev pub IsValidFlow : Resolved → Structs → Lowered → Type 0
+IsValidFlow program structs x =
+    (defs : List Def) → IsWellMade structs (program_of program defs) → IsValid x.flow defs
 
 -- each flow graph of a program has more than 10,000 points
 abbrev pub AreTooLong : Resolved → Structs → Type 0

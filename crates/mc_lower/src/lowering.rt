@@ -2,7 +2,7 @@
 ghost use Rattle.std.specs.Prelude.{[], ℕ, ◌≡◌, ◌≤◌, ◌↔◌, IfErr, IfOk, OnOk, IsTrue, length, suc};
 ghost use Rattle.mc_lowering.specs.Lowering.{Answers, Falls, IsMain, LowersAll, Makes, in_body};
 ghost use Rattle.mc_resolved.specs.Views.{function_of};
-ghost use Rattle.mc_lower.specs.Finished.{AreShort, AreTooLong, Ends, IsFlowOf};
+ghost use Rattle.mc_lower.specs.Finished.{AreShort, AreTooLong, Ends, IsFlowOf, IsValidFlow};
 ghost use Rattle.mc_lower.specs.declared.lowering.LowerFault.TheVariants.{Absent, TooLong};
 ghost use Rattle.mc_lower.specs.Left.{Rest};
 ghost use Rattle.mc_lower.specs.Worlds.{Agrees, Leads, World, stage_of};
@@ -17,6 +17,7 @@ use mc_flow::{Flow, Instr};
 use mc_length::length;
 use mc_resolved::{Function, Resolved};
 use mc_stack::Stack;
+use mc_valid::lowerings_are_valid;
 use std::alloc::Global;
 
 /// The flow graph of a program, and its points whose End counts as a stop.
@@ -118,6 +119,7 @@ impl<'a> Builder<'a> {
 // The flow graph of a program with these structs.
 fn build(alloc: Global, program: &Resolved, structs: &Structs) -> Result<Lowered, BuildFault>
     ensures flow { IfOk result (λ x. IsFlowOf program.now structs.now x) }
+    ensures valid { IfOk result (λ x. IsValidFlow program.now structs.now x) }
     ensures short { IfOk result (λ x. length x.flow.points ≤ 10000) }
 {
     let mut builder = Builder::new(alloc, program, structs);
@@ -127,6 +129,8 @@ fn build(alloc: Global, program: &Resolved, structs: &Structs) -> Result<Lowered
     }
     builder.make_entry(entry)?;
     let lowered = finish(builder)?;
+    // This law is called for the proof alone.
+    lowerings_are_valid();
     Ok(lowered)
 }
 
@@ -143,6 +147,7 @@ pub enum LowerFault {
 /// The flow graph of a program with these structs, calls inlined. How long it is is found before it is made.
 pub fn lower(alloc: Global, program: &Resolved, structs: &Structs) -> Result<Lowered, LowerFault>
     ensures flow { IfOk result (λ x. IsFlowOf program.now structs.now x) }
+    ensures valid { IfOk result (λ x. IsValidFlow program.now structs.now x) }
     ensures short { IfOk result (λ x. length x.flow.points ≤ 10000) }
     ensures long { IfErr result (λ e. e ≡ TooLong → AreTooLong program.now structs.now) }
     ensures absent { IfErr result (λ e. e ≡ Absent → AreShort program.now structs.now) }
