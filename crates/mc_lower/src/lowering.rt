@@ -137,9 +137,9 @@ fn build(alloc: Global, program: &Resolved, structs: &Structs) -> Result<Lowered
 /// Why there is no flow graph.
 #[derive(Clone, Copy, Debug, PartialEq, Eq)]
 pub enum LowerFault {
-    /// Each has more than 10,000 points; also where there is none at all that is as long as the program makes it.
+    /// Each has more than 10,000 points.
     TooLong,
-    /// The program names what is not there. A flow graph of it would have at most 10,000 points.
+    /// The program names what is not there. Each flow graph of it has at most 10,000 points.
     Absent,
     NoMemory,
 }
