@@ -1,6 +1,5 @@
 -- So many points the parts of statements come to.
-use Rattle.std.proofs.Common.{◌≡◌, ◌≤◌, ◌+◌, ◌++◌, ℕ, zero, suc, List, [], ◌∷◌, Option, Some, None, length, refl, sym, ap, subst, ◌∙◌, arith}
-use Rattle.std.specs.Prelude.{slice_get, slice_index}
+use Rattle.std.proofs.Common.{◌≡◌, ◌≤◌, ◌+◌, ◌++◌, ℕ, suc, List, [], ◌∷◌, Option, length, refl, ap, arith}
 use Rattle.mc_base.specs.declared.ids.VarId.{VarId}
 use Rattle.mc_base.specs.declared.plain.Kind.{Kind}
 use Rattle.mc_base.specs.declared.plain.VarInfo.{VarInfo}
@@ -9,13 +8,13 @@ use Rattle.mc_text.specs.declared.place.Place.{Place}
 use Rattle.mc_base.specs.declared.ids.PointId.{PointId}
 use Rattle.mc_flow.specs.declared.instr.Instr.{Instr}
 use Rattle.mc_flow.specs.declared.instr.Operand.{Operand}
-use Rattle.mc_resolved.specs.Programs.{FieldAt, Left, Expr, Cond, Call, Right, expression, result_of, allocation, Function}
+use Rattle.mc_resolved.specs.Programs.{FieldAt, Left, Expr, Cond, Right, Function}
 use Rattle.mc_lowering.specs.Graphs.{Graph, Owner, Role, Stage, stage, Appends, appends, Undefines, undefines_none, undefines, Creates, creates, Uses, uses_first, uses_again}
 use Rattle.mc_lowering.specs.Values.{Operation, Takes, takes, Walks, walks_none, walks, Evaluates, of_number, of_variable, of_operation, Computes, of_input, of_field, of_minus, of_times, of_plus, of_difference, EvaluatesAll, evaluates_none, evaluates_next}
 use Rattle.mc_lowering.specs.Values.{Compares, compares, Tests, tests_plain, tests_compare, tests_negation, tests_both, tests_either, TestsPerhaps, tests_always, tests_once, Puts, puts_variable, puts_field}
 use Rattle.mc_lowering.specs.Lowering.{SetsTo, sets_operand, sets_computed, sets_allocated, Assigns, assigns_variable, assigns_field, assigns_allocated, Changes, changes_variable, changes_field}
 use Rattle.mc_lowering.specs.Lowering.{Receives, receives_none, receives, Passes, passes_none, passes, Awaits, awaits_none, awaits}
-use Rattle.mc_length.specs.Lengths.{clearing, operations, all_operations, comparing, testing, testing_perhaps, loading, putting, setting, changing, calling, assigning, awaiting}
+use Rattle.mc_length.specs.Lengths.{clearing, operations, all_operations, testing, testing_perhaps, loading, putting, setting, changing, assigning, awaiting}
 
 abbrev pub points_of : Stage → ℕ
 points_of (stage a n k) = n

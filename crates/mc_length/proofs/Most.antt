@@ -1,21 +1,21 @@
 -- A flow graph has no more points than are counted.
-use Rattle.std.proofs.Common.{◌≡◌, ◌≤◌, ◌<◌, ◌⊎◌, ◌+◌, ◌++◌, ℕ, zero, suc, List, [], ◌∷◌, Option, Some, None, Bool, true, false, cond, eqb, length, refl, sym, ap, subst, ◌∙◌, arith, inl, inr, append_assoc, append-nil, eq-eqb}
+use Rattle.std.proofs.Common.{◌≡◌, ◌≤◌, ◌<◌, ◌+◌, ◌++◌, ℕ, zero, suc, List, [], ◌∷◌, Option, Some, Bool, true, false, cond, eqb, length, refl, sym, ap, subst, ◌∙◌, arith, inl, inr, append_assoc, append-nil, eq-eqb}
 use Rattle.std.proofs.lemmas.List.Elements.{Contains-append_left, Contains-push}
 use Rattle.std.proofs.lemmas.Bool.{cases_lt}
 use Rattle.std.proofs.lemmas.Option.{same_Some}
 use Rattle.std.proofs.lemmas.List.Folds.{list_any-from_Any}
-use Rattle.std.specs.List.{list_any, Any}
-use Rattle.std.specs.Prelude.{All, Contains, slice_get, slice_index}
+use Rattle.std.specs.List.{list_any}
+use Rattle.std.specs.Prelude.{All, Contains, slice_get}
 use Rattle.mc_base.specs.declared.ids.VarId.{VarId}
 use Rattle.mc_base.specs.declared.plain.VarInfo.{VarInfo}
 use Rattle.mc_text.specs.declared.place.Place.{Place}
 use Rattle.mc_resolved.specs.Programs.{Call, Right, Action, Simple, Initial, Start, Stmt, Stmts, Function}
-use Rattle.mc_lowering.specs.Graphs.{Graph, Owner, local, Stage, stage, Creates, creates, IsMade, is_made, AreMade, Undefines, Leaves, leaves}
+use Rattle.mc_lowering.specs.Graphs.{Graph, Owner, local, Stage, stage, Creates, creates, IsMade, is_made, Leaves, leaves}
 use Rattle.mc_lowering.specs.Lowering.{Around, SetsTo, sets_operand, sets_computed, sets_allocated, Receives, receives_none, receives, Calls, calls, Performs, performs_assign, performs_result, performs_add, performs_subtract, performs_call}
 use Rattle.mc_lowering.specs.Lowering.{Declares, declares_none, declares_undefined, declares_value, Starts, starts_nothing, starts_declaring, starts_performing, Finishes, finishes_none, finishes}
 use Rattle.mc_lowering.specs.Lowering.{Lowers, declarations, blocks, empties, simples, frees, asserts, assumes, shapes_assumed, shapes_asserted, emptiness_asserted, ifs, ifs_else, whiles, dos, fors, breaks, continues, returns_nothing, returns_value, returns_result, LowersAll, lowers_none, lowers_next}
-use Rattle.mc_length.specs.Lengths.{clearing, leaving, operations, all_operations, calling, acting, declaring, starting, finishing, returning, items_declared, start_declared, declared, all_declared, stretch, stretch_all, below, calling_rest, IsTable}
-use Rattle.mc_length.proofs.Counting.{points_of, variables_of, IsCounted, Counts, received, appended, undefined, created, evaluated, all_evaluated, tested, tested_perhaps, put, set, assigned, changed, passed, awaited}
+use Rattle.mc_length.specs.Lengths.{clearing, leaving, operations, all_operations, calling, acting, declaring, starting, finishing, returning, items_declared, start_declared, declared, all_declared, stretch, stretch_all, below, IsTable}
+use Rattle.mc_length.proofs.Counting.{points_of, variables_of, IsCounted, received, appended, undefined, created, evaluated, all_evaluated, tested, tested_perhaps, put, set, assigned, changed, passed, awaited}
 use Rattle.mc_length.proofs.Owning as owning
 use Rattle.mc_length.proofs.Owning.{IsOwned, on, none}
 

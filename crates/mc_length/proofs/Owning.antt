@@ -12,7 +12,7 @@ use Rattle.mc_base.specs.declared.ids.PointId.{PointId}
 use Rattle.mc_flow.specs.declared.instr.Instr.{Instr}
 use Rattle.mc_flow.specs.declared.instr.Operand.{Operand}
 use Rattle.mc_resolved.specs.Programs.{FieldAt, Left, Expr, Cond, Call, Right, Action, Simple, Initial, Start, Stmt, Stmts, Function}
-use Rattle.mc_lowering.specs.Graphs.{Graph, Owner, local, Role, Stage, stage, Appends, appends, Undefines, undefines_none, undefines, Creates, creates, Uses, uses_first, uses_again, Leaves, leaves}
+use Rattle.mc_lowering.specs.Graphs.{Graph, Owner, local, Role, Stage, Appends, appends, Undefines, undefines_none, undefines, Creates, creates, Uses, uses_first, uses_again, Leaves, leaves}
 use Rattle.mc_lowering.specs.Values.{Operation, Takes, takes, Walks, walks_none, walks, Evaluates, of_number, of_variable, of_operation, Computes, of_input, of_field, of_minus, of_times, of_plus, of_difference, EvaluatesAll, evaluates_none, evaluates_next, Compares, compares, Tests, tests_plain, tests_compare, tests_negation, tests_both, tests_either, TestsPerhaps, tests_always, tests_once, Puts, puts_variable, puts_field}
 use Rattle.mc_lowering.specs.Lowering.{Around, SetsTo, sets_operand, sets_computed, sets_allocated, Assigns, assigns_variable, assigns_field, assigns_allocated, Changes, changes_variable, changes_field}
 use Rattle.mc_lowering.specs.Lowering.{Receives, receives_none, receives, Passes, passes_none, passes, Awaits, awaits_none, awaits, Calls, calls, Performs, performs_assign, performs_result, performs_add, performs_subtract, performs_call}

@@ -1,9 +1,9 @@
 -- What is left before and behind a step.
-use Rattle.std.proofs.Common.{◌≡◌, ◌<◌, ◌≤◌, ◌+◌, ◌++◌, ℕ, zero, suc, List, [], ◌∷◌, Some, Bool, true, false, cond, eqb, map, length, get_or, drop, refl, sym, ap, ◌∙◌, subst, arith, append_assoc, append-nil, eq-eqb, eqb-true}
+use Rattle.std.proofs.Common.{◌≡◌, ◌<◌, ◌≤◌, ℕ, List, Some, Bool, true, false, cond, eqb, length, get_or, refl, sym, ap, ◌∙◌, subst, arith, eq-eqb, eqb-true}
 use Rattle.std.proofs.lemmas.List.Folds.{Any-from_list_any, list_any-from_Any, list_any_at}
 use Rattle.std.proofs.lemmas.Option.{slice_get-get_or}
-use Rattle.std.specs.List.{list_any, Any}
-use Rattle.std.specs.Prelude.{Contains, slice_get}
+use Rattle.std.specs.List.{list_any}
+use Rattle.std.specs.Prelude.{Contains}
 use Rattle.mc_length.proofs.Firsts.{AllTo}
 use Rattle.mc_length.specs.Lengths.{leaving}
 

@@ -1,13 +1,11 @@
 -- The table of a program, and its length.
-use Rattle.std.proofs.Common.{◌≡◌, ◌<◌, ◌≤◌, ◌+◌, ◌⊎◌, ℕ, zero, suc, List, [], ◌∷◌, Some, None, option_map, map, length, refl, sym, ap, ◌∙◌, subst, arith, inl, inr}
+use Rattle.std.proofs.Common.{◌≡◌, ◌≤◌, ◌+◌, ℕ, zero, suc, List, [], ◌∷◌, Some, None, option_map, map, length, refl, sym, ap, ◌∙◌, subst, arith, inl, inr}
 use Rattle.std.proofs.lemmas.Option.{same_Some, slice_get-map, slice_get_within}
 use Rattle.std.specs.Prelude.{slice_get, slice_index}
-use Rattle.mc_defs.specs.declared.rules.Def.{Def}
 use Rattle.mc_resolved.specs.declared.program.Function.{Function as FunctionCode}
 use Rattle.mc_resolved.specs.declared.program.Resolved.{Resolved}
 use Rattle.mc_resolved.specs.Programs.{Function, Program}
 use Rattle.mc_resolved.specs.Views.{function_of, program_of}
-use Rattle.mc_lowering.specs.Graphs.{Graph}
 use Rattle.mc_lowering.specs.Lowering.{IsLowering, IsMain}
 use Rattle.mc_length.proofs.Firsts.{AllTo}
 use Rattle.mc_length.proofs.Whole.{whole}

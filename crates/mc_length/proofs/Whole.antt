@@ -1,12 +1,11 @@
 -- So many points a flow graph has.
-use Rattle.std.proofs.Common.{◌≡◌, ◌≤◌, ◌<◌, ◌+◌, ℕ, zero, suc, List, [], Option, Some, length, refl, arith, inl, inr}
-use Rattle.std.specs.Prelude.{Contains, slice_get}
+use Rattle.std.proofs.Common.{◌≤◌, ◌+◌, ℕ, suc, List, [], Option, length, arith, inl, inr}
 use Rattle.mc_base.specs.declared.plain.Kind.{Kind}
 use Rattle.mc_resolved.specs.Programs.{Function}
-use Rattle.mc_lowering.specs.Graphs.{Graph, Stage, stage}
+use Rattle.mc_lowering.specs.Graphs.{Graph, Stage}
 use Rattle.mc_lowering.specs.Lowering.{Answers, answers_none, answers, Falls, falls_in_main, falls, Makes, makes, IsLowering}
 use Rattle.mc_length.specs.Lengths.{IsFalling, IsSoMany, IsTable, stretch_all}
-use Rattle.mc_length.proofs.Counting.{points_of, variables_of, Counts, appended, created}
+use Rattle.mc_length.proofs.Counting.{Counts, appended, created}
 use Rattle.mc_length.proofs.Least as least
 use Rattle.mc_length.proofs.Least.{HasMade}
 use Rattle.mc_length.proofs.Most as most

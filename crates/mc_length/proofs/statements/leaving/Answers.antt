@@ -1,4 +1,4 @@
-use Rattle.std.proofs.Common.{◌≤◌, length, sym, arith}
+use Rattle.std.proofs.Common.{sym, arith}
 use Rattle.mc_length.proofs.Stepping.{none_left}
 use Rattle.mc_length.proofs.statements.leaving.Goals as goal
 

@@ -1,4 +1,4 @@
-use Rattle.std.proofs.Common.{◌≤◌, length, arith}
+use Rattle.std.proofs.Common.{arith}
 use Rattle.mc_length.proofs.Tabling.{all_right}
 use Rattle.mc_length.proofs.tables.is_right.Goals as goal
 

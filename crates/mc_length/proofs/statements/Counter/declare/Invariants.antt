@@ -2,7 +2,7 @@ use Rattle.std.proofs.Common.{◌≡◌, ◌+◌, ◌++◌, List, map, drop}
 use Rattle.mc_resolved.specs.Views.{initial_of}
 use Rattle.mc_length.specs.declared.statements.Waiting.{Waiting}
 use Rattle.mc_length.specs.Lengths.{declaring, items_declared}
-use Rattle.mc_length.specs.Waiting.{left, total}
+use Rattle.mc_length.specs.Waiting.{left}
 use Rattle.mc_length.proofs.statements.Counter.declare.Given as goal
 
 abbrev pub invariant-loop-at : goal.invariant-loop-at
