@@ -1,5 +1,5 @@
 // Small programs, built by hand.
-use crate::{Atom, Decided, Next, Target, Work};
+use mc_tasks::{Atom, Decided, Next, Target, Work};
 use mc_resolved::{Condition, Expression, Function, Initial, Local, Statement};
 use mc_text::{Place, Text};
 use std::alloc::{AllocError, Global};
