@@ -213,7 +213,7 @@ module _ (p : Program) (structs : List StructInfo) (c : Config) (script : List (
   asks_made : (left later n : ℕ) (d : Config) (lines middle : List (List ℕ)) (used more : List Choice) (request : Request) (number : ℕ) (Refuse : Request → List (List ℕ) → Type 0)
       → Takes structs script used lines → n + left ≡ fuel → ((rest : List Choice) → Leads (Step p) n c (used ++ rest) d rest) → left ≡ suc later
       → Takes structs lines more middle → ((rest : List Choice) → Asks p d (more ++ rest) request rest) → number ≡ length (used ++ more) + 1 → Refuse request middle
-      → AsksInVain p structs c script fuel number Refuse
+      → AsksInVain (Step p) (Asks p) structs c script fuel number Refuse
   asks_made left later n d lines middle used more request number Refuse takes spent leads is takes_too asks same refused = (
     used ++ more,
     middle,

@@ -4,12 +4,10 @@ pub mod Using
 pub mod Passing
 pub mod Changing
 pub mod Allocating
-pub mod Beginning
 pub mod Deciding
 pub mod Assuming
 pub mod Blocks
 pub mod Filling
-pub mod Mapped
 pub mod Leaving
 pub mod Making
 pub mod NotEnded

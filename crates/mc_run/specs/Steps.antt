@@ -11,8 +11,8 @@ use Rattle.mc_run.specs.declared.outcome.Stepped.TheVariants.{Goes, Ends, Unansw
 use Rattle.mc_run.specs.Models.{final_of}
 
 -- nothing comes of it, and it waits for no choice
-abbrev pub HasNoStep : (Result → Type 0) → (Request → List Choice → Type 0) → Type 0
-HasNoStep Comes Asks = ((r : Result) → ¬ Comes r) × (¬ Waits Asks)
+abbrev pub HasNoStep : {R : Type 0} → (R → Type 0) → (Request → List Choice → Type 0) → Type 0
+HasNoStep {R} Comes Asks = ((r : R) → ¬ Comes r) × (¬ Waits Asks)
 
 -- a step that does this and asks for that, on the way from these lines to those: it leads to the configuration, ends the run,
 -- asks in vain, or there is none
