@@ -6,22 +6,14 @@ use std::test::Fail;
 // Runs without a fault.
 static ENDS: [Case; 7] = [
     Case {
-        lines: &[
-            "int main() {",
-            "}",
-        ],
+        lines: &["int main() {", "}"],
         script: "",
         fuel: PLENTY,
         wanted: Outcome::Ended,
     },
     // Choices that are left are ignored.
     Case {
-        lines: &[
-            "int main() {",
-            "  return 0;",
-            "  free(NULL);",
-            "}",
-        ],
+        lines: &["int main() {", "  return 0;", "  free(NULL);", "}"],
         script: "[\"input\",1]",
         fuel: PLENTY,
         wanted: Outcome::Ended,
@@ -76,11 +68,7 @@ static ENDS: [Case; 7] = [
         wanted: Outcome::Stopped,
     },
     Case {
-        lines: &[
-            "int main() {",
-            "  assume(1 == 1 && !(2 < 1));",
-            "}",
-        ],
+        lines: &["int main() {", "  assume(1 == 1 && !(2 < 1));", "}"],
         script: "",
         fuel: PLENTY,
         wanted: Outcome::Ended,

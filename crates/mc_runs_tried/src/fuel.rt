@@ -9,20 +9,13 @@ use std::test::Fail;
 static SPENT: [Case; 10] = [
     // The end is no step.
     Case {
-        lines: &[
-            "int main() {",
-            "}",
-        ],
+        lines: &["int main() {", "}"],
         script: "",
         fuel: 0,
         wanted: Outcome::Ended,
     },
     Case {
-        lines: &[
-            "int main() {",
-            "  return 0;",
-            "}",
-        ],
+        lines: &["int main() {", "  return 0;", "}"],
         script: "",
         fuel: 0,
         wanted: Outcome::FuelSpent,
@@ -89,32 +82,19 @@ static SPENT: [Case; 10] = [
         wanted: Outcome::Ended,
     },
     Case {
-        lines: &[
-            "void nothing() { }",
-            "int main() {",
-            "  nothing();",
-            "}",
-        ],
+        lines: &["void nothing() { }", "int main() {", "  nothing();", "}"],
         script: "",
         fuel: 1,
         wanted: Outcome::Ended,
     },
     Case {
-        lines: &[
-            "int main() {",
-            "  while (1) { }",
-            "}",
-        ],
+        lines: &["int main() {", "  while (1) { }", "}"],
         script: "",
         fuel: PLENTY,
         wanted: Outcome::FuelSpent,
     },
     Case {
-        lines: &[
-            "int main() {",
-            "  for (;;) { }",
-            "}",
-        ],
+        lines: &["int main() {", "  for (;;) { }", "}"],
         script: "",
         fuel: PLENTY,
         wanted: Outcome::FuelSpent,
@@ -125,21 +105,13 @@ static SPENT: [Case; 10] = [
 static COUNTED: [Case; 8] = [
     // A declarator, three tests and two increments.
     Case {
-        lines: &[
-            "int main() {",
-            "  for (int i = 0; i < 2; i++) { }",
-            "}",
-        ],
+        lines: &["int main() {", "  for (int i = 0; i < 2; i++) { }", "}"],
         script: "",
         fuel: 5,
         wanted: Outcome::FuelSpent,
     },
     Case {
-        lines: &[
-            "int main() {",
-            "  for (int i = 0; i < 2; i++) { }",
-            "}",
-        ],
+        lines: &["int main() {", "  for (int i = 0; i < 2; i++) { }", "}"],
         script: "",
         fuel: 6,
         wanted: Outcome::Ended,
@@ -168,43 +140,31 @@ static COUNTED: [Case; 8] = [
         wanted: Outcome::FuelSpent,
     },
     Case {
-        lines: &[
-            "int main() {",
-            "  int x = 0;",
-            "  assert(x == 1);",
-            "}",
-        ],
+        lines: &["int main() {", "  int x = 0;", "  assert(x == 1);", "}"],
         script: "",
         fuel: 1,
         wanted: Outcome::FuelSpent,
     },
     Case {
-        lines: &[
-            "int main() {",
-            "  int x = 0;",
-            "  assert(x == 1);",
-            "}",
-        ],
+        lines: &["int main() {", "  int x = 0;", "  assert(x == 1);", "}"],
         script: "",
         fuel: 2,
-        wanted: Outcome::Fault(FaultKind::Assertion, Place { line: 4, column: 10 }),
+        wanted: Outcome::Fault(
+            FaultKind::Assertion,
+            Place {
+                line: 4,
+                column: 10,
+            },
+        ),
     },
     Case {
-        lines: &[
-            "int main() {",
-            "  int x = input();",
-            "}",
-        ],
+        lines: &["int main() {", "  int x = input();", "}"],
         script: "",
         fuel: 0,
         wanted: Outcome::FuelSpent,
     },
     Case {
-        lines: &[
-            "int main() {",
-            "  int x = input();",
-            "}",
-        ],
+        lines: &["int main() {", "  int x = input();", "}"],
         script: "",
         fuel: 1,
         wanted: Outcome::Short(1),

@@ -62,7 +62,13 @@ static NULL: [Case; 7] = [
         ],
         script: "",
         fuel: PLENTY,
-        wanted: Outcome::Fault(FaultKind::Null, Place { line: 4, column: 16 }),
+        wanted: Outcome::Fault(
+            FaultKind::Null,
+            Place {
+                line: 4,
+                column: 16,
+            },
+        ),
     },
     Case {
         lines: &[
@@ -118,12 +124,7 @@ static ORDER: [Case; 4] = [
         wanted: Outcome::Short(1),
     },
     Case {
-        lines: &[
-            "int main() {",
-            "  struct node *p;",
-            "  p->data = 1;",
-            "}",
-        ],
+        lines: &["int main() {", "  struct node *p;", "  p->data = 1;", "}"],
         script: "",
         fuel: PLENTY,
         wanted: Outcome::Fault(FaultKind::Uninit, Place { line: 4, column: 3 }),
@@ -286,12 +287,7 @@ static BADFREE: [Case; 5] = [
         wanted: Outcome::Fault(FaultKind::BadFree, Place { line: 6, column: 3 }),
     },
     Case {
-        lines: &[
-            "int main() {",
-            "  free(NULL);",
-            "  return 0;",
-            "}",
-        ],
+        lines: &["int main() {", "  free(NULL);", "  return 0;", "}"],
         script: "",
         fuel: PLENTY,
         wanted: Outcome::Ended,

@@ -146,52 +146,32 @@ static BAD: [Case; 10] = [
         wanted: Outcome::Bad(1),
     },
     Case {
-        lines: &[
-            "int main() {",
-            "  int x = input();",
-            "}",
-        ],
+        lines: &["int main() {", "  int x = input();", "}"],
         script: "[\"malloc\",0]",
         fuel: PLENTY,
         wanted: Outcome::Bad(1),
     },
     Case {
-        lines: &[
-            "int main() {",
-            "  int x = input();",
-            "}",
-        ],
+        lines: &["int main() {", "  int x = input();", "}"],
         script: "input",
         fuel: PLENTY,
         wanted: Outcome::Bad(1),
     },
     // A blank line is no choice.
     Case {
-        lines: &[
-            "int main() {",
-            "  int x = input();",
-            "}",
-        ],
+        lines: &["int main() {", "  int x = input();", "}"],
         script: "\n[\"input\",1]",
         fuel: PLENTY,
         wanted: Outcome::Bad(1),
     },
     Case {
-        lines: &[
-            "int main() {",
-            "  int x = input();",
-            "}",
-        ],
+        lines: &["int main() {", "  int x = input();", "}"],
         script: "[\"input\",2147483648]",
         fuel: PLENTY,
         wanted: Outcome::Bad(1),
     },
     Case {
-        lines: &[
-            "int main() {",
-            "  int x = input();",
-            "}",
-        ],
+        lines: &["int main() {", "  int x = input();", "}"],
         script: "[\"input\",-2147483648]",
         fuel: PLENTY,
         wanted: Outcome::Ended,
@@ -231,12 +211,7 @@ static BAD: [Case; 10] = [
     },
     // Behind a line feed at the end stands no line more.
     Case {
-        lines: &[
-            "int main() {",
-            "  int x = input();",
-            "  x = input();",
-            "}",
-        ],
+        lines: &["int main() {", "  int x = input();", "  x = input();", "}"],
         script: "[\"input\",1]\n",
         fuel: PLENTY,
         wanted: Outcome::Short(2),

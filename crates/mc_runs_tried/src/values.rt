@@ -8,12 +8,7 @@ use std::test::Fail;
 // What is undefined is used.
 static UNINIT: [Case; 9] = [
     Case {
-        lines: &[
-            "int main() {",
-            "  int x;",
-            "  int y = x;",
-            "}",
-        ],
+        lines: &["int main() {", "  int x;", "  int y = x;", "}"],
         script: "",
         fuel: PLENTY,
         wanted: Outcome::Fault(FaultKind::Uninit, Place { line: 4, column: 3 }),
@@ -43,34 +38,25 @@ static UNINIT: [Case; 9] = [
         wanted: Outcome::Fault(FaultKind::Uninit, Place { line: 5, column: 3 }),
     },
     Case {
-        lines: &[
-            "int main() {",
-            "  struct node *p;",
-            "  free(p);",
-            "}",
-        ],
+        lines: &["int main() {", "  struct node *p;", "  free(p);", "}"],
         script: "",
         fuel: PLENTY,
         wanted: Outcome::Fault(FaultKind::Uninit, Place { line: 4, column: 3 }),
     },
     Case {
-        lines: &[
-            "int main() {",
-            "  int x;",
-            "  assert(x == 0);",
-            "}",
-        ],
+        lines: &["int main() {", "  int x;", "  assert(x == 0);", "}"],
         script: "",
         fuel: PLENTY,
-        wanted: Outcome::Fault(FaultKind::Uninit, Place { line: 4, column: 10 }),
+        wanted: Outcome::Fault(
+            FaultKind::Uninit,
+            Place {
+                line: 4,
+                column: 10,
+            },
+        ),
     },
     Case {
-        lines: &[
-            "int main() {",
-            "  int x = 1, y;",
-            "  x = 2 * (x - y);",
-            "}",
-        ],
+        lines: &["int main() {", "  int x = 1, y;", "  x = 2 * (x - y);", "}"],
         script: "",
         fuel: PLENTY,
         wanted: Outcome::Fault(FaultKind::Uninit, Place { line: 4, column: 3 }),
@@ -131,7 +117,13 @@ static SCOPES: [Case; 6] = [
         ],
         script: "",
         fuel: PLENTY,
-        wanted: Outcome::Fault(FaultKind::Uninit, Place { line: 6, column: 17 }),
+        wanted: Outcome::Fault(
+            FaultKind::Uninit,
+            Place {
+                line: 6,
+                column: 17,
+            },
+        ),
     },
     Case {
         lines: &[
@@ -231,7 +223,13 @@ static ASSERTION: [Case; 9] = [
         ],
         script: "",
         fuel: PLENTY,
-        wanted: Outcome::Fault(FaultKind::Assertion, Place { line: 5, column: 10 }),
+        wanted: Outcome::Fault(
+            FaultKind::Assertion,
+            Place {
+                line: 5,
+                column: 10,
+            },
+        ),
     },
     Case {
         lines: &[
@@ -242,7 +240,13 @@ static ASSERTION: [Case; 9] = [
         ],
         script: "[\"input\",7]",
         fuel: PLENTY,
-        wanted: Outcome::Fault(FaultKind::Assertion, Place { line: 4, column: 10 }),
+        wanted: Outcome::Fault(
+            FaultKind::Assertion,
+            Place {
+                line: 4,
+                column: 10,
+            },
+        ),
     },
     Case {
         lines: &[
@@ -264,7 +268,13 @@ static ASSERTION: [Case; 9] = [
         ],
         script: "[\"input\",7]",
         fuel: PLENTY,
-        wanted: Outcome::Fault(FaultKind::Assertion, Place { line: 4, column: 10 }),
+        wanted: Outcome::Fault(
+            FaultKind::Assertion,
+            Place {
+                line: 4,
+                column: 10,
+            },
+        ),
     },
     Case {
         lines: &[
@@ -286,7 +296,13 @@ static ASSERTION: [Case; 9] = [
         ],
         script: "",
         fuel: PLENTY,
-        wanted: Outcome::Fault(FaultKind::Assertion, Place { line: 4, column: 10 }),
+        wanted: Outcome::Fault(
+            FaultKind::Assertion,
+            Place {
+                line: 4,
+                column: 10,
+            },
+        ),
     },
     // Operands are evaluated from left to right.
     Case {

@@ -1,6 +1,6 @@
 // Small programs, built by hand.
-use mc_tasks::{Atom, Decided, Next, Target, Work};
 use mc_resolved::{Condition, Expression, Function, Initial, Local, Statement};
+use mc_tasks::{Atom, Decided, Next, Target, Work};
 use mc_text::{Place, Text};
 use std::alloc::{AllocError, Global};
 use std::test::Fail;
