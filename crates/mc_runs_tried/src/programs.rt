@@ -25,9 +25,16 @@ fn bound(alloc: Global, program: &[u8], definitions: &[u8]) -> Option<Bound> {
     if program.len() > MAX_BYTES || definitions.len() > MAX_BYTES {
         return None;
     }
-    let typed = read(alloc, program, b"main").ok()?;
-    let defs = read_defs(alloc, definitions, typed.structs()).ok()?;
-    bind(alloc, typed, defs).ok()
+    let Ok(typed) = read(alloc, program, b"main") else {
+        return None;
+    };
+    let Ok(defs) = read_defs(alloc, definitions, typed.structs()) else {
+        return None;
+    };
+    match bind(alloc, typed, defs) {
+        Ok(bound) => Some(bound),
+        Err(_) => None,
+    }
 }
 
 /// What the program of a text comes to, with the definitions of lists. None where it is refused.
