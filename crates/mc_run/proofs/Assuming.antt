@@ -1,14 +1,14 @@
 -- A step that assumes or asserts a shape.
-use Rattle.std.proofs.Common.{◌≡◌, ◌∙◌, ◌⊎◌, inl, inr, ℕ, ℤ, List, [], ◌∷◌, Bool, true, false, Option, Some, None, refl, sym, ap, subst}
+use Rattle.std.proofs.Common.{◌≡◌, ◌∙◌, inl, inr, ℕ, ℤ, List, [], ◌∷◌, Bool, true, false, Option, Some, None, refl, sym, ap, subst}
 use Rattle.std.specs.Prelude.{if◌then◌else◌, ◌==◌}
 use Rattle.std.specs.List.{list_any}
 use Rattle.mc_base.specs.declared.ids.PredId.{PredId}
 use Rattle.mc_base.specs.declared.plain.FaultKind.TheVariants.{Uninit, Shape}
 use Rattle.mc_base.specs.Runs.{next, last, fault}
 use Rattle.mc_text.specs.declared.place.Place.{Place}
-use Rattle.mc_heap.specs.Choices.{Choice, input, malloc, shape}
+use Rattle.mc_heap.specs.Choices.{Choice, shape}
 use Rattle.mc_heap.specs.Heap.{Block, Heap, Region, region_of}
-use Rattle.mc_heap.specs.Parts.{IsEmpty, Joins, Split}
+use Rattle.mc_heap.specs.Parts.{IsEmpty, Joins}
 use Rattle.std.specs.FinMap as maps
 use Rattle.std.specs.FinMap.{empty_of_len, get-empty, len-empty, nat_cmp-IsAntisymmetric, same_map}
 use Rattle.std.specs.Cmp.{nat_cmp_total}
@@ -16,20 +16,19 @@ use Rattle.std.specs.Ordering.{nat_cmp}
 use Rattle.mc_defs.specs.declared.rules.Def.{Def}
 use Rattle.mc_defs.specs.declared.shapes.StructInfo.{StructInfo}
 use Rattle.mc_defs.specs.Meaning.{HoldsSomewhere}
-use Rattle.mc_waiting.specs.Requests.{Request, a_shape, IsAllowed}
+use Rattle.mc_waiting.specs.Requests.{Request, a_shape}
 use Rattle.mc_resolved.specs.Configs.{Config, Result, Tasks, Values}
 use Rattle.mc_resolved.specs.Steps.{Asserts, Assumes, Here}
 use Rattle.mc_sat.specs.Answers.{AreMeeting, region_at}
 use Rattle.mc_script.specs.Scripts.{Answers, chosen}
 use Rattle.mc_values.specs.declared.refusal.Refusal.{Refusal}
-use Rattle.mc_values.specs.declared.refusal.Refusal.TheVariants.{NotAllowed}
 use Rattle.mc_values.specs.Taking.{IsRefused}
 use Rattle.mc_values.proofs.Answering.{choice_refused, one_taken}
 use Rattle.mc_run.specs.declared.outcome.End.TheVariants as ends
 use Rattle.mc_run.specs.declared.outcome.Stepped.{Stepped}
 use Rattle.mc_run.specs.declared.outcome.Stepped.TheVariants as steps
 use Rattle.mc_run.specs.Adding.{IsAdded}
-use Rattle.mc_run.specs.Steps.{Comes, IsStep}
+use Rattle.mc_run.specs.Steps.{IsStep}
 use Rattle.mc_run.proofs.Changing.{at_config}
 
 module _ (structs : List StructInfo) (defs : List Def) (predicate : PredId) (tasks : Tasks) (values : Values) (heap : Heap) (x : ℕ) (place : Place) (args : Option (List ℤ)) where

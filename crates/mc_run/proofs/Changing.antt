@@ -1,7 +1,6 @@
 -- A step that ends with a change.
 use Rattle.std.proofs.Common.{◌≡◌, ◌∙◌, ap, ap₂, sym, subst, ℕ, ℤ, List, Option, Result, Ok, Err}
 use Rattle.mc_base.specs.declared.plain.FaultKind.{FaultKind}
-use Rattle.mc_base.specs.Runs.{next}
 use Rattle.mc_text.specs.declared.place.Place.{Place}
 use Rattle.mc_heap.specs.Choices.{Choice}
 use Rattle.mc_defs.specs.declared.shapes.StructInfo.{StructInfo}
@@ -12,7 +11,7 @@ use Rattle.mc_run.specs.Asking.{AsksInput}
 use Rattle.mc_run.proofs.Using.{value_used}
 use Rattle.mc_heap.specs.Heap.{Heap}
 use Rattle.mc_resolved.specs.Configs.{Config, Tasks, Values}
-use Rattle.mc_resolved.specs.Values.{Changed, changed}
+use Rattle.mc_resolved.specs.Values.{Changed}
 use Rattle.mc_resolved.specs.Steps.{after, WithValue}
 use Rattle.mc_values.specs.Models.{change_of}
 use Rattle.mc_run.specs.declared.outcome.Stepped.{Stepped}

@@ -1,12 +1,12 @@
 -- Where conditions and returns lead.
-use Rattle.std.proofs.Common.{◌≡◌, ◌∙◌, ap, sym, refl, Bool, true, false, ℤ, List, Option, Some, None}
+use Rattle.std.proofs.Common.{◌≡◌, ap, refl, Bool, true, false, ℤ, List, Option, Some, None}
 use Rattle.std.specs.Prelude.{is_some, not}
 use Rattle.mc_base.specs.declared.plain.FaultKind.TheVariants.{Uninit}
 use Rattle.mc_base.specs.Runs.{next, last, fault}
 use Rattle.mc_text.specs.declared.place.Place.{Place}
 use Rattle.mc_heap.specs.Choices.{Choice}
 use Rattle.mc_heap.specs.Heap.{Heap}
-use Rattle.mc_resolved.specs.Configs.{Branch, go_on, Tasks, Values}
+use Rattle.mc_resolved.specs.Configs.{Branch, Tasks, Values}
 use Rattle.mc_resolved.specs.Steps.{Here, decided, gone_back, led, returned_value, returning}
 use Rattle.mc_tasks.specs.Left.{Branches}
 use Rattle.mc_tasks.specs.Leading.{chosen}

@@ -1,17 +1,16 @@
 -- A run, step by step.
-use Rattle.std.proofs.Common.{◌≡◌, ◌∙◌, ◌⊎◌, ◌++◌, ◌+◌, ◌-◌, ◌≤◌, ◌<◌, inl, inr, ℕ, zero, suc, List, [], ◌∷◌, length, refl, sym, ap, ap₂, subst, append_assoc, arith}
-use Rattle.std.proofs.lemmas.List.{append-nil}
+use Rattle.std.proofs.Common.{◌≡◌, ◌∙◌, ◌⊎◌, ◌++◌, ◌+◌, ◌-◌, ◌≤◌, inl, inr, ℕ, zero, suc, List, [], ◌∷◌, length, refl, sym, ap, ap₂, subst, append_assoc, arith}
 use Rattle.mc_base.specs.Runs.{next, last, ended, stopped, fault}
 use Rattle.mc_heap.specs.Choices.{Choice}
 use Rattle.mc_defs.specs.declared.shapes.StructInfo.{StructInfo}
-use Rattle.mc_waiting.specs.Requests.{Request, Waits}
-use Rattle.mc_waiting.specs.Runs.{ComesTo, GoesOn, Leads, Machine}
+use Rattle.mc_waiting.specs.Requests.{Request}
+use Rattle.mc_waiting.specs.Runs.{ComesTo, Leads}
 use Rattle.std.specs.FinMap as maps
 use Rattle.mc_resolved.specs.Programs.{Function, Program}
 use Rattle.mc_resolved.specs.Configs.{Config, Result, Tasks, Values, done}
 use Rattle.mc_resolved.specs.Moves.{Arrives}
 use Rattle.mc_resolved.specs.Steps.{Does, start, Step}
-use Rattle.mc_tasks.specs.Going.{Comes, Has, LeavesLoop, Stands, tasks_of, values_of}
+use Rattle.mc_tasks.specs.Going.{Comes, Has, LeavesLoop, tasks_of, values_of}
 use Rattle.mc_tasks.specs.declared.next.Next.{Next}
 use Rattle.mc_tasks.specs.declared.work.Work.{Work}
 use Rattle.mc_tasks.proofs.Ending.{one_end}
@@ -27,7 +26,7 @@ use Rattle.mc_run.specs.Asking.{Asks, TaskAsks}
 use Rattle.mc_run.specs.Models.{final_of, outcome_of, refused_as}
 use Rattle.mc_run.specs.declared.outcome.Outcome.TheVariants as outcomes
 use Rattle.mc_run.specs.Runs.{AsksInVain, IsBad, IsShort, Runs}
-use Rattle.mc_run.specs.Steps.{HasNoStep, IsStep}
+use Rattle.mc_run.specs.Steps.{IsStep}
 use Rattle.mc_run.proofs.Leaving.{kept_or_leaves, leaves_no_question, leaves_no_step, only_last}
 use Rattle.mc_run.proofs.NotEnded.{only_done}
 use Rattle.mc_run.proofs.Changing.{at_config}

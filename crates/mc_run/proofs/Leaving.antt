@@ -1,5 +1,5 @@
 -- Where a loop is to be left that is not there, there is no step.
-use Rattle.std.proofs.Common.{◌≡◌, ◌⊎◌, inl, inr, List, Option, subst, sym, refl}
+use Rattle.std.proofs.Common.{◌≡◌, ◌⊎◌, inl, inr, List, subst, refl}
 use Rattle.mc_heap.specs.Choices.{Choice}
 use Rattle.mc_waiting.specs.Requests.{Request}
 use Rattle.mc_heap.specs.Heap.{Heap}

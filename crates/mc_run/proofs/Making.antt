@@ -6,7 +6,7 @@ use Rattle.mc_heap.specs.Heap.{Heap}
 use Rattle.mc_defs.specs.declared.shapes.StructInfo.{StructInfo}
 use Rattle.mc_waiting.specs.Requests.{Request}
 use Rattle.mc_resolved.specs.Programs.{Initial, Program}
-use Rattle.mc_resolved.specs.Configs.{Config, Result, Tasks, Values}
+use Rattle.mc_resolved.specs.Configs.{Config, Tasks, Values}
 use Rattle.mc_resolved.specs.Steps.{Declares, Does, Here}
 use Rattle.mc_tasks.specs.Going.{IsFirst}
 use Rattle.mc_run.specs.declared.outcome.Stepped.{Stepped}

@@ -1,5 +1,5 @@
 -- A step ends the run with no stop and no fault only where nothing is left to do.
-use Rattle.std.proofs.Common.{◌≡◌, ◌⊎◌, inl, inr, zero, suc, ℕ, ℤ, pos, List, [], ◌∷◌, Bool, true, false, Option, Some, None, refl, map}
+use Rattle.std.proofs.Common.{◌≡◌, inl, inr, zero, suc, ℕ, ℤ, pos, List, [], ◌∷◌, Bool, true, false, Option, Some, None, refl, map}
 use Rattle.std.specs.Prelude.{slice_get}
 use Rattle.mc_base.specs.declared.plain.FaultKind.{FaultKind}
 use Rattle.mc_base.specs.Runs.{last, ended}

@@ -12,7 +12,6 @@ use Rattle.mc_resolved.specs.Configs.{Config, Result, Target, Tasks, Values}
 use Rattle.mc_resolved.specs.Steps.{Here, AfterArguments, Passes}
 use Rattle.std.specs.Prelude.{slice_get}
 use Rattle.mc_values.specs.declared.refusal.Refusal.{Refusal}
-use Rattle.mc_values.specs.declared.refusal.Arguments as code
 use Rattle.mc_values.specs.declared.refusal.Arguments.TheVariants as all
 use Rattle.mc_values.specs.Asking.{ArgumentsAsk}
 use Rattle.mc_values.specs.Models.{AreEvaluated}

@@ -1,5 +1,5 @@
 -- A step that uses a value.
-use Rattle.std.proofs.Common.{◌≡◌, ◌⊎◌, inl, inr, ◌++◌, ℕ, ℤ, List, [], ◌∷◌, Option, refl, sym, subst, append_assoc}
+use Rattle.std.proofs.Common.{◌≡◌, ◌⊎◌, inl, inr, ◌++◌, ℕ, ℤ, List, [], Option, refl, sym, subst, append_assoc}
 use Rattle.mc_base.specs.declared.plain.FaultKind.{FaultKind}
 use Rattle.mc_base.specs.Runs.{next, last}
 use Rattle.mc_text.specs.declared.place.Place.{Place}
@@ -15,7 +15,6 @@ use Rattle.mc_values.specs.declared.refusal.Refusal.{Refusal}
 use Rattle.mc_values.specs.declared.refusal.Evaluated.TheVariants as one
 use Rattle.mc_values.specs.Asking.{AsksBehind, ValueAsks}
 use Rattle.mc_values.specs.Models.{IsEvaluated}
-use Rattle.mc_values.specs.Taking.{Takes}
 use Rattle.mc_values.proofs.Taking.{takes_more}
 use Rattle.mc_run.specs.declared.outcome.End.TheVariants as ends
 use Rattle.mc_run.specs.declared.outcome.Stepped.{Stepped}

@@ -5,8 +5,8 @@ use Rattle.mc_heap.specs.Heap.{Heap}
 use Rattle.mc_defs.specs.declared.rules.Def.{Def}
 use Rattle.mc_flow.specs.Values.{all_there}
 use Rattle.mc_waiting.specs.Requests.{Request, an_input, an_address, a_shape}
-use Rattle.mc_resolved.specs.Programs.{Expr, Cond, plain, compare, negation, both, either, Call, Right, expression}
-use Rattle.mc_resolved.specs.Programs.{result_of, allocation, Action, assign, add, subtract, call, Initial, Argument}
+use Rattle.mc_resolved.specs.Programs.{Expr, Cond, plain, compare, negation, both, either, Right, expression}
+use Rattle.mc_resolved.specs.Programs.{result_of, allocation, Action, assign, add, subtract, call, Initial}
 use Rattle.mc_resolved.specs.Programs.{Stmt, declaration, block, empty, simple, free, assert, assume, assume_shape}
 use Rattle.mc_resolved.specs.Programs.{assert_shape, assert_empty, if_only, if_else, while_loop, do_loop, for_loop}
 use Rattle.mc_resolved.specs.Programs.{break_loop, continue_loop, returns, Program}

@@ -8,7 +8,7 @@ use Rattle.mc_waiting.specs.Runs.{ComesTo, GoesOn, Leads, Machine}
 use Rattle.mc_resolved.specs.Programs.{Function, Program}
 use Rattle.mc_resolved.specs.Configs.{Config}
 use Rattle.mc_resolved.specs.Steps.{Step, start}
-use Rattle.mc_values.specs.declared.refusal.Refusal.TheVariants.{Missing, Unreadable, NotAllowed}
+use Rattle.mc_values.specs.declared.refusal.Refusal.TheVariants.{Unreadable, NotAllowed}
 use Rattle.mc_values.specs.Taking.{Takes, IsRefused}
 use Rattle.mc_run.specs.declared.outcome.Outcome.{Outcome}
 use Rattle.mc_run.specs.declared.outcome.Outcome.TheVariants as outcomes

@@ -1,4 +1,4 @@
-use Rattle.std.proofs.Common.{◌≡◌, List, map, subst}
+use Rattle.std.proofs.Common.{List, subst}
 use Rattle.std.specs.Prelude.{slice_get}
 use Rattle.mc_heap.specs.Choices.{Choice}
 use Rattle.mc_heap.specs.Heap.{Heap}
@@ -8,7 +8,7 @@ use Rattle.mc_resolved.specs.Views.{call_of}
 use Rattle.mc_tasks.specs.Left.{target_of}
 use Rattle.mc_tasks.specs.declared.work.Work.{Work}
 use Rattle.mc_tasks.specs.Going.{tasks_of, values_of}
-use Rattle.mc_run.specs.Models.{config_of, here_of, program_of}
+use Rattle.mc_run.specs.Models.{config_of, program_of}
 use Rattle.mc_run.specs.Steps.{Comes}
 use Rattle.mc_run.proofs.Passing.{passed_on, passing_faults, passing_refused}
 use Rattle.mc_run.proofs.calling.pass.Goals as goal

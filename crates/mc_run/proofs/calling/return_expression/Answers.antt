@@ -5,7 +5,7 @@ use Rattle.mc_tasks.specs.declared.work.Work.{Work}
 use Rattle.mc_run.specs.Steps.{Comes}
 use Rattle.mc_resolved.specs.Steps.{returned_value}
 use Rattle.mc_resolved.specs.Views.{expression_of}
-use Rattle.mc_tasks.specs.Going.{tasks_of, values_of}
+use Rattle.mc_tasks.specs.Going.{tasks_of}
 use Rattle.mc_run.specs.Models.{config_of, here_of}
 use Rattle.mc_run.proofs.Using.{value_faults, value_refused, value_used}
 use Rattle.mc_run.proofs.calling.return_expression.Goals as goal

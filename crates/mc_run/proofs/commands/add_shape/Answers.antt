@@ -1,7 +1,6 @@
-use Rattle.std.proofs.Common.{◌≡◌, ◌∙◌, ap, ap₂, map, refl, rules, ℤ, List, Option, Some}
+use Rattle.std.proofs.Common.{◌≡◌, ◌∙◌, ap, ap₂, map, refl, rules, Some}
 use mir.Syntax.{w64}
 use mir.Val.{to_z, of_z}
-use Rattle.mc_heap.specs.Adding.{with_blocks}
 use Rattle.mc_heap.specs.Heap.{Heap}
 use Rattle.mc_resolved.specs.Configs.{Tasks, Values, with_variable}
 use Rattle.mc_script.specs.Models.{block}

@@ -1,5 +1,4 @@
-use Rattle.std.proofs.Common.{◌≡◌, List, subst}
-use Rattle.mc_heap.specs.Choices.{Choice}
+use Rattle.std.proofs.Common.{◌≡◌, subst}
 use Rattle.mc_heap.specs.Heap.{Heap}
 use Rattle.mc_tasks.specs.declared.work.Work.{Work}
 use Rattle.mc_waiting.specs.Requests.{an_input}
@@ -7,7 +6,7 @@ use Rattle.mc_values.specs.Asking.{ValueAsks}
 use Rattle.mc_run.specs.Steps.{IsStep}
 use Rattle.mc_resolved.specs.Steps.{compared, WithValue}
 use Rattle.mc_resolved.specs.Views.{expression_of}
-use Rattle.mc_tasks.specs.Going.{branches_of, tasks_of, values_of}
+use Rattle.mc_tasks.specs.Going.{branches_of, values_of}
 use Rattle.mc_run.specs.Models.{config_of, here_of}
 use Rattle.mc_run.proofs.Using.{then_faults, then_refused, value_then}
 use Rattle.mc_run.proofs.conditions.test_both.Goals as goal

@@ -5,7 +5,7 @@ use Rattle.mc_tasks.specs.declared.work.Work.{Work}
 use Rattle.mc_run.specs.Steps.{Comes}
 use Rattle.mc_resolved.specs.Steps.{compared}
 use Rattle.mc_resolved.specs.Views.{expression_of}
-use Rattle.mc_tasks.specs.Going.{branches_of, tasks_of, values_of}
+use Rattle.mc_tasks.specs.Going.{branches_of, values_of}
 use Rattle.mc_run.specs.Models.{config_of, here_of}
 use Rattle.mc_run.proofs.Using.{value_faults, value_refused, value_used}
 use Rattle.mc_run.proofs.conditions.test_right.Goals as goal

@@ -1,4 +1,4 @@
-use Rattle.std.proofs.Common.{◌≡◌, ◌-◌, ◌≤◌, length, arith}
+use Rattle.std.proofs.Common.{◌-◌, ◌≤◌, length, arith}
 use Rattle.mc_resolved.specs.Steps.{start}
 use Rattle.mc_resolved.specs.Views.{function_of}
 use Rattle.mc_run.specs.Models.{config_of, program_of}

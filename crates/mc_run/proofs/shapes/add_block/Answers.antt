@@ -1,4 +1,4 @@
-use Rattle.std.proofs.Common.{◌≡◌, ◌+◌, ap, Ok, refl, arith, rules}
+use Rattle.std.proofs.Common.{◌+◌, ap, Ok, arith, rules}
 use Rattle.mc_run.proofs.Filling.{added_first, added_last, written_next}
 use Rattle.mc_run.proofs.shapes.add_block.Goals as goal
 

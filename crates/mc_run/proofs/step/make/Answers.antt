@@ -1,6 +1,4 @@
-use Rattle.std.proofs.Common.{◌≡◌, List, refl}
-use Rattle.mc_heap.specs.Choices.{Choice}
-use Rattle.mc_resolved.specs.Configs.{Result, Tasks}
+use Rattle.std.proofs.Common.{refl}
 use Rattle.mc_resolved.specs.Views.{initial_of}
 use Rattle.mc_tasks.specs.Going.{tasks_of, values_of}
 use Rattle.mc_run.specs.declared.outcome.End.TheVariants as ends
