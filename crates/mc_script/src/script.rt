@@ -1,5 +1,5 @@
 // Asks a script for choices.
-ghost use Rattle.std.specs.Prelude.{◌≡◌, IfOk, map, option_map};
+ghost use Rattle.std.specs.Prelude.{◌≡◌, ◌<◌, ◌^◌, IfOk, length, map, option_map};
 ghost use Rattle.mc_cert.specs.Lines.{lines_of};
 ghost use Rattle.mc_script.specs.Models.{answered, block, choice};
 ghost use Rattle.mc_script.specs.Scripts.{Answers, IsAnswer, block_in, blocks_in, choice_in};
@@ -145,6 +145,20 @@ impl<'a> Script<'a> {
         ensures { result ≡ lines_of text.now }
     {
         Script { rest: text }
+    }
+
+    /// How many lines are left.
+    pub fn count(&self) -> usize
+        ensures count { result ≡ length self.now }
+        ensures small { result < 2 ^ 63 }
+    {
+        let mut count = 0;
+        let mut rest = self.rest;
+        while let Some((_, behind)) = first_line(rest) {
+            count += 1;
+            rest = behind;
+        }
+        count
     }
 
     /// What the next line answers, for a program with these structs.

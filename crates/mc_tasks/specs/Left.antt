@@ -14,6 +14,7 @@ use Rattle.mc_tasks.specs.declared.tasks.Task.{Task}
 
 abbrev pub target_of : TargetCode → Target
 target_of TargetCode.Nowhere = nowhere
+target_of (TargetCode.Variable x p) = stored (record { variable = x; fields = [] }) p
 target_of (TargetCode.Stored l p) = stored (left_of l.now) p
 target_of (TargetCode.Returned p) = returned p
 

@@ -6,8 +6,6 @@ mod laws;
 mod leading;
 mod next;
 mod tasks;
-#[cfg(test)]
-mod tests;
 mod values;
 mod work;
 

@@ -13,6 +13,8 @@ use mc_text::Place;
 #[derive(Clone, Copy)]
 pub enum Target<'a> {
     Nowhere,
+    /// Into a variable, by its declarator at the place.
+    Variable(usize, Place),
     /// Into a variable or a field, by a statement at the place.
     Stored(&'a LeftValue, Place),
     /// Back to the caller, by a `return` at the place.
@@ -100,6 +102,10 @@ pub fn push_result<'a>(
 {
     match target {
         Target::Nowhere => Ok(()),
+        Target::Variable(variable, place) => {
+            tasks.push(Task::TakeResult(Target::Variable(variable, place), value))?;
+            Ok(())
+        }
         Target::Stored(left_value, place) => {
             tasks.push(Task::TakeResult(Target::Stored(left_value, place), value))?;
             Ok(())

@@ -1,0 +1,14 @@
+pub mod Determined
+pub mod Alone
+pub mod Using
+pub mod Passing
+pub mod Changing
+pub mod Allocating
+pub mod Deciding
+pub mod Assuming
+pub mod Blocks
+pub mod Filling
+pub mod Leaving
+pub mod Making
+pub mod NotEnded
+pub mod Going

@@ -1,0 +1,38 @@
+use Rattle.std.proofs.Common.{◌≡◌, ◌∙◌, sym, refl, Err}
+use Rattle.mc_resolved.specs.Steps.{after}
+use Rattle.mc_resolved.specs.Values.{combined}
+use Rattle.mc_resolved.specs.Views.{expression_of, left_of}
+use Rattle.mc_values.specs.Models.{operation_of}
+use Rattle.mc_tasks.specs.Going.{tasks_of, values_of}
+use Rattle.mc_run.specs.Models.{config_of, here_of}
+use Rattle.mc_run.proofs.Changing.{same_config, value_changes}
+use Rattle.mc_run.proofs.Using.{value_faults, value_refused}
+use Rattle.mc_run.proofs.assigning.combine.Goals as goal
+
+pub returns-in-Ok : goal.returns-in-Ok
+returns-in-Ok c =
+    let same = rw c.values.ensures at c.in-Ok.ensures in
+    let answer = rw c.in-Value.is at c.in_ok-value.ensures.answer in
+    let before = c.args.machine.now in
+    let between = c.evaluate.new.self in
+    value_changes c.args.program.structs.now (tasks_of before.work) (tasks_of between.work) (tasks_of c.assign.new.machine.work) (values_of before.work) (values_of between.work) (values_of c.assign.new.machine.work)
+    before.heap between.heap c.assign.new.machine.heap (expression_of c.args.right.now) c.args.place (λ values heap v. combined (operation_of c.args.operation) values heap (left_of c.args.left.now) v) c.in-Value.value c.settled.result c.assign.result c.args.script.now c.evaluate.new.script answer (same_config between.work before.work between.heap before.heap c.in_ok-value.ensures.work c.in_ok-value.ensures.heap) c.settled.ensures c.assign.ensures.tasks (c.assign.ensures.change ∙ sym same)
+
+pub returns-in-Err : goal.returns-in-Err
+returns-in-Err c =
+    let same = rw c.values.ensures at c.in-Err.ensures in
+    let answer = rw c.in-Value.is at c.in_ok-value.ensures.answer in
+    let before = c.args.machine.now in
+    let between = c.evaluate.new.self in
+    value_changes c.args.program.structs.now (tasks_of before.work) (tasks_of between.work) (tasks_of c.evaluate.new.self.work) (values_of before.work) (values_of between.work) (values_of c.evaluate.new.self.work)
+    before.heap between.heap c.evaluate.new.self.heap (expression_of c.args.right.now) c.args.place (λ values heap v. combined (operation_of c.args.operation) values heap (left_of c.args.left.now) v) c.in-Value.value _ (Err c.in-Err.kind) c.args.script.now c.evaluate.new.script answer (same_config between.work before.work between.heap before.heap c.in_ok-value.ensures.work c.in_ok-value.ensures.heap) refl refl (sym same)
+
+pub returns-in-Fault : goal.returns-in-Fault
+returns-in-Fault c =
+    let answer = rw c.in-Fault.is at c.in_ok-value.ensures.answer in
+    value_faults c.args.program.structs.now (here_of c.args.machine.now) (expression_of c.args.right.now) c.args.place (λ v left other. other ≡ after (tasks_of c.args.machine.now.work) c.args.place left (combined (operation_of c.args.operation) (here_of c.args.machine.now).values (here_of c.args.machine.now).heap (left_of c.args.left.now) v)) c.in-Fault.kind (config_of c.evaluate.new.self) c.args.script.now c.evaluate.new.script answer
+
+pub returns-in-Unanswered : goal.returns-in-Unanswered
+returns-in-Unanswered c =
+    let answer = rw c.in-Unanswered.is at c.in_ok-value.ensures.answer in
+    value_refused c.args.program.structs.now (here_of c.args.machine.now) (expression_of c.args.right.now) c.args.place (λ v left other. other ≡ after (tasks_of c.args.machine.now.work) c.args.place left (combined (operation_of c.args.operation) (here_of c.args.machine.now).values (here_of c.args.machine.now).heap (left_of c.args.left.now) v)) c.in-Unanswered.why (config_of c.evaluate.new.self) c.args.script.now c.evaluate.new.script answer

@@ -1,0 +1,35 @@
+use Rattle.std.proofs.Common.{◌≡◌, subst}
+use Rattle.mc_heap.specs.Heap.{Heap}
+use Rattle.mc_tasks.specs.declared.work.Work.{Work}
+use Rattle.mc_waiting.specs.Requests.{an_input}
+use Rattle.mc_values.specs.Asking.{ValueAsks}
+use Rattle.mc_run.specs.Steps.{IsStep}
+use Rattle.mc_resolved.specs.Steps.{compared, WithValue}
+use Rattle.mc_resolved.specs.Views.{expression_of}
+use Rattle.mc_tasks.specs.Going.{branches_of, values_of}
+use Rattle.mc_run.specs.Models.{config_of, here_of}
+use Rattle.mc_run.proofs.Using.{then_faults, then_refused, value_then}
+use Rattle.mc_run.proofs.conditions.test_both.Goals as goal
+
+pub returns-in_ok-stepped-in-Value : goal.returns-in_ok-stepped-in-Value
+returns-in_ok-stepped-in-Value c =
+    let answer = rw c.in-Value.is at c.in_ok-value.ensures.answer in
+    let structs = c.args.program.structs.now in
+    value_then structs (here_of c.args.machine.now) (expression_of c.args.first.now) c.args.place (λ v left other. WithValue (here_of c.args.machine.now) (expression_of c.args.second.now) c.args.place left (λ w more ends. ends ≡ compared (here_of c.args.machine.now) c.args.mark (branches_of c.args.machine.now.work).0 (branches_of c.args.machine.now.work).1 c.args.place v w more) other) (λ choices left. ValueAsks (values_of c.args.machine.now.work) c.args.machine.now.heap (expression_of c.args.second.now) choices left)
+    c.in-Value.value c.in_ok-stepped-in-Value.stepped (config_of c.test_right.new.machine) c.args.script.now c.evaluate.new.script c.test_right.new.script answer (
+    let P : Work → Heap → Type 0 = λ w heap. IsStep structs
+    (λ choices r. WithValue (record { values = values_of w; heap = heap }) (expression_of c.args.second.now) c.args.place choices (λ v left other. other ≡ compared (record { values = values_of w; heap = heap }) c.args.mark (branches_of w).0 (branches_of w).1 c.args.place c.in-Value.value v left) r)
+    (λ choices request left. (request ≡ an_input) × ValueAsks (values_of w) heap (expression_of c.args.second.now) choices left) c.evaluate.new.script c.in_ok-stepped-in-Value.stepped (config_of c.test_right.new.machine) c.test_right.new.script in
+    let moved : P c.evaluate.new.self.work c.evaluate.new.self.heap = c.in_ok-stepped-in-Value.ensures in
+    subst (λ (heap : Heap). P c.args.machine.now.work heap) c.in_ok-value.ensures.heap (subst (λ (w : Work). P w c.evaluate.new.self.heap) c.in_ok-value.ensures.work moved)
+    )
+
+pub returns-in-Fault : goal.returns-in-Fault
+returns-in-Fault c =
+    let answer = rw c.in-Fault.is at c.in_ok-value.ensures.answer in
+    then_faults c.args.program.structs.now (here_of c.args.machine.now) (expression_of c.args.first.now) c.args.place (λ v left other. WithValue (here_of c.args.machine.now) (expression_of c.args.second.now) c.args.place left (λ w more ends. ends ≡ compared (here_of c.args.machine.now) c.args.mark (branches_of c.args.machine.now.work).0 (branches_of c.args.machine.now.work).1 c.args.place v w more) other) (λ choices left. ValueAsks (values_of c.args.machine.now.work) c.args.machine.now.heap (expression_of c.args.second.now) choices left) c.in-Fault.kind (config_of c.evaluate.new.self) c.args.script.now c.evaluate.new.script answer
+
+pub returns-in-Unanswered : goal.returns-in-Unanswered
+returns-in-Unanswered c =
+    let answer = rw c.in-Unanswered.is at c.in_ok-value.ensures.answer in
+    then_refused c.args.program.structs.now (here_of c.args.machine.now) (expression_of c.args.first.now) c.args.place (λ v left other. WithValue (here_of c.args.machine.now) (expression_of c.args.second.now) c.args.place left (λ w more ends. ends ≡ compared (here_of c.args.machine.now) c.args.mark (branches_of c.args.machine.now.work).0 (branches_of c.args.machine.now.work).1 c.args.place v w more) other) (λ choices left. ValueAsks (values_of c.args.machine.now.work) c.args.machine.now.heap (expression_of c.args.second.now) choices left) c.in-Unanswered.why (config_of c.evaluate.new.self) c.args.script.now c.evaluate.new.script answer

@@ -1,0 +1,28 @@
+use Rattle.std.proofs.Common.{◌≡◌, List, subst}
+use Rattle.mc_heap.specs.Choices.{Choice}
+use Rattle.mc_heap.specs.Heap.{Heap}
+use Rattle.mc_tasks.specs.declared.work.Work.{Work}
+use Rattle.mc_run.specs.Steps.{Comes}
+use Rattle.mc_resolved.specs.Steps.{compared}
+use Rattle.mc_resolved.specs.Views.{expression_of}
+use Rattle.mc_tasks.specs.Going.{branches_of, values_of}
+use Rattle.mc_run.specs.Models.{config_of, here_of}
+use Rattle.mc_run.proofs.Using.{value_faults, value_refused, value_used}
+use Rattle.mc_run.proofs.conditions.test_right.Goals as goal
+
+pub returns-in_ok-stepped-in-Value : goal.returns-in_ok-stepped-in-Value
+returns-in_ok-stepped-in-Value c =
+    let answer = rw c.in-Value.is at c.in_ok-value.ensures.answer in
+    value_used c.args.program.structs.now (here_of c.args.machine.now) (expression_of c.args.second.now) c.args.place (λ v left other. other ≡ compared (here_of c.args.machine.now) c.args.mark (branches_of c.args.machine.now.work).0 (branches_of c.args.machine.now.work).1 c.args.place c.args.first v left) c.in-Value.value c.in_ok-stepped-in-Value.stepped (config_of c.decide.new.machine) c.args.script.now c.evaluate.new.script answer (let P : Work → Heap → Type 0 = λ w heap. (choices : List Choice) → Comes c.in_ok-stepped-in-Value.stepped (config_of c.decide.new.machine) choices (λ r. r ≡ compared (record { values = values_of w; heap = heap }) c.args.mark (branches_of w).0 (branches_of w).1 c.args.place c.args.first c.in-Value.value choices) in
+    let moved : P c.evaluate.new.self.work c.evaluate.new.self.heap = c.in_ok-stepped-in-Value.ensures in
+    subst (λ (heap : Heap). P c.args.machine.now.work heap) c.in_ok-value.ensures.heap (subst (λ (w : Work). P w c.evaluate.new.self.heap) c.in_ok-value.ensures.work moved))
+
+pub returns-in-Fault : goal.returns-in-Fault
+returns-in-Fault c =
+    let answer = rw c.in-Fault.is at c.in_ok-value.ensures.answer in
+    value_faults c.args.program.structs.now (here_of c.args.machine.now) (expression_of c.args.second.now) c.args.place (λ v left other. other ≡ compared (here_of c.args.machine.now) c.args.mark (branches_of c.args.machine.now.work).0 (branches_of c.args.machine.now.work).1 c.args.place c.args.first v left) c.in-Fault.kind (config_of c.evaluate.new.self) c.args.script.now c.evaluate.new.script answer
+
+pub returns-in-Unanswered : goal.returns-in-Unanswered
+returns-in-Unanswered c =
+    let answer = rw c.in-Unanswered.is at c.in_ok-value.ensures.answer in
+    value_refused c.args.program.structs.now (here_of c.args.machine.now) (expression_of c.args.second.now) c.args.place (λ v left other. other ≡ compared (here_of c.args.machine.now) c.args.mark (branches_of c.args.machine.now.work).0 (branches_of c.args.machine.now.work).1 c.args.place c.args.first v left) c.in-Unanswered.why (config_of c.evaluate.new.self) c.args.script.now c.evaluate.new.script answer

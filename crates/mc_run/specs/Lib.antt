@@ -1,0 +1,5 @@
+pub mod Asking
+pub mod Models
+pub mod Steps
+pub mod Adding
+pub mod Runs
