@@ -1,9 +1,11 @@
 // Programs are read from their texts, and run.
 use mc_base::NoMemory;
 use mc_defread::read_defs;
+use mc_defs::Defs;
 use mc_lex::MAX_BYTES;
 use mc_read::read;
 use mc_resolve::resolve;
+use mc_resolved::Resolved;
 use mc_run::{Outcome, Program, run};
 use mc_script::{NamedStructs, Script, struct_texts};
 use mc_typed::{Bound, bind};
@@ -37,6 +39,32 @@ fn bound(alloc: Global, program: &[u8], definitions: &[u8]) -> Option<Bound> {
     }
 }
 
+// What a resolved program comes to.
+fn outcome_with(
+    alloc: Global,
+    resolved: &Resolved,
+    defs: &Defs,
+    structs: &NamedStructs<'_>,
+    script: &str,
+    fuel: u64,
+) -> Result<Outcome, NoMemory> {
+    let program = Program {
+        resolved,
+        defs,
+        structs,
+    };
+    run(alloc, program, &mut Script::of(script.as_bytes()), fuel)
+}
+
+// What a program comes to.
+fn outcome_of(alloc: Global, bound: &Bound, script: &str, fuel: u64) -> Result<Outcome, NoMemory> {
+    let resolved = resolve(alloc, bound)?;
+    let infos = bound.typed().structs().list.as_slice();
+    let texts = struct_texts(alloc, infos)?;
+    let structs = NamedStructs::of(alloc, infos, texts.as_slice())?;
+    outcome_with(alloc, &resolved, bound.defs(), &structs, script, fuel)
+}
+
 /// What the program of a text comes to, with the definitions of lists. None where it is refused.
 pub fn comes_to(
     alloc: Global,
@@ -44,20 +72,10 @@ pub fn comes_to(
     script: &str,
     fuel: u64,
 ) -> Result<Option<Outcome>, NoMemory> {
-    let Some(bound) = bound(alloc, text, LISTS.as_bytes()) else {
-        return Ok(None);
-    };
-    let resolved = resolve(alloc, &bound)?;
-    let infos = bound.typed().structs().list.as_slice();
-    let texts = struct_texts(alloc, infos)?;
-    let structs = NamedStructs::of(alloc, infos, texts.as_slice())?;
-    let program = Program {
-        resolved: &resolved,
-        defs: bound.defs(),
-        structs: &structs,
-    };
-    let outcome = run(alloc, program, &mut Script::of(script.as_bytes()), fuel)?;
-    Ok(Some(outcome))
+    match bound(alloc, text, LISTS.as_bytes()) {
+        Some(bound) => Ok(Some(outcome_of(alloc, &bound, script, fuel)?)),
+        None => Ok(None),
+    }
 }
 
 /// More fuel than a program here needs that comes to its end.
