@@ -239,11 +239,7 @@ fn check_program<F: Files>(
 }
 
 /// Checks the document that a command names.
-pub fn answer<F: Files>(
-    alloc: Global,
-    files: &mut F,
-    names: Check<'_>,
-) -> Result<Answer, FileFault>
+pub fn answer<F: Files>(alloc: Global, files: &mut F, names: Check<'_>) -> Result<Answer, FileFault>
     ensures why { IfOk result (λ a. IsWhy (F.holds files.old) names.entry a) }
     ensures safe { IfOk result (λ a. a ≡ Answer.Good → IsSafeWhereTold (F.holds files.old) names.entry) }
     ensures same { Stays (F.holds files.old) (F.holds files.new) }

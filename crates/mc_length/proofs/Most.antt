@@ -83,10 +83,10 @@ one_only {g = g} {out = out} {x = x} {made = made} (creates {k = k} owned info) 
       only = λ i y is within. elim (cases_lt i k) [
         | inl old ↦ Contains-append_left made (x ∷ []) y (m.only i y is old)
         | inr new ↦
-          let here : i ≡ k = omega (arith, new, within) in
-          let there : slice_get g.owners i ≡ Some (local out x) = ap (λ z. slice_get g.owners z) here ∙ owned in
-          let same : x ≡ y = ap number_in (same_Some (local out x) (local out y) (sym there ∙ is)) in
-          subst (λ z. Contains (made ++ x ∷ []) z) same (Contains-push made x)
+            let here : i ≡ k = omega (arith, new, within) in
+            let there : slice_get g.owners i ≡ Some (local out x) = ap (λ z. slice_get g.owners z) here ∙ owned in
+            let same : x ≡ y = ap number_in (same_Some (local out x) (local out y) (sym there ∙ is)) in
+            subst (λ z. Contains (made ++ x ∷ []) z) same (Contains-push made x)
       ];
     }
 
@@ -135,10 +135,10 @@ received_only {g = g} {out = out} {x = x} (receives is (creates {k = k} owned in
     elim (cases_lt k i) [
       | inl later ↦ let less = received_only rest i y there (omega (arith, later)) high in omega (arith, less)
       | inr now ↦
-        let here : i ≡ k = omega (arith, low, now) in
-        let first : slice_get g.owners i ≡ Some (local out x) = ap (λ z. slice_get g.owners z) here ∙ owned in
-        let same : x ≡ y = ap number_in (same_Some (local out x) (local out y) (sym first ∙ there)) in
-        omega (arith, same)
+          let here : i ≡ k = omega (arith, low, now) in
+          let first : slice_get g.owners i ≡ Some (local out x) = ap (λ z. slice_get g.owners z) here ∙ owned in
+          let same : x ≡ y = ap number_in (same_Some (local out x) (local out y) (sym first ∙ there)) in
+          omega (arith, same)
     ]
 
 -- where a body begins, only the parameters are made
@@ -199,9 +199,9 @@ mutual
       let same : length ts ≡ all_operations c.arguments = omega (arith, x.temporaries) in
       let clear : clearing (length ts) ≡ clearing (all_operations c.arguments) = ap clearing same in
       λ few.
-        let entry = (right c.function f is).most (omega (arith, few)) in
-        let y = i.points (omega (arith, few, entry)) in
-        omega (arith, few, a.points, x.points, b.operands, d.points, e.points, w.points, y, entry, clear, end.0)
+      let entry = (right c.function f is).most (omega (arith, few)) in
+      let y = i.points (omega (arith, few, entry)) in
+      omega (arith, few, a.points, x.points, b.operands, d.points, e.points, w.points, y, entry, clear, end.0)
 
   performed : {g : Graph} {at : ℕ} {place : Place} {action : Action} {s u : Stage} (table : List ℕ) → IsTable table g.program.functions → Performs g at place action s u
       → IsFree g (points_of s) (points_of u) (variables_of s) → AtMost (acting table action) s u

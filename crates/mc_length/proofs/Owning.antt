@@ -69,9 +69,9 @@ made_local {g = g} {out = out} {y = y} (creates {k = k} owned info) =
       points = omega arith;
       variables = omega arith;
       owned = λ i o x is low high.
-        let here : i ≡ k = omega (arith, low, high) in
-        let there : slice_get g.owners i ≡ Some (local out y) = ap (λ z. slice_get g.owners z) here ∙ owned in
-        inl (ap out_in (same_Some (local o x) (local out y) (sym is ∙ there)));
+          let here : i ≡ k = omega (arith, low, high) in
+          let there : slice_get g.owners i ≡ Some (local out y) = ap (λ z. slice_get g.owners z) here ∙ owned in
+          inl (ap out_in (same_Some (local o x) (local out y) (sym is ∙ there)));
     }
 
 pub appended : {g : Graph} {out : ℕ} {role : Role} {place : Place} {code : PointId → Instr} {s u : Stage} → Appends g role place code s u → Owns g out s u
@@ -90,9 +90,9 @@ made_other {g = g} {owner = owner} other (creates {k = k} owned info) =
       points = omega arith;
       variables = omega arith;
       owned = λ i o x is low high.
-        let here : i ≡ k = omega (arith, low, high) in
-        let there : slice_get g.owners i ≡ Some owner = ap (λ z. slice_get g.owners z) here ∙ owned in
-        absurd (other o x (same_Some owner (local o x) (sym there ∙ is)));
+          let here : i ≡ k = omega (arith, low, high) in
+          let there : slice_get g.owners i ≡ Some owner = ap (λ z. slice_get g.owners z) here ∙ owned in
+          absurd (other o x (same_Some owner (local o x) (sym there ∙ is)));
     }
 
 pub used : {g : Graph} {out j : ℕ} {kind : Kind} {s u : Stage} {v : VarId} → Uses g j kind s v u → Owns g out s u

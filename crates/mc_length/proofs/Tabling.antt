@@ -31,9 +31,9 @@ right_to table functions n m f next there is all = λ i x less at.
     elim (Rattle.std.proofs.lemmas.Bool.cases_lt i n) [
       | inl early ↦ all i x early at
       | inr late ↦
-        let here : n ≡ i = omega (arith, late, less, next) in
-        let same : f ≡ x = same_Some f x (sym there ∙ ap (λ j. slice_get functions j) here ∙ at) in
-        subst (λ j. IsSoMany (slice_index table j) (calling_rest table (function_of x))) here (subst (λ z. IsSoMany (slice_index table n) (calling_rest table (function_of z))) same is)
+          let here : n ≡ i = omega (arith, late, less, next) in
+          let same : f ≡ x = same_Some f x (sym there ∙ ap (λ j. slice_get functions j) here ∙ at) in
+          subst (λ j. IsSoMany (slice_index table j) (calling_rest table (function_of x))) here (subst (λ z. IsSoMany (slice_index table n) (calling_rest table (function_of z))) same is)
     ]
 
 pub falls_in_main : (f : Function) → IsMain f → IsFalling f 1

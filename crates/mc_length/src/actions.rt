@@ -185,11 +185,7 @@ pub fn initializing(alloc: Global, table: &[usize], item: &Initial) -> Result<us
 }
 
 /// The points of the last part of a `for`.
-pub fn finishing(
-    alloc: Global,
-    table: &[usize],
-    last: Option<&Simple>,
-) -> Result<usize, NoMemory>
+pub fn finishing(alloc: Global, table: &[usize], last: Option<&Simple>) -> Result<usize, NoMemory>
     ensures { IfOk result (λ n. n ≡ finishing table.now (option_map (λ s. simple_of s.now) last.entry)) }
 {
     match last {

@@ -10,7 +10,9 @@ ghost use Rattle.mc_resolved.specs.Views.{action_of, condition_of, expression_of
 use crate::actions::{acting, finishing, initializing, returning, testing_perhaps};
 use crate::values::{clearing, operations, sum, testing};
 use mc_base::NoMemory;
-use mc_resolved::{Condition, Expression, ForHead, ForStart, Initial, RightSide, Simple, Statement};
+use mc_resolved::{
+    Condition, Expression, ForHead, ForStart, Initial, RightSide, Simple, Statement,
+};
 use mc_stack::Stack;
 use std::alloc::{AllocError, Global};
 use std::mem;
@@ -378,11 +380,7 @@ impl<'a> Counter<'a> {
     }
 
     // What is next.
-    fn step(
-        &mut self,
-        tasks: &mut Stack<Waiting<'a>>,
-        task: Waiting<'a>,
-    ) -> Result<(), NoMemory>
+    fn step(&mut self, tasks: &mut Stack<Waiting<'a>>, task: Waiting<'a>) -> Result<(), NoMemory>
         ensures { OnOk result (total self.new tasks.new ≡ total self.old (task.entry ∷ tasks.old)) }
     {
         match task {

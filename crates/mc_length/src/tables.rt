@@ -29,11 +29,7 @@ fn awaiting(kind: Option<Kind>) -> usize
 }
 
 // What a call of a function comes to, but for its arguments.
-fn calling_rest(
-    alloc: Global,
-    table: &[usize],
-    function: &Function,
-) -> Result<usize, NoMemory>
+fn calling_rest(alloc: Global, table: &[usize], function: &Function) -> Result<usize, NoMemory>
     ensures { IfOk result (λ n. n ≡ calling_rest table.now (function_of function.now)) }
 {
     let body = body_points(alloc, table, function.parameters, function.body.as_slice())?;
@@ -58,11 +54,7 @@ fn refine_one(
 }
 
 // Each entry of the table is what the table makes it, from the first to the last one.
-fn refine(
-    alloc: Global,
-    functions: &[Function],
-    table: &mut Vec<usize>,
-) -> Result<(), NoMemory> {
+fn refine(alloc: Global, functions: &[Function], table: &mut Vec<usize>) -> Result<(), NoMemory> {
     for number in 0..functions.len() {
         refine_one(alloc, functions, table, number)?;
     }
@@ -135,7 +127,12 @@ pub fn length(alloc: Global, program: &Resolved) -> Result<usize, NoMemory>
         return Ok(0);
     };
     let table = table_of(alloc, program.functions.as_slice())?;
-    let body = body_points(alloc, table.as_slice(), entry.parameters, entry.body.as_slice())?;
+    let body = body_points(
+        alloc,
+        table.as_slice(),
+        entry.parameters,
+        entry.body.as_slice(),
+    )?;
     let count = sum(body, 2 + falling(entry))?;
     Ok(count)
 }

@@ -60,10 +60,7 @@ fn push_parts<'e>(
 }
 
 // The points of an expression but for those of its parts, which are next.
-fn take_apart<'e>(
-    whole: &'e Expression,
-    work: &mut Stack<Part<'e>>,
-) -> Result<usize, NoMemory>
+fn take_apart<'e>(whole: &'e Expression, work: &mut Stack<Part<'e>>) -> Result<usize, NoMemory>
     ensures { IfOk result (λ n. n + parts_left work.new ≡ operations (expression_of whole.now) + parts_left work.old) }
 {
     match whole {

@@ -10,7 +10,7 @@ ghost use Rattle.mc_resolved.specs.Views.{expression_of, left_of, right_of};
 ghost use Rattle.mc_lower.specs.Valued.{Frees, PutsField, joined, target_of};
 ghost use Rattle.mc_lower.specs.Worlds.{Agrees, Leads, World, stage_of};
 
-use crate::builder::{ABSENT, Builder, BuildFault, Role};
+use crate::builder::{ABSENT, BuildFault, Builder, Role};
 use crate::values::{How, Operation, Site, Target, Value};
 use mc_base::{Kind, StructId, VarId};
 use mc_flow::{Instr, Operand};

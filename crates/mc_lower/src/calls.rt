@@ -8,7 +8,7 @@ ghost use Rattle.mc_lower.specs.Left.{AnswersResult, Begins, DeclaresFirst, Ends
 ghost use Rattle.mc_lower.specs.Valued.{target_of};
 ghost use Rattle.mc_lower.specs.Worlds.{Agrees, GoesTo, Leads, World, stage_of};
 
-use crate::builder::{ABSENT, Builder, BuildFault, Owner};
+use crate::builder::{ABSENT, BuildFault, Builder, Owner};
 use crate::tasks::{Context, Task, push};
 use crate::values::{How, Site, Target};
 use mc_base::VarId;

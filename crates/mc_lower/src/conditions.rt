@@ -7,7 +7,7 @@ ghost use Rattle.mc_resolved.specs.Views.{condition_of, expression_of};
 ghost use Rattle.mc_lower.specs.Valued.{Testing, TestsOn, TestsPerhapsOn, TestsTo};
 ghost use Rattle.mc_lower.specs.Worlds.{Agrees, Leads, World, stage_of};
 
-use crate::builder::{Builder, Label, BuildFault, Role};
+use crate::builder::{BuildFault, Builder, Label, Role};
 use crate::values::{Site, nothing};
 use mc_ast::Comparison;
 use mc_base::VarId;

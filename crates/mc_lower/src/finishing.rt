@@ -6,7 +6,7 @@ ghost use Rattle.mc_lower.specs.Finished.{AreApart, AreConstants, AreOnce, AreSe
 ghost use Rattle.mc_lower.specs.Worlds.{AllAt, IsMarked, point_in, role_of, settled, target as point_of_target};
 
 use crate::builder::{
-    ABSENT, Builder, Draft, Label, BuildFault, MAX_POINTS, Mark, Opened, Role, Variable,
+    ABSENT, BuildFault, Builder, Draft, Label, MAX_POINTS, Mark, Opened, Role, Variable,
 };
 use crate::lowering::Lowered;
 use crate::owners::find;

@@ -6,7 +6,7 @@ ghost use Rattle.mc_resolved.specs.Views.{function_of};
 ghost use Rattle.mc_lower.specs.Owned.{CreatesLocal, Forgets, IsFirst, IsLocalOf};
 ghost use Rattle.mc_lower.specs.Worlds.{Agrees, Leads, World, blocks_in, owner_of, stage_of};
 
-use crate::builder::{ABSENT, Builder, BuildFault, Owner, Variable};
+use crate::builder::{ABSENT, BuildFault, Builder, Owner, Variable};
 use mc_base::{Items, Kind, VarId, VarInfo};
 use mc_resolved::{Function, Local};
 use mc_text::Place;

@@ -8,7 +8,7 @@ ghost use Rattle.mc_resolved.specs.Views.{argument_of, condition_of, function_of
 ghost use Rattle.mc_lower.specs.Left.{Begins, Checks, EndsDo, EndsFor, EntersFor, ExitsTo, HasParts, IsBehind, IsCommand, Merges, Met, Otherwise, TurnsFor, around_of};
 ghost use Rattle.mc_lower.specs.Worlds.{Agrees, Leads, World, role_of, settled, stage_of};
 
-use crate::builder::{ABSENT, Builder, Label, BuildFault, NOWHERE, Role};
+use crate::builder::{ABSENT, BuildFault, Builder, Label, NOWHERE, Role};
 use crate::conditions::Ways;
 use crate::tasks::{Context, Task, Turns, push};
 use crate::values::Site;

@@ -1,7 +1,7 @@
 // What is still to be lowered, and where it stands.
 ghost use Rattle.std.specs.Prelude.{None, Some, ◌≡◌, ◌∷◌, OnOk};
 
-use crate::builder::{Label, BuildFault};
+use crate::builder::{BuildFault, Label};
 use crate::values::Target;
 use mc_base::VarId;
 use mc_resolved::{Condition, ForHead, Function, Initial, Simple, Statement};

@@ -14,7 +14,7 @@ ghost use Rattle.mc_lower.specs.Valued.{Finishes, IsOperand, IsValue, JoinsParts
 ghost use Rattle.mc_lower.specs.Worlds.{Agrees, Leads, World, stage_of};
 ghost use Rattle.mc_lower.specs.declared.values.Work.TheVariants.{Join, Whole};
 
-use crate::builder::{ABSENT, Builder, BuildFault, Role};
+use crate::builder::{ABSENT, BuildFault, Builder, Role};
 use mc_base::{Kind, PointId, StructId, VarId};
 use mc_defs::Structs;
 use mc_flow::{Instr, Operand};

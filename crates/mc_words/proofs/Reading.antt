@@ -30,9 +30,9 @@ pub fuel_read : (E : Type 0) (Gives : List ℕ → Result ℕ E → Type 0) (f :
     → MatchOption r ((n : ℕ) → ReadsFuel words n → ⊥) (ReadsFuel words)
 fuel_read E Gives f words None rows none value parses =
     λ n reads.
-        let read = value reads.0 (same_text f run_app words (codes "fuel") rows ∙ reads.1) in
-        let failed = parses reads.0 (Err read.0) read.1 in
-        failed reads.2.0
+    let read = value reads.0 (same_text f run_app words (codes "fuel") rows ∙ reads.1) in
+    let failed = parses reads.0 (Err read.0) read.1 in
+    failed reads.2.0
 fuel_read E Gives f words (Some n) rows none value parses = at (one_text f (codes "fuel")) refl
   where
     at : (t : Option (List ℕ)) → one_text f (codes "fuel") ≡ t → ReadsFuel words n

@@ -6,4 +6,4 @@ mod commands;
 mod tests;
 mod words;
 
-pub use words::{Request, Check, Run, asked};
+pub use words::{Check, Request, Run, asked};

@@ -10,7 +10,11 @@ fn owned(alloc: Global, words: &[&str]) -> Result<Vec<String>, AllocError> {
     Ok(list)
 }
 
-fn is_asked(alloc: Global, words: &[&str], wanted: Option<Request<'_>>) -> Result<bool, AllocError> {
+fn is_asked(
+    alloc: Global,
+    words: &[&str],
+    wanted: Option<Request<'_>>,
+) -> Result<bool, AllocError> {
     let words = owned(alloc, words)?;
     Ok(asked(alloc, words.as_slice())? == wanted)
 }
@@ -52,7 +56,13 @@ fn check_has_an_entry(rt: HostRuntime) -> Result<(), Fail> {
         document: "c",
         start: "f",
     });
-    assert!(rt; is_asked(alloc, &["check", "p", "d", "c", "--entry", "f"], Some(wanted))?);
+    assert!(rt;
+        is_asked(
+            alloc,
+            &["check", "p", "d", "c", "--entry", "f"],
+            Some(wanted)
+        )?
+    );
     assert!(rt; is_asked(alloc, &["check", "--entry=f", "p", "d", "c"], Some(wanted))?);
     assert!(rt; is_refused(alloc, &["check", "p", "d", "c", "--entry"])?);
     Ok(())
@@ -81,9 +91,18 @@ fn first_word_is_a_command(rt: HostRuntime) -> Result<(), Fail> {
 #[test]
 fn run_has_fuel(rt: HostRuntime) -> Result<(), Fail> {
     let alloc = rt.alloc();
-    let wanted = Request::Run(Run { fuel: 10_000_000, ..RUN });
+    let wanted = Request::Run(Run {
+        fuel: 10_000_000,
+        ..RUN
+    });
     assert!(rt; is_asked(alloc, &["run", "p", "d", "s"], Some(Request::Run(RUN)))?);
-    assert!(rt; is_asked(alloc, &["run", "p", "d", "s", "--fuel", "10000000"], Some(wanted))?);
+    assert!(rt;
+        is_asked(
+            alloc,
+            &["run", "p", "d", "s", "--fuel", "10000000"],
+            Some(wanted)
+        )?
+    );
     assert!(rt; is_refused(alloc, &["run", "p", "d", "s", "--fuel", "10000001"])?);
     assert!(rt; is_refused(alloc, &["run", "p", "d", "s", "--fuel", "0"])?);
     assert!(rt; is_refused(alloc, &["run", "p", "d", "s", "--fuel", "many"])?);

@@ -27,8 +27,7 @@ loop-at-preserved g c =
 pub returns-then-n-eq0-clause-heard : goal.returns-then-n-eq0-clause-heard
 returns-then-n-eq0-clause-heard g c =
     let before = c.loop-at.invariant.heard in
-    let more = c.in_ok-n.ensures.heard in
-    (
+    let more = c.in_ok-n.ensures.heard in (
       before.0 ++ more.0,
       heard_more before.0 more.0 c.loop-at.judge c.next_heard.new.judge c.next_heard.ensures.same_judge before.1 more.2,
       λ bytes h e.

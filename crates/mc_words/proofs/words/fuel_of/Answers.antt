@@ -15,4 +15,4 @@ parses bs r g = g.0
 pub returns : goal.returns
 returns c =
     λ words rows.
-        fuel_read _ Gives (found_of c.args.found.now) words c.get_one.result rows c.get_one.ensures.none c.get_one.ensures.value (λ bs r g. parses bs r g)
+    fuel_read _ Gives (found_of c.args.found.now) words c.get_one.result rows c.get_one.ensures.none c.get_one.ensures.value (λ bs r g. parses bs r g)
