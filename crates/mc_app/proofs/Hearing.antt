@@ -5,13 +5,16 @@ use Rattle.mc_cert.specs.Lines.{lines_of}
 use Rattle.mc_defs.specs.declared.rules.Def.{Def}
 use Rattle.mc_flow.specs.declared.graph.Flow.{Flow}
 use Rattle.mc_judge.specs.declared.judge.Judge.{Judge}
+use Rattle.mc_flow.specs.Valid.{IsValid}
 use Rattle.mc_judge.specs.declared.verdict.Verdict.{Verdict}
+use Rattle.mc_judge.specs.declared.verdict.Verdict.TheVariants.{Safe, Alarms, Refused}
 use Rattle.mc_judge.specs.Stages.{HasHeard, Hears, StaysFor}
 use Rattle.mc_judge.specs.Verdicts.{IsVerdict, Tells}
+use Rattle.mc_kernel.specs.Certificates.{CertificateIsSafe, LastPassFindsFaults}
 use Rattle.mc_kernel.specs.Judges.{Knowledge}
 use Rattle.mc_reading.specs.Documents.{IsJudge}
 use Rattle.mc_state.specs.declared.raw_state.RawState.{RawState}
-use Rattle.mc_app.specs.Documents.{IsHeard, IsRightVerdict}
+use Rattle.mc_app.specs.Documents.{IsHeard, IsRightVerdict, MeansForRuns}
 
 -- who judges rightly for one judge does so for another of the same flow graph and definitions
 judges_too : (k : Knowledge) (well : RawState → Bool) (f g : Flow) (ds es : List Def) → f ≡ g → ds ≡ es → IsJudge k well f ds → IsJudge k well g es
@@ -64,3 +67,15 @@ pub front_length : (n : ℕ) (xs ys : List ℕ) → n ≤ length xs → length (
 front_length zero xs ys h = refl
 front_length (suc n) [] ys h = absurd (omega arith)
 front_length (suc n) (x ∷ xs) ys h = ap suc (front_length n xs ys (omega arith))
+
+-- ---- what verdicts mean
+
+pub means : CertificateIsSafe → LastPassFindsFaults → (flow : Flow) (defs : List Def) → IsValid flow defs → (text : List ℕ) (v : Verdict) → Tells flow defs text v → MeansForRuns flow defs v
+means safe faults flow defs valid text Safe told =
+    let certificate = told.safe.0 refl in
+    safe flow defs certificate.lines valid certificate.valid
+means safe faults flow defs valid text (Alarms count) told =
+    let chain = (told.alarms count).0 refl in
+    let short = chain.1.short in
+    (chain.0, chain.2, faults flow defs short.cuts [] short.rules chain.0 valid short.pass)
+means safe faults flow defs valid text (Refused cause) told = tt

@@ -1,12 +1,16 @@
 -- What a document is for a flow graph, and what a judge has heard of it.
-use Rattle.std.specs.Prelude.{ℕ, Bool, List}
+use Rattle.std.specs.Prelude.{◌≡◌, ℕ, Bool, List, length}
 use Rattle.mc_cert.specs.Lines.{lines_of}
 use Rattle.mc_defs.specs.declared.rules.Def.{Def}
 use Rattle.mc_flow.specs.declared.graph.Flow.{Flow}
+use Rattle.mc_flow.specs.Steps.{IsSafeFlow}
 use Rattle.mc_judge.specs.declared.judge.Judge.{Judge}
 use Rattle.mc_judge.specs.declared.verdict.Verdict.{Verdict}
+use Rattle.mc_judge.specs.declared.verdict.Verdict.TheVariants.{Safe, Alarms, Refused}
 use Rattle.mc_judge.specs.Stages.{HasHeard}
 use Rattle.mc_judge.specs.Verdicts.{IsVerdict, Tells}
+use Rattle.mc_kernel.specs.Branches.{Path}
+use Rattle.mc_kernel.specs.Certificates.{FaultsOnlyStuck}
 use Rattle.mc_kernel.specs.Judges.{Knowledge}
 use Rattle.mc_reading.specs.Documents.{IsJudge}
 use Rattle.mc_state.specs.declared.raw_state.RawState.{RawState}
@@ -16,9 +20,20 @@ abbrev pub IsRightVerdict : Flow → List Def → List ℕ → Verdict → Type 
 IsRightVerdict flow defs document verdict =
     (k : Knowledge) (well : RawState → Bool) → IsJudge k well flow defs → IsVerdict k well flow defs (lines_of document) verdict
 
--- this is the verdict on the document, also without a judge
+-- there are so many stuck branches, and every run that has a fault comes by one of them
+abbrev pub FindsFaults : Flow → List Def → ℕ → Type 0
+FindsFaults flow defs count = (stuck : List Path) × (count ≡ length stuck) × FaultsOnlyStuck flow defs stuck
+
+-- what a verdict means for runs
+abbrev pub MeansForRuns : Flow → List Def → Verdict → Type 0
+MeansForRuns flow defs Safe = IsSafeFlow flow defs
+MeansForRuns flow defs (Alarms count) = FindsFaults flow defs count
+MeansForRuns flow defs (Refused cause) = Unit {0}
+
+-- this is the verdict on the document, also without a judge, and what it means
 abbrev pub IsVerdictOn : Flow → List Def → List ℕ → Verdict → Type 0
-IsVerdictOn flow defs document verdict = Tells flow defs document verdict × IsRightVerdict flow defs document verdict
+IsVerdictOn flow defs document verdict =
+    Tells flow defs document verdict × IsRightVerdict flow defs document verdict × MeansForRuns flow defs verdict
 
 -- the judge has heard the text, by whatever judges rightly
 abbrev pub IsHeard : List ℕ → Judge → Type 0

@@ -10,7 +10,7 @@ use crate::contents::{PIECE, buffer};
 use mc_flow::{Defs, Flow};
 use mc_judge::{Judge, Verdict};
 use mc_judges::judges_are_there;
-use mc_kernel::certificates_are_safe;
+use mc_kernel::{certificates_are_safe, last_pass_finds_faults};
 use mc_outside::{FileFault, Files};
 use std::alloc::Global;
 
@@ -81,8 +81,9 @@ pub fn verdict_in<F: Files>(
     ensures same { Stays (F.holds files.old) (F.holds files.new) }
     ensures cause { HasCause (F.faults files.old) (F.faults files.new) result }
 {
-    // For the proof alone: there is a right judge, and valid certificates mean that nothing fails.
+    // For the proof alone: there is a right judge, valid certificates mean that nothing fails, and chains tell what may.
     certificates_are_safe();
+    last_pass_finds_faults();
     judges_are_there();
     let size = files.size(name)?;
     let mut buf = buffer(alloc, PIECE)?;

@@ -1,4 +1,5 @@
 mod bodies;
+mod shapes;
 
 use crate::{Status, memcad};
 use mc_outside::{MemFiles, MemSink};

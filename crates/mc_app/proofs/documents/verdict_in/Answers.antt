@@ -1,6 +1,6 @@
 use Rattle.std.proofs.Common.{◌≡◌, ◌∙◌, ℕ, List, subst}
 use Rattle.mc_app.specs.Documents.{IsVerdictOn}
-use Rattle.mc_app.proofs.Hearing.{right_verdict, told_verdict}
+use Rattle.mc_app.proofs.Hearing.{means, right_verdict, told_verdict}
 use Rattle.mc_app.proofs.documents.verdict_in.Goals as goal
 
 pub returns-clause-verdict : goal.returns-clause-verdict
@@ -16,7 +16,7 @@ returns-clause-verdict g c = λ bytes h.
     let told = told_verdict flow defs judge same_flow same_defs heard.0 heard.1 v known.0 known.1 known.2 c.in_ok-verdict.ensures.tells in
     let right = right_verdict flow defs judge same_flow same_defs heard.0 heard.1 v c.in_ok-verdict.ensures.verdict in
     let whole = heard.2 bytes (c.size.ensures.same c.args.name.now ∙ h) (c.in_ok-size.ensures.size bytes h) in
-    subst (λ (t : List ℕ). IsVerdictOn flow defs t v) whole (told, right)
+    subst (λ (t : List ℕ). IsVerdictOn flow defs t v) whole (told, right, means c.certificates_are_safe.ensures c.last_pass_finds_faults.ensures flow defs c.requires heard.0 v told)
 
 pub returns-clause-safe : goal.returns-clause-safe
 returns-clause-safe g c = λ good.
