@@ -1,0 +1,12 @@
+//! The line that a branch asks for: what its instruction gives, or what has to be unfolded before.
+#![tactic(auto)]
+
+mod access;
+mod asked;
+mod instance;
+mod unfolding;
+
+pub use access::accessed;
+pub use asked::next_line;
+pub use instance::instance;
+pub use unfolding::{at_node, at_null, false_or_null};
