@@ -1,0 +1,89 @@
+// The arguments with which a predicate is tried at a node.
+use crate::asked::push_asked;
+use crate::naming::plain;
+use mc_base::{EdgeId, Items, NoMemory, NodeId, PredId};
+use mc_defs::{Def, Defs};
+use mc_graph::Edge;
+use mc_guess::guess;
+use mc_state::Term;
+use mc_symbolic::State;
+use std::alloc::Global;
+
+/// The arguments of the first edge of a predicate at a term.
+fn args_behind<'a>(state: &'a State, pred: PredId, at: &Term) -> Option<&'a [NodeId]> {
+    if at.add != 0 {
+        return None;
+    }
+    for entry in state.edges() {
+        match &entry.1 {
+            Edge::Block { .. } => {}
+            Edge::Ind {
+                at: own,
+                pred: of,
+                args,
+            } => {
+                if *of == pred && state.are_equal(*own, at.node) {
+                    return Some(args.as_slice());
+                }
+            }
+            Edge::Seg {
+                at: own,
+                pred: of,
+                args,
+                ..
+            } => {
+                if *of == pred && state.are_equal(*own, at.node) {
+                    return Some(args.as_slice());
+                }
+            }
+        }
+    }
+    None
+}
+
+/// The stop at a term with the arguments of the edge there.
+fn stop_at(
+    alloc: Global,
+    state: &State,
+    pred: PredId,
+    at: Term,
+) -> Result<Option<(Term, Items<Term>)>, NoMemory> {
+    match args_behind(state, pred, &at) {
+        Some(args) => {
+            let mut terms = Vec::with_capacity(alloc, args.len())?;
+            for node in args {
+                terms.push(plain(*node))?;
+            }
+            Ok(Some((at, Items::of(terms))))
+        }
+        None => Ok(None),
+    }
+}
+
+/// The arguments with which a predicate is tried at a node, and, for a segment, up to a term: those that edges in front
+/// ask for, then guesses.
+pub fn candidates(
+    alloc: Global,
+    state: &State,
+    defs: &Defs,
+    used: &[EdgeId],
+    pred: PredId,
+    def: &Def,
+    at: NodeId,
+    end: Option<Term>,
+) -> Result<Vec<Vec<Term>>, NoMemory> {
+    let mut list = Vec::new(alloc);
+    if def.params.is_empty() {
+        list.push(Vec::new(alloc))?;
+        return Ok(list);
+    }
+    push_asked(alloc, &mut list, state, pred, def, at)?;
+    if let Some(term) = end {
+        let stop = stop_at(alloc, state, pred, term)?;
+        if stop.is_some() {
+            list.push(guess(alloc, state, defs, used, pred, plain(at), &stop)?)?;
+        }
+    }
+    list.push(guess(alloc, state, defs, used, pred, plain(at), &None)?)?;
+    Ok(list)
+}

@@ -1,0 +1,20 @@
+//! Folds what a state has at a cut as far as it goes: edges into inductive edges and segments, where no node is hidden that
+//! is still needed.
+#![tactic(auto)]
+
+mod asked;
+mod candidates;
+mod folds;
+mod hiding;
+mod keeping;
+mod naming;
+mod parts;
+mod shrinking;
+mod survey;
+mod taken;
+mod whole;
+
+pub use naming::{known_terms, partial_names};
+pub use shrinking::shrink;
+pub use survey::{Manner, Step, Survey};
+pub use taken::taken_by;
