@@ -9,4 +9,4 @@ mod unfolding;
 pub use access::accessed;
 pub use asked::next_line;
 pub use instance::instance;
-pub use unfolding::{at_node, at_null, false_or_null};
+pub use unfolding::{at_end, at_node, at_null, at_start, false_or_null};

@@ -18,7 +18,7 @@ fn from_start(id: EdgeId, edge: &Edge) -> Option<Line> {
 }
 
 /// The line that unfolds the least edge, but for blocks, that starts at a node which is equal.
-fn least_from_start(state: &State, node: NodeId) -> Option<Line> {
+pub fn at_start(state: &State, node: NodeId) -> Option<Line> {
     for entry in state.edges() {
         if state.are_equal(entry.1.start(), node) {
             if let Some(line) = from_start(entry.0, &entry.1) {
@@ -54,7 +54,7 @@ fn ends_at(state: &State, defs: &Defs, node: NodeId, edge: &Edge) -> bool {
 }
 
 /// The line that unfolds the least segment of which an end argument at a back position is equal to the node.
-fn least_from_end(state: &State, defs: &Defs, node: NodeId) -> Option<Line> {
+pub fn at_end(state: &State, defs: &Defs, node: NodeId) -> Option<Line> {
     for entry in state.edges() {
         if ends_at(state, defs, node, &entry.1) {
             return Some(Line::L15(entry.0));
@@ -65,7 +65,7 @@ fn least_from_end(state: &State, defs: &Defs, node: NodeId) -> Option<Line> {
 
 /// The line that unfolds the least edge, but for blocks, that starts at null.
 pub fn at_null(state: &State) -> Option<Line> {
-    least_from_start(state, NULL)
+    at_start(state, NULL)
 }
 
 /// The line that ends a branch whose state is false; else the one that unfolds an edge at null.
@@ -78,8 +78,8 @@ pub fn false_or_null(state: &State) -> Option<Line> {
 
 /// The line that unfolds an edge at a node that is accessed: from its start, and where there is none from its end.
 pub fn at_node(state: &State, defs: &Defs, node: NodeId) -> Option<Line> {
-    match least_from_start(state, node) {
+    match at_start(state, node) {
         Some(line) => Some(line),
-        None => least_from_end(state, defs, node),
+        None => at_end(state, defs, node),
     }
 }

@@ -1,0 +1,116 @@
+// Branches that come to a cut.
+use crate::Attempt;
+use crate::heads::{Head, atoms_at, joint_atoms, state_of};
+use crate::walking::Way;
+use mc_base::{Items, NoMemory, PointId};
+use mc_cert::Line;
+use mc_fits::fits;
+use mc_judging::Branch;
+use mc_shrink::shrink;
+use mc_sight::{Seen, look};
+use mc_symbolic::State;
+use mc_trail::Trail;
+
+impl Attempt<'_> {
+    /// The head with the shape of what was seen.
+    fn head_like(&self, cut: PointId, seen: &Seen) -> Option<usize> {
+        for (place, head) in self.heads.as_slice().iter().enumerate() {
+            if head.has_shape(cut, seen) {
+                return Some(place);
+            }
+        }
+        None
+    }
+
+    /// How many heads a cut has.
+    fn heads_at(&self, cut: PointId) -> usize {
+        let mut count = 0;
+        for head in self.heads.as_slice() {
+            if head.cut == cut {
+                count += 1;
+            }
+        }
+        count
+    }
+
+    /// A new head of what was seen.
+    fn add_head(&mut self, cut: PointId, state: &State, seen: Seen) -> Result<Way, NoMemory> {
+        if self.heads_at(cut) >= self.limits.keys {
+            return Ok(Way::Crowded(cut));
+        }
+        let atoms = atoms_at(self.alloc, state.known(), seen.images.as_slice())?;
+        let mut raw = seen.raw;
+        raw.atoms = Items::of(atoms);
+        let Some(made) = state_of(self.alloc, self.flow, self.defs, &raw)? else {
+            return Ok(Way::Stuck);
+        };
+        self.heads.push(Head {
+            cut,
+            raw,
+            state: made,
+            flags: seen.flags,
+            round: 1,
+            lines: Vec::new(self.alloc),
+            is_stale: true,
+        })?;
+        Ok(Way::On)
+    }
+
+    /// Joins what is known at an arrival into a head.
+    fn join_into(&mut self, place: usize, state: &State, seen: &Seen) -> Result<Way, NoMemory> {
+        let Some(head) = self.heads.get_mut(place) else {
+            return Ok(Way::Stuck);
+        };
+        head.round = head.round.saturating_add(1);
+        let images = seen.images.as_slice();
+        let known = state.known();
+        let atoms = joint_atoms(self.alloc, self.flow, &head.state, known, images, head.round)?;
+        head.raw.atoms = Items::of(atoms);
+        let Some(made) = state_of(self.alloc, self.flow, self.defs, &head.raw)? else {
+            return Ok(Way::Stuck);
+        };
+        head.state = made;
+        head.is_stale = true;
+        Ok(Way::On)
+    }
+
+    /// Lets a head take an arrival of its shape.
+    fn meet_head(&mut self, place: usize, state: &State, seen: &Seen) -> Result<Way, NoMemory> {
+        let unmet = match self.heads.as_slice().get(place) {
+            Some(head) => fits(
+                state,
+                &head.state,
+                seen.images.as_slice(),
+                seen.edges.as_slice(),
+            ),
+            None => return Ok(Way::Stuck),
+        };
+        match unmet {
+            None => Ok(Way::On),
+            Some(8) => self.join_into(place, state, seen),
+            Some(_) => Ok(Way::Stuck),
+        }
+    }
+
+    /// Ends a branch that has come to a cut: its state is folded, and a head takes it.
+    pub fn arrive(&mut self, branch: Branch, lines: &mut Vec<Line>) -> Result<Way, NoMemory> {
+        let cut = branch.point;
+        let mut trail = Trail::new(self.alloc, branch.state);
+        let manner = self.manner(cut);
+        shrink(self.alloc, manner, cut, &mut trail)?;
+        let Trail {
+            state,
+            lines: mut done,
+        } = trail;
+        lines.append(&mut done)?;
+        let seen = look(self.alloc, manner.sight, &state, cut)?;
+        let images = Items::of(Vec::from_slice(self.alloc, seen.images.as_slice())?);
+        let edges = Items::of(Vec::from_slice(self.alloc, seen.edges.as_slice())?);
+        let (place, way) = match self.head_like(cut, &seen) {
+            Some(place) => (place, self.meet_head(place, &state, &seen)?),
+            None => (self.heads.len(), self.add_head(cut, &state, seen)?),
+        };
+        lines.push(Line::L13(place as u64, images, edges))?;
+        Ok(way)
+    }
+}

@@ -1,0 +1,220 @@
+// Attempts.
+use crate::heads::Head;
+use crate::walking::Way;
+use mc_base::{NoMemory, PointId, PredId};
+use mc_cert::Line;
+use mc_flow::{Defs, Flow};
+use mc_judging::Branch;
+use mc_shrink::{Manner, Step};
+use mc_sight::Sight;
+use mc_symbolic::State;
+use std::alloc::Global;
+
+/// How much an attempt may take: lines in all, and states of a cut.
+#[derive(Clone, Copy, Debug, PartialEq, Eq)]
+pub struct Limits {
+    pub lines: u64,
+    pub keys: usize,
+}
+
+/// What comes of an attempt.
+#[derive(Drop)]
+pub enum Outcome {
+    /// The lines of a certificate.
+    Found(Vec<Line>),
+    /// None was found; the point at which the attempt ended.
+    Failed(PointId),
+}
+
+/// An attempt to find a certificate: the states of cuts so far, the lines from the entry, how far folding goes at each
+/// cut, and how many lines are left.
+#[derive(Drop)]
+pub struct Attempt<'a> {
+    pub alloc: Global,
+    pub flow: &'a Flow,
+    pub defs: &'a Defs,
+    pub sight: Sight<'a>,
+    pub wanted: &'a [PredId],
+    pub cuts: &'a [PointId],
+    pub before: usize,
+    pub limits: Limits,
+    pub steps: Vec<Step>,
+    pub heads: Vec<Head>,
+    pub entry: Vec<Line>,
+    pub left: u64,
+    pub last: PointId,
+}
+
+/// The next step of folding.
+fn step_up(step: Step) -> Option<Step> {
+    match step {
+        Step::Plain => Some(Step::Whole),
+        Step::Whole => Some(Step::Coarse),
+        Step::Coarse => None,
+    }
+}
+
+impl<'a> Attempt<'a> {
+    /// An attempt that has not begun.
+    pub fn new(
+        alloc: Global,
+        sight: Sight<'a>,
+        wanted: &'a [PredId],
+        cuts: &'a [PointId],
+        before: usize,
+        limits: Limits,
+    ) -> Result<Attempt<'a>, NoMemory> {
+        Ok(Attempt {
+            alloc,
+            flow: sight.flow,
+            defs: sight.defs,
+            sight,
+            wanted,
+            cuts,
+            before,
+            limits,
+            steps: vec![in alloc; Step::Plain; cuts.len()]?,
+            heads: Vec::new(alloc),
+            entry: Vec::new(alloc),
+            left: limits.lines,
+            last: PointId(0),
+        })
+    }
+
+    /// The place of a cut.
+    fn place_of(&self, cut: PointId) -> Option<usize> {
+        for (place, own) in self.cuts.iter().enumerate() {
+            if *own == cut {
+                return Some(place);
+            }
+        }
+        None
+    }
+
+    /// How far folding goes at a cut.
+    fn step_at(&self, cut: PointId) -> Step {
+        match self.place_of(cut) {
+            Some(place) => self.steps.as_slice().get(place).copied().unwrap_or(Step::Plain),
+            None => Step::Plain,
+        }
+    }
+
+    /// How states are folded at a cut.
+    pub fn manner(&self, cut: PointId) -> Manner<'a> {
+        Manner {
+            sight: self.sight,
+            wanted: self.wanted,
+            step: self.step_at(cut),
+            before: self.before,
+        }
+    }
+
+    /// Goes one step up at a cut; whether there is one.
+    fn climb(&mut self, cut: PointId) -> bool {
+        let Some(next) = step_up(self.step_at(cut)) else {
+            return false;
+        };
+        match self.place_of(cut) {
+            Some(place) => match self.steps.get_mut(place) {
+                Some(slot) => {
+                    *slot = next;
+                    true
+                }
+                None => false,
+            },
+            None => false,
+        }
+    }
+
+    /// The branch at the entry.
+    fn entry_branch(&self) -> Result<Branch, NoMemory> {
+        Ok(Branch {
+            point: PointId(0),
+            state: State::unknown(self.alloc, self.flow.vars.len())?,
+            goal: None,
+            moved: false,
+            closing: false,
+        })
+    }
+
+    /// The branch at a head.
+    fn head_branch(&self, place: usize) -> Result<Option<Branch>, NoMemory> {
+        match self.heads.as_slice().get(place) {
+            Some(head) => Ok(Some(Branch {
+                point: head.cut,
+                state: head.state.copy(self.alloc)?,
+                goal: None,
+                moved: false,
+                closing: false,
+            })),
+            None => Ok(None),
+        }
+    }
+
+    /// The first head from which branches have to be followed.
+    fn next_stale(&self) -> Option<usize> {
+        for (place, head) in self.heads.as_slice().iter().enumerate() {
+            if head.is_stale {
+                return Some(place);
+            }
+        }
+        None
+    }
+
+    /// Follows all branches from a head.
+    fn walk_head(&mut self, place: usize) -> Result<Way, NoMemory> {
+        let Some(branch) = self.head_branch(place)? else {
+            return Ok(Way::Stuck);
+        };
+        if let Some(head) = self.heads.get_mut(place) {
+            head.is_stale = false;
+        }
+        let mut lines = Vec::new(self.alloc);
+        let way = self.walk(branch, &mut lines)?;
+        if let Some(head) = self.heads.get_mut(place) {
+            head.lines = lines;
+        }
+        Ok(way)
+    }
+
+    /// Follows all branches from the entry, and from heads until none has changed.
+    fn grow(&mut self) -> Result<Way, NoMemory> {
+        self.heads.clear();
+        let mut lines = Vec::new(self.alloc);
+        let first = self.entry_branch()?;
+        let way = self.walk(first, &mut lines)?;
+        self.entry = lines;
+        if way != Way::On {
+            return Ok(way);
+        }
+        while self.left > 0 {
+            let Some(place) = self.next_stale() else {
+                return Ok(Way::On);
+            };
+            let way = self.walk_head(place)?;
+            if way != Way::On {
+                return Ok(way);
+            }
+        }
+        Ok(Way::TooLong)
+    }
+
+    /// Grows the states of cuts, where a cut that would have too many begins again one step up. Whether they are whole.
+    pub fn run(&mut self) -> Result<bool, NoMemory> {
+        for _ in 0..self.cuts.len().saturating_mul(3).saturating_add(1) {
+            match self.grow()? {
+                Way::On => return Ok(true),
+                Way::Stuck => return Ok(false),
+                Way::TooLong => return Ok(false),
+                Way::Crowded(cut) => {
+                    self.last = cut;
+                    if !self.climb(cut) {
+                        return Ok(false);
+                    }
+                    self.left = self.limits.lines;
+                }
+            }
+        }
+        Ok(false)
+    }
+}
