@@ -64,14 +64,31 @@ fn is_named_elsewhere(nodes: &Nodes<'_>, one: usize, other: usize, node: NodeId)
     false
 }
 
-/// Whether a block is of another struct than a kept block that names it, and another edge names it too.
+/// Whether a block names a node by more than one field.
+fn names_twice(nodes: &Nodes<'_>, edge: &Edge, node: NodeId) -> bool {
+    let Edge::Block { fields, .. } = edge else {
+        return false;
+    };
+    let mut count = 0;
+    for field in fields.as_slice() {
+        if let Some(own) = field {
+            if nodes.state.are_equal(*own, node) {
+                count += 1;
+            }
+        }
+    }
+    count > 1
+}
+
+/// Whether a block is of another struct than a kept block that names it, and is named once more.
 fn is_shared(nodes: &Nodes<'_>, kept: &[bool], own: usize, at: NodeId, shape: StructId) -> bool {
     for (place, entry) in nodes.state.edges().iter().enumerate() {
         if let Edge::Block { shape: other, .. } = &entry.1 {
             if has(kept, place)
                 && *other != shape
                 && nodes.names(&entry.1, at)
-                && is_named_elsewhere(nodes, own, place, at)
+                && (names_twice(nodes, &entry.1, at)
+                    || is_named_elsewhere(nodes, own, place, at))
             {
                 return true;
             }

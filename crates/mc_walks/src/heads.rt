@@ -9,6 +9,8 @@ use mc_state::RawState;
 use mc_symbolic::State;
 use std::alloc::Global;
 
+const NULL: NodeId = NodeId(0);
+
 /// A state of a cut: as documents write it, and as lines change it; how often it changed; and the lines of the branches
 /// from it, where these are of the state as it is now.
 #[derive(Drop)]
@@ -49,11 +51,17 @@ fn twice(alloc: Global, images: &[NodeId]) -> Result<Vec<(NodeId, NodeId)>, NoMe
     Ok(pairs)
 }
 
-/// What is known of nodes, with their places as numbers.
+/// What is known of nodes, with their places as numbers. A place of null is zero.
 pub fn atoms_at(alloc: Global, known: &Pure, images: &[NodeId]) -> Result<Vec<Atom>, NoMemory> {
     let pairs = twice(alloc, images)?;
     let joint = join(alloc, known, known, pairs.as_slice(), 1, &[])?;
-    mc_canon::canon(alloc, &joint)
+    let mut atoms = mc_canon::canon(alloc, &joint)?;
+    for (place, image) in images.iter().enumerate() {
+        if place > 0 && *image == NULL {
+            atoms.push(Atom::In(NodeId(place as u64), 0, 0))?;
+        }
+    }
+    Ok(atoms)
 }
 
 /// What is known both of a head's nodes and of their images, widened from the third round on.
