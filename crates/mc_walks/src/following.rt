@@ -25,8 +25,8 @@ impl Attempt<'_> {
         }
     }
 
-    /// The next line of a branch by its instruction: what is accessed is unfolded first, wherever an edge starts. None
-    /// where the instruction lacks something.
+    /// The next line of a branch by its instruction: what is accessed is unfolded first, from each start and from each end,
+    /// also where a block is there, since two at one node can't be. None where the instruction lacks something.
     pub fn next_by_code(&self, branch: &Branch) -> Result<Option<Line>, NoMemory> {
         let Some(code) = code_at(self.flow, branch.point) else {
             return Ok(None);
@@ -37,9 +37,9 @@ impl Attempt<'_> {
         if let Some(_) = lacking_at(self.alloc, self.flow, self.defs, branch.point, &branch.state)? {
             return Ok(None);
         }
-        match instance(&branch.state, code) {
+        match self.unfolding_back(branch, code) {
             Some(line) => Ok(Some(line)),
-            None => Ok(self.unfolding_back(branch, code)),
+            None => Ok(instance(&branch.state, code)),
         }
     }
 }
