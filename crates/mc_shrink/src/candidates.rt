@@ -1,7 +1,7 @@
 // The arguments with which a predicate is tried at a node.
 use crate::asked::push_asked;
 use crate::naming::plain;
-use mc_base::{EdgeId, Items, NoMemory, NodeId, PredId};
+use mc_base::{EdgeId, Items, Kind, NoMemory, NodeId, PredId};
 use mc_defs::{Def, Defs};
 use mc_graph::Edge;
 use mc_guess::guess;
@@ -60,8 +60,29 @@ fn stop_at(
     }
 }
 
+/// The arguments with their numbers so much more.
+fn with_room(
+    alloc: Global,
+    def: &Def,
+    terms: Vec<Term>,
+    room: i64,
+) -> Result<Vec<Term>, NoMemory> {
+    let mut list = Vec::with_capacity(alloc, terms.len())?;
+    for (place, term) in terms.as_slice().iter().enumerate() {
+        let add = match def.params.as_slice().get(place) {
+            Some(Kind::Int) => term.add.saturating_add(room),
+            _ => term.add,
+        };
+        list.push(Term {
+            node: term.node,
+            add,
+        })?;
+    }
+    Ok(list)
+}
+
 /// The arguments with which a predicate is tried at a node, and, for a segment, up to a term: those that edges in front
-/// ask for, then guesses.
+/// ask for, then guesses, the numbers of a segment so much more.
 pub fn candidates(
     alloc: Global,
     state: &State,
@@ -71,6 +92,7 @@ pub fn candidates(
     def: &Def,
     at: NodeId,
     end: Option<Term>,
+    room: i64,
 ) -> Result<Vec<Vec<Term>>, NoMemory> {
     let mut list = Vec::new(alloc);
     if def.params.is_empty() {
@@ -81,9 +103,11 @@ pub fn candidates(
     if let Some(term) = end {
         let stop = stop_at(alloc, state, pred, term)?;
         if stop.is_some() {
-            list.push(guess(alloc, state, defs, used, pred, plain(at), &stop)?)?;
+            let terms = guess(alloc, state, defs, used, pred, plain(at), &stop)?;
+            list.push(with_room(alloc, def, terms, room)?)?;
         }
     }
-    list.push(guess(alloc, state, defs, used, pred, plain(at), &None)?)?;
+    let terms = guess(alloc, state, defs, used, pred, plain(at), &None)?;
+    list.push(with_room(alloc, def, terms, room)?)?;
     Ok(list)
 }

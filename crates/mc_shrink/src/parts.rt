@@ -125,7 +125,18 @@ impl Try<'_> {
         }
         let defs = self.manner.sight.defs;
         let kept = self.survey.kept_ids.as_slice();
-        let list = candidates(alloc, state, defs, kept, self.pred, self.def, at, Some(end))?;
+        let room = self.manner.room;
+        let list = candidates(
+            alloc,
+            state,
+            defs,
+            kept,
+            self.pred,
+            self.def,
+            at,
+            Some(end),
+            room,
+        )?;
         for args in list {
             if let Some(marks) = self.marks(alloc, args.as_slice(), end)? {
                 return Ok(Some(Found::Cover {

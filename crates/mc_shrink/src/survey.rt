@@ -17,13 +17,15 @@ pub enum Step {
 }
 
 /// How a state is folded: what is looked at, the predicates in the order in which they are wanted, how far folding goes,
-/// and how many fields before a live variable's node a block stays too.
+/// how many fields before a live variable's node a block stays too, and by how much the numbers of a new segment are more
+/// than is guessed, which leaves room for a later change behind it.
 #[derive(Clone, Copy)]
 pub struct Manner<'a> {
     pub sight: Sight<'a>,
     pub wanted: &'a [PredId],
     pub step: Step,
     pub before: usize,
+    pub room: i64,
 }
 
 /// Which edges of a state are reached from its live variables, and which of them stay.

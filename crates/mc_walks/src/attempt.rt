@@ -17,6 +17,15 @@ pub struct Limits {
     pub keys: usize,
 }
 
+/// How an attempt folds: how many fields before a live variable's node blocks stay, by how much the numbers of new
+/// segments are more, and how far folding goes at first.
+#[derive(Clone, Copy, Debug, PartialEq, Eq)]
+pub struct Style {
+    pub before: usize,
+    pub room: i64,
+    pub step: Step,
+}
+
 /// What comes of an attempt.
 #[derive(Drop)]
 pub enum Outcome {
@@ -36,7 +45,7 @@ pub struct Attempt<'a> {
     pub sight: Sight<'a>,
     pub wanted: &'a [PredId],
     pub cuts: &'a [PointId],
-    pub before: usize,
+    pub style: Style,
     pub limits: Limits,
     pub steps: Vec<Step>,
     pub heads: Vec<Head>,
@@ -61,7 +70,7 @@ impl<'a> Attempt<'a> {
         sight: Sight<'a>,
         wanted: &'a [PredId],
         cuts: &'a [PointId],
-        before: usize,
+        style: Style,
         limits: Limits,
     ) -> Result<Attempt<'a>, NoMemory> {
         Ok(Attempt {
@@ -71,9 +80,9 @@ impl<'a> Attempt<'a> {
             sight,
             wanted,
             cuts,
-            before,
+            style,
             limits,
-            steps: vec![in alloc; Step::Plain; cuts.len()]?,
+            steps: vec![in alloc; style.step; cuts.len()]?,
             heads: Vec::new(alloc),
             entry: Vec::new(alloc),
             left: limits.lines,
@@ -105,7 +114,8 @@ impl<'a> Attempt<'a> {
             sight: self.sight,
             wanted: self.wanted,
             step: self.step_at(cut),
-            before: self.before,
+            before: self.style.before,
+            room: self.style.room,
         }
     }
 

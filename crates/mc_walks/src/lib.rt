@@ -10,4 +10,4 @@ mod heads;
 mod sides;
 mod walking;
 
-pub use attempt::{Attempt, Limits, Outcome};
+pub use attempt::{Attempt, Limits, Outcome, Style};

@@ -1,0 +1,98 @@
+// The search for a certificate.
+use crate::cuts::loop_heads;
+use crate::judged::is_certificate;
+use mc_base::{NoMemory, PointId, PredId};
+use mc_cert::Line;
+use mc_flow::{Defs, Flow};
+use mc_live::{
+    StoredFields, asks_for_empty, constant_variables, live_variables, wanted_predicates,
+};
+use mc_shrink::Step;
+use mc_sight::Sight;
+use mc_walks::{Attempt, Limits, Outcome, Style};
+use std::alloc::Global;
+
+/// A way to fold, and how many states a cut may have.
+const fn style(before: usize, room: i64, step: Step, keys: usize) -> (Style, usize) {
+    (Style { before, room, step }, keys)
+}
+
+/// The attempts, in their order.
+fn attempts(alloc: Global, keys: usize) -> Result<Vec<(Style, usize)>, NoMemory> {
+    let many = keys.saturating_mul(4);
+    vec![in alloc;
+        style(0, 0, Step::Plain, keys),
+        style(1, 0, Step::Plain, keys),
+        style(2, 0, Step::Plain, keys),
+        style(0, 0, Step::Whole, keys),
+        style(0, 0, Step::Coarse, keys),
+        style(0, 0, Step::Plain, many),
+        style(0, 0, Step::Coarse, many),
+        style(0, 1, Step::Plain, keys),
+        style(0, -1, Step::Plain, keys)
+    ]
+}
+
+/// One attempt: the lines of a certificate, where one is found.
+fn attempt(
+    alloc: Global,
+    sight: Sight<'_>,
+    wanted: &[PredId],
+    cuts: &[PointId],
+    style: Style,
+    limits: Limits,
+) -> Result<Option<Vec<Line>>, NoMemory> {
+    let attempt = Attempt::new(alloc, sight, wanted, cuts, style, limits)?;
+    let lines = match attempt.make()? {
+        Outcome::Found(lines) => lines,
+        Outcome::Failed(_) => return Ok(None),
+    };
+    if is_certificate(alloc, sight.flow, sight.defs, lines.as_slice())? {
+        Ok(Some(lines))
+    } else {
+        Ok(None)
+    }
+}
+
+/// The lines of a certificate of a flow graph, from the header to the end, where one is found within the limits.
+pub fn find(
+    alloc: Global,
+    flow: &Flow,
+    defs: &Defs,
+    limits: Limits,
+) -> Result<Option<Vec<Line>>, NoMemory> {
+    let live = live_variables(alloc, flow)?;
+    let stored = StoredFields::of(alloc, flow)?;
+    let constants = constant_variables(alloc, flow)?;
+    let wanted = wanted_predicates(alloc, flow, defs)?;
+    let cuts = loop_heads(alloc, flow)?;
+    let sight = Sight {
+        flow,
+        defs,
+        live: &live,
+        stored: &stored,
+        constants: constants.as_slice(),
+        all: asks_for_empty(flow),
+    };
+    for each in attempts(alloc, limits.keys)?.as_slice() {
+        let own = Limits {
+            lines: limits.lines,
+            keys: each.1,
+        };
+        let found = attempt(
+            alloc,
+            sight,
+            wanted.as_slice(),
+            cuts.as_slice(),
+            each.0,
+            own,
+        )?;
+        if found.is_some() {
+            return Ok(found);
+        }
+        if cuts.is_empty() {
+            return Ok(None);
+        }
+    }
+    Ok(None)
+}
