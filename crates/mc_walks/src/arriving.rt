@@ -92,9 +92,20 @@ impl Attempt<'_> {
         }
     }
 
+    /// Counts what folding a state takes, as so many lines more; whether that is left.
+    fn charge(&mut self, state: &State) -> bool {
+        let edges = state.edges().len() as u64;
+        let work = edges.saturating_mul(edges).saturating_mul(edges) / 64;
+        self.left = self.left.saturating_sub(work);
+        self.left > 0
+    }
+
     /// Ends a branch that has come to a cut: its state is folded, and a head takes it.
     pub fn arrive(&mut self, branch: Branch, lines: &mut Vec<Line>) -> Result<Way, NoMemory> {
         let cut = branch.point;
+        if !self.charge(&branch.state) {
+            return Ok(Way::TooLong);
+        }
         let mut trail = Trail::new(self.alloc, branch.state);
         let manner = self.manner(cut);
         shrink(self.alloc, manner, cut, &mut trail)?;
