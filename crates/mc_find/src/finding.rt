@@ -5,7 +5,8 @@ use mc_base::{NoMemory, PointId, PredId};
 use mc_cert::Line;
 use mc_flow::{Defs, Flow};
 use mc_live::{
-    StoredFields, asks_for_empty, constant_variables, live_variables, wanted_predicates,
+    Asserted, StoredFields, asks_for_empty, asserted_shapes, constant_variables, live_variables,
+    wanted_predicates,
 };
 use mc_shrink::Step;
 use mc_sight::Sight;
@@ -20,17 +21,18 @@ const fn style(before: usize, room: i64, step: Step, keys: usize) -> (Style, usi
 /// The attempts, in their order.
 fn attempts(alloc: Global, keys: usize) -> Result<Vec<(Style, usize)>, NoMemory> {
     let many = keys.saturating_mul(4);
-    vec![in alloc;
+    let list = vec![in alloc;
         style(0, 0, Step::Plain, keys),
         style(1, 0, Step::Plain, keys),
         style(2, 0, Step::Plain, keys),
         style(0, 0, Step::Whole, keys),
         style(0, 0, Step::Coarse, keys),
-        style(0, 0, Step::Plain, many),
-        style(0, 0, Step::Coarse, many),
         style(0, 1, Step::Plain, keys),
-        style(0, -1, Step::Plain, keys)
-    ]
+        style(0, -1, Step::Plain, keys),
+        style(0, 0, Step::Plain, many),
+        style(0, 0, Step::Coarse, many)
+    ]?;
+    Ok(list)
 }
 
 /// One attempt: the lines of a certificate, where one is found.
@@ -38,11 +40,12 @@ fn attempt(
     alloc: Global,
     sight: Sight<'_>,
     wanted: &[PredId],
+    asserted: &[Asserted],
     cuts: &[PointId],
     style: Style,
     limits: Limits,
 ) -> Result<Option<Vec<Line>>, NoMemory> {
-    let attempt = Attempt::new(alloc, sight, wanted, cuts, style, limits)?;
+    let attempt = Attempt::new(alloc, sight, wanted, asserted, cuts, style, limits)?;
     let lines = match attempt.make()? {
         Outcome::Found(lines) => lines,
         Outcome::Failed(_) => return Ok(None),
@@ -65,6 +68,7 @@ pub fn find(
     let stored = StoredFields::of(alloc, flow)?;
     let constants = constant_variables(alloc, flow)?;
     let wanted = wanted_predicates(alloc, flow, defs)?;
+    let asserted = asserted_shapes(alloc, flow)?;
     let cuts = loop_heads(alloc, flow)?;
     let sight = Sight {
         flow,
@@ -83,6 +87,7 @@ pub fn find(
             alloc,
             sight,
             wanted.as_slice(),
+            asserted.as_slice(),
             cuts.as_slice(),
             each.0,
             own,

@@ -12,5 +12,5 @@ mod variables;
 pub use bits::Rows;
 pub use constants::constant_variables;
 pub use fields::{StoredField, StoredFields};
-pub use shapes::{asks_for_empty, wanted_predicates};
+pub use shapes::{Asserted, asks_for_empty, asserted_shapes, wanted_predicates};
 pub use variables::live_variables;

@@ -1,7 +1,7 @@
 // Which predicates a program wants, and whether it asks that nothing is allocated.
 use mc_base::{NoMemory, PredId};
 use mc_defs::Defs;
-use mc_flow::{Flow, Instr};
+use mc_flow::{Flow, Instr, Operand};
 use std::alloc::Global;
 
 /// Whether the program asks anywhere that nothing is allocated.
@@ -72,6 +72,39 @@ pub fn wanted_predicates(alloc: Global, flow: &Flow, defs: &Defs) -> Result<Vec<
     }
     for place in 0..defs.as_slice().len() {
         want(alloc, &mut list, defs, PredId(place as u64))?;
+    }
+    Ok(list)
+}
+
+/// A predicate that a program asserts, with its arguments.
+#[derive(Drop)]
+pub struct Asserted {
+    pub pred: PredId,
+    pub args: Vec<Operand>,
+}
+
+/// Whether a predicate with these arguments is in a list.
+fn has(list: &[Asserted], pred: PredId, args: &[Operand]) -> bool {
+    for each in list {
+        if each.pred == pred && each.args.as_slice() == args {
+            return true;
+        }
+    }
+    false
+}
+
+/// The predicates with arguments that a program asserts, each once.
+pub fn asserted_shapes(alloc: Global, flow: &Flow) -> Result<Vec<Asserted>, NoMemory> {
+    let mut list = Vec::new(alloc);
+    for point in flow.points.as_slice() {
+        if let Instr::AssertShape(pred, _, args, _) = &point.code {
+            if !args.is_empty() && !has(list.as_slice(), *pred, args.as_slice()) {
+                list.push(Asserted {
+                    pred: *pred,
+                    args: Vec::from_slice(alloc, args.as_slice())?,
+                })?;
+            }
+        }
     }
     Ok(list)
 }

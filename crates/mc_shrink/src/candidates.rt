@@ -3,8 +3,10 @@ use crate::asked::push_asked;
 use crate::naming::plain;
 use mc_base::{EdgeId, Items, Kind, NoMemory, NodeId, PredId};
 use mc_defs::{Def, Defs};
+use mc_flow::Operand;
 use mc_graph::Edge;
 use mc_guess::guess;
+use mc_live::Asserted;
 use mc_state::Term;
 use mc_symbolic::State;
 use std::alloc::Global;
@@ -81,12 +83,53 @@ fn with_room(
     Ok(list)
 }
 
+/// The terms of operands, where all are known.
+fn operand_terms(
+    alloc: Global,
+    state: &State,
+    args: &[Operand],
+) -> Result<Option<Vec<Term>>, NoMemory> {
+    let mut list = Vec::with_capacity(alloc, args.len())?;
+    for arg in args {
+        match arg {
+            Operand::Var(x) => match state.var(*x) {
+                Some(node) => list.push(plain(node))?,
+                None => return Ok(None),
+            },
+            Operand::Const(c) => list.push(Term {
+                node: NodeId(0),
+                add: *c,
+            })?,
+        }
+    }
+    Ok(Some(list))
+}
+
+/// Adds the arguments with which the program asserts a predicate.
+fn push_asserted(
+    alloc: Global,
+    list: &mut Vec<Vec<Term>>,
+    state: &State,
+    asserted: &[Asserted],
+    pred: PredId,
+) -> Result<(), NoMemory> {
+    for each in asserted {
+        if each.pred == pred {
+            if let Some(terms) = operand_terms(alloc, state, each.args.as_slice())? {
+                list.push(terms)?;
+            }
+        }
+    }
+    Ok(())
+}
+
 /// The arguments with which a predicate is tried at a node, and, for a segment, up to a term: those that edges in front
-/// ask for, then guesses, the numbers of a segment so much more.
+/// ask for, then guesses, the numbers of a segment so much more, then those that the program asserts.
 pub fn candidates(
     alloc: Global,
     state: &State,
     defs: &Defs,
+    asserted: &[Asserted],
     used: &[EdgeId],
     pred: PredId,
     def: &Def,
@@ -109,5 +152,6 @@ pub fn candidates(
     }
     let terms = guess(alloc, state, defs, used, pred, plain(at), &None)?;
     list.push(with_room(alloc, def, terms, room)?)?;
+    push_asserted(alloc, &mut list, state, asserted, pred)?;
     Ok(list)
 }

@@ -130,6 +130,7 @@ impl Try<'_> {
             alloc,
             state,
             defs,
+            self.manner.asserted,
             kept,
             self.pred,
             self.def,

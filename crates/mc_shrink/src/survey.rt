@@ -1,6 +1,7 @@
 // What is known of a state before it is folded.
 use crate::keeping::kept_blocks;
 use mc_base::{EdgeId, NoMemory, NodeId, PointId, PredId, VarId};
+use mc_live::Asserted;
 use mc_sight::{Nodes, Sight, look};
 use mc_symbolic::State;
 use std::alloc::Global;
@@ -16,13 +17,14 @@ pub enum Step {
     Coarse,
 }
 
-/// How a state is folded: what is looked at, the predicates in the order in which they are wanted, how far folding goes,
-/// how many fields before a live variable's node a block stays too, and by how much the numbers of a new segment are more
+/// How a state is folded: what is looked at, the predicates in the order in which they are wanted, those that the
+/// program asserts, how far folding goes, how many fields before a live variable's node a block stays too, and by how much the numbers of a new segment are more
 /// than is guessed, which leaves room for a later change behind it.
 #[derive(Clone, Copy)]
 pub struct Manner<'a> {
     pub sight: Sight<'a>,
     pub wanted: &'a [PredId],
+    pub asserted: &'a [Asserted],
     pub step: Step,
     pub before: usize,
     pub room: i64,

@@ -92,7 +92,18 @@ fn fold_of(
     def: &Def,
 ) -> Result<Option<Found>, NoMemory> {
     let defs = manner.sight.defs;
-    let list = candidates(alloc, nodes.state, defs, used, pred, def, at, None, 0)?;
+    let list = candidates(
+        alloc,
+        nodes.state,
+        defs,
+        manner.asserted,
+        used,
+        pred,
+        def,
+        at,
+        None,
+        0,
+    )?;
     for args in list {
         let found = cover_with(alloc, manner, nodes, survey, used, pred, at, args.as_slice())?;
         if let Some(marks) = found {

@@ -5,6 +5,7 @@ use mc_base::{NoMemory, PointId, PredId};
 use mc_cert::Line;
 use mc_flow::{Defs, Flow};
 use mc_judging::Branch;
+use mc_live::Asserted;
 use mc_shrink::{Manner, Step};
 use mc_sight::Sight;
 use mc_symbolic::State;
@@ -44,6 +45,7 @@ pub struct Attempt<'a> {
     pub defs: &'a Defs,
     pub sight: Sight<'a>,
     pub wanted: &'a [PredId],
+    pub asserted: &'a [Asserted],
     pub cuts: &'a [PointId],
     pub style: Style,
     pub limits: Limits,
@@ -69,6 +71,7 @@ impl<'a> Attempt<'a> {
         alloc: Global,
         sight: Sight<'a>,
         wanted: &'a [PredId],
+        asserted: &'a [Asserted],
         cuts: &'a [PointId],
         style: Style,
         limits: Limits,
@@ -79,6 +82,7 @@ impl<'a> Attempt<'a> {
             defs: sight.defs,
             sight,
             wanted,
+            asserted,
             cuts,
             style,
             limits,
@@ -113,6 +117,7 @@ impl<'a> Attempt<'a> {
         Manner {
             sight: self.sight,
             wanted: self.wanted,
+            asserted: self.asserted,
             step: self.step_at(cut),
             before: self.style.before,
             room: self.style.room,
