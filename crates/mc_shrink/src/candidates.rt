@@ -1,5 +1,6 @@
 // The arguments with which a predicate is tried at a node.
 use crate::asked::push_asked;
+use crate::guessing::second_guess;
 use crate::naming::plain;
 use mc_base::{EdgeId, Items, Kind, NoMemory, NodeId, PredId};
 use mc_defs::{Def, Defs};
@@ -105,6 +106,17 @@ fn operand_terms(
     Ok(Some(list))
 }
 
+/// Adds arguments that are not in the list.
+fn push_new(list: &mut Vec<Vec<Term>>, terms: Vec<Term>) -> Result<(), NoMemory> {
+    for each in list.as_slice() {
+        if each.as_slice() == terms.as_slice() {
+            return Ok(());
+        }
+    }
+    list.push(terms)?;
+    Ok(())
+}
+
 /// Adds the arguments with which the program asserts a predicate.
 fn push_asserted(
     alloc: Global,
@@ -116,7 +128,7 @@ fn push_asserted(
     for each in asserted {
         if each.pred == pred {
             if let Some(terms) = operand_terms(alloc, state, each.args.as_slice())? {
-                list.push(terms)?;
+                push_new(list, terms)?;
             }
         }
     }
@@ -147,11 +159,18 @@ pub fn candidates(
         let stop = stop_at(alloc, state, pred, term)?;
         if stop.is_some() {
             let terms = guess(alloc, state, defs, used, pred, plain(at), &stop)?;
-            list.push(with_room(alloc, def, terms, room)?)?;
+            push_new(&mut list, with_room(alloc, def, terms, room)?)?;
+        }
+        if let Some((end, ends)) = &stop {
+            let own = Some((*end, ends.as_slice()));
+            let terms = second_guess(alloc, state, pred, def, at, own)?;
+            push_new(&mut list, with_room(alloc, def, terms, room)?)?;
         }
     }
     let terms = guess(alloc, state, defs, used, pred, plain(at), &None)?;
-    list.push(with_room(alloc, def, terms, room)?)?;
+    push_new(&mut list, with_room(alloc, def, terms, room)?)?;
+    let terms = second_guess(alloc, state, pred, def, at, None)?;
+    push_new(&mut list, with_room(alloc, def, terms, room)?)?;
     push_asserted(alloc, &mut list, state, asserted, pred)?;
     Ok(list)
 }

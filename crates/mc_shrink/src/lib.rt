@@ -5,6 +5,7 @@
 mod asked;
 mod candidates;
 mod folds;
+mod guessing;
 mod hiding;
 mod keeping;
 mod naming;

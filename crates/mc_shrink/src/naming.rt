@@ -83,6 +83,19 @@ fn settle(names: &mut Vec<Option<Term>>, rule: &Rule) {
     }
 }
 
+/// Learns the names of a call's arguments from terms, and what follows.
+pub fn learn_all(
+    names: &mut Vec<Option<Term>>,
+    rule: &Rule,
+    args: &[u64],
+    terms: &[Option<Term>],
+) {
+    for (place, name) in args.iter().enumerate() {
+        learn(names, *name, terms.get(place).copied().flatten());
+    }
+    settle(names, rule);
+}
+
 /// Adds what the fields of a block hold.
 fn push_contents(names: &mut Vec<Option<Term>>, edge: &Edge) -> Result<(), NoMemory> {
     if let Edge::Block { fields, .. } = edge {
