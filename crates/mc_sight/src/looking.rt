@@ -20,6 +20,7 @@ struct Met {
 }
 
 /// A look at a state that is on its way.
+#[derive(Drop)]
 struct Look<'a> {
     alloc: Global,
     sight: Sight<'a>,

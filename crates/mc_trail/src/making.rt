@@ -19,6 +19,7 @@ pub enum MadeOf {
 }
 
 /// What comes of a step: it goes on, or something was made of the task on top, or it can't be made.
+#[derive(Drop)]
 enum Turn {
     Opened,
     Made(Made),
@@ -179,6 +180,7 @@ fn next_call(alloc: Global, rule: &Rule, body: &Body) -> Result<Option<Task>, No
 }
 
 /// What is made of a cover: its frames, the task that waits for the next mark, and what was made last.
+#[derive(Drop)]
 struct Making<'a> {
     alloc: Global,
     defs: &'a Defs,
@@ -276,6 +278,7 @@ impl Making<'_> {
 }
 
 /// Where making has come to.
+#[derive(Drop)]
 enum Settled {
     Next(Task),
     Made(Made),
