@@ -1,6 +1,6 @@
 // Branches that come to a cut.
 use crate::Attempt;
-use crate::heads::{Head, atoms_at, joint_atoms, state_of};
+use crate::heads::{Head, atoms_at, joint_atoms};
 use crate::walking::Way;
 use mc_base::{Items, NoMemory, PointId};
 use mc_cert::Line;
@@ -38,10 +38,12 @@ impl Attempt<'_> {
         if self.heads_at(cut) >= self.limits.keys {
             return Ok(Way::Crowded(cut));
         }
-        let atoms = atoms_at(self.alloc, state.known(), seen.images.as_slice())?;
+        let Some(atoms) = atoms_at(self.alloc, state.known(), seen.images.as_slice())? else {
+            return Ok(Way::Stuck);
+        };
         let mut raw = seen.raw;
         raw.atoms = Items::of(atoms);
-        let Some(made) = state_of(self.alloc, self.flow, self.defs, &raw)? else {
+        let Some(made) = self.paths.state_of(&raw)? else {
             return Ok(Way::Stuck);
         };
         self.heads.push(Head {
@@ -64,9 +66,13 @@ impl Attempt<'_> {
         head.round = head.round.saturating_add(1);
         let images = seen.images.as_slice();
         let known = state.known();
-        let atoms = joint_atoms(self.alloc, self.flow, &head.state, known, images, head.round)?;
+        let thresholds = self.sight.flow.thresholds.as_slice();
+        let joint = joint_atoms(self.alloc, thresholds, &head.state, known, images, head.round)?;
+        let Some(atoms) = joint else {
+            return Ok(Way::Stuck);
+        };
         head.raw.atoms = Items::of(atoms);
-        let Some(made) = state_of(self.alloc, self.flow, self.defs, &head.raw)? else {
+        let Some(made) = self.paths.state_of(&head.raw)? else {
             return Ok(Way::Stuck);
         };
         head.state = made;

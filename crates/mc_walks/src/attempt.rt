@@ -3,12 +3,10 @@ use crate::heads::Head;
 use crate::walking::Way;
 use mc_base::{NoMemory, PointId, PredId};
 use mc_cert::Line;
-use mc_flow::{Defs, Flow};
-use mc_judging::Branch;
 use mc_live::Asserted;
+use mc_paths::Paths;
 use mc_shrink::{Manner, Step};
 use mc_sight::Sight;
-use mc_symbolic::State;
 use std::alloc::Global;
 
 /// How much an attempt may take: lines in all, and states of a cut.
@@ -41,8 +39,7 @@ pub enum Outcome {
 #[derive(Drop)]
 pub struct Attempt<'a> {
     pub alloc: Global,
-    pub flow: &'a Flow,
-    pub defs: &'a Defs,
+    pub paths: Paths<'a>,
     pub sight: Sight<'a>,
     pub wanted: &'a [PredId],
     pub asserted: &'a [Asserted],
@@ -78,8 +75,7 @@ impl<'a> Attempt<'a> {
     ) -> Result<Attempt<'a>, NoMemory> {
         Ok(Attempt {
             alloc,
-            flow: sight.flow,
-            defs: sight.defs,
+            paths: Paths::new(alloc, sight.flow, sight.defs, cuts),
             sight,
             wanted,
             asserted,
@@ -141,31 +137,6 @@ impl<'a> Attempt<'a> {
         }
     }
 
-    /// The branch at the entry.
-    fn entry_branch(&self) -> Result<Branch, NoMemory> {
-        Ok(Branch {
-            point: PointId(0),
-            state: State::unknown(self.alloc, self.flow.vars.len())?,
-            goal: None,
-            moved: false,
-            closing: false,
-        })
-    }
-
-    /// The branch at a head.
-    fn head_branch(&self, place: usize) -> Result<Option<Branch>, NoMemory> {
-        match self.heads.as_slice().get(place) {
-            Some(head) => Ok(Some(Branch {
-                point: head.cut,
-                state: head.state.copy(self.alloc)?,
-                goal: None,
-                moved: false,
-                closing: false,
-            })),
-            None => Ok(None),
-        }
-    }
-
     /// The first head from which branches have to be followed.
     fn next_stale(&self) -> Option<usize> {
         for (place, head) in self.heads.as_slice().iter().enumerate() {
@@ -176,33 +147,49 @@ impl<'a> Attempt<'a> {
         None
     }
 
+    /// Opens the branch at a head; whether it could be.
+    fn enter_head(&mut self, place: usize) -> Result<bool, NoMemory> {
+        match self.heads.get_mut(place) {
+            Some(head) => {
+                head.is_stale = false;
+                self.paths.enter_at(head.cut, &head.raw)
+            }
+            None => Ok(false),
+        }
+    }
+
     /// Follows all branches from a head.
     fn walk_head(&mut self, place: usize) -> Result<Way, NoMemory> {
-        let Some(branch) = self.head_branch(place)? else {
+        self.paths.clear();
+        if !self.enter_head(place)? {
             return Ok(Way::Stuck);
-        };
-        if let Some(head) = self.heads.get_mut(place) {
-            head.is_stale = false;
         }
         let mut lines = Vec::new(self.alloc);
-        let way = self.walk(branch, &mut lines)?;
+        let way = self.walk(&mut lines)?;
         if let Some(head) = self.heads.get_mut(place) {
             head.lines = lines;
         }
         Ok(way)
     }
 
+    /// Follows all branches from the entry.
+    fn walk_entry(&mut self) -> Result<Way, NoMemory> {
+        self.heads.clear();
+        self.paths.clear();
+        self.paths.enter()?;
+        let mut lines = Vec::new(self.alloc);
+        let way = self.walk(&mut lines)?;
+        self.entry = lines;
+        Ok(way)
+    }
+
     /// Follows all branches from the entry, and from heads until none has changed.
     fn grow(&mut self) -> Result<Way, NoMemory> {
-        self.heads.clear();
-        let mut lines = Vec::new(self.alloc);
-        let first = self.entry_branch()?;
-        let way = self.walk(first, &mut lines)?;
-        self.entry = lines;
+        let way = self.walk_entry()?;
         if way != Way::On {
             return Ok(way);
         }
-        while self.left > 0 {
+        for _ in 0..self.limits.lines {
             let Some(place) = self.next_stale() else {
                 return Ok(Way::On);
             };

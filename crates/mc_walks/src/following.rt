@@ -3,9 +3,7 @@ use crate::Attempt;
 use mc_base::NoMemory;
 use mc_cert::Line;
 use mc_flow::Instr;
-use mc_instructions::code_at;
 use mc_judging::Branch;
-use mc_lacking::lacking_at;
 use mc_next::{accessed, at_end, at_start, instance};
 
 impl Attempt<'_> {
@@ -20,7 +18,7 @@ impl Attempt<'_> {
     /// The line that unfolds a segment from its end where the node is accessed.
     fn unfolding_back(&self, branch: &Branch, code: &Instr) -> Option<Line> {
         match accessed(&branch.state, code) {
-            Some(node) => at_end(&branch.state, self.defs, node),
+            Some(node) => at_end(&branch.state, self.sight.defs, node),
             None => None,
         }
     }
@@ -28,13 +26,13 @@ impl Attempt<'_> {
     /// The next line of a branch by its instruction: what is accessed is unfolded first, from each start and from each end,
     /// also where a block is there, since two at one node can't be. None where the instruction lacks something.
     pub fn next_by_code(&self, branch: &Branch) -> Result<Option<Line>, NoMemory> {
-        let Some(code) = code_at(self.flow, branch.point) else {
+        let Some(code) = self.paths.code() else {
             return Ok(None);
         };
         if let Some(line) = self.unfolding(branch, code) {
             return Ok(Some(line));
         }
-        if let Some(_) = lacking_at(self.alloc, self.flow, self.defs, branch.point, &branch.state)? {
+        if self.paths.lacks()? {
             return Ok(None);
         }
         match self.unfolding_back(branch, code) {

@@ -1,8 +1,7 @@
 // The states of cuts.
-use mc_base::{Args, Atom, Items, NoMemory, NodeId, PointId, VarId};
+use mc_base::{Atom, NoMemory, NodeId, PointId, VarId};
 use mc_cert::Line;
-use mc_flow::{Defs, Flow};
-use mc_join::join;
+use mc_join::{are_joinable, join};
 use mc_pure::Pure;
 use mc_sight::{Seen, are_alike};
 use mc_state::RawState;
@@ -51,52 +50,62 @@ fn twice(alloc: Global, images: &[NodeId]) -> Result<Vec<(NodeId, NodeId)>, NoMe
     Ok(pairs)
 }
 
+/// Whether all numbers are those of an `int`.
+fn all_ints(numbers: &[i64]) -> bool {
+    for number in numbers {
+        if *number < i64::from(i32::MIN) || *number > i64::from(i32::MAX) {
+            return false;
+        }
+    }
+    true
+}
+
+/// What is known on both sides of pairs, widened from the third round on, where they can be joined.
+fn joined(
+    alloc: Global,
+    left: &Pure,
+    right: &Pure,
+    pairs: &[(NodeId, NodeId)],
+    round: u64,
+    thresholds: &[i64],
+) -> Result<Option<Vec<Atom>>, NoMemory> {
+    if left.is_false() || right.is_false() {
+        return Ok(None);
+    }
+    if !are_joinable(left, right, pairs) || !all_ints(thresholds) {
+        return Ok(None);
+    }
+    let joint = join(alloc, left, right, pairs, round, thresholds)?;
+    Ok(Some(mc_canon::canon(alloc, &joint)?))
+}
+
 /// What is known of nodes, with their places as numbers. A place of null is zero.
-pub fn atoms_at(alloc: Global, known: &Pure, images: &[NodeId]) -> Result<Vec<Atom>, NoMemory> {
+pub fn atoms_at(
+    alloc: Global,
+    known: &Pure,
+    images: &[NodeId],
+) -> Result<Option<Vec<Atom>>, NoMemory> {
     let pairs = twice(alloc, images)?;
-    let joint = join(alloc, known, known, pairs.as_slice(), 1, &[])?;
-    let mut atoms = mc_canon::canon(alloc, &joint)?;
+    let Some(mut atoms) = joined(alloc, known, known, pairs.as_slice(), 1, &[])? else {
+        return Ok(None);
+    };
     for (place, image) in images.iter().enumerate() {
         if place > 0 && *image == NULL {
             atoms.push(Atom::In(NodeId(place as u64), 0, 0))?;
         }
     }
-    Ok(atoms)
+    Ok(Some(atoms))
 }
 
 /// What is known both of a head's nodes and of their images, widened from the third round on.
 pub fn joint_atoms(
     alloc: Global,
-    flow: &Flow,
+    thresholds: &[i64],
     head: &State,
     known: &Pure,
     images: &[NodeId],
     round: u64,
-) -> Result<Vec<Atom>, NoMemory> {
+) -> Result<Option<Vec<Atom>>, NoMemory> {
     let pairs = pairs_of(alloc, images)?;
-    let joint = join(
-        alloc,
-        head.known(),
-        known,
-        pairs.as_slice(),
-        round,
-        flow.thresholds.as_slice(),
-    )?;
-    mc_canon::canon(alloc, &joint)
-}
-
-/// The state that a document writes.
-pub fn state_of(
-    alloc: Global,
-    flow: &Flow,
-    defs: &Defs,
-    raw: &RawState,
-) -> Result<Option<State>, NoMemory> {
-    mc_raw::state_of(
-        alloc,
-        defs.as_slice(),
-        flow.vars.as_slice(),
-        flow.structs.list.as_slice(),
-        raw,
-    )
+    joined(alloc, head.known(), known, pairs.as_slice(), round, thresholds)
 }

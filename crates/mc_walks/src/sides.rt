@@ -26,7 +26,7 @@ impl Attempt<'_> {
         let found = cover(
             self.alloc,
             &trail.state,
-            self.defs,
+            self.sight.defs,
             none,
             goal.pred,
             at,
@@ -37,7 +37,7 @@ impl Attempt<'_> {
         };
         let made = make(
             self.alloc,
-            self.defs,
+            self.sight.defs,
             trail,
             goal.pred,
             at,
@@ -53,14 +53,13 @@ impl Attempt<'_> {
     }
 
     /// Ends a side branch, whose state must not be false, by the lines of a cover.
-    pub fn end_side(
-        &self,
-        branch: Branch,
-        goal: &Goal,
-        lines: &mut Vec<Line>,
-    ) -> Result<Way, NoMemory> {
-        let mut trail = Trail::new(self.alloc, branch.state);
-        let edge = self.make_goal(goal, &mut trail)?;
+    pub fn end_side(&self, branch: Branch, lines: &mut Vec<Line>) -> Result<Way, NoMemory> {
+        let Branch { state, goal, .. } = branch;
+        let Some(goal) = goal else {
+            return Ok(Way::Stuck);
+        };
+        let mut trail = Trail::new(self.alloc, state);
+        let edge = self.make_goal(&goal, &mut trail)?;
         lines.append(&mut trail.lines)?;
         match edge {
             Some(edge) => {

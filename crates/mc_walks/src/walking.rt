@@ -2,10 +2,7 @@
 use crate::Attempt;
 use mc_base::{NoMemory, PointId};
 use mc_cert::Line;
-use mc_judging::{Branch, Next, Refused, Setting, judge};
 use mc_next::false_or_null;
-use mc_state::{Form, Goal};
-use std::alloc::AllocError;
 
 /// How a walk goes on.
 #[derive(Clone, Copy, Debug, PartialEq, Eq)]
@@ -20,25 +17,19 @@ pub enum Way {
     TooLong,
 }
 
-/// Puts what comes of a line on the stack of open branches.
-fn put(open: &mut Vec<Branch>, next: Next) -> Result<(), NoMemory> {
-    match next {
-        Next::Ended => Ok(()),
-        Next::One(branch) => {
-            open.push(branch)?;
-            Ok(())
-        }
-        Next::Two(first, second) => {
-            open.push(second)?;
-            open.push(first)?;
-            Ok(())
-        }
-        Next::More(mut list) => {
-            list.reverse();
-            open.append(&mut list)?;
-            Ok(())
-        }
-    }
+/// What the first branch asks for.
+#[derive(Drop)]
+enum Act {
+    /// This line.
+    Apply(Line),
+    /// That a side branch is ended.
+    EndSide,
+    /// That it is ended at a cut.
+    Arrive,
+    /// Its instruction lacks something here.
+    Lack(PointId),
+    /// There is no branch.
+    Rest,
 }
 
 impl Attempt<'_> {
@@ -52,69 +43,76 @@ impl Attempt<'_> {
         false
     }
 
-    /// Applies a line of the program, or one that unfolds or ends.
-    fn apply(
-        &mut self,
-        open: &mut Vec<Branch>,
-        lines: &mut Vec<Line>,
-        branch: Branch,
-        line: Line,
-    ) -> Result<Way, NoMemory> {
-        let setting = Setting {
-            form: Form::Certificate,
-            cuts: self.cuts,
-            heads: &[],
+    /// What the first branch asks for.
+    fn next_act(&self) -> Result<Act, NoMemory> {
+        let Some(branch) = self.paths.top() else {
+            return Ok(Act::Rest);
         };
-        match judge(self.alloc, self.flow, self.defs, setting, &line, branch) {
-            Ok(next) => put(open, next)?,
-            Err(Refused::Premise(_, _)) => return Ok(Way::Stuck),
-            Err(Refused::NoMemory) => return Err(AllocError),
+        if let Some(line) = false_or_null(&branch.state) {
+            return Ok(Act::Apply(line));
+        }
+        if branch.goal.is_some() {
+            return Ok(Act::EndSide);
+        }
+        if branch.moved && self.is_cut(branch.point) {
+            return Ok(Act::Arrive);
+        }
+        match self.next_by_code(branch)? {
+            Some(line) => Ok(Act::Apply(line)),
+            None => Ok(Act::Lack(branch.point)),
+        }
+    }
+
+    /// Applies a line at the first branch.
+    fn apply(&mut self, lines: &mut Vec<Line>, line: Line) -> Result<Way, NoMemory> {
+        if !self.paths.apply(&line)? {
+            return Ok(Way::Stuck);
         }
         lines.push(line)?;
         Ok(Way::On)
     }
 
-    /// Goes one step along a branch.
-    fn step(
-        &mut self,
-        open: &mut Vec<Branch>,
-        lines: &mut Vec<Line>,
-        mut branch: Branch,
-    ) -> Result<Way, NoMemory> {
-        if let Some(line) = false_or_null(&branch.state) {
-            return self.apply(open, lines, branch, line);
-        }
-        let goal: Option<Goal> = branch.goal.take();
-        if let Some(goal) = goal {
-            return self.end_side(branch, &goal, lines);
-        }
-        if branch.moved && self.is_cut(branch.point) {
-            return self.arrive(branch, lines);
-        }
-        match self.next_by_code(&branch)? {
-            Some(line) => self.apply(open, lines, branch, line),
-            None => {
-                self.last = branch.point;
+    /// Goes one step along the first branch.
+    fn step(&mut self, lines: &mut Vec<Line>, act: Act) -> Result<Way, NoMemory> {
+        match act {
+            Act::Apply(line) => self.apply(lines, line),
+            Act::EndSide => match self.paths.pop() {
+                Some(branch) => self.end_side(branch, lines),
+                None => Ok(Way::Stuck),
+            },
+            Act::Arrive => match self.paths.pop() {
+                Some(branch) => self.arrive(branch, lines),
+                None => Ok(Way::Stuck),
+            },
+            Act::Lack(point) => {
+                self.last = point;
                 Ok(Way::Stuck)
             }
+            Act::Rest => Ok(Way::On),
         }
     }
 
-    /// Follows all branches from one. The lines are added.
-    pub fn walk(&mut self, branch: Branch, lines: &mut Vec<Line>) -> Result<Way, NoMemory> {
-        let mut open = Vec::new(self.alloc);
-        open.push(branch)?;
-        while self.left > 0 {
-            let Some(next) = open.pop() else {
+    /// Counts the lines of a step; at least one.
+    fn count(&mut self, lines: usize) {
+        self.left = self.left.saturating_sub((lines as u64).max(1));
+    }
+
+    /// Follows all open branches. The lines are added.
+    pub fn walk(&mut self, lines: &mut Vec<Line>) -> Result<Way, NoMemory> {
+        for _ in 0..self.limits.lines {
+            if self.left == 0 {
+                return Ok(Way::TooLong);
+            }
+            let act = self.next_act()?;
+            if let Act::Rest = &act {
                 return Ok(Way::On);
-            };
+            }
             let before = lines.len();
-            let way = self.step(&mut open, lines, next)?;
+            let way = self.step(lines, act)?;
             if way != Way::On {
                 return Ok(way);
             }
-            let made = lines.len().saturating_sub(before) as u64;
-            self.left = self.left.saturating_sub(made.max(1));
+            self.count(lines.len().saturating_sub(before));
         }
         Ok(Way::TooLong)
     }
