@@ -31,7 +31,8 @@ fn stays_for_variable(manner: Manner<'_>, nodes: &Nodes<'_>, edge: &Edge) -> boo
     if !is_live_at(nodes, *at) {
         return false;
     }
-    manner.step != Step::Coarse || has_dead_pointer(nodes, *at, *shape, fields.as_slice())
+    let is_coarse = manner.step == Step::Coarse || manner.step == Step::Match;
+    !is_coarse || has_dead_pointer(nodes, *at, *shape, fields.as_slice())
 }
 
 /// Whether a block has a field at a live variable's node.

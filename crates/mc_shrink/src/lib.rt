@@ -15,7 +15,7 @@ mod survey;
 mod taken;
 mod whole;
 
-pub use naming::{known_terms, partial_names};
-pub use shrinking::shrink;
+pub use candidates::candidates;
+pub use shrinking::{note, shrink};
 pub use survey::{Manner, Step, Survey};
 pub use taken::taken_by;

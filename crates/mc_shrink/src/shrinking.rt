@@ -39,7 +39,7 @@ fn next_fold(
 }
 
 /// Writes down what blocks derive, by a spare node that is forgotten.
-fn note(alloc: Global, manner: Manner<'_>, trail: &mut Trail) -> Result<(), NoMemory> {
+pub fn note(alloc: Global, manner: Manner<'_>, trail: &mut Trail) -> Result<(), NoMemory> {
     let defs = manner.sight.defs;
     let spare = trail.state.next_node();
     if trail.apply(alloc, defs, Line::L8(NodeId(0), 0, Kind::Ptr))? {

@@ -15,6 +15,8 @@ pub enum Step {
     Whole,
     /// No block stays for a live variable alone.
     Coarse,
+    /// As that, and states may fit heads of another shape.
+    Match,
 }
 
 /// How a state is folded: what is looked at, the predicates in the order in which they are wanted, those that the

@@ -132,6 +132,7 @@ fn fold_at(
         Step::Whole => all,
         Step::Plain => survey.kept_ids.as_slice(),
         Step::Coarse => survey.kept_ids.as_slice(),
+        Step::Match => survey.kept_ids.as_slice(),
     };
     for pred in manner.wanted {
         if let Some(def) = manner.sight.defs.as_slice().get(pred.0 as usize) {

@@ -2,14 +2,23 @@
 use crate::Attempt;
 use crate::heads::{Head, atoms_at, joint_atoms};
 use crate::walking::Way;
-use mc_base::{Items, NoMemory, PointId};
+use mc_base::{EdgeId, Items, NoMemory, NodeId, PointId};
 use mc_cert::Line;
 use mc_fits::fits;
 use mc_judging::Branch;
-use mc_shrink::shrink;
+use mc_shrink::{Step, shrink};
 use mc_sight::{Seen, look};
 use mc_symbolic::State;
 use mc_trail::Trail;
+
+/// Where a branch lands: the head, the images of its nodes and the edges for its edges, and how the walk goes on.
+#[derive(Drop)]
+pub struct Landing {
+    pub head: usize,
+    pub images: Vec<NodeId>,
+    pub edges: Vec<EdgeId>,
+    pub way: Way,
+}
 
 impl Attempt<'_> {
     /// The head with the shape of what was seen.
@@ -26,7 +35,7 @@ impl Attempt<'_> {
     fn heads_at(&self, cut: PointId) -> usize {
         let mut count = 0;
         for head in self.heads.as_slice() {
-            if head.cut == cut {
+            if head.cut == cut && !head.is_dropped {
                 count += 1;
             }
         }
@@ -54,17 +63,25 @@ impl Attempt<'_> {
             round: 1,
             lines: Vec::new(self.alloc),
             is_stale: true,
+            is_dropped: false,
         })?;
+        if self.step_at(cut) == Step::Match {
+            return self.absorb(cut);
+        }
         Ok(Way::On)
     }
 
     /// Joins what is known at an arrival into a head.
-    fn join_into(&mut self, place: usize, state: &State, seen: &Seen) -> Result<Way, NoMemory> {
+    fn join_into(
+        &mut self,
+        place: usize,
+        state: &State,
+        images: &[NodeId],
+    ) -> Result<Way, NoMemory> {
         let Some(head) = self.heads.get_mut(place) else {
             return Ok(Way::Stuck);
         };
         head.round = head.round.saturating_add(1);
-        let images = seen.images.as_slice();
         let known = state.known();
         let thresholds = self.sight.flow.thresholds.as_slice();
         let joint = joint_atoms(self.alloc, thresholds, &head.state, known, images, head.round)?;
@@ -81,19 +98,20 @@ impl Attempt<'_> {
     }
 
     /// Lets a head take an arrival of its shape.
-    fn meet_head(&mut self, place: usize, state: &State, seen: &Seen) -> Result<Way, NoMemory> {
+    pub fn meet_head(
+        &mut self,
+        place: usize,
+        state: &State,
+        images: &[NodeId],
+        edges: &[EdgeId],
+    ) -> Result<Way, NoMemory> {
         let unmet = match self.heads.as_slice().get(place) {
-            Some(head) => fits(
-                state,
-                &head.state,
-                seen.images.as_slice(),
-                seen.edges.as_slice(),
-            ),
+            Some(head) => fits(state, &head.state, images, edges),
             None => return Ok(Way::Stuck),
         };
         match unmet {
             None => Ok(Way::On),
-            Some(8) => self.join_into(place, state, seen),
+            Some(8) => self.join_into(place, state, images),
             Some(_) => Ok(Way::Stuck),
         }
     }
@@ -115,19 +133,47 @@ impl Attempt<'_> {
         let mut trail = Trail::new(self.alloc, branch.state);
         let manner = self.manner(cut);
         shrink(self.alloc, manner, cut, &mut trail)?;
-        let Trail {
-            state,
-            lines: mut done,
-        } = trail;
-        lines.append(&mut done)?;
-        let seen = look(self.alloc, manner.sight, &state, cut)?;
-        let images = Items::of(Vec::from_slice(self.alloc, seen.images.as_slice())?);
-        let edges = Items::of(Vec::from_slice(self.alloc, seen.edges.as_slice())?);
-        let (place, way) = match self.head_like(cut, &seen) {
-            Some(place) => (place, self.meet_head(place, &state, &seen)?),
-            None => (self.heads.len(), self.add_head(cut, &state, seen)?),
+        let seen = look(self.alloc, manner.sight, &trail.state, cut)?;
+        let landing = match self.head_like(cut, &seen) {
+            Some(place) => self.land(place, &trail.state, seen)?,
+            None => match self.fit_head(cut, &seen, &mut trail)? {
+                Some(landing) => landing,
+                None => self.land_new(cut, &trail.state, seen)?,
+            },
         };
-        lines.push(Line::L13(place as u64, images, edges))?;
-        Ok(way)
+        lines.append(&mut trail.lines)?;
+        lines.push(Line::L13(
+            landing.head as u64,
+            Items::of(landing.images),
+            Items::of(landing.edges),
+        ))?;
+        Ok(landing.way)
+    }
+
+    /// Lands at a head of the same shape.
+    fn land(&mut self, head: usize, state: &State, seen: Seen) -> Result<Landing, NoMemory> {
+        let images = seen.images;
+        let edges = seen.edges;
+        let way = self.meet_head(head, state, images.as_slice(), edges.as_slice())?;
+        Ok(Landing {
+            head,
+            images,
+            edges,
+            way,
+        })
+    }
+
+    /// Lands at a new head.
+    fn land_new(&mut self, cut: PointId, state: &State, seen: Seen) -> Result<Landing, NoMemory> {
+        let images = Vec::from_slice(self.alloc, seen.images.as_slice())?;
+        let edges = Vec::from_slice(self.alloc, seen.edges.as_slice())?;
+        let head = self.heads.len();
+        let way = self.add_head(cut, state, seen)?;
+        Ok(Landing {
+            head,
+            images,
+            edges,
+            way,
+        })
     }
 }

@@ -49,6 +49,7 @@ pub struct Attempt<'a> {
     pub steps: Vec<Step>,
     pub heads: Vec<Head>,
     pub entry: Vec<Line>,
+    pub is_entry_stale: bool,
     pub left: u64,
     pub last: PointId,
 }
@@ -58,7 +59,8 @@ fn step_up(step: Step) -> Option<Step> {
     match step {
         Step::Plain => Some(Step::Whole),
         Step::Whole => Some(Step::Coarse),
-        Step::Coarse => None,
+        Step::Coarse => Some(Step::Match),
+        Step::Match => None,
     }
 }
 
@@ -85,6 +87,7 @@ impl<'a> Attempt<'a> {
             steps: vec![in alloc; style.step; cuts.len()]?,
             heads: Vec::new(alloc),
             entry: Vec::new(alloc),
+            is_entry_stale: true,
             left: limits.lines,
             last: PointId(0),
         })
@@ -101,7 +104,7 @@ impl<'a> Attempt<'a> {
     }
 
     /// How far folding goes at a cut.
-    fn step_at(&self, cut: PointId) -> Step {
+    pub fn step_at(&self, cut: PointId) -> Step {
         match self.place_of(cut) {
             Some(place) => self.steps.as_slice().get(place).copied().unwrap_or(Step::Plain),
             None => Step::Plain,
@@ -140,7 +143,7 @@ impl<'a> Attempt<'a> {
     /// The first head from which branches have to be followed.
     fn next_stale(&self) -> Option<usize> {
         for (place, head) in self.heads.as_slice().iter().enumerate() {
-            if head.is_stale {
+            if head.is_stale && !head.is_dropped {
                 return Some(place);
             }
         }
@@ -174,7 +177,7 @@ impl<'a> Attempt<'a> {
 
     /// Follows all branches from the entry.
     fn walk_entry(&mut self) -> Result<Way, NoMemory> {
-        self.heads.clear();
+        self.is_entry_stale = false;
         self.paths.clear();
         self.paths.enter()?;
         let mut lines = Vec::new(self.alloc);
@@ -185,15 +188,17 @@ impl<'a> Attempt<'a> {
 
     /// Follows all branches from the entry, and from heads until none has changed.
     fn grow(&mut self) -> Result<Way, NoMemory> {
-        let way = self.walk_entry()?;
-        if way != Way::On {
-            return Ok(way);
-        }
+        self.heads.clear();
+        self.is_entry_stale = true;
         for _ in 0..self.limits.lines {
-            let Some(place) = self.next_stale() else {
-                return Ok(Way::On);
+            let way = if self.is_entry_stale {
+                self.walk_entry()?
+            } else {
+                match self.next_stale() {
+                    Some(place) => self.walk_head(place)?,
+                    None => return Ok(Way::On),
+                }
             };
-            let way = self.walk_head(place)?;
             if way != Way::On {
                 return Ok(way);
             }
@@ -203,7 +208,7 @@ impl<'a> Attempt<'a> {
 
     /// Grows the states of cuts, where a cut that would have too many begins again one step up. Whether they are whole.
     pub fn run(&mut self) -> Result<bool, NoMemory> {
-        for _ in 0..self.cuts.len().saturating_mul(3).saturating_add(1) {
+        for _ in 0..self.cuts.len().saturating_mul(4).saturating_add(1) {
             match self.grow()? {
                 Way::On => return Ok(true),
                 Way::Stuck => return Ok(false),

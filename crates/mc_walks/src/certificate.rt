@@ -12,7 +12,7 @@ fn numbers(alloc: Global, heads: &[Head]) -> Result<Vec<u64>, NoMemory> {
     for (place, head) in heads.iter().enumerate() {
         let mut count = 0;
         for (before, other) in heads.iter().enumerate() {
-            if before < place && other.cut == head.cut {
+            if before < place && other.cut == head.cut && !other.is_dropped {
                 count += 1;
             }
         }
@@ -47,6 +47,9 @@ fn push_heads(
     for cut in cuts {
         let mut rest = Vec::new(alloc);
         for head in left {
+            if head.is_dropped {
+                continue;
+            }
             if head.cut == *cut {
                 let Head {
                     cut: at, raw, lines, ..

@@ -21,12 +21,14 @@ pub struct Head {
     pub round: u64,
     pub lines: Vec<Line>,
     pub is_stale: bool,
+    pub is_dropped: bool,
 }
 
 impl Head {
     /// Whether what was seen of a state at a cut has this head's shape.
     pub fn has_shape(&self, cut: PointId, seen: &Seen) -> bool {
-        self.cut == cut
+        !self.is_dropped
+            && self.cut == cut
             && self.flags.as_slice() == seen.flags.as_slice()
             && are_alike(&self.raw, &seen.raw)
     }

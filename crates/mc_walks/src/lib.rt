@@ -7,6 +7,7 @@ mod attempt;
 mod certificate;
 mod following;
 mod heads;
+mod matching;
 mod sides;
 mod walking;
 
