@@ -1,4 +1,6 @@
 // The search for a certificate.
+ghost use Rattle.mc_flow.specs.Valid.{IsValid};
+
 use crate::cuts::loop_heads;
 use crate::judged::is_certificate;
 use mc_base::{NoMemory, PointId, PredId};
@@ -44,7 +46,9 @@ fn attempt(
     cuts: &[PointId],
     style: Style,
     limits: Limits,
-) -> Result<Option<Vec<Line>>, NoMemory> {
+) -> Result<Option<Vec<Line>>, NoMemory>
+    requires { IsValid sight.flow.now sight.defs.now }
+{
     let attempt = Attempt::new(alloc, sight, wanted, asserted, cuts, style, limits)?;
     let lines = match attempt.make()? {
         Outcome::Found(lines) => lines,
@@ -63,7 +67,9 @@ pub fn find(
     flow: &Flow,
     defs: &Defs,
     limits: Limits,
-) -> Result<Option<Vec<Line>>, NoMemory> {
+) -> Result<Option<Vec<Line>>, NoMemory>
+    requires { IsValid flow.now defs.now }
+{
     let live = live_variables(alloc, flow)?;
     let stored = StoredFields::of(alloc, flow)?;
     let constants = constant_variables(alloc, flow)?;

@@ -1,4 +1,6 @@
 // Whether lines are a certificate.
+ghost use Rattle.mc_flow.specs.Valid.{IsValid};
+
 use mc_base::NoMemory;
 use mc_cert::Line;
 use mc_flow::{Defs, Flow};
@@ -12,7 +14,9 @@ pub fn is_certificate(
     flow: &Flow,
     defs: &Defs,
     lines: &[Line],
-) -> Result<bool, NoMemory> {
+) -> Result<bool, NoMemory>
+    requires { IsValid flow.now defs.now }
+{
     let mut proof = Proof::start(alloc, flow, defs, Form::Certificate);
     for (place, line) in lines.iter().enumerate() {
         if place > 0 {

@@ -111,9 +111,8 @@ fn update(
 fn pass(flow: &Flow, dead: &mut Rows, row: &mut Rows, fields: &[StoredField]) -> bool {
     let mut changed = false;
     let points = flow.points.as_slice();
-    let mut at = points.len();
-    while at > 0 {
-        at -= 1;
+    for behind in 0..points.len() {
+        let at = points.len() - 1 - behind;
         if let Some(point) = points.get(at) {
             if update(dead, row, fields, at, &point.code) {
                 changed = true;

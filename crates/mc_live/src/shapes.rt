@@ -23,12 +23,10 @@ fn want(
 ) -> Result<(), NoMemory> {
     let mut open = vec![in alloc; pred]?;
     let mut found = Vec::new(alloc);
-    let mut next = 0;
-    while let Some(each) = open.as_slice().get(next).copied() {
-        next += 1;
-        if next > defs.as_slice().len() {
+    for next in 0..defs.as_slice().len() {
+        let Some(each) = open.as_slice().get(next).copied() else {
             break;
-        }
+        };
         found.push(each)?;
         push_called(&mut open, defs, each)?;
     }

@@ -74,9 +74,8 @@ fn update(live: &mut Rows, row: &mut Rows, point: usize, code: &Instr) -> bool {
 fn pass(flow: &Flow, live: &mut Rows, row: &mut Rows) -> bool {
     let mut changed = false;
     let points = flow.points.as_slice();
-    let mut at = points.len();
-    while at > 0 {
-        at -= 1;
+    for behind in 0..points.len() {
+        let at = points.len() - 1 - behind;
         if let Some(point) = points.get(at) {
             if update(live, row, at, &point.code) {
                 changed = true;

@@ -1,11 +1,11 @@
 // Blocks and inductive edges of a head.
 use crate::{Fit, Part};
 use mc_base::{EdgeId, NoMemory, NodeId, PredId, StructId};
-use mc_covering::cover;
 use mc_graph::Edge;
 use mc_shrink::{Manner, candidates, taken_by};
 use mc_state::Term;
 use mc_symbolic::State;
+use mc_trail::cover;
 use std::alloc::Global;
 
 /// Gives the fields of a head's block the terms of another's; whether that could be.

@@ -3,11 +3,11 @@ use crate::inductive::is_free;
 use crate::partial::are_equal;
 use crate::{Fit, Part};
 use mc_base::{NoMemory, NodeId, PointId, PredId, VarId};
-use mc_covering::seg_cover;
 use mc_graph::Edge;
 use mc_shrink::{Manner, candidates, taken_by};
 use mc_state::Term;
 use mc_symbolic::State;
+use mc_trail::seg_cover;
 use std::alloc::Global;
 
 /// A segment of a head.

@@ -1,4 +1,6 @@
 // The next line of a branch.
+ghost use Rattle.mc_flow.specs.Valid.{IsValid};
+
 use crate::access::accessed;
 use crate::instance::instance;
 use crate::unfolding::{at_node, false_or_null};
@@ -48,7 +50,9 @@ fn at_instruction(
     defs: &Defs,
     form: Form,
     branch: &Branch,
-) -> Result<Option<Line>, NoMemory> {
+) -> Result<Option<Line>, NoMemory>
+    requires { IsValid flow.now defs.now }
+{
     let Some(code) = code_at(flow, branch.point) else {
         return Ok(None);
     };
@@ -68,7 +72,9 @@ pub fn next_line(
     form: Form,
     cuts: &[PointId],
     branch: &Branch,
-) -> Result<Option<Line>, NoMemory> {
+) -> Result<Option<Line>, NoMemory>
+    requires { IsValid flow.now defs.now }
+{
     if branch.goal.is_some() || branch.closing {
         return Ok(None);
     }

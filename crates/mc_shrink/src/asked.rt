@@ -198,9 +198,8 @@ fn asked_by(
 ) -> Result<Option<Vec<Term>>, NoMemory> {
     let fronts = chain(alloc, state, pred, def, front)?;
     let mut args = at_top(alloc, state, pred, def, fronts.as_slice())?;
-    let mut left = fronts.len();
-    while left > 0 {
-        left -= 1;
+    for behind in 0..fronts.len() {
+        let left = fronts.len() - 1 - behind;
         if let Some(next) = fronts.as_slice().get(left) {
             match through(alloc, state, def, *next, args.as_slice())? {
                 Some(found) => args = found,
@@ -228,8 +227,11 @@ pub fn push_asked(
         list.push(terms)?;
     }
     let mut from = 0;
-    while let Some(front) = next_front(alloc, state, pred, def, at, from)? {
-        from = front.place + 1;
+    for _ in state.edges() {
+        let Some(front) = next_front(alloc, state, pred, def, at, from)? else {
+            return Ok(());
+        };
+        from = front.place.saturating_add(1);
         if let Some(terms) = asked_by(alloc, state, pred, def, front)? {
             list.push(terms)?;
         }

@@ -167,7 +167,7 @@ fn empty_args(alloc: Global, def: &Def, at: NodeId) -> Result<Vec<Option<Term>>,
     for rule in def.rules.as_slice() {
         if rule.block.is_none() {
             let mut names = vec![in alloc; Some(plain(at))]?;
-            while names.len() < rule.names.len() {
+            for _ in names.len()..rule.names.len() {
                 names.push(None)?;
             }
             learn_all(&mut names, rule, &[], &[]);
@@ -237,9 +237,8 @@ pub fn second_guess(
     stop: Option<(Term, &[Term])>,
 ) -> Result<Vec<Term>, NoMemory> {
     let (bodies, mut told) = descend(alloc, state, pred, def, at, stop)?;
-    let mut left = bodies.len();
-    while left > 0 {
-        left -= 1;
+    for behind in 0..bodies.len() {
+        let left = bodies.len() - 1 - behind;
         if let Some(body) = bodies.as_slice().get(left) {
             told = above(alloc, state, def, *body, told.as_slice())?;
         }

@@ -70,15 +70,18 @@ fn names_twice(nodes: &Nodes<'_>, edge: &Edge, node: NodeId) -> bool {
     let Edge::Block { fields, .. } = edge else {
         return false;
     };
-    let mut count = 0;
+    let mut is_named = false;
     for field in fields.as_slice() {
         if let Some(own) = field {
             if nodes.state.are_equal(*own, node) {
-                count += 1;
+                if is_named {
+                    return true;
+                }
+                is_named = true;
             }
         }
     }
-    count > 1
+    false
 }
 
 /// Whether a block is of another struct than a kept block that names it, and is named once more.

@@ -117,7 +117,7 @@ pub fn partial_names(
     names.push(Some(plain(edge.start())))?;
     names.extend_from_slice(args)?;
     push_contents(&mut names, edge)?;
-    while names.len() < rule.names.len() {
+    for _ in names.len()..rule.names.len() {
         names.push(None)?;
     }
     settle(&mut names, rule);

@@ -8,11 +8,11 @@ use crate::whole::push_back_terms;
 use crate::{Manner, Survey};
 use mc_base::{EdgeId, NoMemory, NodeId, PredId};
 use mc_cover::Mark;
-use mc_covering::seg_cover;
 use mc_defs::{Call, Def, Rule};
 use mc_graph::Edge;
 use mc_sight::Nodes;
 use mc_state::Term;
+use mc_trail::seg_cover;
 use std::alloc::Global;
 
 /// A block that is tried as the first of a segment of a predicate, by a rule and one of its calls.

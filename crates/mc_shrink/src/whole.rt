@@ -7,11 +7,11 @@ use crate::taken::taken_by;
 use crate::{Manner, Step, Survey};
 use mc_base::{EdgeId, NoMemory, NodeId, PredId};
 use mc_cover::Mark;
-use mc_covering::cover;
 use mc_defs::{Def, Rule};
 use mc_graph::Edge;
 use mc_sight::Nodes;
 use mc_state::Term;
+use mc_trail::cover;
 use mc_unfolding::is_back;
 use std::alloc::Global;
 

@@ -19,6 +19,35 @@ struct Met {
     number: NodeId,
 }
 
+/// Where a node of a state that is not false stands in its class.
+fn class_at(state: &State, node: NodeId) -> Option<ClassPlace> {
+    if state.is_false() || !state.is_there(node) {
+        return None;
+    }
+    Some(state.known().class_of(node))
+}
+
+/// The one value that a node can have.
+fn value_at(state: &State, node: NodeId) -> Option<i64> {
+    if state.is_false() || !state.is_there(node) {
+        return None;
+    }
+    let range = state.range(node);
+    if range.lo == range.hi {
+        Some(range.lo)
+    } else {
+        None
+    }
+}
+
+/// Whether a node is equal to one that was met.
+fn is_met(state: &State, node: NodeId, met: Met) -> bool {
+    match class_at(state, node) {
+        Some(place) => place.least == met.least && place.offset == met.offset,
+        None => false,
+    }
+}
+
 /// A look at a state that is on its way.
 #[derive(Drop)]
 struct Look<'a> {
@@ -55,7 +84,9 @@ impl Look<'_> {
 
     /// The number of a pointer's node: 0 of null, one number for all equal nodes.
     fn pointer(&mut self, node: NodeId) -> Result<NodeId, NoMemory> {
-        let place = self.state.known().class_of(node);
+        let Some(place) = class_at(self.state, node) else {
+            return Ok(NULL);
+        };
         if place.least == NULL && place.offset == 0 {
             return Ok(NULL);
         }
@@ -194,8 +225,7 @@ impl Look<'_> {
         let state = self.state;
         for (place, entry) in state.edges().iter().enumerate() {
             if !self.is_used(place) {
-                let at = state.known().class_of(entry.1.start());
-                if at.least == met.least && at.offset == met.offset {
+                if is_met(state, entry.1.start(), met) {
                     self.take(place)?;
                 }
             }
@@ -206,11 +236,22 @@ impl Look<'_> {
     /// Takes all edges that can be reached from the nodes that were met, from a place in their list on. The place behind.
     fn follow(&mut self, from: usize) -> Result<usize, NoMemory> {
         let mut next = from;
-        while let Some(met) = self.met.as_slice().get(next).copied() {
+        for _ in 0..self.state.nodes().len() {
+            let Some(met) = self.met.as_slice().get(next).copied() else {
+                return Ok(next);
+            };
             next += 1;
             self.take_at(met)?;
         }
         Ok(next)
+    }
+
+    /// Whether a pointer's node was met.
+    fn has_met(&self, node: NodeId) -> bool {
+        match class_at(self.state, node) {
+            Some(place) => self.number_of(&place).is_some(),
+            None => false,
+        }
     }
 
     /// Whether an edge is a segment that can be found from its end: an argument there at a back position was met.
@@ -219,10 +260,7 @@ impl Look<'_> {
             return false;
         };
         for (place, node) in end_args.as_slice().iter().enumerate() {
-            let at = self.state.known().class_of(*node);
-            if self.number_of(&at).is_some()
-                && is_back(self.sight.defs.as_slice(), *pred, place)
-            {
+            if self.has_met(*node) && is_back(self.sight.defs.as_slice(), *pred, place) {
                 return true;
             }
         }
@@ -271,9 +309,8 @@ impl Look<'_> {
                 continue;
             }
             if let Some(node) = self.sight.live_node(self.state, self.point, x) {
-                let range = self.state.range(node);
-                if range.lo == range.hi {
-                    flags.push((x, range.lo))?;
+                if let Some(value) = value_at(self.state, node) {
+                    flags.push((x, value))?;
                 }
             }
         }

@@ -266,7 +266,10 @@ impl Making<'_> {
     /// Goes on up to the next task.
     fn settle(&mut self, trail: &mut Trail, made: Made) -> Result<Settled, NoMemory> {
         let mut made = made;
-        while let Some(frame) = self.frames.pop() {
+        for _ in 0..self.frames.len() {
+            let Some(frame) = self.frames.pop() else {
+                return Ok(Settled::Made(made));
+            };
             match self.hand(trail, frame, made)? {
                 (Some(next), _) => return Ok(Settled::Next(next)),
                 (None, Turn::Made(more)) => made = more,

@@ -33,10 +33,10 @@ impl Attempt<'_> {
 
     /// How many heads a cut has.
     fn heads_at(&self, cut: PointId) -> usize {
-        let mut count = 0;
+        let mut count = 0usize;
         for head in self.heads.as_slice() {
             if head.cut == cut && !head.is_dropped {
-                count += 1;
+                count = count.saturating_add(1);
             }
         }
         count

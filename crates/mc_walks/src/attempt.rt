@@ -1,4 +1,6 @@
 // Attempts.
+ghost use Rattle.mc_flow.specs.Valid.{IsValid};
+
 use crate::heads::Head;
 use crate::walking::Way;
 use mc_base::{NoMemory, PointId, PredId};
@@ -74,7 +76,9 @@ impl<'a> Attempt<'a> {
         cuts: &'a [PointId],
         style: Style,
         limits: Limits,
-    ) -> Result<Attempt<'a>, NoMemory> {
+    ) -> Result<Attempt<'a>, NoMemory>
+        requires { IsValid sight.flow.now sight.defs.now }
+    {
         Ok(Attempt {
             alloc,
             paths: Paths::new(alloc, sight.flow, sight.defs, cuts),

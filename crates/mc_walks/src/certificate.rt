@@ -10,10 +10,10 @@ use std::alloc::Global;
 fn numbers(alloc: Global, heads: &[Head]) -> Result<Vec<u64>, NoMemory> {
     let mut list: Vec<u64> = Vec::with_capacity(alloc, heads.len())?;
     for (place, head) in heads.iter().enumerate() {
-        let mut count = 0;
+        let mut count = 0u64;
         for (before, other) in heads.iter().enumerate() {
             if before < place && other.cut == head.cut && !other.is_dropped {
-                count += 1;
+                count = count.saturating_add(1);
             }
         }
         list.push(count)?;

@@ -3,10 +3,9 @@ use crate::Attempt;
 use crate::walking::Way;
 use mc_base::{EdgeId, NoMemory};
 use mc_cert::Line;
-use mc_covering::cover;
 use mc_judging::Branch;
 use mc_state::{Goal, Term};
-use mc_trail::{MadeOf, Trail, make, plain};
+use mc_trail::{MadeOf, Trail, cover, make, plain};
 
 impl Attempt<'_> {
     /// The arguments of a goal as terms.
