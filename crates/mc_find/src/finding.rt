@@ -25,19 +25,27 @@ fn attempts(alloc: Global, keys: usize) -> Result<Vec<(Style, usize)>, NoMemory>
     let many = keys.saturating_mul(4);
     let list = vec![in alloc;
         style(0, 0, Step::Plain, keys),
+        style(0, 0, Step::Coarse, keys),
         style(1, 0, Step::Plain, keys),
         style(2, 0, Step::Plain, keys),
-        style(0, 0, Step::Whole, keys),
-        style(0, 0, Step::Coarse, keys),
         style(0, 1, Step::Plain, keys),
         style(0, -1, Step::Plain, keys),
+        style(0, 0, Step::Whole, keys),
+        style(0, 0, Step::Match, keys),
         style(0, 0, Step::Plain, many),
         style(0, 0, Step::Coarse, many)
     ]?;
     Ok(list)
 }
 
-/// One attempt: the lines of a certificate, where one is found.
+/// What comes of one attempt: the lines of a certificate, or how many lines were taken in vain.
+#[derive(Drop)]
+enum Tried {
+    Found(Vec<Line>),
+    InVain(u64),
+}
+
+/// One attempt. What the kernel's proof does not take counts as nothing.
 fn attempt(
     alloc: Global,
     sight: Sight<'_>,
@@ -46,22 +54,27 @@ fn attempt(
     cuts: &[PointId],
     style: Style,
     limits: Limits,
-) -> Result<Option<Vec<Line>>, NoMemory>
+) -> Result<Tried, NoMemory>
     requires { IsValid sight.flow.now sight.defs.now }
 {
     let attempt = Attempt::new(alloc, sight, wanted, asserted, cuts, style, limits)?;
-    let lines = match attempt.make()? {
-        Outcome::Found(lines) => lines,
-        Outcome::Failed(_) => return Ok(None),
-    };
-    if is_certificate(alloc, sight.flow, sight.defs, lines.as_slice())? {
-        Ok(Some(lines))
-    } else {
-        Ok(None)
+    match attempt.make()? {
+        Outcome::Found(lines) => {
+            if is_certificate(alloc, sight.flow, sight.defs, lines.as_slice())? {
+                Ok(Tried::Found(lines))
+            } else {
+                Ok(Tried::InVain(limits.lines))
+            }
+        }
+        Outcome::Failed(_, taken) => Ok(Tried::InVain(taken)),
     }
 }
 
-/// The lines of a certificate of a flow graph, from the header to the end, where one is found within the limits.
+/// How many attempts may take all their lines in vain.
+const WHOLE: u64 = 3;
+
+/// The lines of a certificate of a flow graph, from the header to the end, where one is found within the limits of each
+/// attempt. The cuts are its loop heads.
 pub fn find(
     alloc: Global,
     flow: &Flow,
@@ -84,12 +97,13 @@ pub fn find(
         constants: constants.as_slice(),
         all: asks_for_empty(flow),
     };
+    let mut left = limits.lines.saturating_mul(WHOLE);
     for each in attempts(alloc, limits.keys)?.as_slice() {
         let own = Limits {
-            lines: limits.lines,
+            lines: limits.lines.min(left),
             keys: each.1,
         };
-        let found = attempt(
+        let tried = attempt(
             alloc,
             sight,
             wanted.as_slice(),
@@ -98,10 +112,11 @@ pub fn find(
             each.0,
             own,
         )?;
-        if found.is_some() {
-            return Ok(found);
+        match tried {
+            Tried::Found(lines) => return Ok(Some(lines)),
+            Tried::InVain(taken) => left = left.saturating_sub(taken),
         }
-        if cuts.is_empty() {
+        if cuts.is_empty() || left == 0 {
             return Ok(None);
         }
     }

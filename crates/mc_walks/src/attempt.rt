@@ -32,8 +32,8 @@ pub struct Style {
 pub enum Outcome {
     /// The lines of a certificate.
     Found(Vec<Line>),
-    /// None was found; the point at which the attempt ended.
-    Failed(PointId),
+    /// None was found: the point at which the attempt ended, and how many lines it took.
+    Failed(PointId, u64),
 }
 
 /// An attempt to find a certificate: the states of cuts so far, the lines from the entry, how far folding goes at each
@@ -53,6 +53,7 @@ pub struct Attempt<'a> {
     pub entry: Vec<Line>,
     pub is_entry_stale: bool,
     pub left: u64,
+    pub taken: u64,
     pub last: PointId,
 }
 
@@ -93,6 +94,7 @@ impl<'a> Attempt<'a> {
             entry: Vec::new(alloc),
             is_entry_stale: true,
             left: limits.lines,
+            taken: 0,
             last: PointId(0),
         })
     }
@@ -213,7 +215,11 @@ impl<'a> Attempt<'a> {
     /// Grows the states of cuts, where a cut that would have too many begins again one step up. Whether they are whole.
     pub fn run(&mut self) -> Result<bool, NoMemory> {
         for _ in 0..self.cuts.len().saturating_mul(4).saturating_add(1) {
-            match self.grow()? {
+            self.left = self.limits.lines;
+            let way = self.grow()?;
+            let more = self.limits.lines.saturating_sub(self.left);
+            self.taken = self.taken.saturating_add(more);
+            match way {
                 Way::On => return Ok(true),
                 Way::Stuck => return Ok(false),
                 Way::TooLong => return Ok(false),
@@ -222,7 +228,6 @@ impl<'a> Attempt<'a> {
                     if !self.climb(cut) {
                         return Ok(false);
                     }
-                    self.left = self.limits.lines;
                 }
             }
         }

@@ -89,7 +89,7 @@ impl Attempt<'_> {
         if self.run()? {
             Ok(Outcome::Found(self.certificate()?))
         } else {
-            Ok(Outcome::Failed(self.last))
+            Ok(Outcome::Failed(self.last, self.taken))
         }
     }
 }
