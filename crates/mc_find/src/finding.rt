@@ -33,7 +33,7 @@ fn attempts(alloc: Global, keys: usize) -> Result<Vec<(Style, usize)>, NoMemory>
         style(0, 0, Step::Whole, keys),
         style(0, 0, Step::Match, keys),
         style(0, 0, Step::Plain, many),
-        style(0, 0, Step::Coarse, many)
+        style(0, 0, Step::Coarse, many),
     ]?;
     Ok(list)
 }

@@ -15,12 +15,7 @@ pub fn asks_for_empty(flow: &Flow) -> bool {
 }
 
 /// Adds a predicate that is not in the list, and before it those that it calls.
-fn want(
-    alloc: Global,
-    list: &mut Vec<PredId>,
-    defs: &Defs,
-    pred: PredId,
-) -> Result<(), NoMemory> {
+fn want(alloc: Global, list: &mut Vec<PredId>, defs: &Defs, pred: PredId) -> Result<(), NoMemory> {
     let mut open = vec![in alloc; pred]?;
     let mut found = Vec::new(alloc);
     for next in 0..defs.as_slice().len() {

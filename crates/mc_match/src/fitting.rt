@@ -73,7 +73,9 @@ fn ways(
         }
         Edge::Ind { pred, args, .. } => {
             let nodes = args.as_slice();
-            push_covers(alloc, &mut list, manner, state, fit, place, *pred, at, nodes)?;
+            push_covers(
+                alloc, &mut list, manner, state, fit, place, *pred, at, nodes,
+            )?;
         }
         Edge::Seg {
             args,

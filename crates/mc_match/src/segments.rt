@@ -78,11 +78,7 @@ fn args_at(
             Edge::Ind { at, pred, args } => (at, pred, args),
             Edge::Seg { at, pred, args, .. } => (at, pred, args),
         };
-        if *of == pred
-            && at.add == 0
-            && is_free(fit, entry.0)
-            && state.are_equal(*own, at.node)
-        {
+        if *of == pred && at.add == 0 && is_free(fit, entry.0) && state.are_equal(*own, at.node) {
             let mut list = Vec::with_capacity(alloc, args.len())?;
             for node in args.as_slice() {
                 list.push(Term {
@@ -109,11 +105,7 @@ fn end_args(
         return Ok(known);
     }
     match args_at(alloc, state, fit, wanted.pred, end)? {
-        Some(terms) => Ok(Some(fit.with_known(
-            alloc,
-            wanted.ends,
-            terms.as_slice(),
-        )?)),
+        Some(terms) => Ok(Some(fit.with_known(alloc, wanted.ends, terms.as_slice())?)),
         None => Ok(None),
     }
 }

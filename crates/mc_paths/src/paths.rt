@@ -118,8 +118,13 @@ impl<'f> Paths<'f> {
     pub fn lacks(&self) -> Result<bool, NoMemory> {
         match self.open.top() {
             Some(branch) => {
-                let gap =
-                    lacking_at(self.alloc, self.flow, self.defs, branch.point, &branch.state)?;
+                let gap = lacking_at(
+                    self.alloc,
+                    self.flow,
+                    self.defs,
+                    branch.point,
+                    &branch.state,
+                )?;
                 Ok(gap.is_some())
             }
             None => Ok(true),

@@ -155,11 +155,7 @@ fn through(
     };
     let names = partial_names(alloc, rule, &entry.1, args)?;
     match rule.calls.as_slice().get(front.call) {
-        Some(call) => Ok(Some(call_terms(
-            alloc,
-            names.as_slice(),
-            call.args.as_slice(),
-        )?)),
+        Some(call) => Ok(Some(call_terms(alloc, names.as_slice(), call.args.as_slice())?)),
         None => Ok(None),
     }
 }

@@ -64,12 +64,7 @@ fn stop_at(
 }
 
 /// The arguments with their numbers so much more.
-fn with_room(
-    alloc: Global,
-    def: &Def,
-    terms: Vec<Term>,
-    room: i64,
-) -> Result<Vec<Term>, NoMemory> {
+fn with_room(alloc: Global, def: &Def, terms: Vec<Term>, room: i64) -> Result<Vec<Term>, NoMemory> {
     let mut list = Vec::with_capacity(alloc, terms.len())?;
     for (place, term) in terms.as_slice().iter().enumerate() {
         let add = match def.params.as_slice().get(place) {

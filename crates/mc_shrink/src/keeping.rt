@@ -91,8 +91,7 @@ fn is_shared(nodes: &Nodes<'_>, kept: &[bool], own: usize, at: NodeId, shape: St
             if has(kept, place)
                 && *other != shape
                 && nodes.names(&entry.1, at)
-                && (names_twice(nodes, &entry.1, at)
-                    || is_named_elsewhere(nodes, own, place, at))
+                && (names_twice(nodes, &entry.1, at) || is_named_elsewhere(nodes, own, place, at))
             {
                 return true;
             }

@@ -69,7 +69,10 @@ fn settle(names: &mut Vec<Option<Term>>, rule: &Rule) {
         let mut learnt = false;
         for atom in rule.atoms.as_slice() {
             if let DefAtom::Eq {
-                left, base, add, ..
+                left,
+                base,
+                add,
+                ..
             } = atom
             {
                 if learn_equality(names, *left, *base, *add) {
@@ -84,12 +87,7 @@ fn settle(names: &mut Vec<Option<Term>>, rule: &Rule) {
 }
 
 /// Learns the names of a call's arguments from terms, and what follows.
-pub fn learn_all(
-    names: &mut Vec<Option<Term>>,
-    rule: &Rule,
-    args: &[u64],
-    terms: &[Option<Term>],
-) {
+pub fn learn_all(names: &mut Vec<Option<Term>>, rule: &Rule, args: &[u64], terms: &[Option<Term>]) {
     for (place, name) in args.iter().enumerate() {
         learn(names, *name, terms.get(place).copied().flatten());
     }

@@ -85,7 +85,12 @@ impl Try<'_> {
     }
 
     /// The marks of the segment with these arguments, where it hides nothing.
-    fn marks(&self, alloc: Global, args: &[Term], end: Term) -> Result<Option<Vec<Mark>>, NoMemory> {
+    fn marks(
+        &self,
+        alloc: Global,
+        args: &[Term],
+        end: Term,
+    ) -> Result<Option<Vec<Mark>>, NoMemory> {
         let Some(ends) = self.ends(alloc, args)? else {
             return Ok(None);
         };

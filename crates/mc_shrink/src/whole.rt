@@ -105,7 +105,16 @@ fn fold_of(
         0,
     )?;
     for args in list {
-        let found = cover_with(alloc, manner, nodes, survey, used, pred, at, args.as_slice())?;
+        let found = cover_with(
+            alloc,
+            manner,
+            nodes,
+            survey,
+            used,
+            pred,
+            at,
+            args.as_slice(),
+        )?;
         if let Some(marks) = found {
             return Ok(Some(Found::Cover {
                 pred,

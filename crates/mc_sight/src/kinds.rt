@@ -25,7 +25,12 @@ impl Sight<'_> {
     /// The kind of a parameter.
     pub fn param_kind(&self, pred: PredId, place: usize) -> Kind {
         match self.defs.as_slice().get(pred.0 as usize) {
-            Some(def) => def.params.as_slice().get(place).copied().unwrap_or(Kind::Int),
+            Some(def) => def
+                .params
+                .as_slice()
+                .get(place)
+                .copied()
+                .unwrap_or(Kind::Int),
             None => Kind::Int,
         }
     }

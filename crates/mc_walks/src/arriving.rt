@@ -84,7 +84,14 @@ impl Attempt<'_> {
         head.round = head.round.saturating_add(1);
         let known = state.known();
         let thresholds = self.sight.flow.thresholds.as_slice();
-        let joint = joint_atoms(self.alloc, thresholds, &head.state, known, images, head.round)?;
+        let joint = joint_atoms(
+            self.alloc,
+            thresholds,
+            &head.state,
+            known,
+            images,
+            head.round,
+        )?;
         let Some(atoms) = joint else {
             return Ok(Way::Stuck);
         };

@@ -112,7 +112,12 @@ impl<'a> Attempt<'a> {
     /// How far folding goes at a cut.
     pub fn step_at(&self, cut: PointId) -> Step {
         match self.place_of(cut) {
-            Some(place) => self.steps.as_slice().get(place).copied().unwrap_or(Step::Plain),
+            Some(place) => self
+                .steps
+                .as_slice()
+                .get(place)
+                .copied()
+                .unwrap_or(Step::Plain),
             None => Step::Plain,
         }
     }

@@ -52,7 +52,10 @@ fn push_heads(
             }
             if head.cut == *cut {
                 let Head {
-                    cut: at, raw, lines, ..
+                    cut: at,
+                    raw,
+                    lines,
+                    ..
                 } = head;
                 all.push(Line::Head(at, raw))?;
                 bodies.push(lines)?;

@@ -109,5 +109,12 @@ pub fn joint_atoms(
     round: u64,
 ) -> Result<Option<Vec<Atom>>, NoMemory> {
     let pairs = pairs_of(alloc, images)?;
-    joined(alloc, head.known(), known, pairs.as_slice(), round, thresholds)
+    joined(
+        alloc,
+        head.known(),
+        known,
+        pairs.as_slice(),
+        round,
+        thresholds,
+    )
 }

@@ -92,12 +92,7 @@ impl Attempt<'_> {
     }
 
     /// Lets a head take another of its cut, if it fits.
-    fn absorb_one(
-        &mut self,
-        place: usize,
-        newest: usize,
-        cut: PointId,
-    ) -> Result<Way, NoMemory> {
+    fn absorb_one(&mut self, place: usize, newest: usize, cut: PointId) -> Result<Way, NoMemory> {
         let state = match self.heads.as_slice().get(place) {
             Some(head) => {
                 if head.is_dropped || head.cut != cut {
