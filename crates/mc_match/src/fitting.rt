@@ -1,6 +1,7 @@
 // The search for a way to fit a head.
 use crate::Fit;
 use crate::beginning::begin;
+use crate::ground::Ground;
 use crate::inductive::{push_blocks, push_covers};
 use crate::segments::{Wanted, push_segments};
 use mc_base::{NoMemory, PointId};
@@ -54,28 +55,21 @@ fn uses_all(fit: &Fit, state: &State, reached: &[bool]) -> bool {
 
 /// The ways in which an edge of a head comes out.
 fn ways(
-    alloc: Global,
-    manner: Manner<'_>,
-    state: &State,
-    point: PointId,
+    ground: Ground<'_>,
     fit: &Fit,
     place: usize,
     edge: &Edge,
 ) -> Result<Vec<Fit>, NoMemory> {
-    let mut list = Vec::new(alloc);
+    let mut list = Vec::new(ground.alloc);
     let Some(at) = fit.image(edge.start()) else {
         return Ok(list);
     };
     match edge {
         Edge::Block { shape, fields, .. } => {
-            let contents = fields.as_slice();
-            push_blocks(alloc, &mut list, state, fit, place, at, *shape, contents)?;
+            push_blocks(ground, &mut list, fit, place, at, *shape, fields.as_slice())?;
         }
         Edge::Ind { pred, args, .. } => {
-            let nodes = args.as_slice();
-            push_covers(
-                alloc, &mut list, manner, state, fit, place, *pred, at, nodes,
-            )?;
+            push_covers(ground, &mut list, fit, place, *pred, at, args.as_slice())?;
         }
         Edge::Seg {
             args,
@@ -92,7 +86,7 @@ fn ways(
                 end: *end,
                 ends: end_args.as_slice(),
             };
-            push_segments(alloc, &mut list, manner, state, point, fit, wanted)?;
+            push_segments(ground, &mut list, fit, wanted)?;
         }
     }
     Ok(list)
@@ -110,6 +104,12 @@ pub fn fit(
     let Some(first) = begin(alloc, manner, state, point, head)? else {
         return Ok(None);
     };
+    let ground = Ground {
+        alloc,
+        manner,
+        state,
+        point,
+    };
     let mut open = Vec::new(alloc);
     open.push(first)?;
     for _ in 0..TRIES {
@@ -118,7 +118,7 @@ pub fn fit(
         };
         match next_edge(&fit, head) {
             Some((place, edge)) => {
-                let mut list = ways(alloc, manner, state, point, &fit, place, edge)?;
+                let mut list = ways(ground, &fit, place, edge)?;
                 list.reverse();
                 open.append(&mut list)?;
             }

@@ -1,12 +1,12 @@
 // Blocks and inductive edges of a head.
+use crate::ground::Ground;
 use crate::{Fit, Part};
 use mc_base::{EdgeId, NoMemory, NodeId, PredId, StructId};
 use mc_graph::Edge;
-use mc_shrink::{Manner, candidates, taken_by};
+use mc_shrink::taken_by;
 use mc_state::Term;
 use mc_symbolic::State;
 use mc_trail::cover;
-use std::alloc::Global;
 
 /// Gives the fields of a head's block the terms of another's; whether that could be.
 fn bind_fields(
@@ -35,35 +35,52 @@ fn bind_fields(
     true
 }
 
+/// Whether an edge of the state is not used.
+pub fn is_free(fit: &Fit, edge: EdgeId) -> bool {
+    !fit.used.as_slice().contains(&edge)
+}
+
+/// The fields of a block of a struct at a term.
+fn fields_at<'a>(
+    state: &State,
+    at: &Term,
+    shape: StructId,
+    edge: &'a Edge,
+) -> Option<&'a [Option<NodeId>]> {
+    match edge {
+        Edge::Block {
+            at: own,
+            shape: other,
+            fields,
+        } => {
+            if *other == shape && at.add == 0 && state.are_equal(*own, at.node) {
+                Some(fields.as_slice())
+            } else {
+                None
+            }
+        }
+        Edge::Ind { .. } => None,
+        Edge::Seg { .. } => None,
+    }
+}
+
 /// Adds the ways in which a head's block can be one of the state's.
 pub fn push_blocks(
-    alloc: Global,
+    ground: Ground<'_>,
     list: &mut Vec<Fit>,
-    state: &State,
     fit: &Fit,
     place: usize,
     at: Term,
     shape: StructId,
     fields: &[Option<NodeId>],
 ) -> Result<(), NoMemory> {
-    for entry in state.edges() {
-        let Edge::Block {
-            at: own,
-            shape: other,
-            fields: contents,
-        } = &entry.1
-        else {
+    for entry in ground.state.edges() {
+        let found = fields_at(ground.state, &at, shape, &entry.1);
+        let (Some(contents), true) = (found, is_free(fit, entry.0)) else {
             continue;
         };
-        if *other != shape
-            || at.add != 0
-            || !state.are_equal(*own, at.node)
-            || fit.used.as_slice().contains(&entry.0)
-        {
-            continue;
-        }
-        let mut next = fit.copy(alloc)?;
-        if bind_fields(&mut next, state, fields, contents.as_slice()) {
+        let mut next = fit.copy(ground.alloc)?;
+        if bind_fields(&mut next, ground.state, fields, contents) {
             next.take(&[entry.0])?;
             next.put(place, Part::Block(entry.0));
             list.push(next)?;
@@ -74,10 +91,8 @@ pub fn push_blocks(
 
 /// Adds the way in which a head's inductive edge comes out with these arguments, if there is one.
 fn push_cover(
-    alloc: Global,
+    ground: Ground<'_>,
     list: &mut Vec<Fit>,
-    manner: Manner<'_>,
-    state: &State,
     fit: &Fit,
     place: usize,
     pred: PredId,
@@ -85,7 +100,8 @@ fn push_cover(
     nodes: &[NodeId],
     args: Vec<Term>,
 ) -> Result<(), NoMemory> {
-    let defs = manner.sight.defs;
+    let Ground { alloc, state, .. } = ground;
+    let defs = ground.manner.sight.defs;
     let used = fit.used.as_slice();
     let Some(marks) = cover(alloc, state, defs, used, pred, at, args.as_slice())? else {
         return Ok(());
@@ -93,15 +109,13 @@ fn push_cover(
     let mut next = fit.copy(alloc)?;
     if next.bind_all(state, nodes, args.as_slice()) {
         next.take(taken_by(alloc, marks.as_slice())?.as_slice())?;
-        next.put(
-            place,
-            Part::Ind {
-                pred,
-                at,
-                args,
-                marks,
-            },
-        );
+        let part = Part::Ind {
+            pred,
+            at,
+            args,
+            marks,
+        };
+        next.put(place, part);
         list.push(next)?;
     }
     Ok(())
@@ -109,46 +123,20 @@ fn push_cover(
 
 /// Adds the ways in which a head's inductive edge comes out.
 pub fn push_covers(
-    alloc: Global,
+    ground: Ground<'_>,
     list: &mut Vec<Fit>,
-    manner: Manner<'_>,
-    state: &State,
     fit: &Fit,
     place: usize,
     pred: PredId,
     at: Term,
     nodes: &[NodeId],
 ) -> Result<(), NoMemory> {
-    if let Some(args) = fit.known(alloc, nodes)? {
-        return push_cover(
-            alloc, list, manner, state, fit, place, pred, at, nodes, args,
-        );
+    if let Some(args) = fit.known(ground.alloc, nodes)? {
+        return push_cover(ground, list, fit, place, pred, at, nodes, args);
     }
-    let Some(def) = manner.sight.defs.as_slice().get(pred.0 as usize) else {
-        return Ok(());
-    };
-    let found = candidates(
-        alloc,
-        state,
-        manner.sight.defs,
-        manner.asserted,
-        fit.used.as_slice(),
-        pred,
-        def,
-        at.node,
-        None,
-        0,
-    )?;
-    for terms in found {
-        let args = fit.with_known(alloc, nodes, terms.as_slice())?;
-        push_cover(
-            alloc, list, manner, state, fit, place, pred, at, nodes, args,
-        )?;
+    for terms in ground.candidates(fit, pred, at, None)? {
+        let args = fit.with_known(ground.alloc, nodes, terms.as_slice())?;
+        push_cover(ground, list, fit, place, pred, at, nodes, args)?;
     }
     Ok(())
-}
-
-/// Whether an edge of the state is not used.
-pub fn is_free(fit: &Fit, edge: EdgeId) -> bool {
-    !fit.used.as_slice().contains(&edge)
 }

@@ -3,6 +3,7 @@
 
 mod beginning;
 mod fitting;
+mod ground;
 mod inductive;
 mod making;
 mod partial;

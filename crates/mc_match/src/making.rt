@@ -86,17 +86,8 @@ fn make_part(
             args,
             marks,
         } => {
-            let made = make(
-                alloc,
-                defs,
-                trail,
-                *pred,
-                *at,
-                args.as_slice(),
-                false,
-                marks.as_slice(),
-            )?;
-            match made {
+            let own = args.as_slice();
+            match make(alloc, defs, trail, *pred, *at, own, false, marks.as_slice())? {
                 MadeOf::Edge(edge) => Ok(Some(edge)),
                 MadeOf::Nothing => Ok(None),
                 MadeOf::Failed => Ok(None),
@@ -111,8 +102,7 @@ fn make_part(
             marks,
         } => {
             let own = args.as_slice();
-            let made = make(alloc, defs, trail, *pred, *at, own, true, marks.as_slice())?;
-            match made {
+            match make(alloc, defs, trail, *pred, *at, own, true, marks.as_slice())? {
                 MadeOf::Edge(edge) => Ok(Some(edge)),
                 MadeOf::Nothing => {
                     make_empty(alloc, defs, trail, *pred, at, own, end, ends.as_slice())
