@@ -73,6 +73,34 @@ fn attempt(
 /// How many attempts may take all their lines in vain.
 const WHOLE: u64 = 3;
 
+/// The attempts one after the other: the lines of the first certificate that is found.
+fn try_all(
+    alloc: Global,
+    sight: Sight<'_>,
+    wanted: &[PredId],
+    asserted: &[Asserted],
+    cuts: &[PointId],
+    limits: Limits,
+) -> Result<Option<Vec<Line>>, NoMemory>
+    requires { IsValid sight.flow.now sight.defs.now }
+{
+    let mut left = limits.lines.saturating_mul(WHOLE);
+    for each in attempts(alloc, limits.keys)?.as_slice() {
+        let own = Limits {
+            lines: limits.lines.min(left),
+            keys: each.1,
+        };
+        match attempt(alloc, sight, wanted, asserted, cuts, each.0, own)? {
+            Tried::Found(lines) => return Ok(Some(lines)),
+            Tried::InVain(taken) => left = left.saturating_sub(taken),
+        }
+        if cuts.is_empty() || left == 0 {
+            return Ok(None);
+        }
+    }
+    Ok(None)
+}
+
 /// The lines of a certificate of a flow graph, from the header to the end, where one is found within the limits of each
 /// attempt. The cuts are its loop heads.
 pub fn find(
@@ -97,28 +125,6 @@ pub fn find(
         constants: constants.as_slice(),
         all: asks_for_empty(flow),
     };
-    let mut left = limits.lines.saturating_mul(WHOLE);
-    for each in attempts(alloc, limits.keys)?.as_slice() {
-        let own = Limits {
-            lines: limits.lines.min(left),
-            keys: each.1,
-        };
-        let tried = attempt(
-            alloc,
-            sight,
-            wanted.as_slice(),
-            asserted.as_slice(),
-            cuts.as_slice(),
-            each.0,
-            own,
-        )?;
-        match tried {
-            Tried::Found(lines) => return Ok(Some(lines)),
-            Tried::InVain(taken) => left = left.saturating_sub(taken),
-        }
-        if cuts.is_empty() || left == 0 {
-            return Ok(None);
-        }
-    }
-    Ok(None)
+    let preds = wanted.as_slice();
+    try_all(alloc, sight, preds, asserted.as_slice(), cuts.as_slice(), limits)
 }

@@ -191,60 +191,99 @@ pub fn push_back_terms(
     Ok(())
 }
 
-/// Whether a segment can be joined with one at its end without hiding anything.
-fn may_meet(
-    alloc: Global,
-    manner: Manner<'_>,
-    nodes: &Nodes<'_>,
-    survey: &Survey,
-    one: (EdgeId, &Edge),
-    other: (EdgeId, &Edge),
-) -> Result<bool, NoMemory> {
-    let (
+/// A segment, part by part.
+#[derive(Clone, Copy)]
+struct Parts<'a> {
+    at: NodeId,
+    args: &'a [NodeId],
+    pred: PredId,
+    end: NodeId,
+    ends: &'a [NodeId],
+}
+
+/// The parts of an edge that is a segment.
+fn parts_of(edge: &Edge) -> Option<Parts<'_>> {
+    match edge {
+        Edge::Block { .. } => None,
+        Edge::Ind { .. } => None,
         Edge::Seg {
             at,
             args,
             pred,
             end,
             end_args,
-        },
-        Edge::Seg {
-            at: at2,
-            args: args2,
-            pred: pred2,
-            end: end2,
-            end_args: ends2,
-        },
-    ) = (one.1, other.1)
-    else {
-        return Ok(false);
-    };
-    let state = nodes.state;
-    if one.0 == other.0
-        || *pred != *pred2
-        || !state.are_equal(*end, *at2)
-        || !state.are_all_equal(end_args.as_slice(), args2.as_slice())
-    {
-        return Ok(false);
+        } => Some(Parts {
+            at: *at,
+            args: args.as_slice(),
+            pred: *pred,
+            end: *end,
+            ends: end_args.as_slice(),
+        }),
     }
-    let mut named = vec![in alloc; plain(*end2)]?;
+}
+
+/// Whether a segment ends where another of its predicate starts.
+fn do_meet(nodes: &Nodes<'_>, one: Parts<'_>, other: Parts<'_>) -> bool {
+    one.pred == other.pred
+        && nodes.state.are_equal(one.end, other.at)
+        && nodes.state.are_all_equal(one.ends, other.args)
+}
+
+/// Adds nodes as terms.
+fn push_terms(list: &mut Vec<Term>, nodes: &[NodeId]) -> Result<(), NoMemory> {
+    for node in nodes {
+        list.push(plain(*node))?;
+    }
+    Ok(())
+}
+
+/// Whether a segment can be joined with one at its end without hiding anything.
+fn may_join(
+    alloc: Global,
+    manner: Manner<'_>,
+    nodes: &Nodes<'_>,
+    survey: &Survey,
+    taken: &[EdgeId],
+    one: Parts<'_>,
+    other: Parts<'_>,
+) -> Result<bool, NoMemory> {
+    let mut named = vec![in alloc; plain(other.end)]?;
+    push_terms(&mut named, one.args)?;
+    push_terms(&mut named, other.ends)?;
     let mut ends = Vec::new(alloc);
-    for node in args.as_slice() {
-        named.push(plain(*node))?;
-    }
-    for node in ends2.as_slice() {
-        named.push(plain(*node))?;
-        ends.push(plain(*node))?;
-    }
+    push_terms(&mut ends, other.ends)?;
     let mut back = Vec::new(alloc);
-    push_back_terms(&mut back, manner, *pred, ends.as_slice())?;
+    push_back_terms(&mut back, manner, one.pred, ends.as_slice())?;
     let fold = Fold {
-        taken: &[one.0, other.0],
-        start: *at,
+        taken,
+        start: one.at,
         named: named.as_slice(),
         back: back.as_slice(),
     };
     Ok(!hides(nodes, survey, &fold))
+}
+
+/// The first segment that another one can be joined with.
+fn next_behind(
+    alloc: Global,
+    manner: Manner<'_>,
+    nodes: &Nodes<'_>,
+    survey: &Survey,
+    id: EdgeId,
+    one: Parts<'_>,
+) -> Result<Option<EdgeId>, NoMemory> {
+    for entry in nodes.state.edges() {
+        let Some(other) = parts_of(&entry.1) else {
+            continue;
+        };
+        if entry.0 != id && do_meet(nodes, one, other) {
+            let taken = [id, entry.0];
+            if may_join(alloc, manner, nodes, survey, &taken, one, other)? {
+                return Ok(Some(entry.0));
+            }
+        }
+    }
+    Ok(None)
 }
 
 /// The first two segments that meet.
@@ -254,15 +293,13 @@ pub fn first_meeting(
     nodes: &Nodes<'_>,
     survey: &Survey,
 ) -> Result<Option<Found>, NoMemory> {
-    for (place, one) in nodes.state.edges().iter().enumerate() {
-        if !survey.is_used(place) {
+    for (place, entry) in nodes.state.edges().iter().enumerate() {
+        let Some(one) = parts_of(&entry.1) else {
             continue;
-        }
-        for other in nodes.state.edges() {
-            let first = (one.0, &one.1);
-            let second = (other.0, &other.1);
-            if may_meet(alloc, manner, nodes, survey, first, second)? {
-                return Ok(Some(Found::Meet(one.0, other.0)));
+        };
+        if survey.is_used(place) {
+            if let Some(other) = next_behind(alloc, manner, nodes, survey, entry.0, one)? {
+                return Ok(Some(Found::Meet(entry.0, other)));
             }
         }
     }

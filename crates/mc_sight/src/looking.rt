@@ -300,6 +300,28 @@ impl Look<'_> {
         true
     }
 
+    /// What was seen.
+    fn seen(
+        self,
+        vars: Items<Option<NodeId>>,
+        flags: Vec<(VarId, i64)>,
+        whole: bool,
+    ) -> Seen {
+        Seen {
+            raw: RawState {
+                vars,
+                kinds: Items::of(self.kinds),
+                edges: Items::of(self.edges),
+                atoms: Items::new(self.alloc),
+                whole,
+            },
+            images: self.images,
+            edges: self.ids,
+            flags,
+            used: self.used,
+        }
+    }
+
     /// The values of the variables that hold constants alone.
     fn flags(&self) -> Result<Vec<(VarId, i64)>, NoMemory> {
         let mut flags = Vec::new(self.alloc);
@@ -341,29 +363,5 @@ pub fn look(
     look.take_all()?;
     let whole = sight.all && state.is_whole() && look.has_all();
     let flags = look.flags()?;
-    let Look {
-        alloc: _,
-        sight: _,
-        state: _,
-        point: _,
-        met: _,
-        kinds,
-        images,
-        edges,
-        ids,
-        used,
-    } = look;
-    Ok(Seen {
-        raw: RawState {
-            vars,
-            kinds: Items::of(kinds),
-            edges: Items::of(edges),
-            atoms: Items::new(alloc),
-            whole,
-        },
-        images,
-        edges: ids,
-        flags,
-        used,
-    })
+    Ok(look.seen(vars, flags, whole))
 }
