@@ -126,5 +126,12 @@ pub fn find(
         all: asks_for_empty(flow),
     };
     let preds = wanted.as_slice();
-    try_all(alloc, sight, preds, asserted.as_slice(), cuts.as_slice(), limits)
+    try_all(
+        alloc,
+        sight,
+        preds,
+        asserted.as_slice(),
+        cuts.as_slice(),
+        limits,
+    )
 }

@@ -54,12 +54,7 @@ fn uses_all(fit: &Fit, state: &State, reached: &[bool]) -> bool {
 }
 
 /// The ways in which an edge of a head comes out.
-fn ways(
-    ground: Ground<'_>,
-    fit: &Fit,
-    place: usize,
-    edge: &Edge,
-) -> Result<Vec<Fit>, NoMemory> {
+fn ways(ground: Ground<'_>, fit: &Fit, place: usize, edge: &Edge) -> Result<Vec<Fit>, NoMemory> {
     let mut list = Vec::new(ground.alloc);
     let Some(at) = fit.image(edge.start()) else {
         return Ok(list);

@@ -34,11 +34,7 @@ fn push_end(list: &mut Vec<Term>, state: &State, term: Term) -> Result<(), NoMem
 }
 
 /// Where a segment may end: where the head says, or at its start, a variable, or the start of an edge that is not used.
-fn possible_ends(
-    ground: Ground<'_>,
-    fit: &Fit,
-    wanted: Wanted<'_>,
-) -> Result<Vec<Term>, NoMemory> {
+fn possible_ends(ground: Ground<'_>, fit: &Fit, wanted: Wanted<'_>) -> Result<Vec<Term>, NoMemory> {
     let state = ground.state;
     let mut list = Vec::new(ground.alloc);
     if let Some(end) = fit.image(wanted.end) {

@@ -301,12 +301,7 @@ impl Look<'_> {
     }
 
     /// What was seen.
-    fn seen(
-        self,
-        vars: Items<Option<NodeId>>,
-        flags: Vec<(VarId, i64)>,
-        whole: bool,
-    ) -> Seen {
+    fn seen(self, vars: Items<Option<NodeId>>, flags: Vec<(VarId, i64)>, whole: bool) -> Seen {
         Seen {
             raw: RawState {
                 vars,
