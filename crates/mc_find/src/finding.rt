@@ -46,7 +46,7 @@ enum Tried {
 }
 
 /// One attempt. What the kernel's proof does not take counts as nothing.
-fn attempt(
+fn try_one(
     alloc: Global,
     sight: Sight<'_>,
     wanted: &[PredId],
@@ -57,8 +57,8 @@ fn attempt(
 ) -> Result<Tried, NoMemory>
     requires { IsValid sight.flow.now sight.defs.now }
 {
-    let attempt = Attempt::new(alloc, sight, wanted, asserted, cuts, style, limits)?;
-    match attempt.make()? {
+    let own = Attempt::new(alloc, sight, wanted, asserted, cuts, style, limits)?;
+    match own.make()? {
         Outcome::Found(lines) => {
             if is_certificate(alloc, sight.flow, sight.defs, lines.as_slice())? {
                 Ok(Tried::Found(lines))
@@ -90,7 +90,7 @@ fn try_all(
             lines: limits.lines.min(left),
             keys: each.1,
         };
-        match attempt(alloc, sight, wanted, asserted, cuts, each.0, own)? {
+        match try_one(alloc, sight, wanted, asserted, cuts, each.0, own)? {
             Tried::Found(lines) => return Ok(Some(lines)),
             Tried::InVain(taken) => left = left.saturating_sub(taken),
         }

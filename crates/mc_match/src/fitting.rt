@@ -88,7 +88,7 @@ fn ways(ground: Ground<'_>, fit: &Fit, place: usize, edge: &Edge) -> Result<Vec<
 }
 
 /// The first way to fit a head that is found: the state must not be false, and all edges that are reached are used.
-pub fn fit(
+pub fn find_fit(
     alloc: Global,
     manner: Manner<'_>,
     state: &State,

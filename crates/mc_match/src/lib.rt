@@ -9,5 +9,5 @@ mod making;
 mod partial;
 mod segments;
 
-pub use fitting::fit;
+pub use fitting::find_fit;
 pub use partial::{Fit, Part};

@@ -37,24 +37,24 @@ fn args_of(alloc: Global, nodes: &[NodeId]) -> Result<Args<NodeId>, NoMemory> {
 fn make_empty(
     alloc: Global,
     defs: &Defs,
-    trail: &mut Trail,
+    trail: &mut Trail<'_>,
     pred: PredId,
     at: &Term,
     args: &[Term],
     end: &Term,
     ends: &[Term],
 ) -> Result<Option<EdgeId>, NoMemory> {
-    let Some(start) = trail.name(alloc, defs, Kind::Ptr, at)? else {
+    let Some(start) = trail.name(Kind::Ptr, at)? else {
         return Ok(None);
     };
-    let Some(stop) = trail.name(alloc, defs, Kind::Ptr, end)? else {
+    let Some(stop) = trail.name(Kind::Ptr, end)? else {
         return Ok(None);
     };
     let kinds = params_of(defs, pred);
-    let Some(own) = trail.name_all(alloc, defs, kinds, args)? else {
+    let Some(own) = trail.name_all(alloc, kinds, args)? else {
         return Ok(None);
     };
-    let Some(last) = trail.name_all(alloc, defs, kinds, ends)? else {
+    let Some(last) = trail.name_all(alloc, kinds, ends)? else {
         return Ok(None);
     };
     let line = Line::L7(
@@ -64,7 +64,7 @@ fn make_empty(
         stop,
         args_of(alloc, last.as_slice())?,
     );
-    if trail.apply(alloc, defs, line)? {
+    if trail.apply(line)? {
         Ok(trail.last_edge())
     } else {
         Ok(None)
@@ -75,7 +75,7 @@ fn make_empty(
 fn make_part(
     alloc: Global,
     defs: &Defs,
-    trail: &mut Trail,
+    trail: &mut Trail<'_>,
     part: &Part,
 ) -> Result<Option<EdgeId>, NoMemory> {
     match part {
@@ -119,7 +119,7 @@ impl Fit {
         &self,
         alloc: Global,
         defs: &Defs,
-        trail: &mut Trail,
+        trail: &mut Trail<'_>,
     ) -> Result<Option<Vec<EdgeId>>, NoMemory> {
         let mut edges = Vec::with_capacity(alloc, self.parts.len())?;
         for part in self.parts.as_slice() {
@@ -138,8 +138,7 @@ impl Fit {
     pub fn name_images(
         &self,
         alloc: Global,
-        defs: &Defs,
-        trail: &mut Trail,
+        trail: &mut Trail<'_>,
         kinds: &[NodeKind],
     ) -> Result<Option<Vec<NodeId>>, NoMemory> {
         let mut nodes = Vec::with_capacity(alloc, self.images.len())?;
@@ -147,7 +146,7 @@ impl Fit {
             let (Some(term), Some(kind)) = (image, kinds.get(place)) else {
                 return Ok(None);
             };
-            match trail.name(alloc, defs, kind_of(*kind), term)? {
+            match trail.name(kind_of(*kind), term)? {
                 Some(node) => nodes.push(node)?,
                 None => return Ok(None),
             }

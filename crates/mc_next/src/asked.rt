@@ -2,7 +2,7 @@
 ghost use Rattle.mc_flow.specs.Valid.{IsValid};
 
 use crate::access::accessed;
-use crate::instance::instance;
+use crate::stepping::instance;
 use crate::unfolding::{at_node, false_or_null};
 use mc_base::{NoMemory, PointId};
 use mc_cert::Line;

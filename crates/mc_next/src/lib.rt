@@ -3,10 +3,10 @@
 
 mod access;
 mod asked;
-mod instance;
+mod stepping;
 mod unfolding;
 
 pub use access::accessed;
 pub use asked::next_line;
-pub use instance::instance;
+pub use stepping::instance;
 pub use unfolding::{at_end, at_node, at_null, at_start, false_or_null};

@@ -103,6 +103,40 @@ impl<'f> Paths<'f> {
         self.open.pop()
     }
 
+    /// The state of the first branch.
+    pub fn state(&self) -> Option<&State> {
+        match self.open.top() {
+            Some(branch) => Some(&branch.state),
+            None => None,
+        }
+    }
+
+    /// The same flow graph and cuts without branches.
+    pub fn empty(&self) -> Paths<'f> {
+        Paths {
+            alloc: self.alloc,
+            flow: self.flow,
+            defs: self.defs,
+            cuts: self.cuts,
+            open: Stack::new(self.alloc),
+        }
+    }
+
+    /// Takes the first branch, to be followed alone.
+    pub fn split(&mut self) -> Result<Paths<'f>, NoMemory> {
+        let mut alone = Stack::new(self.alloc);
+        if let Some(branch) = self.open.pop() {
+            alone.push(branch)?;
+        }
+        Ok(Paths {
+            alloc: self.alloc,
+            flow: self.flow,
+            defs: self.defs,
+            cuts: self.cuts,
+            open: alone,
+        })
+    }
+
     /// The instruction of the first branch.
     pub fn code(&self) -> Option<&'f Instr> {
         match self.open.top() {

@@ -39,11 +39,13 @@ fn next_fold(
 }
 
 /// Writes down what blocks derive, by a spare node that is forgotten.
-pub fn note(alloc: Global, manner: Manner<'_>, trail: &mut Trail) -> Result<(), NoMemory> {
-    let defs = manner.sight.defs;
-    let spare = trail.state.next_node();
-    if trail.apply(alloc, defs, Line::L8(NodeId(0), 0, Kind::Ptr))? {
-        trail.apply(alloc, defs, Line::L11(spare))?;
+pub fn note(trail: &mut Trail<'_>) -> Result<(), NoMemory> {
+    let Some(state) = trail.state() else {
+        return Ok(());
+    };
+    let spare = state.next_node();
+    if trail.apply(Line::L8(NodeId(0), 0, Kind::Ptr))? {
+        trail.apply(Line::L11(spare))?;
     }
     Ok(())
 }
@@ -52,12 +54,12 @@ pub fn note(alloc: Global, manner: Manner<'_>, trail: &mut Trail) -> Result<(), 
 fn fold(
     alloc: Global,
     manner: Manner<'_>,
-    trail: &mut Trail,
+    trail: &mut Trail<'_>,
     found: &Found,
 ) -> Result<bool, NoMemory> {
     let defs = manner.sight.defs;
     match found {
-        Found::Meet(one, other) => trail.apply(alloc, defs, Line::L6(*one, *other)),
+        Found::Meet(one, other) => trail.apply(Line::L6(*one, *other)),
         Found::Cover {
             pred,
             at,
@@ -89,14 +91,17 @@ pub fn shrink(
     alloc: Global,
     manner: Manner<'_>,
     point: PointId,
-    trail: &mut Trail,
+    trail: &mut Trail<'_>,
 ) -> Result<(), NoMemory> {
     for round in 0..FOLDS {
-        let Some(found) = next_fold(alloc, manner, &trail.state, point)? else {
+        let Some(state) = trail.state() else {
+            return Ok(());
+        };
+        let Some(found) = next_fold(alloc, manner, state, point)? else {
             return Ok(());
         };
         if round == 0 {
-            note(alloc, manner, trail)?;
+            note(trail)?;
         }
         if !fold(alloc, manner, trail, &found)? {
             return Ok(());

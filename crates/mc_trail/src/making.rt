@@ -39,7 +39,15 @@ fn rule_of(defs: &Defs, pred: PredId, place: usize) -> Option<&Rule> {
     }
 }
 
-impl Trail {
+impl Trail<'_> {
+    /// An edge of the branch.
+    fn edge(&self, id: EdgeId) -> Option<&Edge> {
+        match self.state() {
+            Some(state) => state.edge(id),
+            None => None,
+        }
+    }
+
     /// The names of a rule at a task.
     fn body(
         &self,
@@ -54,7 +62,7 @@ impl Trail {
         names.push(task.at)?;
         names.extend_from_slice(task.args.as_slice())?;
         if let Some(id) = block {
-            push_contents(&mut names, self.state.edge(id))?;
+            push_contents(&mut names, self.edge(id))?;
         }
         push_fixed(&mut names, rule)?;
         Ok(Body {
@@ -69,7 +77,7 @@ impl Trail {
 
     /// What is to be made behind a segment.
     fn behind(&self, alloc: Global, seg: EdgeId, task: &Task) -> Result<Option<Task>, NoMemory> {
-        let Some(Edge::Seg { end, end_args, .. }) = self.state.edge(seg) else {
+        let Some(Edge::Seg { end, end_args, .. }) = self.edge(seg) else {
             return Ok(None);
         };
         let mut args = Vec::with_capacity(alloc, end_args.len())?;
@@ -87,8 +95,6 @@ impl Trail {
     /// L5 or L6, where something was made behind a segment.
     fn close(
         &mut self,
-        alloc: Global,
-        defs: &Defs,
         seg: EdgeId,
         to_stop: bool,
         made: Made,
@@ -101,12 +107,12 @@ impl Trail {
         } else {
             Line::L5(seg, other)
         };
-        self.turn(alloc, defs, line)
+        self.turn(line)
     }
 
     /// Applies a line that makes an edge.
-    fn turn(&mut self, alloc: Global, defs: &Defs, line: Line) -> Result<Turn, NoMemory> {
-        if !self.apply(alloc, defs, line)? {
+    fn turn(&mut self, line: Line) -> Result<Turn, NoMemory> {
+        if !self.apply(line)? {
             return Ok(Turn::Failed);
         }
         match self.last_edge() {
@@ -121,14 +127,14 @@ impl Trail {
             return Ok(Turn::Failed);
         };
         let kinds = rule.names.as_slice();
-        let Some(names) = self.name_all(alloc, defs, kinds, body.names.as_slice())? else {
+        let Some(names) = self.name_all(alloc, kinds, body.names.as_slice())? else {
             return Ok(Turn::Failed);
         };
         let (edges, last) = calls_of(alloc, body)?;
         let number = body.rule as u64;
         let Some(call) = body.call else {
             let line = Line::L3(body.pred, number, Items::of(names), body.block, edges);
-            return self.turn(alloc, defs, line);
+            return self.turn(line);
         };
         let Some(block) = body.block else {
             return Ok(Turn::Failed);
@@ -141,10 +147,10 @@ impl Trail {
             edges,
             call as u64,
         );
-        let turn = self.turn(alloc, defs, line)?;
+        let turn = self.turn(line)?;
         match (turn, last) {
             (Turn::Made(Made::Edge(seg)), Made::Edge(other)) => {
-                self.turn(alloc, defs, Line::L6(seg, other))
+                self.turn(Line::L6(seg, other))
             }
             (turn, _) => Ok(turn),
         }
@@ -191,7 +197,7 @@ impl Making<'_> {
     /// Begins what a mark says of a task. The next task, or what was made.
     fn begin(
         &mut self,
-        trail: &mut Trail,
+        trail: &mut Trail<'_>,
         task: &Task,
         mark: Mark,
     ) -> Result<(Option<Task>, Turn), NoMemory> {
@@ -216,7 +222,7 @@ impl Making<'_> {
     /// Begins a rule.
     fn begin_rule(
         &mut self,
-        trail: &mut Trail,
+        trail: &mut Trail<'_>,
         task: &Task,
         place: usize,
         block: Option<EdgeId>,
@@ -238,13 +244,13 @@ impl Making<'_> {
     /// Hands what was made to the frame on top. The next task, or what was made of the frame.
     fn hand(
         &mut self,
-        trail: &mut Trail,
+        trail: &mut Trail<'_>,
         frame: Frame,
         made: Made,
     ) -> Result<(Option<Task>, Turn), NoMemory> {
         match frame {
             Frame::Behind { seg, to_stop } => {
-                let turn = trail.close(self.alloc, self.defs, seg, to_stop, made)?;
+                let turn = trail.close(seg, to_stop, made)?;
                 Ok((None, turn))
             }
             Frame::Rule(mut body) => {
@@ -264,7 +270,7 @@ impl Making<'_> {
     }
 
     /// Goes on up to the next task.
-    fn settle(&mut self, trail: &mut Trail, made: Made) -> Result<Settled, NoMemory> {
+    fn settle(&mut self, trail: &mut Trail<'_>, made: Made) -> Result<Settled, NoMemory> {
         let mut made = made;
         for _ in 0..self.frames.len() {
             let Some(frame) = self.frames.pop() else {
@@ -301,7 +307,7 @@ fn outcome(made: Made) -> MadeOf {
 pub fn make(
     alloc: Global,
     defs: &Defs,
-    trail: &mut Trail,
+    trail: &mut Trail<'_>,
     pred: PredId,
     at: Term,
     args: &[Term],

@@ -1,12 +1,12 @@
 // Nodes for the names of rules.
 use crate::Trail;
-use mc_base::{Args, Kind, NoMemory, NodeId};
+use mc_base::{Kind, NoMemory, NodeId};
 use mc_cert::Line;
-use mc_defs::{Call, DefAtom, Defs, Rule};
+use mc_defs::{Call, DefAtom, Rule};
 use mc_graph::Edge;
 use mc_state::Term;
 use mc_symbolic::State;
-use std::alloc::{AllocError, Global};
+use std::alloc::Global;
 
 const NULL: NodeId = NodeId(0);
 
@@ -100,20 +100,17 @@ pub fn own_node(state: &State, kind: Kind, term: &Term) -> Option<NodeId> {
     None
 }
 
-impl Trail {
+impl Trail<'_> {
     /// A node of a kind for a term: an equal one that is there, or a new one. None where there can be none.
-    pub fn name(
-        &mut self,
-        alloc: Global,
-        defs: &Defs,
-        kind: Kind,
-        term: &Term,
-    ) -> Result<Option<NodeId>, NoMemory> {
-        if let Some(node) = own_node(&self.state, kind, term) {
+    pub fn name(&mut self, kind: Kind, term: &Term) -> Result<Option<NodeId>, NoMemory> {
+        let Some(state) = self.state() else {
+            return Ok(None);
+        };
+        if let Some(node) = own_node(state, kind, term) {
             return Ok(Some(node));
         }
-        let node = self.state.next_node();
-        if self.apply(alloc, defs, Line::L8(term.node, term.add, kind))? {
+        let node = state.next_node();
+        if self.apply(Line::L8(term.node, term.add, kind))? {
             Ok(Some(node))
         } else {
             Ok(None)
@@ -124,7 +121,6 @@ impl Trail {
     pub fn name_all(
         &mut self,
         alloc: Global,
-        defs: &Defs,
         kinds: &[Kind],
         terms: &[Term],
     ) -> Result<Option<Vec<NodeId>>, NoMemory> {
@@ -133,20 +129,11 @@ impl Trail {
             let Some(kind) = kinds.get(place) else {
                 return Ok(None);
             };
-            match self.name(alloc, defs, *kind, term)? {
+            match self.name(*kind, term)? {
                 Some(node) => nodes.push(node)?,
                 None => return Ok(None),
             }
         }
         Ok(Some(nodes))
     }
-}
-
-/// Nodes as arguments.
-pub fn args_of(alloc: Global, nodes: &[NodeId]) -> Result<Args<NodeId>, AllocError> {
-    let mut args = Args::new(alloc);
-    for node in nodes {
-        args.push(*node)?;
-    }
-    Ok(args)
 }

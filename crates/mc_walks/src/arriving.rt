@@ -5,7 +5,6 @@ use crate::walking::Way;
 use mc_base::{EdgeId, Items, NoMemory, NodeId, PointId};
 use mc_cert::Line;
 use mc_fits::fits;
-use mc_judging::Branch;
 use mc_shrink::{Step, shrink};
 use mc_sight::{Seen, look};
 use mc_symbolic::State;
@@ -131,24 +130,44 @@ impl Attempt<'_> {
         self.left > 0
     }
 
-    /// Ends a branch that has come to a cut: its state is folded, and a head takes it.
-    pub fn arrive(&mut self, branch: Branch, lines: &mut Vec<Line>) -> Result<Way, NoMemory> {
-        let cut = branch.point;
-        if !self.charge(&branch.state) {
-            return Ok(Way::TooLong);
-        }
-        let mut trail = Trail::new(self.alloc, branch.state);
-        let manner = self.manner(cut);
-        shrink(self.alloc, manner, cut, &mut trail)?;
-        let seen = look(self.alloc, manner.sight, &trail.state, cut)?;
-        let landing = match self.head_like(cut, &seen) {
-            Some(place) => self.land(place, &trail.state, seen)?,
-            None => match self.fit_head(cut, &seen, &mut trail)? {
-                Some(landing) => landing,
-                None => self.land_new(cut, &trail.state, seen)?,
-            },
+    /// Lands at a head.
+    fn land_any(
+        &mut self,
+        cut: PointId,
+        trail: &mut Trail<'_>,
+    ) -> Result<Option<Landing>, NoMemory> {
+        let Some(state) = trail.state() else {
+            return Ok(None);
         };
-        lines.append(&mut trail.lines)?;
+        let seen = look(self.alloc, self.sight, state, cut)?;
+        if let Some(place) = self.head_like(cut, &seen) {
+            return Ok(Some(self.land(place, state, seen)?));
+        }
+        if let Some(landing) = self.fit_head(cut, &seen, trail)? {
+            return Ok(Some(landing));
+        }
+        match trail.state() {
+            Some(state) => Ok(Some(self.land_new(cut, state, seen)?)),
+            None => Ok(None),
+        }
+    }
+
+    /// Ends the first branch, which has come to a cut: its state is folded, and a head takes it.
+    pub fn arrive(&mut self, cut: PointId, lines: &mut Vec<Line>) -> Result<Way, NoMemory> {
+        let mut trail = Trail::new(self.alloc, self.paths.split()?);
+        match trail.state() {
+            Some(state) => {
+                if !self.charge(state) {
+                    return Ok(Way::TooLong);
+                }
+            }
+            None => return Ok(Way::Stuck),
+        }
+        shrink(self.alloc, self.manner(cut), cut, &mut trail)?;
+        let Some(landing) = self.land_any(cut, &mut trail)? else {
+            return Ok(Way::Stuck);
+        };
+        trail.hand_over(lines)?;
         lines.push(Line::L13(
             landing.head as u64,
             Items::of(landing.images),

@@ -3,38 +3,45 @@ use crate::Attempt;
 use crate::arriving::Landing;
 use crate::walking::Way;
 use mc_base::{NoMemory, PointId};
-use mc_match::fit;
+use mc_match::find_fit;
+use mc_paths::Paths;
 use mc_shrink::{Step, note};
 use mc_sight::{Seen, look};
 use mc_trail::Trail;
 
-impl Attempt<'_> {
+impl<'a> Attempt<'a> {
     /// Lets a state fit a head, by folds that are added to the trail. None where it does not.
     fn fit_to(
         &mut self,
         place: usize,
         cut: PointId,
         reached: &[bool],
-        trail: &mut Trail,
+        trail: &mut Trail<'_>,
     ) -> Result<Option<Landing>, NoMemory> {
         let manner = self.manner(cut);
         let Some(head) = self.heads.as_slice().get(place) else {
             return Ok(None);
         };
-        let found = fit(self.alloc, manner, &trail.state, cut, reached, &head.raw)?;
+        let Some(state) = trail.state() else {
+            return Ok(None);
+        };
+        let found = find_fit(self.alloc, manner, state, cut, reached, &head.raw)?;
         let Some(own) = found else {
             return Ok(None);
         };
-        note(self.alloc, manner, trail)?;
+        note(trail)?;
         let defs = self.sight.defs;
         let kinds = head.raw.kinds.as_slice();
         let Some(edges) = own.make_edges(self.alloc, defs, trail)? else {
             return Ok(None);
         };
-        let Some(images) = own.name_images(self.alloc, defs, trail, kinds)? else {
+        let Some(images) = own.name_images(self.alloc, trail, kinds)? else {
             return Ok(None);
         };
-        let way = self.meet_head(place, &trail.state, images.as_slice(), edges.as_slice())?;
+        let Some(folded) = trail.state() else {
+            return Ok(None);
+        };
+        let way = self.meet_head(place, folded, images.as_slice(), edges.as_slice())?;
         Ok(Some(Landing {
             head: place,
             images,
@@ -48,7 +55,7 @@ impl Attempt<'_> {
         &mut self,
         cut: PointId,
         seen: &Seen,
-        trail: &mut Trail,
+        trail: &mut Trail<'_>,
     ) -> Result<Option<Landing>, NoMemory> {
         if self.step_at(cut) != Step::Match {
             return Ok(None);
@@ -91,22 +98,35 @@ impl Attempt<'_> {
         Ok(Way::On)
     }
 
+    /// The branch at a head alone. None where it was dropped, or is of another cut.
+    fn alone(&self, place: usize, cut: PointId) -> Result<Option<Paths<'a>>, NoMemory> {
+        let Some(head) = self.heads.as_slice().get(place) else {
+            return Ok(None);
+        };
+        if head.is_dropped || head.cut != cut {
+            return Ok(None);
+        }
+        let mut paths = self.paths.empty();
+        if paths.enter_at(cut, &head.raw)? {
+            Ok(Some(paths))
+        } else {
+            Ok(None)
+        }
+    }
+
     /// Lets a head take another of its cut, if it fits.
     fn absorb_one(&mut self, place: usize, newest: usize, cut: PointId) -> Result<Way, NoMemory> {
-        let state = match self.heads.as_slice().get(place) {
-            Some(head) => {
-                if head.is_dropped || head.cut != cut {
-                    return Ok(Way::On);
-                }
-                head.state.copy(self.alloc)?
-            }
-            None => return Ok(Way::On),
+        let Some(paths) = self.alone(place, cut)? else {
+            return Ok(Way::On);
         };
-        let seen = look(self.alloc, self.sight, &state, cut)?;
+        let mut trail = Trail::new(self.alloc, paths);
+        let Some(state) = trail.state() else {
+            return Ok(Way::On);
+        };
+        let seen = look(self.alloc, self.sight, state, cut)?;
         if !self.may_fit(newest, cut, &seen) {
             return Ok(Way::On);
         }
-        let mut trail = Trail::new(self.alloc, state);
         let found = self.fit_to(newest, cut, seen.used.as_slice(), &mut trail)?;
         let Some(landing) = found else {
             return Ok(Way::On);

@@ -24,8 +24,8 @@ enum Act {
     Apply(Line),
     /// That a side branch is ended.
     EndSide,
-    /// That it is ended at a cut.
-    Arrive,
+    /// That it is ended at this cut.
+    Arrive(PointId),
     /// Its instruction lacks something here.
     Lack(PointId),
     /// There is no branch.
@@ -55,7 +55,7 @@ impl Attempt<'_> {
             return Ok(Act::EndSide);
         }
         if branch.moved && self.is_cut(branch.point) {
-            return Ok(Act::Arrive);
+            return Ok(Act::Arrive(branch.point));
         }
         match self.next_by_code(branch)? {
             Some(line) => Ok(Act::Apply(line)),
@@ -76,14 +76,8 @@ impl Attempt<'_> {
     fn step(&mut self, lines: &mut Vec<Line>, act: Act) -> Result<Way, NoMemory> {
         match act {
             Act::Apply(line) => self.apply(lines, line),
-            Act::EndSide => match self.paths.pop() {
-                Some(branch) => self.end_side(branch, lines),
-                None => Ok(Way::Stuck),
-            },
-            Act::Arrive => match self.paths.pop() {
-                Some(branch) => self.arrive(branch, lines),
-                None => Ok(Way::Stuck),
-            },
+            Act::EndSide => self.end_side(lines),
+            Act::Arrive(cut) => self.arrive(cut, lines),
             Act::Lack(point) => {
                 self.last = point;
                 Ok(Way::Stuck)
