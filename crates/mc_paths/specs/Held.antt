@@ -1,9 +1,8 @@
 -- What open branches hold.
-use Rattle.std.specs.Prelude.{List, reverse, map}
+use Rattle.std.specs.Prelude.{List}
 use Rattle.mc_defs.specs.declared.rules.Def.{Def}
 use Rattle.mc_flow.specs.declared.graph.Flow.{Flow}
 use Rattle.mc_flow.specs.Valid.{IsValid}
-use Rattle.mc_judging.specs.declared.branch.Branch.{Branch}
 use Rattle.mc_kernel.specs.Branches.{Path}
 use Rattle.mc_proof.specs.Stacks.{AreMade}
 use Rattle.mc_paths.specs.declared.paths.Paths.TheInside.{Inside}

@@ -2,6 +2,7 @@
 //! what the kernel gives.
 #![tactic(auto)]
 
+mod advancing;
 mod entering;
 mod paths;
 mod stack;

@@ -2,16 +2,17 @@
 ghost use Rattle.std.specs.Prelude.{◌≡◌, ◌∷◌};
 ghost use Rattle.mc_flow.specs.Valid.{IsValid};
 
+use crate::advancing::advance;
 use crate::entering::{begins, entry};
 use crate::stack::Stack;
 use mc_base::{NoMemory, PointId};
 use mc_cert::Line;
 use mc_flow::{Defs, Flow, Instr};
-use mc_judging::{Branch, Refused, Setting, judge};
+use mc_judging::{Branch, Setting};
 use mc_lacking::lacking_at;
 use mc_state::{Form, RawState};
 use mc_symbolic::State;
-use std::alloc::{AllocError, Global};
+use std::alloc::Global;
 use std::marker::Model;
 
 /// The open branches of a valid flow graph, with some cuts. The states of all of them are well made.
@@ -63,7 +64,8 @@ impl<'f> Paths<'f> {
         // For the proof alone: the state of the entry is well made.
         mc_state::numbers_stay_bounded();
         let branch = entry(self.alloc, self.flow)?;
-        self.open.push(branch)
+        self.open.push(branch)?;
+        Ok(())
     }
 
     /// The state that is written, where it is well formed.
@@ -167,28 +169,19 @@ impl<'f> Paths<'f> {
 
     /// Applies a line at the first branch, in whose place its successors come; whether it is an instance. Jumps are none.
     pub fn apply(&mut self, line: &Line) -> Result<bool, NoMemory> {
-        // For the proof alone: what comes of a made branch is made.
-        mc_judges::judges_are_there();
-        mc_kernel::lines_are_judged();
-        mc_reading::lines_make_well_made();
         let setting = Setting {
             form: Form::Certificate,
             cuts: self.cuts,
             heads: &[],
         };
-        let Some(first) = self.open.pop() else {
-            return Ok(false);
-        };
-        match judge(self.alloc, self.flow, self.defs, setting, line, first) {
-            Ok(next) => {
-                self.open.put(next)?;
-                Ok(true)
-            }
-            Err(Refused::Premise(_, same)) => {
-                self.open.push(same)?;
-                Ok(false)
-            }
-            Err(Refused::NoMemory) => Err(AllocError),
-        }
+        let is_instance = advance(
+            self.alloc,
+            self.flow,
+            self.defs,
+            setting,
+            line,
+            &mut self.open,
+        )?;
+        Ok(is_instance)
     }
 }
