@@ -21,10 +21,11 @@ struct Met {
 
 /// Where a node of a state that is not false stands in its class.
 fn class_at(state: &State, node: NodeId) -> Option<ClassPlace> {
-    if state.is_false() || !state.is_there(node) {
+    let pure = state.known();
+    if pure.is_false() || !pure.has(node) {
         return None;
     }
-    Some(state.known().class_of(node))
+    Some(pure.class_of(node))
 }
 
 /// The one value that a node can have.
@@ -50,7 +51,7 @@ fn is_met(state: &State, node: NodeId, met: Met) -> bool {
 
 /// A look at a state that is on its way.
 #[derive(Drop)]
-struct Look<'a> {
+struct Viewing<'a> {
     alloc: Global,
     sight: Sight<'a>,
     state: &'a State,
@@ -63,7 +64,7 @@ struct Look<'a> {
     used: Vec<bool>,
 }
 
-impl Look<'_> {
+impl Viewing<'_> {
     /// A new number for a node.
     fn add(&mut self, node: NodeId, kind: NodeKind) -> Result<NodeId, NoMemory> {
         let number = NodeId(self.kinds.len() as u64);
@@ -116,11 +117,14 @@ impl Look<'_> {
         let mut vars = Vec::with_capacity(self.alloc, count)?;
         for place in 0..count {
             let x = VarId(place as u64);
-            let number = match self.sight.live_node(self.state, self.point, x) {
-                Some(node) => Some(self.number(self.sight.var_kind(x), node)?),
-                None => None,
-            };
-            vars.push(number)?;
+            let kind = self.sight.var_kind(x);
+            match self.sight.live_node(self.state, self.point, x) {
+                Some(node) => {
+                    let number = self.number(kind, node)?;
+                    vars.push(Some(number))?;
+                }
+                None => vars.push(None)?,
+            }
         }
         Ok(Items::of(vars))
     }
@@ -154,14 +158,18 @@ impl Look<'_> {
         if is_dead_field(&self.sight, self.state, self.point, at, shape, place) {
             return Ok(None);
         }
-        Ok(Some(self.number(self.sight.field_kind(shape, place), node)?))
+        let kind = self.sight.field_kind(shape, place);
+        let number = self.number(kind, node)?;
+        Ok(Some(number))
     }
 
     /// The numbers of arguments.
     fn args(&mut self, pred: PredId, args: &[NodeId]) -> Result<Args<NodeId>, NoMemory> {
         let mut list = Args::new(self.alloc);
         for (place, node) in args.iter().enumerate() {
-            list.push(self.number(self.sight.param_kind(pred, place), *node)?)?;
+            let kind = self.sight.param_kind(pred, place);
+            let number = self.number(kind, *node)?;
+            list.push(number)?;
         }
         Ok(list)
     }
@@ -342,7 +350,7 @@ pub fn look(
     state: &State,
     point: PointId,
 ) -> Result<Seen, NoMemory> {
-    let mut look = Look {
+    let mut look = Viewing {
         alloc,
         sight,
         state,
