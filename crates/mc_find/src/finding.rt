@@ -16,7 +16,7 @@ use mc_walks::{Attempt, Limits, Outcome, Style};
 use std::alloc::Global;
 
 /// A way to fold, and how many states a cut may have.
-const fn style(before: usize, room: i64, step: Step, keys: usize) -> (Style, usize) {
+const fn folding(before: usize, room: i64, step: Step, keys: usize) -> (Style, usize) {
     (Style { before, room, step }, keys)
 }
 
@@ -24,16 +24,16 @@ const fn style(before: usize, room: i64, step: Step, keys: usize) -> (Style, usi
 fn attempts(alloc: Global, keys: usize) -> Result<Vec<(Style, usize)>, NoMemory> {
     let many = keys.saturating_mul(4);
     let list = vec![in alloc;
-        style(0, 0, Step::Plain, keys),
-        style(0, 0, Step::Coarse, keys),
-        style(1, 0, Step::Plain, keys),
-        style(2, 0, Step::Plain, keys),
-        style(0, 1, Step::Plain, keys),
-        style(0, -1, Step::Plain, keys),
-        style(0, 0, Step::Whole, keys),
-        style(0, 0, Step::Match, keys),
-        style(0, 0, Step::Plain, many),
-        style(0, 0, Step::Coarse, many),
+        folding(0, 0, Step::Plain, keys),
+        folding(0, 0, Step::Coarse, keys),
+        folding(1, 0, Step::Plain, keys),
+        folding(2, 0, Step::Plain, keys),
+        folding(0, 1, Step::Plain, keys),
+        folding(0, -1, Step::Plain, keys),
+        folding(0, 0, Step::Whole, keys),
+        folding(0, 0, Step::Match, keys),
+        folding(0, 0, Step::Plain, many),
+        folding(0, 0, Step::Coarse, many),
     ]?;
     Ok(list)
 }

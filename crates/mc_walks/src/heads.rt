@@ -1,4 +1,7 @@
 // The states of cuts.
+ghost use Rattle.std.specs.Prelude.{◌≡◌, All, true};
+ghost use Rattle.mc_ranges.specs.Ends.{IsInt};
+
 use mc_base::{Atom, NoMemory, NodeId, PointId, VarId};
 use mc_cert::Line;
 use mc_join::{are_joinable, join};
@@ -52,10 +55,19 @@ fn twice(alloc: Global, images: &[NodeId]) -> Result<Vec<(NodeId, NodeId)>, NoMe
     Ok(pairs)
 }
 
-/// Whether all numbers are those of an `int`.
-fn all_ints(numbers: &[i64]) -> bool {
-    for number in numbers {
-        if *number < i64::from(i32::MIN) || *number > i64::from(i32::MAX) {
+/// Whether a number is one of an `int`.
+fn is_int(number: i64) -> bool
+    ensures { result ≡ true → IsInt number }
+{
+    -2_147_483_648 <= number && number <= 2_147_483_647
+}
+
+/// Whether all numbers are.
+fn all_ints(numbers: &[i64]) -> bool
+    ensures { result ≡ true → All IsInt numbers.now }
+{
+    for i in 0..numbers.len() {
+        if !is_int(numbers[i]) {
             return false;
         }
     }
