@@ -28,7 +28,9 @@ impl Attempt<'_> {
             return Ok(None);
         };
         let list = marks.as_slice();
-        match make(self.alloc, defs, trail, goal.pred, goal.at, args, false, list)? {
+        match make(
+            self.alloc, defs, trail, goal.pred, goal.at, args, false, list,
+        )? {
             MadeOf::Edge(edge) => Ok(Some(edge)),
             MadeOf::Nothing => Ok(None),
             MadeOf::Failed => Ok(None),
