@@ -1,5 +1,7 @@
 // The next line of a branch.
+ghost use Rattle.std.specs.Prelude.{◌≡◌};
 ghost use Rattle.mc_flow.specs.Valid.{IsValid};
+ghost use Rattle.mc_kernel.specs.Judges.{is_cut};
 
 use crate::access::accessed;
 use crate::stepping::instance;
@@ -15,7 +17,9 @@ use mc_state::Form;
 use std::alloc::Global;
 
 /// Whether the point is a cut.
-fn is_cut(cuts: &[PointId], point: PointId) -> bool {
+fn is_cut(cuts: &[PointId], point: PointId) -> bool
+    ensures { result ≡ is_cut cuts.now point }
+{
     for cut in cuts {
         if cut.0 == point.0 {
             return true;

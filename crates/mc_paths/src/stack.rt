@@ -1,7 +1,7 @@
 // Branches on a stack.
 ghost use Rattle.std.specs.Prelude.{◌≡◌, ◌∷◌, ◌++◌, [], MatchOption, OnOk, OnErr, map, option_map};
 ghost use Rattle.mc_judging.specs.Judging.{path, paths};
-ghost use Rattle.mc_kernel.specs.Readings.{first_branch, has_no_branch};
+ghost use Rattle.mc_kernel.specs.Readings.{first_branch};
 
 use mc_base::NoMemory;
 use mc_judging::{Branch, Next};
@@ -36,26 +36,11 @@ impl Stack {
         }
     }
 
-    /// These branches, the first at the top.
-    pub fn of(mut list: Vec<Branch>) -> Stack
-        ensures { result ≡ map path list.items }
-    {
-        list.reverse();
-        Stack { items: list }
-    }
-
     /// The first branch.
     pub fn top(&self) -> Option<&Branch>
         ensures { option_map (λ b. path b.now) result ≡ option_map (λ b. b.0) (first_branch self.now) }
     {
         self.items.as_slice().last()
-    }
-
-    /// Whether there is no branch.
-    pub fn is_empty(&self) -> bool
-        ensures { result ≡ has_no_branch self.now }
-    {
-        self.items.is_empty()
     }
 
     /// Takes the first branch.
