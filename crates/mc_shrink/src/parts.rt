@@ -1,12 +1,12 @@
 // Folds of one block into a segment.
-use crate::candidates::candidates;
 use crate::folds::Found;
 use crate::hiding::{Fold, hides};
 use crate::naming::{call_terms, known_name, known_terms, partial_names, plain};
 use crate::taken::taken_by;
+use crate::trying::candidates;
 use crate::whole::push_back_terms;
 use crate::{Manner, Survey};
-use mc_base::{EdgeId, NoMemory, NodeId, PredId};
+use mc_base::{NoMemory, NodeId, PredId};
 use mc_cover::Mark;
 use mc_defs::{Call, Def, Rule};
 use mc_graph::Edge;
