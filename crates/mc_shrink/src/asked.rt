@@ -1,7 +1,7 @@
 // The arguments that edges in front of a node ask for.
 use crate::naming::{call_terms, known_name, known_terms, partial_names, plain};
 use mc_base::{NoMemory, NodeId, PredId};
-use mc_defs::{Call, Def, Defs, Rule};
+use mc_defs::{Def, Rule};
 use mc_graph::Edge;
 use mc_state::Term;
 use mc_symbolic::State;

@@ -1,7 +1,7 @@
 // A guess of a predicate's arguments in which what a rule says itself comes before what its calls tell.
-use crate::naming::{call_terms, known_name, learn_all, partial_names, plain};
+use crate::naming::{known_name, learn_all, partial_names, plain};
 use mc_base::{NoMemory, NodeId, PredId};
-use mc_defs::{Def, Rule};
+use mc_defs::Def;
 use mc_graph::Edge;
 use mc_state::Term;
 use mc_symbolic::State;

@@ -2,7 +2,6 @@
 use crate::Survey;
 use crate::survey::is_live_at;
 use mc_base::{EdgeId, NodeId, VarId};
-use mc_graph::Edge;
 use mc_sight::{Nodes, edge_names};
 use mc_state::Term;
 

@@ -3,7 +3,6 @@
 #![tactic(auto)]
 
 mod asked;
-mod candidates;
 mod folds;
 mod guessing;
 mod hiding;
@@ -13,9 +12,10 @@ mod parts;
 mod shrinking;
 mod survey;
 mod taken;
+mod trying;
 mod whole;
 
-pub use candidates::candidates;
 pub use shrinking::{note, shrink};
 pub use survey::{Manner, Step, Survey};
 pub use taken::taken_by;
+pub use trying::candidates;

@@ -1,12 +1,12 @@
 // Folds of one block into a segment.
-use crate::candidates::candidates;
 use crate::folds::Found;
 use crate::hiding::{Fold, hides};
 use crate::naming::{call_terms, known_name, known_terms, partial_names, plain};
 use crate::taken::taken_by;
+use crate::trying::candidates;
 use crate::whole::push_back_terms;
 use crate::{Manner, Survey};
-use mc_base::{EdgeId, NoMemory, NodeId, PredId};
+use mc_base::{NoMemory, NodeId, PredId};
 use mc_cover::Mark;
 use mc_defs::{Call, Def, Rule};
 use mc_graph::Edge;
@@ -159,15 +159,15 @@ impl Try<'_> {
 }
 
 /// The first fold of a block into a segment of a predicate by a rule.
-fn by_rule(
+fn by_rule<'a>(
     alloc: Global,
-    manner: Manner<'_>,
-    nodes: &Nodes<'_>,
-    survey: &Survey,
+    manner: Manner<'a>,
+    nodes: &'a Nodes<'a>,
+    survey: &'a Survey,
     pred: PredId,
-    def: &Def,
-    rule: &Rule,
-    edge: &Edge,
+    def: &'a Def,
+    rule: &'a Rule,
+    edge: &'a Edge,
 ) -> Result<Option<Found>, NoMemory> {
     for call in rule.calls.as_slice() {
         if call.pred == pred {
@@ -191,12 +191,12 @@ fn by_rule(
 }
 
 /// The first fold of a block into a segment.
-fn at_block(
+fn at_block<'a>(
     alloc: Global,
-    manner: Manner<'_>,
-    nodes: &Nodes<'_>,
-    survey: &Survey,
-    edge: &Edge,
+    manner: Manner<'a>,
+    nodes: &'a Nodes<'a>,
+    survey: &'a Survey,
+    edge: &'a Edge,
 ) -> Result<Option<Found>, NoMemory> {
     for pred in manner.wanted {
         let Some(def) = manner.sight.defs.as_slice().get(pred.0 as usize) else {
@@ -218,11 +218,11 @@ fn at_block(
 }
 
 /// The first fold of one block into a segment.
-pub fn first_part(
+pub fn first_part<'a>(
     alloc: Global,
-    manner: Manner<'_>,
-    nodes: &Nodes<'_>,
-    survey: &Survey,
+    manner: Manner<'a>,
+    nodes: &'a Nodes<'a>,
+    survey: &'a Survey,
 ) -> Result<Option<Found>, NoMemory> {
     for (place, entry) in nodes.state.edges().iter().enumerate() {
         if survey.is_used(place) && !survey.is_kept(place) {

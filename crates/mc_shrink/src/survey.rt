@@ -48,7 +48,7 @@ impl Survey {
         state: &State,
         point: PointId,
     ) -> Result<Survey, NoMemory> {
-        let used = look(alloc, manner.sight, state, point)?.used;
+        let seen = look(alloc, manner.sight, state, point)?;
         let nodes = Nodes {
             sight: &manner.sight,
             state,
@@ -62,7 +62,7 @@ impl Survey {
             }
         }
         Ok(Survey {
-            used,
+            used: seen.used,
             kept,
             kept_ids,
         })

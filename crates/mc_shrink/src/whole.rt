@@ -1,9 +1,9 @@
 // Folds into inductive edges, and of segments that meet.
-use crate::candidates::candidates;
 use crate::folds::Found;
 use crate::hiding::{Fold, hides};
 use crate::naming::plain;
 use crate::taken::taken_by;
+use crate::trying::candidates;
 use crate::{Manner, Step, Survey};
 use mc_base::{EdgeId, NoMemory, NodeId, PredId};
 use mc_cover::Mark;
