@@ -1,6 +1,7 @@
 // Open branches.
-ghost use Rattle.std.specs.Prelude.{◌≡◌, ◌∷◌};
+ghost use Rattle.std.specs.Prelude.{◌≡◌, All};
 ghost use Rattle.mc_flow.specs.Valid.{IsValid};
+ghost use Rattle.mc_ranges.specs.Ends.{IsInt};
 
 use crate::advancing::advance;
 use crate::entering::{begins, entry};
@@ -52,6 +53,13 @@ impl<'f> Paths<'f> {
     /// The flow graph.
     pub fn flow(&self) -> &'f Flow {
         self.flow
+    }
+
+    /// The constants of the flow graph's operands.
+    pub fn thresholds(&self) -> &'f [i64]
+        ensures { All IsInt result.now }
+    {
+        self.flow.thresholds.as_slice()
     }
 
     /// Lets all branches go.

@@ -82,7 +82,7 @@ impl Attempt<'_> {
         };
         head.round = head.round.saturating_add(1);
         let known = state.known();
-        let thresholds = self.sight.flow.thresholds.as_slice();
+        let thresholds = self.paths.thresholds();
         let joint = joint_atoms(
             self.alloc,
             thresholds,

@@ -1,5 +1,5 @@
 // The states of cuts.
-ghost use Rattle.std.specs.Prelude.{◌≡◌, All, true};
+ghost use Rattle.std.specs.Prelude.{All};
 ghost use Rattle.mc_ranges.specs.Ends.{IsInt};
 
 use mc_base::{Atom, NoMemory, NodeId, PointId, VarId};
@@ -55,25 +55,6 @@ fn twice(alloc: Global, images: &[NodeId]) -> Result<Vec<(NodeId, NodeId)>, NoMe
     Ok(pairs)
 }
 
-/// Whether a number is one of an `int`.
-fn is_int(number: i64) -> bool
-    ensures { result ≡ true → IsInt number }
-{
-    -2_147_483_648 <= number && number <= 2_147_483_647
-}
-
-/// Whether all numbers are.
-fn all_ints(numbers: &[i64]) -> bool
-    ensures { result ≡ true → All IsInt numbers.now }
-{
-    for i in 0..numbers.len() {
-        if !is_int(numbers[i]) {
-            return false;
-        }
-    }
-    true
-}
-
 /// What is known on both sides of pairs, widened from the third round on, where they can be joined.
 fn joined(
     alloc: Global,
@@ -82,11 +63,13 @@ fn joined(
     pairs: &[(NodeId, NodeId)],
     round: u64,
     thresholds: &[i64],
-) -> Result<Option<Vec<Atom>>, NoMemory> {
+) -> Result<Option<Vec<Atom>>, NoMemory>
+    requires { All IsInt thresholds.now }
+{
     if left.is_false() || right.is_false() {
         return Ok(None);
     }
-    if !are_joinable(left, right, pairs) || !all_ints(thresholds) {
+    if !are_joinable(left, right, pairs) {
         return Ok(None);
     }
     let joint = join(alloc, left, right, pairs, round, thresholds)?;
@@ -119,7 +102,9 @@ pub fn joint_atoms(
     known: &Pure,
     images: &[NodeId],
     round: u64,
-) -> Result<Option<Vec<Atom>>, NoMemory> {
+) -> Result<Option<Vec<Atom>>, NoMemory>
+    requires { All IsInt thresholds.now }
+{
     let pairs = pairs_of(alloc, images)?;
     joined(
         alloc,
