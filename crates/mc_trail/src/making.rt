@@ -93,12 +93,7 @@ impl Trail<'_> {
     }
 
     /// L5 or L6, where something was made behind a segment.
-    fn close(
-        &mut self,
-        seg: EdgeId,
-        to_stop: bool,
-        made: Made,
-    ) -> Result<Turn, NoMemory> {
+    fn close(&mut self, seg: EdgeId, to_stop: bool, made: Made) -> Result<Turn, NoMemory> {
         let Made::Edge(other) = made else {
             return Ok(Turn::Made(Made::Edge(seg)));
         };
@@ -149,9 +144,7 @@ impl Trail<'_> {
         );
         let turn = self.turn(line)?;
         match (turn, last) {
-            (Turn::Made(Made::Edge(seg)), Made::Edge(other)) => {
-                self.turn(Line::L6(seg, other))
-            }
+            (Turn::Made(Made::Edge(seg)), Made::Edge(other)) => { self.turn(Line::L6(seg, other)) }
             (turn, _) => Ok(turn),
         }
     }

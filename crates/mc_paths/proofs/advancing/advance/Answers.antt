@@ -14,11 +14,11 @@ judge-requires-clause-made c =
 
 pub returns-in_ok-put-in-Ok : goal.returns-in_ok-put-in-Ok
 returns-in_ok-put-in-Ok c = record {
-    made = given_made c.args.flow.now c.args.defs.now (setting_of c.args.setting) c.args.line.now c.args.stack.now c.put.new.self
-    c.pop.new.self (path c.in-Some.first) c.in-Some.ensures c.requires.made
-    c.lines_are_judged.ensures.judged c.lines_make_well_made.ensures c.judges_are_there.ensures c.requires.valid
-    (paths c.in-Ok.next) c.in-Ok.ensures c.in_ok-put-in-Ok.ensures.ok;
-  }
+  made = given_made c.args.flow.now c.args.defs.now (setting_of c.args.setting) c.args.line.now c.args.stack.now c.put.new.self
+      c.pop.new.self (path c.in-Some.first) c.in-Some.ensures c.requires.made
+      c.lines_are_judged.ensures.judged c.lines_make_well_made.ensures c.judges_are_there.ensures c.requires.valid
+      (paths c.in-Ok.next) c.in-Ok.ensures c.in_ok-put-in-Ok.ensures.ok;
+}
 
 pub returns-in_ok-push-in-Err-Premise : goal.returns-in_ok-push-in-Err-Premise
 returns-in_ok-push-in-Err-Premise c =
@@ -30,7 +30,7 @@ returns-in_ok-push-in-Err-Premise c =
     c.in-Err-Premise.field-0-is c.in-Err-Premise.ensures in
     record {
       made = refused_made flow defs (setting_of c.args.setting) c.args.line.now c.args.stack.now c.push.new.self
-    c.pop.new.self b c.in-Some.ensures c.requires.made
-    c.lines_are_judged.ensures.judged c.lines_make_well_made.ensures c.judges_are_there.ensures c.requires.valid
-    c.in-Err-Premise.k (path c.in-Err-Premise.same) told c.in_ok-push-in-Err-Premise.ensures.ok;
+          c.pop.new.self b c.in-Some.ensures c.requires.made
+          c.lines_are_judged.ensures.judged c.lines_make_well_made.ensures c.judges_are_there.ensures c.requires.valid
+          c.in-Err-Premise.k (path c.in-Err-Premise.same) told c.in_ok-push-in-Err-Premise.ensures.ok;
     }

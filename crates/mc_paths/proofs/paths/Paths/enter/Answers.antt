@@ -12,5 +12,5 @@ invariant_of-self-2 c =
     record {
       valid = c.self.invariant.valid;
       branches = subst (λ (bs : List Path). AreMade flow defs bs) (sym c.in_ok-push.ensures.ok)
-      (subst (λ (b : Path). IsMade flow defs b) (sym c.in_ok-branch.ensures) (roots_made c.numbers_stay_bounded.ensures.unknown flow defs [] tt).0, c.self.invariant.branches);
+          (subst (λ (b : Path). IsMade flow defs b) (sym c.in_ok-branch.ensures) (roots_made c.numbers_stay_bounded.ensures.unknown flow defs [] tt).0, c.self.invariant.branches);
     }

@@ -16,5 +16,5 @@ invariant_of-self-2 c =
     record {
       valid = c.self.invariant.valid;
       branches = subst (λ (bs : List Path). AreMade flow defs bs) (sym c.in_ok-push.ensures.ok)
-      (subst (λ (b : Path). IsMade flow defs b) (sym c.begins.ensures) made, c.self.invariant.branches);
+          (subst (λ (b : Path). IsMade flow defs b) (sym c.begins.ensures) made, c.self.invariant.branches);
     }
