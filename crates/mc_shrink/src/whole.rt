@@ -80,6 +80,32 @@ fn cover_with(
     }
 }
 
+/// The first fold of a predicate with one of these lists of arguments.
+fn fold_with(
+    alloc: Global,
+    manner: Manner<'_>,
+    nodes: &Nodes<'_>,
+    survey: &Survey,
+    used: &[EdgeId],
+    pred: PredId,
+    at: NodeId,
+    lists: Vec<Vec<Term>>,
+) -> Result<Option<Found>, NoMemory> {
+    for args in lists {
+        let named = args.as_slice();
+        if let Some(marks) = cover_with(alloc, manner, nodes, survey, used, pred, at, named)? {
+            return Ok(Some(Found::Cover {
+                pred,
+                at,
+                args,
+                to_stop: false,
+                marks,
+            }));
+        }
+    }
+    Ok(None)
+}
+
 /// The first fold of a predicate at an edge.
 fn fold_of(
     alloc: Global,
@@ -91,11 +117,10 @@ fn fold_of(
     at: NodeId,
     def: &Def,
 ) -> Result<Option<Found>, NoMemory> {
-    let defs = manner.sight.defs;
-    let list = candidates(
+    let lists = candidates(
         alloc,
         nodes.state,
-        defs,
+        manner.sight.defs,
         manner.asserted,
         used,
         pred,
@@ -104,28 +129,7 @@ fn fold_of(
         None,
         0,
     )?;
-    for args in list {
-        let found = cover_with(
-            alloc,
-            manner,
-            nodes,
-            survey,
-            used,
-            pred,
-            at,
-            args.as_slice(),
-        )?;
-        if let Some(marks) = found {
-            return Ok(Some(Found::Cover {
-                pred,
-                at,
-                args,
-                to_stop: false,
-                marks,
-            }));
-        }
-    }
-    Ok(None)
+    fold_with(alloc, manner, nodes, survey, used, pred, at, lists)
 }
 
 /// The first fold into an inductive edge at an edge.
