@@ -1,0 +1,6 @@
+//! Programs run on a script.
+#![tactic(auto)]
+
+mod interpret;
+
+pub use interpret::interpret;
