@@ -357,7 +357,7 @@ fn documents_come_in_pieces(rt: HostRuntime) -> Result<(), Fail> {
     let alloc = rt.alloc();
     for len in [65_535, 65_536, 65_537, 131_072, 200_000] {
         let mut document = String::from_str(alloc, "")?;
-        while document.len() < len {
+        for _ in 0..len {
             document.push_str(" ")?;
         }
         document.push_str(DOCUMENT)?;
