@@ -1,0 +1,4 @@
+//! The values of resolved programs are of the kinds that are wanted, where the programs are well typed.
+#![tactic(auto)]
+
+mod laws;
