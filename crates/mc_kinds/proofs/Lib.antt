@@ -1,3 +1,5 @@
 pub mod Types
 pub mod Known
 pub mod Expressions
+pub mod Meanings
+pub mod Rights
