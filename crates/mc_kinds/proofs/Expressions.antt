@@ -80,10 +80,10 @@ are_ints t vs a b none =
       right_faultless = none_right ((x ++ y) ++ u) v none;
     }
 
-small_left : (ms ns : List ℕ) → AreSmall (ms ++ ns) → AreSmall ms
+pub small_left : (ms ns : List ℕ) → AreSmall (ms ++ ns) → AreSmall ms
 small_left ms ns small = each_left (λ k. k ≤ max_number) ms ns small
 
-small_right : (ms ns : List ℕ) → AreSmall (ms ++ ns) → AreSmall ns
+pub small_right : (ms ns : List ℕ) → AreSmall (ms ++ ns) → AreSmall ns
 small_right ms ns small = each_right (λ k. k ≤ max_number) ms ns small
 
 pub of_kind : (n : Naming) (h : Here) (vs : List Variable) → Sees n h vs → (wanted : VariableType) (e : tree.Expr) → IsDefinite wanted → AreSmall (expression_numbers e)

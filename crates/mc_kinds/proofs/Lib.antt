@@ -3,3 +3,4 @@ pub mod Known
 pub mod Expressions
 pub mod Meanings
 pub mod Rights
+pub mod Statements
