@@ -4,3 +4,5 @@ pub mod Expressions
 pub mod Meanings
 pub mod Rights
 pub mod Statements
+pub mod Typedefs
+pub mod Wholes

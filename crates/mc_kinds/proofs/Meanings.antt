@@ -82,7 +82,7 @@ base_meant t aliases (Base.Alias name) (Some q) e =
     (not_so (is_undefined (meaning_of t (Base.Alias name))) both.1)
 
 -- ---- declarators
-declared_proper : (count : ℕ) (b : BaseType) (star : Option Place) → IsMeant count star b → is_declarable b star ≡ true → IsProper count (declared_type b star)
+pub declared_proper : (count : ℕ) (b : BaseType) (star : Option Place) → IsMeant count star b → is_declarable b star ≡ true → IsProper count (declared_type b star)
 declared_proper count (Typed Int) None meant e = tt
 declared_proper count (Typed Int) (Some p) meant e = absurd (false_true e)
 declared_proper count (Typed (Pointer s)) None meant e = meant

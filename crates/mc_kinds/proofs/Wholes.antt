@@ -1,0 +1,159 @@
+-- Well-typed programs, resolved, are of their kinds.
+use Rattle.std.proofs.Common.{◌≡◌, ◌<◌, ◌≤◌, ◌+◌, ℕ, zero, suc, Bool, true, false, cond, not, ◌&&◌, List, [], ◌∷◌, ◌++◌, map, reverse, flat_map, filter, length, get_or, Option, Some, None, option_map, find, refl, sym, ap, subst, ◌∙◌, append-nil, arith}
+use Rattle.std.specs.Option.{option_map_or}
+use Rattle.std.specs.Prelude.{All, slice_get}
+use Rattle.std.specs.List.{position_or_len}
+use Rattle.std.proofs.lemmas.Grind.{reverse_onto}
+use Rattle.std.proofs.lemmas.List.{length-map}
+use Rattle.std.proofs.lemmas.List.Elements.{All-head, All-tail}
+use Rattle.std.proofs.lemmas.Option.{same_Some, slice_get-map}
+use Rattle.mc_text.specs.Numbers.{max_number}
+use Rattle.mc_ast.specs.declared.trees.Parameter.{Parameter}
+use Rattle.mc_ast.specs.declared.trees.Returned.{Returned}
+use Rattle.mc_ast.specs.declared.trees.Returned.TheVariants as Returned
+use Rattle.mc_ast.specs.declared.trees.Declarator.{Declarator}
+use Rattle.mc_ast.specs.declared.trees.Base.{Base}
+use Rattle.mc_ast.specs.Names.{is_same}
+use Rattle.mc_ast.specs.Trees as tree
+use Rattle.mc_defs.specs.declared.rules.Def.{Def}
+use Rattle.mc_defs.specs.declared.shapes.Structs.{Structs}
+use Rattle.mc_defs.specs.Conditions.{DefsFit}
+use Rattle.mc_numbers.specs.Numbers.{maybe_numbers, body_numbers, statements_numbers, item_numbers, unit_numbers, HasSmallNumbers}
+use Rattle.mc_places.specs.Places.{AreDistinct, function_places, item_places, declared_places}
+use Rattle.mc_types.specs.Tables.{Tables, Variable, kind_of, variable_of, variables_of, fields_of, parameters_of, listed_parameters, returned_type, is_defined, called_function, item_structs, unit_structs, item_functions, aliased_structs, tables_of, struct_infos}
+use Rattle.mc_types.specs.Scopes.{Scope}
+use Rattle.mc_types.specs.Shapes.{ShapeUse, use_faults, statements_uses, body_uses, item_uses, unit_uses, bind_faults, IsBound}
+use Rattle.mc_types.specs.Faults.{repeated, declarator_faults, statements_faults, struct_faults, aliased_faults, alias_faults, aliased_base, typedef_faults, returned_faults, body_faults, function_faults, item_tree_faults, table_faults}
+use Rattle.mc_types.specs.Typing.{IsWellTyped}
+use Rattle.mc_types.specs.declared.faults.Fault.{Fault}
+use Rattle.mc_types.specs.declared.types.VariableType.{VariableType}
+use Rattle.mc_resolved.specs.Programs.{Function, Program}
+use Rattle.mc_resolved.specs.Resolving.{Naming, number_in, statements_variables, body_statements, function_variables, defined_functions, function_number, local_of, naming_of, parameter_scope, resolved_function, resolved_program}
+use Rattle.mc_valid.specs.Kinds.{Here, IsVariable, AreOfKinds, IsWellMade}
+use Rattle.mc_scoped.proofs.Lists.{Apart, apart_left, apart_right}
+use Rattle.mc_scoped.proofs.Places.{number_at}
+use Rattle.mc_scoped.proofs.Faultless.{none_left, none_right}
+use Rattle.mc_scoped.proofs.Wholes.{apart_from_distinct}
+use Rattle.mc_kinds.specs.Typedefs.{HasKnownTypedefs}
+use Rattle.mc_kinds.proofs.Types.{Each, each_left, each_right, each_both, IsProper}
+use Rattle.mc_kinds.proofs.Known.{info_of, field_of, AreShaped, IsShaped}
+use Rattle.mc_kinds.proofs.Expressions.{AreSmall}
+use Rattle.mc_kinds.proofs.Meanings.{AreMeant, type_proper, declarator_proper}
+use Rattle.mc_kinds.proofs.Rights.{IsProperResult, IsCallee, IsKnownProgram}
+use Rattle.mc_kinds.proofs.Statements.{AreOwn, AreFit, IsSeenScope, IsFrame, AreGood, statements_is}
+use Rattle.mc_kinds.proofs.Typedefs.{all_meant, none_covered}
+
+-- ---- lists
+each_from : {X : Type 0} (P : X → Type 0) (xs : List X) → All P xs → Each P xs
+each_from P [] all = tt
+each_from P (x ∷ xs) all = (All-head P x xs all, each_from P xs (All-tail P x xs all))
+
+each_reverse : {X : Type 0} (P : X → Type 0) (xs : List X) → Each P xs → Each P (reverse xs)
+each_reverse P [] all = tt
+each_reverse P (x ∷ xs) all = subst (Each P) (sym (reverse_onto xs x [])) (each_both P (reverse xs) (x ∷ []) (each_reverse P xs all.1) (all.0, tt))
+
+none_in_each : {X : Type 0} (f : X → List Fault) (xs : List X) → flat_map f xs ≡ [] → Each (λ x. f x ≡ []) xs
+none_in_each f [] e = tt
+none_in_each f (x ∷ xs) e = (none_left (f x) (flat_map f xs) e, none_in_each f xs (none_right (f x) (flat_map f xs) e))
+
+each_there : {X : Type 0} (P : X → Type 0) (xs : List X) (k : ℕ) (x : X) → Each P xs → slice_get xs k ≡ Some x → P x
+each_there P [] k x all e = absurd (cc)
+each_there P (y ∷ xs) zero x all e = subst P (same_Some y x e) all.0
+each_there P (y ∷ xs) (suc k) x all e = each_there P xs k x all.1 e
+
+-- ---- the variables of a function
+kind_there : (vs : List Variable) (i : ℕ) (d : Variable) → i < length vs → option_map (λ l. l.kind) (slice_get (map local_of vs) i) ≡ Some (kind_of (get_or vs i d).type)
+kind_there [] i d less = absurd (omega (arith, less))
+kind_there (v ∷ vs) zero d less = refl
+kind_there (v ∷ vs) (suc i) d less = kind_there vs i d (omega (arith, less))
+
+abbrev HasKind : List Variable → Variable → Type 0
+HasKind locals v = option_map (λ l. l.kind) (slice_get (map local_of locals) (number_in locals v.place)) ≡ Some (kind_of v.type)
+
+have_kinds : (locals : List Variable) → Apart (map (λ v. v.place) locals) → Each (HasKind locals) locals
+have_kinds locals apart =
+    each_from (HasKind locals) locals
+    (λ i d less. ap (λ k. option_map (λ l. l.kind) (slice_get (map local_of locals) k)) (number_at locals i d apart less) ∙ kind_there locals i d less)
+
+-- ---- a function
+-- a function of a program without faults
+record IsGoodFunction (t : Tables) (defs : List Def) (f : tree.FunctionTree) : Type 0 where
+  apart : Apart (map (λ v. v.place) (function_variables t f))
+  faultless : function_faults t f ≡ []
+  small : AreSmall (maybe_numbers body_numbers f.body)
+  fit : Each (λ u. use_faults defs u ≡ []) (body_uses t f f.body)
+
+abbrev parameter_faults : Tables → tree.FunctionTree → List Fault
+parameter_faults t f = flat_map (λ p. declarator_faults t p.base p.declarator) (listed_parameters f.parameters)
+
+abbrev name_faults : tree.FunctionTree → List Fault
+name_faults f = repeated [] (map (λ p. p.declarator.name) (listed_parameters f.parameters))
+
+parameters_faultless : (t : Tables) (f : tree.FunctionTree) → function_faults t f ≡ [] → parameter_faults t f ≡ []
+parameters_faultless t f e =
+    none_right (returned_faults t f f.returned) (parameter_faults t f)
+    (none_left (returned_faults t f f.returned ++ parameter_faults t f) (name_faults f)
+    (none_left (returned_faults t f f.returned ++ parameter_faults t f ++ name_faults f) (body_faults t f f.body) e))
+
+returned_faultless : (t : Tables) (f : tree.FunctionTree) → function_faults t f ≡ [] → returned_faults t f f.returned ≡ []
+returned_faultless t f e =
+    none_left (returned_faults t f f.returned) (parameter_faults t f)
+    (none_left (returned_faults t f f.returned ++ parameter_faults t f) (name_faults f)
+    (none_left (returned_faults t f f.returned ++ parameter_faults t f ++ name_faults f) (body_faults t f f.body) e))
+
+listed_proper : (t : Tables) → AreMeant (length t.structs) t.aliases → (ps : List Parameter) → flat_map (λ p. declarator_faults t p.base p.declarator) ps ≡ []
+    → Each (λ v. IsProper (length t.structs) v.type) (map (λ p. variable_of t p.base p.declarator) ps)
+listed_proper t meant [] e = tt
+listed_proper t meant (p ∷ ps) e =
+    let x : List Fault = declarator_faults t p.base p.declarator in
+    let y : List Fault = flat_map (λ q. declarator_faults t q.base q.declarator) ps in
+    (declarator_proper t meant p.base p.declarator (none_left x y e), listed_proper t meant ps (none_right x y e))
+
+result_proper : (t : Tables) → AreMeant (length t.structs) t.aliases → (f : tree.FunctionTree) (r : Returned) → returned_faults t f r ≡ [] → IsProperResult (length t.structs) (returned_type t r)
+result_proper t meant f (Returned.Void p) e = tt
+result_proper t meant f (Returned.Value base star) e = type_proper t meant base star f.name.place e
+
+-- types and numbers together
+both_known : (n : Naming) (h : Here) (vs : List Variable) → Each (λ v. IsProper (length n.tables.structs) v.type) vs → AreOwn n h vs
+    → Each (λ v. IsProper (length n.tables.structs) v.type × IsVariable h (kind_of v.type) (number_in n.locals v.place)) vs
+both_known n h [] proper own = tt
+both_known n h (v ∷ vs) proper own = ((proper.0, own.0), both_known n h vs proper.1 own.1)
+
+abbrev at_function : Structs → Program → Tables → List Def → tree.FunctionTree → Here
+at_function structs p t defs f = record { structs = structs; program = p; function = resolved_function t defs f }
+
+body_none : (t : Tables) (f : tree.FunctionTree) (body : Option tree.BodyTree) → body_faults t f body ≡ []
+    → statements_faults (record { tables = t; result = returned_type t f.returned; in_loop = false }) (parameter_scope t f) (option_map_or (λ b. tree.stmts_of b.statements) body tree.no_more) ≡ []
+body_none t f None e = refl
+body_none t f (Some body) e = e
+
+body_small : (body : Option tree.BodyTree) → AreSmall (maybe_numbers body_numbers body) → AreSmall (statements_numbers (option_map_or (λ b. tree.stmts_of b.statements) body tree.no_more))
+body_small None small = tt
+body_small (Some body) small = small
+
+body_fit : (t : Tables) (defs : List Def) (f : tree.FunctionTree) (body : Option tree.BodyTree) → Each (λ u. use_faults defs u ≡ []) (body_uses t f body)
+    → Each (λ u. use_faults defs u ≡ []) (statements_uses t (parameter_scope t f) (option_map_or (λ b. tree.stmts_of b.statements) body tree.no_more))
+body_fit t defs f None fit = tt
+body_fit t defs f (Some body) fit = fit
+
+function_is : (structs : Structs) (p : Program) (t : Tables) (defs : List Def) (f : tree.FunctionTree) → IsKnownProgram (naming_of t defs f) (at_function structs p t defs f)
+    → IsGoodFunction t defs f → AreOfKinds (at_function structs p t defs f) (resolved_function t defs f).body
+function_is structs p t defs f known good =
+    let n : Naming = naming_of t defs f in
+    let h : Here = at_function structs p t defs f in
+    let all : AreOwn n h (function_variables t f) = have_kinds (function_variables t f) good.apart in
+    let first : AreOwn n h (parameters_of t f) = each_left (λ v. IsVariable h (kind_of v.type) (number_in n.locals v.place)) (parameters_of t f) (statements_variables t (body_statements f)) all in
+    let proper = listed_proper t known.meant (listed_parameters f.parameters) (parameters_faultless t f good.faultless) in
+    statements_is n h (returned_type t f.returned) (record { proper = result_proper t known.meant f f.returned (returned_faultless t f good.faultless); is = refl }) false (parameter_scope t f) (body_statements f)
+    (record {
+      seen = record {
+        known = known;
+        heads = tt;
+        own = each_reverse (λ v. IsProper (length n.tables.structs) v.type × IsVariable h (kind_of v.type) (number_in n.locals v.place)) (parameters_of t f) (both_known n h (parameters_of t f) proper first);
+        outer = tt;
+      };
+      own = each_right (λ v. IsVariable h (kind_of v.type) (number_in n.locals v.place)) (parameters_of t f) (statements_variables t (body_statements f)) all;
+      small = body_small f.body good.small;
+      none = body_none t f f.body (none_right (returned_faults t f f.returned ++ parameter_faults t f ++ name_faults f) (body_faults t f f.body) good.faultless);
+      fit = body_fit t defs f f.body good.fit;
+    })
