@@ -5,4 +5,5 @@ pub mod Meanings
 pub mod Rights
 pub mod Statements
 pub mod Typedefs
+pub mod Spots
 pub mod Wholes

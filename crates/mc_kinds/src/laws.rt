@@ -1,1 +1,23 @@
 // Laws of the kinds of resolved programs.
+ghost use Rattle.mc_ast.specs.Trees.{UnitTree};
+ghost use Rattle.mc_defs.specs.Conditions.{DefsFit};
+ghost use Rattle.mc_defs.specs.declared.rules.Def.{Def};
+ghost use Rattle.mc_kinds.specs.Typedefs.{HasKnownTypedefs};
+ghost use Rattle.mc_numbers.specs.Numbers.{HasSmallNumbers};
+ghost use Rattle.mc_places.specs.Places.{AreDistinct, declared_places};
+ghost use Rattle.mc_resolved.specs.Resolving.{resolved_program};
+ghost use Rattle.mc_types.specs.Shapes.{IsBound};
+ghost use Rattle.mc_types.specs.Tables.{struct_infos, tables_of};
+ghost use Rattle.mc_types.specs.Typing.{IsWellTyped};
+ghost use Rattle.mc_valid.specs.Kinds.{IsWellMade};
+ghost use Rattle.std.specs.Prelude.{ℕ, List};
+
+/// The values of a resolved program are of the kinds that are wanted, if the program is well typed, its typedefs name
+/// what stands before them, its numbers are small, it declares its variables at different places, and the definitions
+/// fit its structs and its shape commands.
+pub fn resolved_programs_are_well_made()
+    ensures { (unit : UnitTree) (defs : List Def) (entry : List ℕ) → IsWellTyped unit entry → HasKnownTypedefs unit
+        → HasSmallNumbers unit → AreDistinct (declared_places unit) → DefsFit (struct_infos unit) defs
+        → IsBound unit defs
+        → IsWellMade (record { list = struct_infos unit }) (resolved_program (tables_of unit) defs entry) }
+{}
