@@ -7,3 +7,4 @@ pub mod Statements
 pub mod Typedefs
 pub mod Spots
 pub mod Wholes
+pub mod Read

@@ -1,4 +1,5 @@
 // Laws of the kinds of resolved programs.
+ghost use Rattle.mc_ast.specs.Grammar.{IsUnit};
 ghost use Rattle.mc_ast.specs.Trees.{UnitTree};
 ghost use Rattle.mc_defs.specs.Conditions.{DefsFit};
 ghost use Rattle.mc_defs.specs.declared.rules.Def.{Def};
@@ -6,11 +7,17 @@ ghost use Rattle.mc_kinds.specs.Typedefs.{HasKnownTypedefs};
 ghost use Rattle.mc_numbers.specs.Numbers.{HasSmallNumbers};
 ghost use Rattle.mc_places.specs.Places.{AreDistinct, declared_places};
 ghost use Rattle.mc_resolved.specs.Resolving.{resolved_program};
+ghost use Rattle.mc_text.specs.declared.token.Token.{Token};
 ghost use Rattle.mc_types.specs.Shapes.{IsBound};
 ghost use Rattle.mc_types.specs.Tables.{struct_infos, tables_of};
 ghost use Rattle.mc_types.specs.Typing.{IsWellTyped};
 ghost use Rattle.mc_valid.specs.Kinds.{IsWellMade};
 ghost use Rattle.std.specs.Prelude.{ℕ, List};
+
+/// The typedefs of a program that was read name what stands before them.
+pub fn typedefs_are_known()
+    ensures { (unit : UnitTree) (tokens : List Token) → IsUnit unit tokens → HasKnownTypedefs unit }
+{}
 
 /// The values of a resolved program are of the kinds that are wanted, if the program is well typed, its typedefs name
 /// what stands before them, its numbers are small, it declares its variables at different places, and the definitions
