@@ -11,12 +11,12 @@ use Rattle.mc_ast.specs.Trees as tree
 use Rattle.mc_numbers.specs.Numbers.{expression_numbers, condition_numbers}
 use Rattle.mc_types.specs.Types.{fits, number_type, is_int, is_pointer, are_comparable}
 use Rattle.mc_types.specs.Tables.{Tables, Variable, kind_of}
-use Rattle.mc_types.specs.Faults.{value_type, expression_faults, no_int, no_pointer, comparison_faults, condition_faults, left_type, first_place, unless}
+use Rattle.mc_types.specs.Faults.{value_type, expression_faults, no_int, no_pointer, comparison_faults, condition_faults, left_type, first_place}
 use Rattle.mc_types.specs.declared.faults.Fault.{Fault}
 use Rattle.mc_types.specs.declared.faults.FaultName.TheVariants.{Mismatch}
 use Rattle.mc_types.specs.declared.types.VariableType.{VariableType}
 use Rattle.mc_types.specs.declared.types.VariableType.TheVariants.{Int, Pointer, Anything}
-use Rattle.mc_types.specs.declared.types.ValueType.TheVariants.{Typed, Zero, Null}
+use Rattle.mc_types.specs.declared.types.ValueType.TheVariants.{Typed, Null}
 use Rattle.mc_resolved.specs.Programs.{number}
 use Rattle.mc_resolved.specs.Resolving.{Naming, resolved_expression, resolved_condition, resolved_left}
 use Rattle.mc_valid.specs.Kinds.{Here, IsOf, AreCompared, IsCondition, IsLeft}

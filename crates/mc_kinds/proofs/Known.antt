@@ -1,5 +1,5 @@
 -- Variables and fields have the kinds of their types.
-use Rattle.std.proofs.Common.{◌≡◌, ◌<◌, ◌+◌, ℕ, zero, suc, Bool, true, false, cond, not, List, [], ◌∷◌, map, length, Option, Some, None, option_map, is_some, find, refl, sym, ap, subst, ◌∙◌, arith}
+use Rattle.std.proofs.Common.{◌≡◌, ◌<◌, ◌+◌, ℕ, suc, Bool, true, false, cond, not, List, [], ◌∷◌, map, length, Option, Some, None, option_map, is_some, find, refl, ap, ◌∙◌, arith}
 use Rattle.std.specs.Option.{option_map_or}
 use Rattle.std.specs.List.{position_or_len}
 use Rattle.std.specs.Prelude.{slice_get, unwrap_or, position, option_and_then}
@@ -93,7 +93,7 @@ behind t h (Pointer s) field shaped proper e = let r = at (slice_get t.structs s
         let is = shaped.each s.0 shape same in (
           proper_in (length t.structs) (fields_of t shape) field.text is.proper some,
           ap (λ (o : Option StructInfo). option_and_then (λ (info : StructInfo). option_map (λ (f : FieldInfo). f.kind) (slice_get info.fields (unwrap_or (position (λ v. is_same v.name field.text) (fields_of t shape)) 0))) o) is.there
-          ∙ number_of (fields_of t shape) field.text some,
+              ∙ number_of (fields_of t shape) field.text some,
         )
 
 -- ---- fields one behind the other

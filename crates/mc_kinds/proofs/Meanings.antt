@@ -1,21 +1,19 @@
 -- What is declared without faults has a known type.
-use Rattle.std.proofs.Common.{◌≡◌, ◌<◌, ℕ, Bool, true, false, cond, ◌&&◌, not, List, [], ◌∷◌, ◌++◌, length, Option, Some, None, option_map, is_some, is_none, find, refl, sym, ap, subst, ◌∙◌, arith}
+use Rattle.std.proofs.Common.{◌≡◌, ◌<◌, ℕ, Bool, true, false, cond, ◌&&◌, not, List, [], ◌∷◌, length, Option, Some, None, option_map, is_some, find, refl, sym}
 use Rattle.std.specs.List.{position_or_len}
-use Rattle.std.specs.Prelude.{unwrap_or, position}
+use Rattle.std.specs.Prelude.{unwrap_or}
 use Rattle.std.specs.Bool.{nat_lt}
-use Rattle.std.proofs.lemmas.Bool.{and_parts, ltb-true, not-true}
+use Rattle.std.proofs.lemmas.Bool.{and_parts, ltb-true}
 use Rattle.mc_base.specs.declared.ids.StructId.{StructId}
 use Rattle.mc_text.specs.declared.place.Place.{Place}
 use Rattle.mc_ast.specs.declared.trees.Base.{Base}
-use Rattle.mc_ast.specs.declared.trees.Base.TheVariants as Base
 use Rattle.mc_ast.specs.declared.trees.Declarator.{Declarator}
 use Rattle.mc_ast.specs.Names.{is_same}
 use Rattle.mc_ast.specs.Trees.{StructTree}
 use Rattle.mc_types.specs.Types.{is_declarable}
 use Rattle.mc_types.specs.Tables.{Tables, Alias, struct_number, struct_meaning, alias_in, is_undefined, meaning_of, declared_type, variable_of}
-use Rattle.mc_types.specs.Faults.{is_known, base_faults, type_faults, declarator_faults, declarator_place, unless}
+use Rattle.mc_types.specs.Faults.{base_faults, type_faults, declarator_faults, declarator_place, unless}
 use Rattle.mc_types.specs.declared.faults.FaultName.TheVariants.{Unknown, Mismatch}
-use Rattle.mc_types.specs.declared.types.VariableType.{VariableType}
 use Rattle.mc_types.specs.declared.types.VariableType.TheVariants.{Int, Pointer, Anything}
 use Rattle.mc_types.specs.declared.types.BaseType.{BaseType}
 use Rattle.mc_types.specs.declared.types.BaseType.TheVariants.{Typed, Struct, Undefined}

@@ -1,7 +1,7 @@
 -- Typedefs of programs that were read name what stands before them.
 use Rattle.std.proofs.Common.{◌≡◌, ℕ, List, [], ◌∷◌, ◌++◌, sym, subst, ◌∙◌, append_assoc, append-nil}
 use Rattle.mc_ast.specs.declared.trees.Base.{Base}
-use Rattle.mc_ast.specs.Grammar.{IsBase, int, tagged, alias, IsAliased, base_aliased, struct_aliased, IsTypedef, introduces, IsItem, struct_item, typedef_item, function_item, introduced, MoreItems, no_item, next_item, IsUnit}
+use Rattle.mc_ast.specs.Grammar.{IsBase, int, tagged, alias, IsAliased, base_aliased, struct_aliased, introduces, IsItem, struct_item, typedef_item, function_item, MoreItems, no_item, next_item, IsUnit}
 use Rattle.mc_ast.specs.Names.{Tokens}
 use Rattle.mc_ast.specs.Trees.{AliasedTree, ItemTree, UnitTree}
 use Rattle.mc_kinds.specs.Typedefs.{IsKnownBase, IsKnownAliased, IsKnownItem, AreKnownItems, HasKnownTypedefs}

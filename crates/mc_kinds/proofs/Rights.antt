@@ -1,33 +1,26 @@
 -- Calls, right sides and simple statements without faults are of the kinds that are wanted.
-use Rattle.std.proofs.Common.{◌≡◌, ◌<◌, ◌≤◌, ℕ, zero, suc, Bool, true, false, ◌&&◌, ◌==◌, List, [], ◌∷◌, ◌++◌, map, flat_map, length, Option, Some, None, option_map, refl, sym, ap, subst, ◌∙◌, arith, eqb-true}
-use Rattle.std.specs.Option.{option_map_or}
+use Rattle.std.proofs.Common.{◌≡◌, ◌<◌, ◌≤◌, ℕ, Bool, true, ◌==◌, List, [], ◌∷◌, ◌++◌, map, flat_map, length, Option, Some, None, option_map, refl, sym, ap, subst, arith, eqb-true}
 use Rattle.std.specs.Prelude.{slice_get, take}
 use Rattle.std.specs.List.{AllZip}
-use Rattle.std.proofs.lemmas.Bool.{and_parts}
-use Rattle.mc_base.specs.declared.plain.Kind.{Kind}
 use Rattle.mc_base.specs.declared.plain.Kind.TheVariants.{Int as int_kind, Ptr}
 use Rattle.mc_text.specs.Numbers.{max_number}
 use Rattle.mc_text.specs.declared.place.Place.{Place}
-use Rattle.mc_ast.specs.declared.trees.Base.{Base}
-use Rattle.mc_ast.specs.declared.trees.Malloc.{Malloc}
 use Rattle.mc_ast.specs.declared.trees.Parameter.{Parameter}
 use Rattle.mc_ast.specs.declared.trees.Size.{Size}
-use Rattle.mc_ast.specs.declared.trees.Size.TheVariants as Size
 use Rattle.mc_ast.specs.Trees as tree
 use Rattle.mc_defs.specs.declared.rules.Def.{Def}
 use Rattle.mc_flow.specs.Valid.{IsStruct}
 use Rattle.mc_lowering.specs.Values.{struct_at}
 use Rattle.mc_numbers.specs.Numbers.{expression_numbers, call_numbers, right_numbers, simple_numbers}
-use Rattle.mc_types.specs.Types.{agree, fits, is_int, is_pointer, result_fits, allocates}
+use Rattle.mc_types.specs.Types.{fits, is_int, is_pointer, result_fits, allocates}
 use Rattle.mc_types.specs.Tables.{Tables, Variable, kind_of, variable_of, parameters_of, listed_parameters, returned_type, called_function}
-use Rattle.mc_types.specs.Faults.{variable_faults, variable_type, value_type, expression_faults, no_fit, no_int, left_type, left_faults, first_place, unless, argument_faults, callee_faults, call_faults, call_fits, pointed_meaning, size_meaning, size_faults, size_place, base_faults, pointed_faults, cast_faults, right_faults, changed_faults, simple_faults}
+use Rattle.mc_types.specs.Faults.{variable_faults, variable_type, value_type, expression_faults, no_fit, no_int, left_type, left_faults, first_place, unless, argument_faults, callee_faults, call_faults, call_fits, pointed_meaning, size_meaning, size_faults, size_place, cast_faults, right_faults, changed_faults, simple_faults}
 use Rattle.mc_types.specs.declared.faults.Fault.{Fault}
-use Rattle.mc_types.specs.declared.faults.FaultName.TheVariants.{Unknown, Mismatch, Arity, BadSizeof}
+use Rattle.mc_types.specs.declared.faults.FaultName.TheVariants.{Mismatch, Arity, BadSizeof}
 use Rattle.mc_types.specs.declared.types.VariableType.{VariableType}
 use Rattle.mc_types.specs.declared.types.VariableType.TheVariants.{Int, Pointer, Anything}
 use Rattle.mc_types.specs.declared.types.ValueType.TheVariants.{Typed}
 use Rattle.mc_types.specs.declared.types.BaseType.{BaseType}
-use Rattle.mc_types.specs.declared.types.BaseType.TheVariants as BaseType
 use Rattle.mc_meaning.specs.Steps.{struct_of}
 use Rattle.mc_resolved.specs.Programs.{Function}
 use Rattle.mc_resolved.specs.Resolving.{Naming, function_number, local_of, resolved_function, resolved_expression, resolved_call, resolved_right, resolved_left, resolved_action}

@@ -1,6 +1,6 @@
 -- Statements without faults are of the kinds that are wanted.
-use Rattle.std.proofs.Common.{◌≡◌, ◌<◌, ◌≤◌, ◌+◌, ℕ, zero, suc, Bool, true, false, cond, not, ◌==◌, List, [], ◌∷◌, ◌++◌, map, flat_map, length, Option, Some, None, option_map, find, is_none, pos, negsuc, refl, sym, ap, subst, ◌∙◌, arith, eqb-true}
-use Rattle.std.specs.Prelude.{slice_get, unwrap_or, position, ◌-ℤ◌}
+use Rattle.std.proofs.Common.{◌≡◌, ◌<◌, ◌≤◌, ◌+◌, ℕ, zero, suc, Bool, true, false, cond, not, ◌==◌, List, [], ◌∷◌, ◌++◌, map, flat_map, length, Option, Some, None, option_map, find, is_none, pos, refl, sym, ap, subst, ◌∙◌, arith, eqb-true}
+use Rattle.std.specs.Prelude.{slice_get, unwrap_or, ◌-ℤ◌}
 use Rattle.std.specs.List.{AllZip, position_or_len}
 use Rattle.std.proofs.lemmas.Bool.{lt-ltb}
 use Rattle.std.proofs.lemmas.Int.{ints}
@@ -18,17 +18,17 @@ use Rattle.mc_ast.specs.Names.{is_same}
 use Rattle.mc_ast.specs.Trees as tree
 use Rattle.mc_defs.specs.declared.rules.Def.{Def}
 use Rattle.mc_meaning.specs.Steps.{predicate_of}
-use Rattle.mc_numbers.specs.Numbers.{maybe_numbers, expression_numbers, condition_numbers, right_numbers, initial_numbers, simple_numbers, start_numbers, argument_numbers, statement_numbers, statements_numbers}
-use Rattle.mc_types.specs.Types.{agree, fits, is_int, is_pointer, number_type}
-use Rattle.mc_types.specs.Tables.{Tables, Variable, type_in, kind_of, variable_of}
+use Rattle.mc_numbers.specs.Numbers.{maybe_numbers, condition_numbers, right_numbers, initial_numbers, simple_numbers, start_numbers, argument_numbers, statement_numbers, statements_numbers}
+use Rattle.mc_types.specs.Types.{is_pointer}
+use Rattle.mc_types.specs.Tables.{Variable, type_in, kind_of, variable_of}
 use Rattle.mc_types.specs.Scopes.{Scope, visible, inside, declare, behind, behind_items, behind_start}
 use Rattle.mc_types.specs.Shapes.{Given, ShapeUse, argument_given, variable_given, statement_uses, statements_uses, kind_fits, given_faults, predicate_faults, use_faults}
-use Rattle.mc_types.specs.Faults.{Context, unless, variable_type, variable_faults, expression_faults, no_pointer, condition_faults, right_faults, value_faults, declarator_faults, item_faults, items_faults, start_faults, maybe_condition_faults, maybe_simple_faults, head_faults, return_faults, shape_argument_faults, statement_faults, statements_faults}
+use Rattle.mc_types.specs.Faults.{Context, unless, variable_type, variable_faults, expression_faults, no_pointer, condition_faults, value_faults, declarator_faults, item_faults, items_faults, start_faults, maybe_condition_faults, maybe_simple_faults, head_faults, return_faults, shape_argument_faults, statement_faults, statements_faults}
 use Rattle.mc_types.specs.declared.faults.Fault.{Fault}
-use Rattle.mc_types.specs.declared.faults.FaultName.TheVariants.{Unknown, Mismatch, Twice, Arity}
+use Rattle.mc_types.specs.declared.faults.FaultName.TheVariants.{Mismatch, Twice, Arity}
 use Rattle.mc_types.specs.declared.types.VariableType.{VariableType}
 use Rattle.mc_types.specs.declared.types.VariableType.TheVariants.{Int, Pointer, Anything}
-use Rattle.mc_types.specs.declared.types.ValueType.TheVariants.{Typed, Zero, Null}
+use Rattle.mc_types.specs.declared.types.ValueType.TheVariants.{Typed}
 use Rattle.mc_resolved.specs.Resolving.{Naming, number_in, start_variables, statement_variables, statements_variables, resolved_variable, resolved_condition, resolved_simple, resolved_right, resolved_items, resolved_argument, resolved_start, resolved_statement, resolved_statements}
 use Rattle.mc_valid.specs.Kinds.{Here, IsVariable, AreDeclared, IsDeclared, IsArgument, AreArguments, IsStart, IsLast, IsConditionPerhaps, IsReturned, IsOfKinds, AreOfKinds}
 use Rattle.mc_scoped.proofs.Faultless.{none_left, none_right}

@@ -1,27 +1,26 @@
 -- What the typedefs of a program without faults mean.
-use Rattle.std.proofs.Common.{◌≡◌, ◌<◌, ◌⊎◌, inl, inr, ⊎_elim, ℕ, Bool, true, false, cond, ◌&&◌, ◌||◌, ◌==◌, not, List, [], ◌∷◌, ◌++◌, map, flat_map, length, Option, Some, None, option_map, is_some, is_none, find, refl, sym, ap, ap₂, subst, ◌∙◌, append_assoc, append-nil, arith, eqb-true, eq-eqb}
+use Rattle.std.proofs.Common.{◌≡◌, ◌⊎◌, inl, inr, ⊎_elim, ℕ, Bool, true, false, cond, ◌&&◌, ◌||◌, not, List, [], ◌∷◌, ◌++◌, map, flat_map, length, Option, Some, None, option_map, is_some, is_none, find, refl, sym, ap, subst, ◌∙◌, append_assoc, append-nil, eqb-true, eq-eqb}
 use Rattle.std.specs.List.{list_any}
 use Rattle.std.specs.Prelude.{unwrap_or}
 use Rattle.std.proofs.lemmas.Bool.{and_parts, and_from}
 use Rattle.mc_text.specs.declared.place.Place.{Place}
 use Rattle.mc_ast.specs.declared.trees.Base.{Base}
-use Rattle.mc_ast.specs.declared.trees.Base.TheVariants as Base
 use Rattle.mc_ast.specs.declared.trees.Declarator.{Declarator}
 use Rattle.mc_ast.specs.declared.trees.Name.{Name}
 use Rattle.mc_ast.specs.Grammar.{introduced}
 use Rattle.mc_ast.specs.Names.{is_same, is_in}
 use Rattle.mc_ast.specs.Trees as tree
 use Rattle.mc_types.specs.Types.{is_declarable}
-use Rattle.mc_types.specs.Tables.{Tables, Alias, alias_in, is_undefined, meaning_of, base_meaning, declared_type, alias_meaning, aliased_meaning, aliases_behind, aliases_of}
-use Rattle.mc_types.specs.Faults.{base_faults, alias_faults, aliased_base, aliased_faults, typedef_faults, item_tree_faults, type_faults, declarator_place, unless}
+use Rattle.mc_types.specs.Tables.{Tables, Alias, alias_in, is_undefined, meaning_of, base_meaning, alias_meaning, aliased_meaning, aliases_behind, aliases_of}
+use Rattle.mc_types.specs.Faults.{base_faults, alias_faults, aliased_base, aliased_faults, item_tree_faults, declarator_place, unless}
 use Rattle.mc_types.specs.declared.faults.Fault.{Fault}
 use Rattle.mc_types.specs.declared.faults.FaultName.TheVariants.{Unknown, Mismatch}
 use Rattle.mc_types.specs.declared.types.VariableType.TheVariants.{Anything}
 use Rattle.mc_types.specs.declared.types.BaseType.{BaseType}
-use Rattle.mc_types.specs.declared.types.BaseType.TheVariants.{Typed, Struct, Undefined}
+use Rattle.mc_types.specs.declared.types.BaseType.TheVariants.{Typed}
 use Rattle.mc_scoped.proofs.Faultless.{none_left, none_right}
 use Rattle.mc_kinds.specs.Typedefs.{IsKnownBase, IsKnownAliased, IsKnownItem, AreKnownItems}
-use Rattle.mc_kinds.proofs.Types.{Each, each_both, IsProper, false_true, kept}
+use Rattle.mc_kinds.proofs.Types.{each_both, false_true, kept}
 use Rattle.mc_kinds.proofs.Meanings.{IsMeant, AreMeant, base_meant, declared_proper}
 
 turned : (a b : List ℕ) → is_same a b ≡ true → is_same b a ≡ true

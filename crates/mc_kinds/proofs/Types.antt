@@ -1,7 +1,6 @@
 -- Types that are known, and the kinds of their values.
-use Rattle.std.proofs.Common.{◌≡◌, ◌<◌, ℕ, Bool, true, false, refl, sym, ◌∙◌, ap, arith, eqb-true, eq-eqb, List, [], ◌∷◌, ◌++◌}
+use Rattle.std.proofs.Common.{◌≡◌, ◌<◌, ℕ, Bool, true, false, refl, arith, eq-eqb, List, [], ◌∷◌, ◌++◌}
 use Rattle.mc_base.specs.declared.ids.StructId.{StructId}
-use Rattle.mc_base.specs.declared.plain.Kind.TheVariants.{Ptr}
 use Rattle.mc_text.specs.declared.place.Place.{Place}
 use Rattle.mc_types.specs.Types.{agree, fits, is_pointer, are_comparable}
 use Rattle.mc_types.specs.Tables.{kind_of}

@@ -1,5 +1,5 @@
 -- Well-typed programs, resolved, are of their kinds.
-use Rattle.std.proofs.Common.{◌≡◌, ◌<◌, ◌≤◌, ◌+◌, ℕ, zero, suc, Bool, true, false, cond, not, ◌&&◌, List, [], ◌∷◌, ◌++◌, map, reverse, flat_map, filter, length, get_or, Option, Some, None, option_map, find, refl, sym, ap, subst, ◌∙◌, append-nil, arith}
+use Rattle.std.proofs.Common.{◌≡◌, ◌<◌, ◌≤◌, ◌+◌, ℕ, zero, suc, Bool, true, false, cond, not, ◌&&◌, List, [], ◌∷◌, ◌++◌, map, reverse, flat_map, filter, length, get_or, Option, Some, None, option_map, find, refl, sym, ap, subst, ◌∙◌, arith}
 use Rattle.std.specs.Option.{option_map_or}
 use Rattle.std.specs.Prelude.{All, slice_get}
 use Rattle.std.specs.List.{position_or_len}
@@ -10,7 +10,6 @@ use Rattle.std.proofs.lemmas.Option.{same_Some, slice_get-map}
 use Rattle.mc_text.specs.Numbers.{max_number}
 use Rattle.mc_ast.specs.declared.trees.Parameter.{Parameter}
 use Rattle.mc_ast.specs.declared.trees.Returned.{Returned}
-use Rattle.mc_ast.specs.declared.trees.Returned.TheVariants as Returned
 use Rattle.mc_ast.specs.declared.trees.Declarator.{Declarator}
 use Rattle.mc_ast.specs.declared.trees.Base.{Base}
 use Rattle.mc_ast.specs.Names.{is_same}
@@ -21,14 +20,12 @@ use Rattle.mc_defs.specs.Conditions.{DefsFit}
 use Rattle.mc_numbers.specs.Numbers.{maybe_numbers, body_numbers, statements_numbers, item_numbers, unit_numbers, HasSmallNumbers}
 use Rattle.mc_places.specs.Places.{AreDistinct, function_places, item_places, declared_places}
 use Rattle.mc_types.specs.Tables.{Tables, Variable, kind_of, variable_of, variables_of, fields_of, parameters_of, listed_parameters, returned_type, is_defined, called_function, item_structs, unit_structs, item_functions, aliased_structs, tables_of, struct_infos}
-use Rattle.mc_types.specs.Scopes.{Scope}
-use Rattle.mc_types.specs.Shapes.{ShapeUse, use_faults, statements_uses, body_uses, item_uses, unit_uses, bind_faults, IsBound}
-use Rattle.mc_types.specs.Faults.{repeated, declarator_faults, statements_faults, struct_faults, aliased_faults, alias_faults, aliased_base, typedef_faults, returned_faults, body_faults, function_faults, item_tree_faults, table_faults}
+use Rattle.mc_types.specs.Shapes.{use_faults, statements_uses, body_uses, item_uses, unit_uses, IsBound}
+use Rattle.mc_types.specs.Faults.{repeated, declarator_faults, statements_faults, struct_faults, aliased_faults, alias_faults, aliased_base, returned_faults, body_faults, function_faults, item_tree_faults, table_faults}
 use Rattle.mc_types.specs.Typing.{IsWellTyped}
 use Rattle.mc_types.specs.declared.faults.Fault.{Fault}
-use Rattle.mc_types.specs.declared.types.VariableType.{VariableType}
 use Rattle.mc_resolved.specs.Programs.{Function, Program}
-use Rattle.mc_resolved.specs.Resolving.{Naming, number_in, statements_variables, body_statements, function_variables, defined_functions, function_number, local_of, naming_of, parameter_scope, resolved_function, resolved_program}
+use Rattle.mc_resolved.specs.Resolving.{Naming, number_in, statements_variables, body_statements, function_variables, defined_functions, local_of, naming_of, parameter_scope, resolved_function, resolved_program}
 use Rattle.mc_valid.specs.Kinds.{Here, IsVariable, AreOfKinds, IsWellMade}
 use Rattle.mc_scoped.proofs.Lists.{Apart, apart_left, apart_right}
 use Rattle.mc_scoped.proofs.Places.{number_at}
@@ -36,11 +33,11 @@ use Rattle.mc_scoped.proofs.Faultless.{none_left, none_right}
 use Rattle.mc_scoped.proofs.Wholes.{apart_from_distinct}
 use Rattle.mc_kinds.specs.Typedefs.{HasKnownTypedefs}
 use Rattle.mc_kinds.proofs.Types.{Each, each_left, each_right, each_both, IsProper}
-use Rattle.mc_kinds.proofs.Known.{info_of, field_of, AreShaped, IsShaped}
+use Rattle.mc_kinds.proofs.Known.{info_of}
 use Rattle.mc_kinds.proofs.Expressions.{AreSmall}
 use Rattle.mc_kinds.proofs.Meanings.{AreMeant, type_proper, declarator_proper}
 use Rattle.mc_kinds.proofs.Rights.{IsProperResult, IsCallee, IsKnownProgram}
-use Rattle.mc_kinds.proofs.Statements.{AreOwn, AreFit, IsSeenScope, IsFrame, AreGood, statements_is}
+use Rattle.mc_kinds.proofs.Statements.{AreOwn, statements_is}
 use Rattle.mc_kinds.proofs.Typedefs.{all_meant, none_covered}
 use Rattle.mc_kinds.proofs.Spots.{function_places_are}
 

@@ -1,7 +1,6 @@
 -- Typedefs that name what stands before them.
 use Rattle.std.specs.Prelude.{ℕ, List, [], ◌∷◌, ◌++◌, IsTrue}
 use Rattle.mc_ast.specs.declared.trees.Base.{Base}
-use Rattle.mc_ast.specs.declared.trees.Base.TheVariants as Base
 use Rattle.mc_ast.specs.Grammar.{introduced}
 use Rattle.mc_ast.specs.Names.{is_in}
 use Rattle.mc_ast.specs.Trees.{AliasedTree, of_base, of_struct, ItemTree, structure, typedef, function, UnitTree}
