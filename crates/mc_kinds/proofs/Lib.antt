@@ -8,3 +8,4 @@ pub mod Typedefs
 pub mod Spots
 pub mod Wholes
 pub mod Read
+pub mod Itself

@@ -1,1 +1,2 @@
 pub mod Typedefs
+pub mod Examples

@@ -3,6 +3,7 @@ ghost use Rattle.mc_ast.specs.Grammar.{IsUnit};
 ghost use Rattle.mc_ast.specs.Trees.{UnitTree};
 ghost use Rattle.mc_defs.specs.Conditions.{DefsFit};
 ghost use Rattle.mc_defs.specs.declared.rules.Def.{Def};
+ghost use Rattle.mc_kinds.specs.Examples.{names_itself};
 ghost use Rattle.mc_kinds.specs.Typedefs.{HasKnownTypedefs};
 ghost use Rattle.mc_numbers.specs.Numbers.{HasSmallNumbers};
 ghost use Rattle.mc_places.specs.Places.{AreDistinct, declared_places};
@@ -12,7 +13,7 @@ ghost use Rattle.mc_types.specs.Shapes.{IsBound};
 ghost use Rattle.mc_types.specs.Tables.{struct_infos, tables_of};
 ghost use Rattle.mc_types.specs.Typing.{IsWellTyped};
 ghost use Rattle.mc_valid.specs.Kinds.{IsWellMade};
-ghost use Rattle.std.specs.Prelude.{ℕ, List};
+ghost use Rattle.std.specs.Prelude.{ℕ, List, [], codes};
 
 /// The typedefs of a program that was read name what stands before them.
 pub fn typedefs_are_known()
@@ -27,4 +28,15 @@ pub fn resolved_programs_are_well_made()
         → HasSmallNumbers unit → AreDistinct (declared_places unit) → DefsFit (struct_infos unit) defs
         → IsBound unit defs
         → IsWellMade (record { list = struct_infos unit }) (resolved_program (tables_of unit) defs entry) }
+{}
+
+/// The premise on typedefs is needed: a program that meets all others, and that no text spells, is not of its kinds.
+pub fn typedefs_matter()
+    ensures typed { IsWellTyped names_itself (codes "main") }
+    ensures small { HasSmallNumbers names_itself }
+    ensures distinct { AreDistinct (declared_places names_itself) }
+    ensures fit { DefsFit (struct_infos names_itself) [] }
+    ensures bound { IsBound names_itself [] }
+    ensures wrong { ¬ IsWellMade (record { list = struct_infos names_itself })
+        (resolved_program (tables_of names_itself) [] (codes "main")) }
 {}

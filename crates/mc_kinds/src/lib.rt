@@ -3,4 +3,4 @@
 
 mod laws;
 
-pub use laws::{resolved_programs_are_well_made, typedefs_are_known};
+pub use laws::{resolved_programs_are_well_made, typedefs_are_known, typedefs_matter};
