@@ -119,9 +119,6 @@ result_kind count wanted None known proper e = absurd (false_true e)
 result_kind count wanted (Some given) known proper e = ap Some (sym (agreed wanted given known (definite count given proper) e))
 
 -- what is allocated
-abbrev IsAllocated : Naming → BaseType → Type 0
-IsAllocated n b = (p : Place) → IsMeant (length n.tables.structs) (Some p) b
-
 pointed_allocated : (count : ℕ) (type : VariableType) (p : Place) → IsProper count type → IsMeant count (Some p) (pointed_meaning type)
 pointed_allocated count Int p proper = tt
 pointed_allocated count (Pointer s) p proper = proper

@@ -68,9 +68,6 @@ IsDefiniteValue (Typed type) = IsDefinite type
 IsDefiniteValue Zero = Unit {0}
 IsDefiniteValue Null = Unit {0}
 
-pub some_pointer : VariableType
-some_pointer = let s : StructId = record { 0 = 0 } in Pointer s
-
 -- a type that values fit
 pub record Fitting (value : ValueType) : Type 0 where
   pub type : VariableType
