@@ -1,0 +1,11 @@
+pub mod Types
+pub mod Known
+pub mod Expressions
+pub mod Meanings
+pub mod Rights
+pub mod Statements
+pub mod Typedefs
+pub mod Spots
+pub mod Wholes
+pub mod Read
+pub mod Itself

@@ -1,0 +1,2 @@
+pub mod Typedefs
+pub mod Examples
