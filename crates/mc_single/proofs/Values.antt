@@ -16,7 +16,7 @@ use Rattle.mc_flow.specs.declared.instr.Instr.{Instr}
 use Rattle.mc_flow.specs.declared.instr.Instr.TheVariants.{Copy, Store}
 use Rattle.mc_flow.specs.Valid.{field_kind}
 use Rattle.mc_resolved.specs.Programs.{FieldAt, Left, Expr, number, input, value, minus, times, plus as add_expr, difference, Cond}
-use Rattle.mc_lowering.specs.Graphs.{Graph, local, Stage, stage, point, IsPoint, Appends, Undefines}
+use Rattle.mc_lowering.specs.Graphs.{Graph, local, plain, Stage, stage, point, IsPoint, Appends, Undefines}
 use Rattle.mc_lowering.specs.Values.{struct_at, Operation, a_field, a_sum, a_difference, a_product, an_input, sets, IsOfKind, decides, Takes, takes, Walks, walks_none, walks, Evaluates, of_number, of_variable, of_operation, Computes, of_input, of_field, of_minus, of_times, of_plus, of_difference}
 use Rattle.mc_lowering.specs.Values.{EvaluatesAll, evaluates_none, evaluates_next, Compares, compares, Tests, tests_plain, tests_compare, tests_negation, tests_both, tests_either, TestsPerhaps, tests_always, tests_once, Puts, puts_variable, puts_field}
 use Rattle.mc_single.proofs.Alike.{goal_of, points_of, variables_of, Setting, Alike, Meets, SamePoint, SamePoints, Goes, on, stays, through, same_point}
@@ -25,6 +25,12 @@ use Rattle.mc_single.proofs.Variables.{meets_at, local_once, appended, undefined
 -- the same comes of two steps, and the same temporaries are used
 pub record Gives (g h : Graph) (out left : ℕ) (Same : Type 0) {X : Type 0} (a b : X) (ts us : List VarId) (s u r w : Stage) : Type 0 where
   pub value : a ≡ b
+  pub list : ts ≡ us
+  pub steps : Goes g h out left Same s u r w
+
+pub record GivesTwo (g h : Graph) (out left : ℕ) (Same : Type 0) {X Y : Type 0} (a b : X) (c d : Y) (ts us : List VarId) (s u r w : Stage) : Type 0 where
+  pub value : a ≡ b
+  pub other : c ≡ d
   pub list : ts ≡ us
   pub steps : Goes g h out left Same s u r w
 
@@ -43,26 +49,29 @@ taken {operation = operation} {second = second} {vs = vs} {t = t} {x = x} set m 
     }
 
 pub walked : {g h : Graph} {out left : ℕ} {Same : Type 0} {place : Place} {y z x v : VarId} {fs : List FieldAt} {ts us vs ws : List VarId} {s u r w : Stage} {last end : FieldAt} → Setting g h → Meets g h out left s r
-    → y ≡ x → ts ≡ vs → Walks g place y fs ts s z last us u → Walks h place x fs vs r v end ws w → Gives g h out left Same (z, last) (v, end) us ws s u r w
-walked set m variables lists walks_none walks_none = record { value = ap (λ z. (z, _)) variables; list = lists; steps = stays m }
+    → y ≡ x → ts ≡ vs → Walks g place y fs ts s z last us u → Walks h place x fs vs r v end ws w → GivesTwo g h out left Same z v last end us ws s u r w
+walked set m variables lists walks_none walks_none = record { value = variables; other = refl; list = lists; steps = stays m }
 walked set m variables lists (walks {f = f} kind first rest) (walks kind_too first_too rest_too) =
     let a = taken set m (kind_once set refl kind kind_too) (ap (λ z. a_field z f) variables) lists first first_too in
     let b = walked set a.steps.meets a.value a.list rest rest_too in
-    record { value = b.value; list = b.list; steps = on a.steps b.steps }
+    record { value = b.value; other = b.other; list = b.list; steps = on a.steps b.steps }
 
 -- ---- expressions
+abbrev pub IsSome : List FieldAt → Type 0
+IsSome [] = ⊥
+IsSome (f ∷ fs) = ⊤
+
 -- these are computed by an instruction
-abbrev IsComputed : Expr → Type 0
+abbrev pub IsComputed : Expr → Type 0
 IsComputed (number n) = ⊥
 IsComputed input = ⊤
-IsComputed (value (record { variable = x; fields = [] })) = ⊥
-IsComputed (value (record { variable = x; fields = f ∷ fs })) = ⊤
+IsComputed (value l) = IsSome l.fields
 IsComputed (minus e) = ⊤
 IsComputed (times a b) = ⊤
 IsComputed (add_expr a b) = ⊤
 IsComputed (difference a b) = ⊤
 
-is_computed : {g : Graph} {out : ℕ} {place : Place} {e : Expr} {ts us : List VarId} {s u : Stage} {kind : Kind} {operation : Operation} → Computes g out place e ts s kind operation us u → IsComputed e
+pub is_computed : {g : Graph} {out : ℕ} {place : Place} {e : Expr} {ts us : List VarId} {s u : Stage} {kind : Kind} {operation : Operation} → Computes g out place e ts s kind operation us u → IsComputed e
 is_computed of_input = tt
 is_computed (of_field made walk kind) = tt
 is_computed (of_minus first) = tt
@@ -81,41 +90,38 @@ mutual
   evaluated set m lists (of_operation first rest) (of_variable made) = absurd (is_computed first)
   evaluated set m lists (of_operation first rest) (of_operation first_too rest_too) =
       let a = computed set m lists first first_too in
-      let b = taken set a.steps.meets (ap (λ z. z.0) a.value) (ap (λ z. z.1) a.value) a.list rest rest_too in
+      let b = taken set a.steps.meets a.value a.other a.list rest rest_too in
       record { value = ap (λ z. Var z) b.value; list = b.list; steps = on a.steps b.steps }
 
   pub computed : {g h : Graph} {out left : ℕ} {Same : Type 0} {place : Place} {e : Expr} {ts us vs ws : List VarId} {s u r w : Stage} {kind other : Kind} {operation second : Operation} → Setting g h → Meets g h out left s r
-      → ts ≡ vs → Computes g out place e ts s kind operation us u → Computes h left place e vs r other second ws w → Gives g h out left Same (kind, operation) (other, second) us ws s u r w
-  computed set m lists of_input of_input = record { value = refl; list = lists; steps = stays m }
-  computed set m lists (of_field made walk kind) (of_field made_too walk_too kind_too) =
+      → ts ≡ vs → Computes g out place e ts s kind operation us u → Computes h left place e vs r other second ws w → GivesTwo g h out left Same kind other operation second us ws s u r w
+  computed set m lists of_input of_input = record { value = refl; other = refl; list = lists; steps = stays m }
+  computed set m lists (of_field {last = last} made walk kind) (of_field {z = v} made_too walk_too kind_too) =
       let a = walked set m (local_once set m made made_too) lists walk walk_too in
-      let last = ap (λ z. z.1) a.value in
-      let kinds = kind_once set last kind kind_too in
-      let operations = ap (λ z. a_field z.0 z.1) a.value in
-      record { value = ap (λ z. (z, _)) kinds ∙ ap (λ z. (_, z)) operations; list = a.list; steps = a.steps }
+      record { value = kind_once set a.other kind kind_too; other = ap (λ z. a_field z last) a.value ∙ ap (λ z. a_field v z) a.other; list = a.list; steps = a.steps }
   computed set m lists (of_minus first) (of_minus first_too) =
       let a = evaluated set m lists first first_too in
-      record { value = ap (λ z. (Int, a_difference (Const (pos 0)) z)) a.value; list = a.list; steps = a.steps }
-  computed set m lists (of_times first second) (of_times first_too second_too) =
+      record { value = refl; other = ap (λ z. a_difference (Const (pos 0)) z) a.value; list = a.list; steps = a.steps }
+  computed set m lists (of_times {p = second_operand} first second) (of_times {o = first_operand} first_too second_too) =
       let a = evaluated set m lists first first_too in
       let b = evaluated set a.steps.meets a.list second second_too in
-      record { value = ap (λ z. (Int, a_product z _)) a.value ∙ ap (λ z. (Int, a_product _ z)) b.value; list = b.list; steps = on a.steps b.steps }
-  computed set m lists (of_plus first second) (of_plus first_too second_too) =
+      record { value = refl; other = ap (λ z. a_product z second_operand) a.value ∙ ap (λ z. a_product first_operand z) b.value; list = b.list; steps = on a.steps b.steps }
+  computed set m lists (of_plus {p = second_operand} first second) (of_plus {o = first_operand} first_too second_too) =
       let a = evaluated set m lists first first_too in
       let b = evaluated set a.steps.meets a.list second second_too in
-      record { value = ap (λ z. (Int, a_sum z _)) a.value ∙ ap (λ z. (Int, a_sum _ z)) b.value; list = b.list; steps = on a.steps b.steps }
-  computed set m lists (of_difference first second) (of_difference first_too second_too) =
+      record { value = refl; other = ap (λ z. a_sum z second_operand) a.value ∙ ap (λ z. a_sum first_operand z) b.value; list = b.list; steps = on a.steps b.steps }
+  computed set m lists (of_difference {p = second_operand} first second) (of_difference {o = first_operand} first_too second_too) =
       let a = evaluated set m lists first first_too in
       let b = evaluated set a.steps.meets a.list second second_too in
-      record { value = ap (λ z. (Int, a_difference z _)) a.value ∙ ap (λ z. (Int, a_difference _ z)) b.value; list = b.list; steps = on a.steps b.steps }
+      record { value = refl; other = ap (λ z. a_difference z second_operand) a.value ∙ ap (λ z. a_difference first_operand z) b.value; list = b.list; steps = on a.steps b.steps }
 
 pub all_evaluated : {g h : Graph} {out left : ℕ} {Same : Type 0} {place : Place} {es : List Expr} {ts us vs ws : List VarId} {s u r w : Stage} {os ps : List Operand} → Setting g h → Meets g h out left s r → ts ≡ vs
     → EvaluatesAll g out place es ts s os us u → EvaluatesAll h left place es vs r ps ws w → Gives g h out left Same os ps us ws s u r w
 all_evaluated set m lists evaluates_none evaluates_none = record { value = refl; list = lists; steps = stays m }
-all_evaluated set m lists (evaluates_next first rest) (evaluates_next first_too rest_too) =
+all_evaluated set m lists (evaluates_next {os = os} first rest) (evaluates_next {o = o} first_too rest_too) =
     let a = evaluated set m lists first first_too in
     let b = all_evaluated set a.steps.meets a.list rest rest_too in
-    record { value = ap (λ z. z ∷ _) a.value ∙ ap (λ z. _ ∷ z) b.value; list = b.list; steps = on a.steps b.steps }
+    record { value = ap (λ z. z ∷ os) a.value ∙ ap (λ z. o ∷ z) b.value; list = b.list; steps = on a.steps b.steps }
 
 -- ---- conditions
 -- two tests from s and r end alike, and where what is behind them begins at the same two points, they are the same points
@@ -152,7 +158,7 @@ compared {g = g} {h = h} {out = out} {left = left} {Same = Same} {place = place}
           let codes : decides c a b (point y) (point z) ≡ decides c d e (point yy) (point zz) =
               ap (λ v. decides c v b (point y) (point z)) firsts ∙ ap (λ v. decides c d v (point y) (point z)) seconds ∙ ap (λ v. decides c d e (point v) (point z)) early ∙ ap (λ v. decides c d e (point yy) (point v)) later in
           (m.points, λ v low high. elim (cases_lt v (suc n)) [
-            | inl here ↦ same_point is (subst (λ u. IsPoint h u _ place (decides c d e (point yy) (point zz))) (sym m.points) is_too) codes (omega (arith, low, here))
+            | inl here ↦ same_point is (subst (λ u. IsPoint h u plain place (decides c d e (point yy) (point zz))) (sym m.points) is_too) codes (omega (arith, low, here))
             | inr behind ↦ elim (cases_lt v i) [
               | inl before ↦ points_early v (omega (arith, behind)) before
               | inr last ↦ points_later v (omega (arith, last)) high
@@ -172,9 +178,9 @@ tested set m (tests_compare first second test) (tests_compare first_too second_t
 tested set m (tests_negation test) (tests_negation test_too) =
     let a = tested set m test test_too in
     record { meets = record { points = a.meets.points; variables = a.meets.variables; alike = a.meets.alike }; back = λ same t f. a.back same f t }
-tested set m (tests_both {m = i} first second) (tests_both first_too second_too) =
-    let a = tested set m first first_too in
-    let b = tested set a.meets second second_too in
+tested {Same = Same} set m (tests_both {m = i} first second) (tests_both first_too second_too) =
+    let a = tested {Same = Same} set m first first_too in
+    let b = tested {Same = Same} set a.meets second second_too in
     record {
       meets = b.meets;
       back = λ same t f.
@@ -185,10 +191,10 @@ tested set m (tests_both {m = i} first second) (tests_both first_too second_too)
             | inr behind ↦ later v (omega (arith, behind)) high
           ]);
     }
-tested set m (tests_either {a = y} {m = i} {j = k} first second) (tests_either {a = yy} {m = ii} {j = kk} first_too second_too) =
-    let a = tested set m first first_too in
-    let middle_meets = record { points = a.meets.points; variables = a.meets.variables; alike = a.meets.alike } in
-    let b = tested {s = stage y i k} {r = stage yy ii kk} set middle_meets second second_too in
+tested {g = g} {h = h} {out = out} {left = left} {Same = Same} set m (tests_either {a = y} {m = i} {j = k} first second) (tests_either {a = yy} {m = ii} {j = kk} first_too second_too) =
+    let a = tested {Same = Same} set m first first_too in
+    let middle_meets : Meets g h out left (stage y i k) (stage yy ii kk) = record { points = a.meets.points; variables = a.meets.variables; alike = a.meets.alike } in
+    let b = tested {Same = Same} {s = stage y i k} {r = stage yy ii kk} set middle_meets second second_too in
     record {
       meets = b.meets;
       back = λ same t f.
@@ -208,11 +214,11 @@ tested_perhaps set m (tests_once test) (tests_once test_too) = tested set m test
 -- ---- assignments
 pub put : {g h : Graph} {out left : ℕ} {Same : Type 0} {place : Place} {l : Left} {o p : Operand} {ts us : List VarId} {s u r w : Stage} → Setting g h → Meets g h out left s r → o ≡ p → ts ≡ us
     → Puts g out place l o ts s u → Puts h left place l p us r w → Goes g h out left Same s u r w
-put {o = o} {p = p} set m operands lists (puts_variable {v = v} made is undone) (puts_variable made_too is_too undone_too) =
+put {o = o} {p = p} set m operands lists (puts_variable made is undone) (puts_variable {v = vv} made_too is_too undone_too) =
     let same = local_once set m made made_too in
-    let a = appended m (λ q. ap (λ z. Copy z o q) same ∙ ap (λ z. Copy _ z q) operands) is is_too in
+    let a = appended m (λ q. ap (λ z. Copy z o q) same ∙ ap (λ z. Copy vv z q) operands) is is_too in
     on a (undefined a.meets lists undone undone_too)
 put {o = o} {p = p} set m operands lists (puts_field {z = z} {last = last} made walk is undone) (puts_field {z = zz} {last = end} made_too walk_too is_too undone_too) =
     let a = walked set m (local_once set m made made_too) lists walk walk_too in
-    let b = appended a.steps.meets (λ q. ap (λ v. Store v.0 (struct_at v.1.shape) v.1.field o q) a.value ∙ ap (λ v. Store zz (struct_at end.shape) end.field v q) operands) is is_too in
+    let b = appended a.steps.meets (λ q. ap (λ v. Store v (struct_at last.shape) last.field o q) a.value ∙ ap (λ (v : FieldAt). Store zz (struct_at v.shape) v.field o q) a.other ∙ ap (λ v. Store zz (struct_at end.shape) end.field v q) operands) is is_too in
     on a.steps (on b (undefined b.meets a.list undone undone_too))
