@@ -71,7 +71,7 @@ changed {operation = operation} set m (changes_variable {v = v} {o = o} value ma
     let same = local_once set a.steps.meets made made_too in
     let b = appended a.steps.meets (λ q. ap (λ z. sets (operation (Var z) o) z q) same ∙ ap (λ z. sets (operation (Var vv) z) vv q) a.value) is is_too in
     on a.steps (on b (undefined b.meets a.list undone undone_too))
-changed {operation = operation} set m (changes_field {last = last} {new = new} {o = o} value made walk kind loads computes is undone) (changes_field {z = zz} {old = old} {last = end} value_too made_too walk_too kind_too loads_too computes_too is_too undone_too) =
+changed {operation = operation} set m (changes_field {new = new} {last = last} {o = o} value made walk kind loads computes is undone) (changes_field {z = zz} {old = old} {last = end} value_too made_too walk_too kind_too loads_too computes_too is_too undone_too) =
     let a = evaluated set m refl value value_too in
     let b = walked set a.steps.meets (local_once set a.steps.meets made made_too) a.list walk walk_too in
     let c = taken set b.steps.meets (kind_once set b.other kind kind_too) (ap (λ z. a_field z last) b.value ∙ ap (λ z. a_field zz z) b.other) b.list loads loads_too in
@@ -81,20 +81,20 @@ changed {operation = operation} set m (changes_field {last = last} {new = new} {
     on a.steps (on b.steps (on c.steps (on d.steps (on e (undefined e.meets d.list undone undone_too)))))
 
 -- ---- parts of calls
+abbrev pub info_of : Local → VarInfo
+info_of l = record { name = l.name; kind = l.kind }
+
 -- a variable of a function has one name and one kind
-pub info_once : {f e : Function} {x : ℕ} {l n : Local} → f ≡ e → slice_get f.locals x ≡ Some l → slice_get e.locals x ≡ Some n → (record { name = l.name; kind = l.kind }) ≡ (record { name = n.name; kind = n.kind })
-info_once {x = x} {l = l} {n = n} same is is_too =
+pub info_once : {f e : Function} {l n : Local} (x : ℕ) → f ≡ e → slice_get f.locals x ≡ Some l → slice_get e.locals x ≡ Some n → info_of l ≡ info_of n
+info_once {l = l} {n = n} x same is is_too =
     let one : l ≡ n = same_Some l n (sym is ∙ ap (λ (z : Function). slice_get z.locals x) same ∙ is_too) in
     ap info_of one
-  where
-    info_of : Local → VarInfo
-    info_of z = record { name = z.name; kind = z.kind }
 
 pub received : {g h : Graph} {out left : ℕ} {Same : Type 0} {f e : Function} {x parameters : ℕ} {s u r w : Stage} {vs us : List VarId} → f ≡ e → Meets g h out left s r → Receives g f out x parameters s vs u
     → Receives h e left x parameters r us w → Comes g h out left Same vs us s u r w
 received same m receives_none receives_none = record { value = refl; steps = stays m }
 received {out = out} {left = left} {x = x} same m (receives {vs = vs} is makes rest) (receives {v = vv} is_too makes_too rest_too) =
-    let a = created m (local_seen out x ∙ sym (local_seen left x)) (info_once same is is_too) makes makes_too in
+    let a = created m (local_seen out x ∙ sym (local_seen left x)) (info_once x same is is_too) makes makes_too in
     let b = received same a.steps.meets rest rest_too in
     record { value = ap (λ z. z ∷ vs) a.variable ∙ ap (λ z. vv ∷ z) b.value; steps = on a.steps b.steps }
 
@@ -126,7 +126,7 @@ pub argument_once : {g h : Graph} {out left : ℕ} {a : Argument} {o p : Operand
 argument_once set m (is_variable made) (is_variable made_too) = ap (λ z. Var z) (local_once set m made made_too)
 argument_once set m is_constant is_constant = refl
 
-pub arguments_once : {g h : Graph} {out left : ℕ} {items : List Argument} {os ps : List Operand} {s r : Stage} → Setting g h → Meets g h out left s r → AreArguments g out s items os → AreArguments h left r items ps → os ≡ ps
+pub arguments_once : {g h : Graph} {out left : ℕ} {s r : Stage} {items : List Argument} {os ps : List Operand} → Setting g h → Meets g h out left s r → AreArguments g out s items os → AreArguments h left r items ps → os ≡ ps
 arguments_once set m are_none are_none = refl
 arguments_once set m (are_arguments {os = os} first rest) (are_arguments {o = p} first_too rest_too) =
     ap (λ z. z ∷ os) (argument_once set m first first_too) ∙ ap (λ z. p ∷ z) (arguments_once set m rest rest_too)

@@ -4,3 +4,4 @@ pub mod Values
 pub mod Owning
 pub mod Ascending
 pub mod Actions
+pub mod Entering
