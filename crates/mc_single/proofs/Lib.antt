@@ -5,3 +5,6 @@ pub mod Owning
 pub mod Ascending
 pub mod Actions
 pub mod Entering
+pub mod Joining
+pub mod Statements
+pub mod Whole
