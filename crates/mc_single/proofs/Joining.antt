@@ -10,7 +10,7 @@ use Rattle.mc_lowering.specs.Lowering.{SetsTo, sets_operand, sets_computed, sets
 use Rattle.mc_single.proofs.Alike.{goal_of, points_of, variables_of, Alike, Meets, SamePoint, SamePoints, Goes, same_point}
 use Rattle.mc_single.proofs.Values.{Tells}
 
-joined : {g h : Graph} {p m n : ℕ} → SamePoints g h p m → SamePoints g h m n → SamePoints g h p n
+pub joined : {g h : Graph} {p m n : ℕ} → SamePoints g h p m → SamePoints g h m n → SamePoints g h p n
 joined {m = m} early later = λ i low high. elim (cases_lt i m) [
   | inl before ↦ early i low before
   | inr behind ↦ later i (omega (arith, behind)) high

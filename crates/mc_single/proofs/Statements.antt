@@ -78,7 +78,7 @@ mutual
       let fresh : NoneOf g inner 0 (variables_of s) = λ i x is of low high. fits.free i inner x is of high (omega (arith, before.points, last.points)) (omega (arith, end.0)) in
       let fresh_too : NoneOf h within 0 (variables_of s) = λ i x is of low high. fits_too.free i within x is of (omega (arith, high, m.variables)) (omega (arith, before_too.points, last_too.points)) (omega (arith, end_too.0)) in
       let enters : Meets g h inner within s r = record { points = m.points; variables = m.variables; alike = elsewhere none_yet m.alike fresh fresh_too } in
-      let a = received refl enters parameters parameters_too in
+      let a = received {Same = Unit {0}} refl enters parameters parameters_too in
       let known = a.steps.meets in
       let there : Alike g h out left (variables_of ms) = elsewhere m.alike known.alike
           (none_of first (λ z. omega (arith, z, bound)) (omega (arith, middle.points, wait.points, last.points, bound)))

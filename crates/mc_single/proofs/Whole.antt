@@ -1,5 +1,6 @@
 -- The flow graphs of one program are the same.
-use Rattle.std.proofs.Common.{◌≡◌, ◌≤◌, ◌<◌, ℕ, zero, suc, ℤ, List, [], ◌∷◌, Option, Some, None, length, refl, sym, ap, ◌∙◌, subst, inl, inr, arith}
+use Rattle.std.proofs.Common.{◌≡◌, ◌≤◌, ◌<◌, ℕ, zero, suc, ℤ, pos, List, [], ◌∷◌, Option, Some, None, length, refl, sym, ap, ◌∙◌, subst, inl, inr, arith}
+use Rattle.std.proofs.lemmas.Int.{ints}
 use Rattle.std.proofs.lemmas.List.Elements.{All-contains}
 use Rattle.std.proofs.lemmas.Option.{same_Some}
 use Rattle.std.specs.Int.Signed.{◌<ℤ◌}
@@ -11,7 +12,7 @@ use Rattle.mc_defs.specs.declared.shapes.Structs.{Structs}
 use Rattle.mc_flow.specs.declared.graph.Flow.{Flow}
 use Rattle.mc_flow.specs.declared.graph.Point.{Point}
 use Rattle.mc_flow.specs.declared.instr.Operand.TheVariants.{Const}
-use Rattle.mc_flow.specs.declared.instr.Instr.TheVariants.{Copy}
+use Rattle.mc_flow.specs.declared.instr.Instr.TheVariants.{Copy, End}
 use Rattle.mc_resolved.specs.Programs.{Function, Program}
 use Rattle.mc_lowering.specs.Graphs.{Graph, Role, plain, head, merge, stop, Stage, stage, nowhere, IsPoint}
 use Rattle.mc_lowering.specs.Lowering.{in_body, Answers, answers_none, answers, IsMain, Falls, falls_in_main, falls, Makes, makes, AreOfRole, operands, AreThresholds, IsLowering}
@@ -27,14 +28,14 @@ use Rattle.mc_single.proofs.Owning.{IsOwned, Owns, on as and_then, same as no_mo
 -- ---- the entry
 answered : {g h : Graph} {out left : ℕ} {Same : Type 0} {kind : Option Kind} {s u r w : Stage} → Meets g h out left s r → Answers g out kind s u → Answers h left kind r w → Goes g h out left Same s u r w
 answered m answers_none answers_none = stays m
-answered {out = out} {left = left} m (answers makes) (answers makes_too) = let a = created m (result_seen out ∙ sym (result_seen left)) refl makes makes_too in a.steps
+answered {out = out} {left = left} m (answers is) (answers is_too) = let a = created m (result_seen out ∙ sym (result_seen left)) refl is is_too in a.steps
 
 answer_owned : {g : Graph} {out : ℕ} {kind : Option Kind} {s u : Stage} → Answers g out kind s u → Owns g out s u
 answer_owned {s = s} answers_none = no_more s
-answer_owned (answers makes) = owning.made_result makes
+answer_owned (answers is) = owning.made_result is
 
 fallen : {g h : Graph} {f : Function} {out left : ℕ} {Same : Type 0} {s u r w : Stage} → Setting g h → Meets g h out left s r → Falls g f out s u → Falls h f left r w → Goes g h out left Same s u r w
-fallen set m (falls_in_main is made sets) (falls_in_main is_too made_too sets_too) = appended m (λ q. ap (λ z. Copy z _ q) (result_once set m made made_too)) sets sets_too
+fallen set m (falls_in_main is made sets) (falls_in_main is_too made_too sets_too) = appended m (λ q. ap (λ z. Copy z (Const (pos 0)) q) (result_once set m made made_too)) sets sets_too
 fallen set m (falls_in_main is made sets) (falls never) = absurd (never is)
 fallen set m (falls never) (falls_in_main is made sets) = absurd (never is)
 fallen set m (falls never) (falls never_too) = stays m
@@ -50,7 +51,7 @@ pub record AreOne (g h : Graph) (out count left more : ℕ) : Type 0 where
   pub points : SamePoints g h 0 (suc out)
 
 made_one : {g h : Graph} {f : Function} {out count left more : ℕ} → Setting g h → Makes g f out count → Makes h f left more → AreOne g h out count left more
-made_one {g = g} {h = h} {f = f} {out = out} {count = count} {left = left} {more = more} set (makes {n = n} first result body falls_at end) (makes {n = l} first_too result_too body_too falls_too end_too) =
+made_one {g = g} {h = h} {f = f} {out = out} {count = count} {left = left} {more = more} set (makes {m = m} {n = n} first result body falls_at end) (makes {m = i} {n = l} first_too result_too body_too falls_too end_too) =
     let begin : Meets g h out left (stage 0 0 0) (stage 0 0 0) = record { points = refl; variables = refl; alike = none_yet } in
     let a = appended {Same = IsSame (in_body f out) (in_body f left)} begin (λ q. refl) first first_too in
     let b = answered a.meets result result_too in
@@ -58,14 +59,14 @@ made_one {g = g} {h = h} {f = f} {out = out} {count = count} {left = left} {more
     let last_too = fall_owned falls_too in
     let all : Inside g out 0 0 (points_of n) = record { free = λ i o x is of less low high. omega (arith, less); bound = last.points } in
     let all_too : Inside h left 0 0 (points_of l) = record { free = λ i o x is of less low high. omega (arith, less); bound = last_too.points } in
-    let before : Owns g out (stage 0 0 0) _ = and_then (owning.appended first) (answer_owned result) in
-    let before_too : Owns h left (stage 0 0 0) _ = and_then (owning.appended first_too) (answer_owned result_too) in
+    let before : Owns g out (stage 0 0 0) m = and_then (owning.appended first) (answer_owned result) in
+    let before_too : Owns h left (stage 0 0 0) i = and_then (owning.appended first_too) (answer_owned result_too) in
     let d = all_lowered {c = in_body f out} {d = in_body f left} set (record { function = refl; blocks = refl }) b.meets (second_part all before) (second_part all_too before_too) body body_too in
     let e = fallen set d.meets falls_at falls_too in
     let whole = on a (on b (on d e)) in
     let same : out ≡ left = whole.meets.points in
     let (goal, points) = whole.back (same, refl) same in
-    let there = subst (λ z. IsPoint h z plain nowhere _) (sym same) end_too in
+    let there = subst (λ z. IsPoint h z plain nowhere End) (sym same) end_too in
     record {
       ends = same;
       counts = whole.meets.variables;
@@ -89,9 +90,12 @@ of_role_same {g = g} {h = h} {role = role} {ps = ps} {qs = qs} same a b =
     (λ p among. b.all p.0 (ap (λ z. slice_get z p.0) (sym same) ∙ All-contains (λ p. slice_get g.roles p.0 ≡ Some role) ps p a.only among))
     (λ p among. a.all p.0 (ap (λ z. slice_get z p.0) same ∙ All-contains (λ p. slice_get h.roles p.0 ≡ Some role) qs p b.only among))
 
+apart : (c d : ℤ) → c <ℤ d → d <ℤ c → ⊥
+apart c d below above = grind (arith, ints)
+
 thresholds_same : {points : List Point} {cs ds : List ℤ} → AreThresholds points cs → AreThresholds points ds → cs ≡ ds
 thresholds_same {points = points} {cs = cs} {ds = ds} a b =
-    ascending_same (λ c d. c <ℤ d) (λ c d below above. omega (arith, below, above)) cs ds a.ascending b.ascending
+    ascending_same (λ c d. c <ℤ d) apart cs ds a.ascending b.ascending
     (λ c among. let (n, p, is, has) = All-contains (λ c. (n : ℕ) × (p : Point) × (slice_get points n ≡ Some p) × Contains (operands p.code) (Const c)) cs c a.only among in b.all n p c is has)
     (λ c among. let (n, p, is, has) = All-contains (λ c. (n : ℕ) × (p : Point) × (slice_get points n ≡ Some p) × Contains (operands p.code) (Const c)) ds c b.only among in a.all n p c is has)
 
