@@ -1,25 +1,22 @@
 -- Assignments and the parts of calls that are made alike.
-use Rattle.std.proofs.Common.{◌≡◌, ◌≤◌, ◌<◌, ◌++◌, ℕ, zero, suc, pos, List, [], ◌∷◌, Option, Some, None, length, refl, sym, ap, ◌∙◌, subst, inl, inr, arith}
+use Rattle.std.proofs.Common.{◌≡◌, ◌++◌, ℕ, List, [], ◌∷◌, Option, Some, refl, sym, ap, ◌∙◌}
 use Rattle.std.proofs.lemmas.Option.{same_Some}
 use Rattle.std.specs.Prelude.{slice_get}
-use Rattle.mc_base.specs.declared.ids.PointId.{PointId}
 use Rattle.mc_base.specs.declared.ids.VarId.{VarId}
 use Rattle.mc_base.specs.declared.plain.Kind.{Kind}
-use Rattle.mc_base.specs.declared.plain.Kind.TheVariants.{Int}
 use Rattle.mc_base.specs.declared.plain.VarInfo.{VarInfo}
 use Rattle.mc_text.specs.declared.place.Place.{Place}
 use Rattle.mc_flow.specs.declared.instr.Operand.{Operand}
-use Rattle.mc_flow.specs.declared.instr.Operand.TheVariants.{Var, Const}
-use Rattle.mc_flow.specs.declared.instr.Instr.{Instr}
+use Rattle.mc_flow.specs.declared.instr.Operand.TheVariants.{Var}
 use Rattle.mc_flow.specs.declared.instr.Instr.TheVariants.{Copy, Store, Malloc, Undef}
-use Rattle.mc_resolved.specs.Programs.{FieldAt, Left, Expr, Right, expression, allocation, Argument, Local, Function}
-use Rattle.mc_lowering.specs.Graphs.{Graph, local, result, Stage, Appends, Undefines, Creates}
+use Rattle.mc_resolved.specs.Programs.{FieldAt, Left, Expr, Right, Argument, Local, Function}
+use Rattle.mc_lowering.specs.Graphs.{Graph, Stage}
 use Rattle.mc_lowering.specs.Values.{struct_at, Operation, a_field, sets, Evaluates, of_number, of_variable, of_operation, Computes, Takes, takes}
 use Rattle.mc_lowering.specs.Lowering.{SetsTo, sets_operand, sets_computed, sets_allocated, Assigns, assigns_variable, assigns_field, assigns_allocated, Changes, changes_variable, changes_field}
-use Rattle.mc_lowering.specs.Lowering.{Receives, receives_none, receives, Passes, passes_none, passes, result_info, Awaits, awaits_none, awaits, IsArgument, is_variable, is_constant, AreArguments, are_none, are_arguments}
-use Rattle.mc_single.proofs.Alike.{seen, local_seen, result_seen, Setting, Meets, Goes, on, stays}
+use Rattle.mc_lowering.specs.Lowering.{Receives, receives_none, receives, Passes, passes_none, passes, Awaits, awaits_none, awaits, IsArgument, is_variable, is_constant, AreArguments, are_none, are_arguments}
+use Rattle.mc_single.proofs.Alike.{local_seen, result_seen, Setting, Meets, Goes, on, stays}
 use Rattle.mc_single.proofs.Variables.{local_once, appended, undefined, used, created}
-use Rattle.mc_single.proofs.Values.{IsComputed, is_computed, kind_once, taken, walked, evaluated, computed, put}
+use Rattle.mc_single.proofs.Values.{is_computed, kind_once, taken, walked, evaluated, computed, put}
 
 -- the same comes of two steps
 pub record Comes (g h : Graph) (out left : ℕ) (Same : Type 0) {X : Type 0} (a b : X) (s u r w : Stage) : Type 0 where

@@ -1,16 +1,11 @@
 -- Two flow graphs that are made alike so far.
-use Rattle.std.proofs.Common.{◌≡◌, ◌≤◌, ◌<◌, ℕ, suc, List, [], ◌∷◌, Option, Some, None, Bool, true, false, cond, eqb, refl, sym, ap, ◌∙◌, inl, inr, arith, eq-eqb, eqb-true}
+use Rattle.std.proofs.Common.{◌≡◌, ◌≤◌, ◌<◌, ℕ, Some, Bool, true, false, cond, eqb, refl, sym, ap, ◌∙◌, inl, inr, arith, eq-eqb, eqb-true}
 use Rattle.std.proofs.lemmas.Bool.{cases_lt}
-use Rattle.std.proofs.lemmas.Option.{same_Some}
 use Rattle.std.specs.Prelude.{slice_get, option_map}
-use Rattle.mc_base.specs.declared.ids.PointId.{PointId}
-use Rattle.mc_base.specs.declared.ids.VarId.{VarId}
 use Rattle.mc_base.specs.declared.plain.Kind.{Kind}
-use Rattle.mc_base.specs.declared.plain.VarInfo.{VarInfo}
 use Rattle.mc_text.specs.declared.place.Place.{Place}
-use Rattle.mc_flow.specs.declared.graph.Point.{Point}
 use Rattle.mc_flow.specs.declared.instr.Instr.{Instr}
-use Rattle.mc_lowering.specs.Graphs.{Graph, Owner, local, result, temporary, Role, Stage, stage, point, IsPoint, Appends, appends, Creates, creates, IsMade, is_made}
+use Rattle.mc_lowering.specs.Graphs.{Graph, Owner, local, result, temporary, Role, Stage, stage, IsPoint}
 
 -- ---- stages
 abbrev pub goal_of : Stage → ℕ

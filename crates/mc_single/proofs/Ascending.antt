@@ -1,11 +1,11 @@
 -- Ascending lists with the same items are the same.
-use Rattle.std.proofs.Common.{◌≡◌, ◌≤◌, ◌<◌, ◌⊎◌, ℕ, zero, suc, List, [], ◌∷◌, Option, Some, None, length, refl, sym, ap, ◌∙◌, subst, inl, inr, arith}
+use Rattle.std.proofs.Common.{◌≡◌, ◌<◌, ◌⊎◌, ℕ, zero, suc, List, [], ◌∷◌, refl, sym, ap, ◌∙◌, subst, inl, inr, arith}
 use Rattle.std.proofs.lemmas.List.Elements.{All-contains}
-use Rattle.std.specs.Prelude.{All, AllPairs, Contains, slice_get, slice_index_or}
+use Rattle.std.specs.Prelude.{AllPairs, Contains}
 use Rattle.mc_base.specs.declared.ids.VarId.{VarId}
 use Rattle.mc_text.specs.declared.place.Place.{Place}
-use Rattle.mc_lowering.specs.Graphs.{Graph, local, Stage, IsMade, AreMade, Leaves, leaves, Undefines}
-use Rattle.mc_single.proofs.Alike.{Setting, Meets, Goes}
+use Rattle.mc_lowering.specs.Graphs.{Graph, local, Stage, IsMade, AreMade, Leaves, leaves}
+use Rattle.mc_single.proofs.Alike.{Meets, Goes}
 use Rattle.mc_single.proofs.Variables.{meets_turned, local_over, undefined}
 
 first_or_later : {X : Type 0} (R : X → X → Type 0) (x y : X) (ys : List X) → Contains (y ∷ ys) x → AllPairs R (y ∷ ys) → (y ≡ x) ⊎ R y x

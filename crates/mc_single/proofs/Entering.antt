@@ -1,11 +1,10 @@
 -- What is alike, seen from one occurrence and from another.
-use Rattle.std.proofs.Common.{◌≡◌, ◌≤◌, ◌<◌, ℕ, suc, List, Option, Some, None, Bool, true, false, cond, eqb, refl, sym, ap, ◌∙◌, subst, inl, inr, arith, eqb-true}
+use Rattle.std.proofs.Common.{◌≡◌, ◌≤◌, ◌<◌, ℕ, Option, Some, None, Bool, true, false, cond, eqb, refl, sym, ap, ◌∙◌, inl, inr, arith, eqb-true}
 use Rattle.std.proofs.lemmas.Bool.{cases_lt}
 use Rattle.std.proofs.lemmas.Option.{same_Some}
 use Rattle.std.specs.Prelude.{slice_get, option_map}
-use Rattle.mc_base.specs.declared.plain.Kind.{Kind}
-use Rattle.mc_lowering.specs.Graphs.{Graph, Owner, local, result, temporary, Stage, stage}
-use Rattle.mc_single.proofs.Alike.{goal_of, points_of, variables_of, Seen, own_local, own_result, a_temporary, another, seen, temporary_from_seen, Alike, Meets, Goes}
+use Rattle.mc_lowering.specs.Graphs.{Graph, Owner, local, result, temporary, Stage}
+use Rattle.mc_single.proofs.Alike.{variables_of, own_local, own_result, another, seen, temporary_from_seen, Alike, Goes}
 use Rattle.mc_single.proofs.Owning.{occurrence, IsOwned}
 
 -- ---- what is free

@@ -1,13 +1,13 @@
 -- Steps that are made alike, one behind the other.
-use Rattle.std.proofs.Common.{◌≡◌, ◌≤◌, ◌<◌, ℕ, suc, List, Option, Some, None, refl, sym, ap, ◌∙◌, subst, inl, inr, arith}
+use Rattle.std.proofs.Common.{◌≡◌, ℕ, suc, refl, sym, ap, subst, inl, inr, arith}
 use Rattle.std.proofs.lemmas.Bool.{cases_lt}
 use Rattle.mc_text.specs.declared.place.Place.{Place}
 use Rattle.mc_base.specs.declared.ids.VarId.{VarId}
 use Rattle.mc_flow.specs.declared.instr.Instr.{Instr}
-use Rattle.mc_resolved.specs.Programs.{Left, Call, Right, expression, result_of, allocation}
+use Rattle.mc_resolved.specs.Programs.{Left, Right, expression, result_of, allocation}
 use Rattle.mc_lowering.specs.Graphs.{Graph, Role, Stage, stage, IsPoint}
 use Rattle.mc_lowering.specs.Lowering.{SetsTo, sets_operand, sets_computed, sets_allocated, Assigns, assigns_variable, assigns_field, assigns_allocated}
-use Rattle.mc_single.proofs.Alike.{goal_of, points_of, variables_of, Alike, Meets, SamePoint, SamePoints, Goes, same_point}
+use Rattle.mc_single.proofs.Alike.{goal_of, points_of, Meets, SamePoints, Goes, same_point}
 use Rattle.mc_single.proofs.Values.{Tells}
 
 pub joined : {g h : Graph} {p m n : ℕ} → SamePoints g h p m → SamePoints g h m n → SamePoints g h p n

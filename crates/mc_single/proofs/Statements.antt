@@ -1,23 +1,23 @@
 -- Statements that are made alike.
-use Rattle.std.proofs.Common.{◌≡◌, ◌≤◌, ◌<◌, ◌++◌, ℕ, zero, suc, List, [], ◌∷◌, Option, Some, None, length, refl, sym, ap, ◌∙◌, subst, inl, inr, arith}
+use Rattle.std.proofs.Common.{◌≡◌, ◌≤◌, ◌<◌, ◌++◌, ℕ, suc, List, [], ◌∷◌, Option, Some, length, refl, sym, ap, ◌∙◌, subst, inl, inr, arith}
 use Rattle.std.proofs.lemmas.Option.{same_Some}
 use Rattle.std.specs.Prelude.{slice_get}
 use Rattle.mc_base.specs.declared.ids.VarId.{VarId}
 use Rattle.mc_text.specs.declared.place.Place.{Place}
 use Rattle.mc_flow.specs.declared.instr.Operand.TheVariants.{Var}
 use Rattle.mc_flow.specs.declared.instr.Instr.TheVariants.{Copy, Undef, Free, AssumeShape, AssertShape}
-use Rattle.mc_resolved.specs.Programs.{Call, Action, Simple, Initial, Start, Head, Stmt, Stmts, Function, Program}
-use Rattle.mc_lowering.specs.Graphs.{Graph, Owner, local, Stage, stage, AreMade, Leaves}
+use Rattle.mc_resolved.specs.Programs.{Call, Action, Simple, Initial, Start, Stmt, Stmts, Function, Program}
+use Rattle.mc_lowering.specs.Graphs.{Graph, Stage, stage, AreMade, Leaves}
 use Rattle.mc_lowering.specs.Lowering.{Loop, Around, in_block, in_loop, in_body, Receives, Awaits, Calls, calls, Performs, performs_assign, performs_result, performs_add, performs_subtract, performs_call}
 use Rattle.mc_lowering.specs.Lowering.{Declares, declares_none, declares_undefined, declares_value, Starts, starts_nothing, starts_declaring, starts_performing, Finishes, finishes_none, finishes}
 use Rattle.mc_lowering.specs.Lowering.{Lowers, declarations, blocks, empties, simples, frees, asserts, assumes, shapes_assumed, shapes_asserted, emptiness_asserted, ifs, ifs_else, whiles, dos, fors, breaks, continues, returns_nothing, returns_value, returns_result, LowersAll, lowers_none, lowers_next}
-use Rattle.mc_single.proofs.Alike.{goal_of, points_of, variables_of, seen, local_seen, Setting, Alike, Meets, Goes, on, stays, through}
+use Rattle.mc_single.proofs.Alike.{points_of, variables_of, local_seen, Setting, Alike, Meets, Goes, on, stays, through}
 use Rattle.mc_single.proofs.Variables.{local_once, result_once, appended, undefined, created}
-use Rattle.mc_single.proofs.Values.{Tells, evaluated, all_evaluated, tested, tested_perhaps, put}
+use Rattle.mc_single.proofs.Values.{evaluated, all_evaluated, tested, tested_perhaps, put}
 use Rattle.mc_single.proofs.Actions.{Comes, set_to, assigned, changed, info_once, received, passed, awaited, argument_once, arguments_once}
 use Rattle.mc_single.proofs.Ascending.{made_same, left_alike}
 use Rattle.mc_single.proofs.Entering.{Inside, first_part, second_part, NoneOf, elsewhere, none_yet, viewed}
-use Rattle.mc_single.proofs.Joining.{jumps, test_jumps, told_then, leads_away, at_goal, HasNoCall, sets_no_call, assigns_no_call}
+use Rattle.mc_single.proofs.Joining.{jumps, test_jumps, told_then, leads_away, at_goal, sets_no_call, assigns_no_call}
 use Rattle.mc_single.proofs.Owning as owning
 use Rattle.mc_single.proofs.Owning.{occurrence, IsOwned, on as and_then, none}
 

@@ -1,26 +1,22 @@
 -- Values that are computed alike.
-use Rattle.std.proofs.Common.{◌≡◌, ◌≤◌, ◌<◌, ◌++◌, ℕ, suc, pos, List, [], ◌∷◌, Option, Some, None, Bool, length, refl, sym, ap, ◌∙◌, subst, inl, inr, arith}
+use Rattle.std.proofs.Common.{◌≡◌, ◌++◌, ℕ, suc, pos, List, [], ◌∷◌, Option, length, refl, sym, ap, ◌∙◌, subst, inl, inr, arith}
 use Rattle.std.proofs.lemmas.Bool.{cases_lt}
 use Rattle.std.proofs.lemmas.Option.{same_Some}
-use Rattle.std.specs.Prelude.{slice_get, ⊤}
-use Rattle.mc_base.specs.declared.ids.PointId.{PointId}
+use Rattle.std.specs.Prelude.{⊤}
 use Rattle.mc_base.specs.declared.ids.VarId.{VarId}
 use Rattle.mc_base.specs.declared.plain.Kind.{Kind}
-use Rattle.mc_base.specs.declared.plain.Kind.TheVariants.{Int}
 use Rattle.mc_text.specs.declared.place.Place.{Place}
 use Rattle.mc_ast.specs.declared.trees.Comparison.{Comparison}
-use Rattle.mc_ast.specs.declared.trees.Comparison.TheVariants.{Unequal}
 use Rattle.mc_flow.specs.declared.instr.Operand.{Operand}
 use Rattle.mc_flow.specs.declared.instr.Operand.TheVariants.{Var, Const}
-use Rattle.mc_flow.specs.declared.instr.Instr.{Instr}
 use Rattle.mc_flow.specs.declared.instr.Instr.TheVariants.{Copy, Store}
 use Rattle.mc_flow.specs.Valid.{field_kind}
 use Rattle.mc_resolved.specs.Programs.{FieldAt, Left, Expr, number, input, value, minus, times, plus as add_expr, difference, Cond}
-use Rattle.mc_lowering.specs.Graphs.{Graph, local, plain, Stage, stage, point, IsPoint, Appends, Undefines}
-use Rattle.mc_lowering.specs.Values.{struct_at, Operation, a_field, a_sum, a_difference, a_product, an_input, sets, IsOfKind, decides, Takes, takes, Walks, walks_none, walks, Evaluates, of_number, of_variable, of_operation, Computes, of_input, of_field, of_minus, of_times, of_plus, of_difference}
+use Rattle.mc_lowering.specs.Graphs.{Graph, plain, Stage, stage, point, IsPoint}
+use Rattle.mc_lowering.specs.Values.{struct_at, Operation, a_field, a_sum, a_difference, a_product, sets, IsOfKind, decides, Takes, takes, Walks, walks_none, walks, Evaluates, of_number, of_variable, of_operation, Computes, of_input, of_field, of_minus, of_times, of_plus, of_difference}
 use Rattle.mc_lowering.specs.Values.{EvaluatesAll, evaluates_none, evaluates_next, Compares, compares, Tests, tests_plain, tests_compare, tests_negation, tests_both, tests_either, TestsPerhaps, tests_always, tests_once, Puts, puts_variable, puts_field}
-use Rattle.mc_single.proofs.Alike.{goal_of, points_of, variables_of, Setting, Alike, Meets, SamePoint, SamePoints, Goes, on, stays, through, same_point}
-use Rattle.mc_single.proofs.Variables.{meets_at, local_once, appended, undefined, used}
+use Rattle.mc_single.proofs.Alike.{goal_of, points_of, Setting, Meets, SamePoints, Goes, on, stays, same_point}
+use Rattle.mc_single.proofs.Variables.{local_once, appended, undefined, used}
 
 -- the same comes of two steps, and the same temporaries are used
 pub record Gives (g h : Graph) (out left : ℕ) (Same : Type 0) {X : Type 0} (a b : X) (ts us : List VarId) (s u r w : Stage) : Type 0 where

@@ -1,5 +1,5 @@
 -- Variables and points that are made alike.
-use Rattle.std.proofs.Common.{◌≡◌, ◌≤◌, ◌<◌, ◌++◌, ℕ, suc, List, [], ◌∷◌, Option, Some, None, length, refl, sym, ap, ◌∙◌, subst, inl, inr, arith}
+use Rattle.std.proofs.Common.{◌≡◌, ◌<◌, ℕ, suc, List, Option, Some, None, refl, sym, ap, ◌∙◌, subst, inl, inr, arith}
 use Rattle.std.proofs.lemmas.Bool.{cases_lt}
 use Rattle.std.proofs.lemmas.Option.{same_Some}
 use Rattle.std.specs.Prelude.{slice_get, option_map}
@@ -11,8 +11,8 @@ use Rattle.mc_text.specs.declared.place.Place.{Place}
 use Rattle.mc_flow.specs.declared.instr.Instr.{Instr}
 use Rattle.mc_flow.specs.declared.instr.Instr.TheVariants.{Undef}
 use Rattle.mc_lowering.specs.Graphs.{Graph, Owner, local, result, temporary, Role, Stage, stage, point, var, IsPoint, Appends, appends, Undefines, undefines_none, undefines, Creates, creates, IsMade, is_made, Uses, uses_first, uses_again}
-use Rattle.mc_single.proofs.Alike.{goal_of, points_of, variables_of, Seen, own_local, own_result, a_temporary, another, seen, local_seen, result_seen, local_from_seen, result_from_seen, temporary_from_seen}
-use Rattle.mc_single.proofs.Alike.{Setting, Alike, Meets, SamePoint, SamePoints, Goes, on, stays, through, same_point}
+use Rattle.mc_single.proofs.Alike.{points_of, variables_of, seen, local_seen, result_seen, local_from_seen, result_from_seen, temporary_from_seen}
+use Rattle.mc_single.proofs.Alike.{Setting, Alike, Meets, Goes, stays, same_point}
 
 -- ---- from the one to the other
 pub turned : {g h : Graph} → Setting g h → Setting h g

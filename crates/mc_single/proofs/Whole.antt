@@ -1,5 +1,5 @@
 -- The flow graphs of one program are the same.
-use Rattle.std.proofs.Common.{◌≡◌, ◌≤◌, ◌<◌, ℕ, zero, suc, ℤ, pos, List, [], ◌∷◌, Option, Some, None, length, refl, sym, ap, ◌∙◌, subst, inl, inr, arith}
+use Rattle.std.proofs.Common.{◌≡◌, ◌<◌, ℕ, suc, ℤ, pos, List, [], ◌∷◌, Option, Some, length, refl, sym, ap, ◌∙◌, subst, arith}
 use Rattle.std.proofs.lemmas.Int.{ints}
 use Rattle.std.proofs.lemmas.List.Elements.{All-contains}
 use Rattle.std.proofs.lemmas.Option.{same_Some}
@@ -14,14 +14,14 @@ use Rattle.mc_flow.specs.declared.graph.Point.{Point}
 use Rattle.mc_flow.specs.declared.instr.Operand.TheVariants.{Const}
 use Rattle.mc_flow.specs.declared.instr.Instr.TheVariants.{Copy, End}
 use Rattle.mc_resolved.specs.Programs.{Function, Program}
-use Rattle.mc_lowering.specs.Graphs.{Graph, Role, plain, head, merge, stop, Stage, stage, nowhere, IsPoint}
-use Rattle.mc_lowering.specs.Lowering.{in_body, Answers, answers_none, answers, IsMain, Falls, falls_in_main, falls, Makes, makes, AreOfRole, operands, AreThresholds, IsLowering}
-use Rattle.mc_single.proofs.Alike.{goal_of, points_of, variables_of, result_seen, Setting, Alike, Meets, SamePoint, SamePoints, Goes, on, stays, through, same_point}
+use Rattle.mc_lowering.specs.Graphs.{Graph, Role, plain, Stage, stage, nowhere, IsPoint}
+use Rattle.mc_lowering.specs.Lowering.{in_body, Answers, answers_none, answers, Falls, falls_in_main, falls, Makes, makes, AreOfRole, operands, AreThresholds, IsLowering}
+use Rattle.mc_single.proofs.Alike.{points_of, result_seen, Setting, Meets, SamePoints, Goes, on, stays, same_point}
 use Rattle.mc_single.proofs.Variables.{result_once, appended, created}
 use Rattle.mc_single.proofs.Ascending.{ascending_same}
 use Rattle.mc_single.proofs.Entering.{Inside, second_part, none_yet}
 use Rattle.mc_single.proofs.Joining.{joined}
-use Rattle.mc_single.proofs.Statements.{IsSame, freely, all_lowered}
+use Rattle.mc_single.proofs.Statements.{IsSame, all_lowered}
 use Rattle.mc_single.proofs.Owning as owning
 use Rattle.mc_single.proofs.Owning.{IsOwned, Owns, on as and_then, same as no_more}
 
