@@ -74,7 +74,7 @@ changed {operation = operation} set m (changes_field {new = new} {last = last} {
     let c = taken set b.steps.meets (kind_once set b.other kind kind_too) (ap (λ z. a_field z last) b.value ∙ ap (λ z. a_field zz z) b.other) b.list loads loads_too in
     let d = taken set c.steps.meets refl (ap (λ z. operation (Var z) o) c.value ∙ ap (λ z. operation (Var old) z) a.value) c.list computes computes_too in
     let e = appended d.steps.meets
-        (λ q. ap (λ z. Store z (struct_at last.shape) last.field (Var new) q) b.value ∙ ap (λ (z : FieldAt). Store zz (struct_at z.shape) z.field (Var new) q) b.other ∙ ap (λ z. Store zz (struct_at end.shape) end.field (Var z) q) d.value) is is_too in
+    (λ q. ap (λ z. Store z (struct_at last.shape) last.field (Var new) q) b.value ∙ ap (λ (z : FieldAt). Store zz (struct_at z.shape) z.field (Var new) q) b.other ∙ ap (λ z. Store zz (struct_at end.shape) end.field (Var z) q) d.value) is is_too in
     on a.steps (on b.steps (on c.steps (on d.steps (on e (undefined e.meets d.list undone undone_too)))))
 
 -- ---- parts of calls
@@ -107,6 +107,7 @@ passed m variables operands (passes {v = v} {vs = vs} {o = o} {os = os} is rest)
     first_or : {X : Type 0} → X → List X → X
     first_or x [] = x
     first_or x (y ∷ ys) = y
+
     rest_of : {X : Type 0} → List X → List X
     rest_of [] = []
     rest_of (y ∷ ys) = ys

@@ -119,11 +119,13 @@ on {m = m} first second =
       meets = second.meets;
       back = λ same goal.
           let (middle, later) = second.back same goal in
-          let (begin, early) = first.back same middle in
-          (begin, λ i low high. elim (cases_lt i (points_of m)) [
-            | inl before ↦ early i low before
-            | inr behind ↦ later i (omega (arith, behind)) high
-          ]);
+          let (begin, early) = first.back same middle in (
+            begin,
+            λ i low high. elim (cases_lt i (points_of m)) [
+              | inl before ↦ early i low before
+              | inr behind ↦ later i (omega (arith, behind)) high
+            ],
+          );
     }
 
 pub stays : {g h : Graph} {out left : ℕ} {Same : Type 0} {s r : Stage} → Meets g h out left s r → Goes g h out left Same s s r r

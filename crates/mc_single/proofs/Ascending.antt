@@ -40,8 +40,8 @@ ascending_same R apart (x ∷ xs) (y ∷ ys) pairs others to from =
       ]
     ] in
     let more : xs ≡ ys = ascending_same R apart xs ys (tail R x xs pairs) (tail R y ys others)
-        (λ z (k, within, is). in_tail R apart x y z xs ys pairs one (k, within, is) (to z (suc k, omega (arith, within), is)))
-        (λ z (k, within, is). in_tail R apart y x z ys xs others (sym one) (k, within, is) (from z (suc k, omega (arith, within), is))) in
+    (λ z (k, within, is). in_tail R apart x y z xs ys pairs one (k, within, is) (to z (suc k, omega (arith, within), is)))
+    (λ z (k, within, is). in_tail R apart y x z ys xs others (sym one) (k, within, is) (from z (suc k, omega (arith, within), is))) in
     ap (λ z. z ∷ xs) one ∙ ap (λ z. y ∷ z) more
 
 -- the variables of an occurrence that are made by then

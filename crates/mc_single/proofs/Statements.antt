@@ -81,15 +81,15 @@ mutual
       let a = received {Same = Unit {0}} refl enters parameters parameters_too in
       let known = a.steps.meets in
       let there : Alike g h out left (variables_of ms) = elsewhere m.alike known.alike
-          (none_of first (λ z. omega (arith, z, bound)) (omega (arith, middle.points, wait.points, last.points, bound)))
-          (λ i x is of low high. none_of first_too (λ z. omega (arith, z, bound_too)) (omega (arith, middle_too.points, wait_too.points, last_too.points, bound_too)) i x is of (omega (arith, low, m.variables)) (omega (arith, high, known.variables))) in
+      (none_of first (λ z. omega (arith, z, bound)) (omega (arith, middle.points, wait.points, last.points, bound)))
+      (λ i x is of low high. none_of first_too (λ z. omega (arith, z, bound_too)) (omega (arith, middle_too.points, wait_too.points, last_too.points, bound_too)) i x is of (omega (arith, low, m.variables)) (omega (arith, high, known.variables))) in
       let b = all_evaluated {Same = Unit {0}} set (record { points = known.points; variables = known.variables; alike = there }) refl values values_too in
       let d = passed {Same = Unit {0}} b.steps.meets a.value b.value copies copies_too in
       let x = undefined {Same = Unit {0}} d.meets b.list undone undone_too in
       let arrived = x.meets in
       let inside : Alike g h inner within (variables_of js) = elsewhere known.alike arrived.alike
-          (none_of middle (λ z. omega (arith, z)) (omega (arith, wait.points, last.points)))
-          (λ i y is of low high. none_of middle_too (λ z. omega (arith, z)) (omega (arith, wait_too.points, last_too.points)) i y is of (omega (arith, low, known.variables)) (omega (arith, high, arrived.variables))) in
+      (none_of middle (λ z. omega (arith, z)) (omega (arith, wait.points, last.points)))
+      (λ i y is of low high. none_of middle_too (λ z. omega (arith, z)) (omega (arith, wait_too.points, last_too.points)) i y is of (omega (arith, low, known.variables)) (omega (arith, high, arrived.variables))) in
       let y = awaited {Same = Unit {0}} (record { points = arrived.points; variables = arrived.variables; alike = inside }) waiting waiting_too in
       let part : Inside g inner (points_of s) (variables_of s) inner = record { free = λ i o x is of less low high. fits.free i o x is of less low (omega (arith, high, end.0)); bound = omega arith } in
       let part_too : Inside h within (points_of r) (variables_of r) within = record { free = λ i o x is of less low high. fits_too.free i o x is of less low (omega (arith, high, end_too.0)); bound = omega arith } in
@@ -100,8 +100,8 @@ mutual
       let outer = owning.called {out = suc out} (calls is parameters values copies undone waiting body made ends) in
       let outer_too = owning.called {out = suc left} (calls is_too parameters_e values_too copies_too undone_too waiting_e body_e made_e ends_too) in
       let after : Alike g h out left (variables_of u) = elsewhere m.alike v.meets.alike
-          (none_of outer (λ z. omega (arith, z)) fits.bound)
-          (λ i y is of low high. none_of outer_too (λ z. omega (arith, z)) fits_too.bound i y is of (omega (arith, low, m.variables)) (omega (arith, high, v.meets.variables))) in
+      (none_of outer (λ z. omega (arith, z)) fits.bound)
+      (λ i y is of low high. none_of outer_too (λ z. omega (arith, z)) fits_too.bound i y is of (omega (arith, low, m.variables)) (omega (arith, high, v.meets.variables))) in
       record {
         value = y.value;
         steps = on (viewed there a.steps) (on b.steps (on d (on x (viewed after inner_steps))));
@@ -197,7 +197,7 @@ mutual
       let y = appended {Same = IsSame c d} m (λ q. refl) is is_too in
       let x = tested {Same = IsSame c d} set y.meets test test_too in
       let a = lowered {c = in_loop c e n} {d = in_loop d ee nn} set (record { function = stand.function; blocks = refl }) x.meets
-          (first_part (second_part fits (and_then (owning.appended is) (owning.tested test))) end.points) (first_part (second_part fits_too (and_then (owning.appended is_too) (owning.tested test_too))) end_too.points) body body_too in
+      (first_part (second_part fits (and_then (owning.appended is) (owning.tested test))) end.points) (first_part (second_part fits_too (and_then (owning.appended is_too) (owning.tested test_too))) end_too.points) body body_too in
       let rest = jumps a (appended (at_goal a.meets) (λ q. refl) ends ends_too) refl (λ same goal. ((same.0, same_loop a.meets.points m.points), m.points)) in
       on y (test_jumps x rest refl (λ same goal. ((rest.back same goal).0, a.meets.points)))
   lowered {c = c} {d = d} set stand m fits fits_too (dos {i = i} {e = e} is body turn test ends) (dos {i = ii} {e = ee} is_too body_too turn_too test_too ends_too) =
@@ -205,7 +205,7 @@ mutual
       let after_too = and_then (owning.appended {out = 0} turn_too) (and_then (owning.tested test_too) (owning.appended ends_too)) in
       let y = appended {Same = IsSame c d} m (λ q. refl) is is_too in
       let a = lowered {c = in_loop c e i} {d = in_loop d ee ii} set (record { function = stand.function; blocks = refl }) y.meets
-          (first_part (second_part fits (owning.appended is)) after.points) (first_part (second_part fits_too (owning.appended is_too)) after_too.points) body body_too in
+      (first_part (second_part fits (owning.appended is)) after.points) (first_part (second_part fits_too (owning.appended is_too)) after_too.points) body body_too in
       let z = appended {Same = IsSame c d} a.meets (λ q. refl) turn turn_too in
       let x = tested {Same = IsSame c d} set z.meets test test_too in
       let last = test_jumps x (appended (at_goal x.meets) (λ q. refl) ends ends_too) refl (λ same goal. (m.points, x.meets.points)) in
@@ -229,7 +229,7 @@ mutual
       let behind = second_part fits (and_then one two) in
       let behind_too = second_part fits_too (and_then one_too two_too) in
       let a = lowered {c = in_loop c e i} {d = in_loop d ee ii} set (record { function = stand.function; blocks = refl }) x.meets
-          (first_part behind (omega (arith, four.points, five.points, six.points))) (first_part behind_too (omega (arith, four_too.points, five_too.points, six_too.points))) body body_too in
+      (first_part behind (omega (arith, four.points, five.points, six.points))) (first_part behind_too (omega (arith, four_too.points, five_too.points, six_too.points))) body body_too in
       let z = appended {Same = IsSame c d} a.meets (λ q. refl) turn turn_too in
       let f = freely {Same = IsSame c d} (finished set z.meets (first_part (second_part behind (and_then three four)) six.points) (first_part (second_part behind_too (and_then three_too four_too)) six_too.points) last last_too) in
       let v = appended {Same = IsSame c d} (at_goal f.meets) (λ q. refl) ends ends_too in

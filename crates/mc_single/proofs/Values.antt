@@ -131,11 +131,13 @@ on_told {m = m} first second =
       meets = second.meets;
       back = λ same true_side false_side.
           let (middle, later) = second.back same true_side false_side in
-          let (begin, early) = first.back same middle in
-          (begin, λ i low high. elim (cases_lt i (points_of m)) [
-            | inl before ↦ early i low before
-            | inr behind ↦ later i (omega (arith, behind)) high
-          ]);
+          let (begin, early) = first.back same middle in (
+            begin,
+            λ i low high. elim (cases_lt i (points_of m)) [
+              | inl before ↦ early i low before
+              | inr behind ↦ later i (omega (arith, behind)) high
+            ],
+          );
     }
 
 compared : {g h : Graph} {out left : ℕ} {Same : Type 0} {place : Place} {c : Comparison} {a b d e : Operand} {ts us : List VarId} {s r : Stage} {t f n k p q i j : ℕ} → Meets g h out left s r → a ≡ d → b ≡ e → ts ≡ us
@@ -152,14 +154,16 @@ compared {g = g} {h = h} {out = out} {left = left} {Same = Same} {place = place}
           let (later, points_later) = w.back same false_side in
           let (early, points_early) = x.back same true_side in
           let codes : decides c a b (point y) (point z) ≡ decides c d e (point yy) (point zz) =
-              ap (λ v. decides c v b (point y) (point z)) firsts ∙ ap (λ v. decides c d v (point y) (point z)) seconds ∙ ap (λ v. decides c d e (point v) (point z)) early ∙ ap (λ v. decides c d e (point yy) (point v)) later in
-          (m.points, λ v low high. elim (cases_lt v (suc n)) [
-            | inl here ↦ same_point is (subst (λ u. IsPoint h u plain place (decides c d e (point yy) (point zz))) (sym m.points) is_too) codes (omega (arith, low, here))
-            | inr behind ↦ elim (cases_lt v i) [
-              | inl before ↦ points_early v (omega (arith, behind)) before
-              | inr last ↦ points_later v (omega (arith, last)) high
-            ]
-          ]);
+          ap (λ v. decides c v b (point y) (point z)) firsts ∙ ap (λ v. decides c d v (point y) (point z)) seconds ∙ ap (λ v. decides c d e (point v) (point z)) early ∙ ap (λ v. decides c d e (point yy) (point v)) later in (
+            m.points,
+            λ v low high. elim (cases_lt v (suc n)) [
+              | inl here ↦ same_point is (subst (λ u. IsPoint h u plain place (decides c d e (point yy) (point zz))) (sym m.points) is_too) codes (omega (arith, low, here))
+              | inr behind ↦ elim (cases_lt v i) [
+                | inl before ↦ points_early v (omega (arith, behind)) before
+                | inr last ↦ points_later v (omega (arith, last)) high
+              ]
+            ],
+          );
     }
 
 pub tested : {g h : Graph} {out left : ℕ} {Same : Type 0} {c : Cond} {s r : Stage} {t f n k p q i j : ℕ} → Setting g h → Meets g h out left s r → Tests g out c s t f n k → Tests h left c r p q i j
@@ -181,11 +185,13 @@ tested {Same = Same} set m (tests_both {m = i} first second) (tests_both first_t
       meets = b.meets;
       back = λ same t f.
           let (middle, later) = b.back same t f in
-          let (begin, early) = a.back same middle f in
-          (begin, λ v low high. elim (cases_lt v i) [
-            | inl before ↦ early v low before
-            | inr behind ↦ later v (omega (arith, behind)) high
-          ]);
+          let (begin, early) = a.back same middle f in (
+            begin,
+            λ v low high. elim (cases_lt v i) [
+              | inl before ↦ early v low before
+              | inr behind ↦ later v (omega (arith, behind)) high
+            ],
+          );
     }
 tested {g = g} {h = h} {out = out} {left = left} {Same = Same} set m (tests_either {a = y} {m = i} {j = k} first second) (tests_either {a = yy} {m = ii} {j = kk} first_too second_too) =
     let a = tested {Same = Same} set m first first_too in
@@ -195,11 +201,13 @@ tested {g = g} {h = h} {out = out} {left = left} {Same = Same} set m (tests_eith
       meets = b.meets;
       back = λ same t f.
           let (middle, later) = b.back same t f in
-          let (begin, early) = a.back same t middle in
-          (begin, λ v low high. elim (cases_lt v i) [
-            | inl before ↦ early v low before
-            | inr behind ↦ later v (omega (arith, behind)) high
-          ]);
+          let (begin, early) = a.back same t middle in (
+            begin,
+            λ v low high. elim (cases_lt v i) [
+              | inl before ↦ early v low before
+              | inr behind ↦ later v (omega (arith, behind)) high
+            ],
+          );
     }
 
 pub tested_perhaps : {g h : Graph} {out left : ℕ} {Same : Type 0} {c : Option Cond} {s r : Stage} {t f n k p q i j : ℕ} → Setting g h → Meets g h out left s r → TestsPerhaps g out c s t f n k → TestsPerhaps h left c r p q i j

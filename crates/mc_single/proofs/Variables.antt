@@ -80,11 +80,13 @@ pub appended : {g h : Graph} {out left : ℕ} {Same : Type 0} {role : Role} {pla
 appended {g = g} {h = h} {role = role} {place = place} {code = code} {other = other} m same (appends {n = n} {k = k} {b = b} one) (appends {n = i} {k = j} {b = d} two) =
     record {
       meets = record { points = ap suc m.points; variables = m.variables; alike = m.alike };
-      back = λ also goal.
-          (m.points, λ l low high.
-              let codes : code (point b) ≡ other (point d) = same (point b) ∙ ap (λ z. other (point z)) goal in
-              let two_here = subst (λ z. IsPoint h z role place (other (point d))) (sym m.points) two in
-              same_point one two_here codes (omega (arith, low, high)));
+      back = λ also goal. (
+        m.points,
+        λ l low high.
+            let codes : code (point b) ≡ other (point d) = same (point b) ∙ ap (λ z. other (point z)) goal in
+            let two_here = subst (λ z. IsPoint h z role place (other (point d))) (sym m.points) two in
+            same_point one two_here codes (omega (arith, low, high)),
+      );
     }
 
 pub undefined : {g h : Graph} {out left : ℕ} {Same : Type 0} {place : Place} {vs us : List VarId} {s u r w : Stage} → Meets g h out left s r → vs ≡ us

@@ -54,7 +54,7 @@ made_one : {g h : Graph} {f : Function} {out count left more : ℕ} → Setting 
 made_one {g = g} {h = h} {f = f} {out = out} {count = count} {left = left} {more = more} set (makes {m = m} {n = n} first result body falls_at end) (makes {m = i} {n = l} first_too result_too body_too falls_too end_too) =
     let begin : Meets g h out left (stage 0 0 0) (stage 0 0 0) = record { points = refl; variables = refl; alike = none_yet } in
     let a = appended {Same = IsSame (in_body f out) (in_body f left)} begin (λ q. refl) first first_too in
-    let b = answered a.meets result result_too in
+    let b = answered {Same = IsSame (in_body f out) (in_body f left)} a.meets result result_too in
     let last = fall_owned falls_at in
     let last_too = fall_owned falls_too in
     let all : Inside g out 0 0 (points_of n) = record { free = λ i o x is of less low high. omega (arith, less); bound = last.points } in
@@ -120,9 +120,9 @@ whole g h entry start out count left more program structs a b =
     let set : Setting g h = record { program = program; structs = structs; once = a.once; once_too = b.once } in
     let one = made_one set a.made made_too in
     let points : g.flow.points ≡ h.flow.points = same_items g.flow.points h.flow.points (a.points ∙ ap suc one.ends ∙ sym b.points)
-        (λ i less. let p = one.points i (omega arith) (omega (arith, less, a.points)) in p.point) in
+    (λ i less. let p = one.points i (omega arith) (omega (arith, less, a.points)) in p.point) in
     let roles : g.roles ≡ h.roles = same_items g.roles h.roles (a.roles ∙ ap suc one.ends ∙ sym b.roles)
-        (λ i less. let p = one.points i (omega arith) (omega (arith, less, a.roles)) in p.role) in
+    (λ i less. let p = one.points i (omega arith) (omega (arith, less, a.roles)) in p.role) in
     let vars : g.flow.vars ≡ h.flow.vars = same_items g.flow.vars h.flow.vars (a.variables ∙ one.counts ∙ sym b.variables) (λ i less. one.infos i (omega (arith, less, a.variables))) in
     let thresholds : g.flow.thresholds ≡ h.flow.thresholds = thresholds_same a.thresholds (subst (λ z. AreThresholds z h.flow.thresholds) (sym points) b.thresholds) in
     (flow_same g.flow h.flow points vars (of_role_same roles a.heads b.heads) (of_role_same roles a.merges b.merges) thresholds structs, of_role_same roles a.stops b.stops)

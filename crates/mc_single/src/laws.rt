@@ -6,5 +6,7 @@ ghost use Rattle.std.specs.Prelude.{◌≡◌, ℕ};
 
 /// A resolved program with its structs has one flow graph at most, and the stops in it are the same.
 pub fn flow_graphs_are_one()
-    ensures { (g h : Graph) (entry start : Function) (out count left more : ℕ) → g.program ≡ h.program → g.flow.structs ≡ h.flow.structs → IsLowering g entry out count → IsLowering h start left more → (g.flow ≡ h.flow) × (g.stops ≡ h.stops) }
+    ensures { (g h : Graph) (entry start : Function) (out count left more : ℕ) → g.program ≡ h.program → g.flow.structs ≡ h.flow.structs
+        → IsLowering g entry out count → IsLowering h start left more
+        → (g.flow ≡ h.flow) × (g.stops ≡ h.stops) }
 {}
