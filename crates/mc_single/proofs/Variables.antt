@@ -11,7 +11,7 @@ use Rattle.mc_text.specs.declared.place.Place.{Place}
 use Rattle.mc_flow.specs.declared.instr.Instr.{Instr}
 use Rattle.mc_flow.specs.declared.instr.Instr.TheVariants.{Undef}
 use Rattle.mc_lowering.specs.Graphs.{Graph, Owner, local, result, temporary, Role, Stage, stage, point, var, IsPoint, Appends, appends, Undefines, undefines_none, undefines, Creates, creates, IsMade, is_made, Uses, uses_first, uses_again}
-use Rattle.mc_single.proofs.Alike.{points_of, variables_of, seen, local_seen, result_seen, local_from_seen, result_from_seen, temporary_from_seen}
+use Rattle.mc_single.proofs.Alike.{variables_of, seen, local_seen, result_seen, local_from_seen, result_from_seen, temporary_from_seen}
 use Rattle.mc_single.proofs.Alike.{Setting, Alike, Meets, Goes, stays, same_point}
 
 -- ---- from the one to the other
@@ -27,16 +27,6 @@ meets_turned m =
         infos = λ i within. sym (m.alike.infos i (omega (arith, within, m.variables)));
         owners = λ i within. sym (m.alike.owners i (omega (arith, within, m.variables)));
       };
-    }
-
--- what the goal is does not matter
-pub meets_at : {g h : Graph} {out left : ℕ} {s r : Stage} (u w : Stage) → points_of u ≡ points_of s → variables_of u ≡ variables_of s → points_of w ≡ points_of r → variables_of w ≡ variables_of r
-    → Meets g h out left s r → Meets g h out left u w
-meets_at u w p v q l m =
-    record {
-      points = p ∙ m.points ∙ sym q;
-      variables = v ∙ m.variables ∙ sym l;
-      alike = record { infos = λ i within. m.alike.infos i (omega (arith, within, v)); owners = λ i within. m.alike.owners i (omega (arith, within, v)) };
     }
 
 -- ---- owners
