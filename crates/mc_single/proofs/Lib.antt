@@ -1,0 +1,10 @@
+pub mod Alike
+pub mod Variables
+pub mod Values
+pub mod Owning
+pub mod Ascending
+pub mod Actions
+pub mod Entering
+pub mod Joining
+pub mod Statements
+pub mod Whole
