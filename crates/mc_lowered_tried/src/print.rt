@@ -19,6 +19,9 @@ pub fn lowered(
     entry: &str,
     definitions: &str,
 ) -> Result<Option<Result<Lowered, LowerFault>>, NoMemory> {
+    if text.len() > 1_048_576 || definitions.len() > 262_144 {
+        return Ok(None);
+    }
     let Ok(typed) = read(alloc, text.as_bytes(), entry.as_bytes()) else {
         return Ok(None);
     };
