@@ -1,8 +1,8 @@
 pub mod Asked
 pub mod Causes
 pub mod Hearing
+pub mod Leaving
 pub mod Lowered
 pub mod Printing
 pub mod Safe
-pub mod Verdicts
 pub mod Whys

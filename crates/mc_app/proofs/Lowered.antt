@@ -11,7 +11,7 @@ use Rattle.mc_resolved.specs.declared.program.Resolved.{Resolved}
 use Rattle.mc_resolved.specs.Resolving.{resolved_program}
 use Rattle.mc_resolved.specs.Views.{program_of}
 use Rattle.mc_types.specs.Tables.{struct_infos, tables_of}
-use Rattle.mc_app.specs.Programs.{AreLong, IsGraphOf}
+use Rattle.mc_app.specs.Checks.{AreLong, IsGraphOf}
 
 module _ (start : List ℕ) (unit : UnitTree) (defs : List Def) (program : Resolved) (structs : Structs) (same : program_of program defs ≡ resolved_program (tables_of unit) defs start) (infos : structs.list ≡ struct_infos unit) where
   pub graph_of : (x : Lowered) → IsFlowOf program structs x → IsGraphOf start unit defs x.flow

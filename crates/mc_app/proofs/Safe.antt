@@ -1,5 +1,5 @@
 -- A program whose flow graph is safe is safe itself.
-use Rattle.std.proofs.Common.{◌≡◌, ◌∙◌, ◌&&◌, ℕ, Bool, true, false, List, [], ◌∷◌, Option, Some, inl, inr, refl, subst, sym, codes}
+use Rattle.std.proofs.Common.{◌≡◌, ◌∙◌, ◌&&◌, ℕ, Bool, true, false, List, [], ◌∷◌, Some, inl, inr, refl, subst, sym}
 use Rattle.std.specs.List.{find, list_any}
 use Rattle.mc_ast.specs.Names.{is_same}
 use Rattle.mc_ast.specs.Trees.{FunctionTree, UnitTree}
@@ -20,7 +20,8 @@ use Rattle.mc_straight.specs.Runs.{IsEntry, ReadsAs, TreeRunsAlike}
 use Rattle.mc_straight.specs.Lowering.{flow_of}
 use Rattle.mc_types.specs.Tables.{called_function, is_defined, tables_of}
 use Rattle.mc_types.specs.Typing.{IsWellTyped, is_entry}
-use Rattle.mc_app.specs.Programs.{IsGraphOf, IsSafeUnit, IsShort, IsWellFormed}
+use Rattle.mc_inputs.specs.Texts.{IsWellFormed}
+use Rattle.mc_app.specs.Checks.{IsGraphOf, IsSafeUnit, IsShort}
 
 -- ---- straight programs
 

@@ -1,113 +1,104 @@
--- Why a check of a document ends as it does.
-use Rattle.std.specs.Prelude.{◌≡◌, ◌++◌, ◌⊎◌, ℕ, List, [], ◌∷◌, Option, Some, Ok, take}
+-- Why a call of the program ends as it does.
+use Rattle.std.specs.Prelude.{◌≡◌, ◌++◌, ◌⊎◌, ◌↔◌, ℕ, List, Option, None, Some, Result, Ok, Err, option_map, take, ⊤}
 use Rattle.mc_ast.specs.Trees.{UnitTree}
-use Rattle.mc_outside.specs.Outside.{WhereTold, AddsIfTold}
-use Rattle.mc_types.specs.Shapes.{IsBound}
 use Rattle.mc_defs.specs.declared.rules.Def.{Def}
-use Rattle.mc_flow.specs.declared.graph.Flow.{Flow}
-use Rattle.mc_judge.specs.declared.verdict.Verdict.{Verdict}
-use Rattle.mc_judge.specs.declared.verdict.Verdict.TheVariants as verdict
-use Rattle.mc_straight.specs.declared.tree.Program.{Program as StraightForm}
+use Rattle.mc_inputs.specs.Inputs.{AreInputs, Holds, IsRefused}
+use Rattle.mc_inputs.specs.declared.reading.Sources.{Sources}
+use Rattle.mc_inputs.specs.declared.refusal.Refusal.{Refusal}
+use Rattle.mc_inputs.specs.declared.refusal.Refusal.TheVariants as refusals
+use Rattle.mc_interpret.specs.declared.ending.Ending.TheVariants as ending
+use Rattle.mc_judge.specs.declared.verdict.Verdict.TheVariants.{Safe, Alarms, Refused as Mistaken}
+use Rattle.mc_outside.specs.declared.outside.FileFault.{FileFault}
+use Rattle.mc_outside.specs.Outside.{WhereTold, AddsIfTold, OthersStay, Stays}
+use Rattle.mc_analysis.specs.declared.analysis.Analysis.TheVariants as analysis
+use Rattle.mc_words.specs.declared.words.Analyse.{Analyse}
 use Rattle.mc_words.specs.declared.words.Check.{Check}
-use Rattle.mc_words.specs.Words.{AsksCheck}
-use Rattle.mc_app.specs.Documents.{IsVerdictOn}
-use Rattle.mc_app.specs.Programs.{AreDefinitions, AreLong, HasMisfit, IsJudgedFor, IsProgramHere, IsSafe, IsShort, IsUndefined, IsUnread}
+use Rattle.mc_words.specs.declared.words.Request.{Request}
+use Rattle.mc_words.specs.declared.words.Request.TheVariants as request
+use Rattle.mc_words.specs.declared.words.Run.{Run}
+use Rattle.mc_words.specs.Words.{Asks, AsksAnalyse, AsksCheck, AsksRun}
+use Rattle.mc_saving.specs.Saving.{IsFront, WhereAnyTold}
+use Rattle.mc_app.specs.Analyses.{IsTarget, IsWhyAnalysed}
+use Rattle.mc_app.specs.Checks.{IsSafeWhereTold, IsWhyChecked}
 use Rattle.mc_app.specs.Printing.{text_of}
+use Rattle.mc_app.specs.Runs.{IsWhyRan}
 use Rattle.mc_app.specs.declared.answer.Answer.{Answer}
-use Rattle.mc_app.specs.declared.answer.Answer.TheVariants.{Good, Alarms, Words, Program, Definitions, Document}
-use Rattle.mc_app.specs.declared.answer.ProgramFault.TheVariants.{Unread, Misfit, TooLong, NotYet}
+use Rattle.mc_app.specs.declared.answer.Answer.TheVariants.{Words, Refused, Checked, Ran, Analysed}
+use Rattle.mc_app.specs.declared.analysing.Analysed.{Analysed as Results}
+use Rattle.mc_app.specs.declared.analysing.Analysed.TheVariants as results
 use Rattle.mc_app.specs.declared.answer.Status.{Status}
 use Rattle.mc_app.specs.declared.answer.Status.TheVariants as statuses
+use Rattle.mc_app.specs.declared.checking.Checked.{Checked as Found}
+use Rattle.mc_app.specs.declared.checking.Checked.TheVariants.{NoGraph, Judged}
+use Rattle.mc_app.specs.declared.running.Ran.{Ran as Came}
+use Rattle.mc_app.specs.declared.running.Ran.TheVariants.{TooBig, To}
 
--- what files hold, by name, where it is told
-abbrev pub Holds : Type 0
-Holds = List ℕ → Option (List ℕ)
+-- ---- causes
 
--- this is the verdict on the document, for what documents of the program are judged for
-abbrev pub IsJudged : Holds → Check → UnitTree → List Def → Verdict → Type 0
-IsJudged holds c unit defs v =
-    (flow : Flow) × (of : List Def) × IsJudgedFor c.start.now unit defs flow of
-    × WhereTold (holds c.document.now) (λ document. IsVerdictOn flow of document v)
+-- the files of the program and its definitions, which a command names before its own
+abbrev pub sources_of : Request → Sources
+sources_of (request.Check c) = record { program = c.program; definitions = c.definitions; start = c.start }
+sources_of (request.Run r) = record { program = r.program; definitions = r.definitions; start = r.start }
+sources_of (request.Analyse a) = record { program = a.program; definitions = a.definitions; start = a.start }
 
--- why this is answered for a program whose shape commands fit
-abbrev pub IsWhyFitting : Holds → Check → UnitTree → List Def → Answer → Type 0
-IsWhyFitting holds c unit defs Words = ⊥
-IsWhyFitting holds c unit defs (Definitions fault) = ⊥
-IsWhyFitting holds c unit defs (Program (Unread cause)) = ⊥
-IsWhyFitting holds c unit defs (Program (Misfit refusal)) = ⊥
-IsWhyFitting holds c unit defs (Program TooLong) = AreLong c.start.now unit defs
-IsWhyFitting holds c unit defs (Program NotYet) = (form : StraightForm) → IsShort c.start.now unit form → ⊥
-IsWhyFitting holds c unit defs (Document mistake) = IsJudged holds c unit defs (verdict.Refused mistake)
-IsWhyFitting holds c unit defs (Alarms count) = IsJudged holds c unit defs (verdict.Alarms count)
-IsWhyFitting holds c unit defs Good = IsJudged holds c unit defs verdict.Safe
+-- the files are a program with its definitions, which it fits, and of these this is so
+abbrev pub IsOver : Holds → Sources → (UnitTree → List Def → Type 0) → Type 0
+IsOver holds sources IsSo = (unit : UnitTree) × (defs : List Def) × AreInputs holds sources unit defs × IsSo unit defs
 
--- why this is answered for a program with definitions
-abbrev pub IsWhyBound : Holds → Check → UnitTree → List Def → Answer → Type 0
-IsWhyBound holds c unit defs Words = ⊥
-IsWhyBound holds c unit defs (Definitions fault) = ⊥
-IsWhyBound holds c unit defs (Program (Unread cause)) = ⊥
-IsWhyBound holds c unit defs (Program (Misfit refusal)) = HasMisfit refusal unit defs
-IsWhyBound holds c unit defs (Program TooLong) = IsBound unit defs × IsWhyFitting holds c unit defs (Program TooLong)
-IsWhyBound holds c unit defs (Program NotYet) = IsBound unit defs × IsWhyFitting holds c unit defs (Program NotYet)
-IsWhyBound holds c unit defs (Document mistake) = IsBound unit defs × IsWhyFitting holds c unit defs (Document mistake)
-IsWhyBound holds c unit defs (Alarms count) = IsBound unit defs × IsWhyFitting holds c unit defs (Alarms count)
-IsWhyBound holds c unit defs Good = IsBound unit defs × IsWhyFitting holds c unit defs Good
-
--- there are definitions that the file is, where it is told, and with them this is answered
-abbrev pub IsWhyDefined : Holds → Check → UnitTree → Answer → Type 0
-IsWhyDefined holds c unit answer =
-    (defs : List Def) × WhereTold (holds c.definitions.now) (AreDefinitions unit defs) × IsWhyBound holds c unit defs answer
-
--- why this is answered for a program, whose definitions are read first
-abbrev pub IsWhyUnit : Holds → Check → UnitTree → Answer → Type 0
-IsWhyUnit holds c unit Words = ⊥
-IsWhyUnit holds c unit (Definitions fault) = WhereTold (holds c.definitions.now) (IsUndefined unit fault)
-IsWhyUnit holds c unit (Program fault) = IsWhyDefined holds c unit (Program fault)
-IsWhyUnit holds c unit (Document mistake) = IsWhyDefined holds c unit (Document mistake)
-IsWhyUnit holds c unit (Alarms count) = IsWhyDefined holds c unit (Alarms count)
-IsWhyUnit holds c unit Good = IsWhyDefined holds c unit Good
-
--- there is a program that the file is, where it is told, and for it this is answered
-abbrev pub IsWhyRead : Holds → Check → Answer → Type 0
-IsWhyRead holds c answer =
-    (unit : UnitTree) × WhereTold (holds c.program.now) (λ text. IsProgramHere c.start.now text unit) × IsWhyUnit holds c unit answer
-
--- why this is answered for a check of files of these names
-abbrev pub IsWhy : Holds → Check → Answer → Type 0
-IsWhy holds c Words = ⊥
-IsWhy holds c (Program (Unread cause)) = WhereTold (holds c.program.now) (λ text. IsUnread c.start.now text cause)
-IsWhy holds c (Program (Misfit refusal)) = IsWhyRead holds c (Program (Misfit refusal))
-IsWhy holds c (Program TooLong) = IsWhyRead holds c (Program TooLong)
-IsWhy holds c (Program NotYet) = IsWhyRead holds c (Program NotYet)
-IsWhy holds c (Definitions fault) = IsWhyRead holds c (Definitions fault)
-IsWhy holds c (Document mistake) = IsWhyRead holds c (Document mistake)
-IsWhy holds c (Alarms count) = IsWhyRead holds c (Alarms count)
-IsWhy holds c Good = IsWhyRead holds c Good
-
--- where the program and its definitions are told, no run of the program has a fault
-abbrev pub IsSafeWhereTold : Holds → Check → Type 0
-IsSafeWhereTold holds c =
-    WhereTold (holds c.program.now) (λ text. WhereTold (holds c.definitions.now) (λ definitions. IsSafe c.start.now text definitions))
-
--- why this is answered for these words
+-- why this is answered for these words: they ask for nothing; the program or its definitions are refused, with their cause;
+-- or both are read and fit, and the command has its own cause
 abbrev pub IsWhyWords : Holds → List (List ℕ) → Answer → Type 0
-IsWhyWords holds words Words = (c : Check) → AsksCheck words c → ⊥
-IsWhyWords holds words answer = (c : Check) × AsksCheck words c × IsWhy holds c answer
+IsWhyWords holds words Words = (r : Request) → Asks words r → ⊥
+IsWhyWords holds words (Refused refusal) = (r : Request) × Asks words r × IsRefused holds (sources_of r) refusal
+IsWhyWords holds words (Checked found) =
+    (c : Check) × AsksCheck words c × IsOver holds (sources_of (request.Check c)) (λ unit defs. IsWhyChecked holds c unit defs found)
+IsWhyWords holds words (Ran found) =
+    (r : Run) × AsksRun words r × IsOver holds (sources_of (request.Run r)) (λ unit defs. IsWhyRan holds r unit defs found)
+IsWhyWords holds words (Analysed found) =
+    (a : Analyse) × AsksAnalyse words a × IsOver holds (sources_of (request.Analyse a)) (λ unit defs. IsWhyAnalysed a unit defs found)
 
--- the answer where this is the verdict on the document
-abbrev pub answer_of : Verdict → Answer
-answer_of verdict.Safe = Good
-answer_of (verdict.Alarms count) = Alarms count
-answer_of (verdict.Refused mistake) = Document mistake
+-- a request whose status 0 means that no run has a fault
+abbrev pub AsksForSafety : Request → Type 0
+AsksForSafety (request.Check c) = Unit {0}
+AsksForSafety (request.Run r) = ⊥
+AsksForSafety (request.Analyse a) = Unit {0}
+
+-- ---- statuses
+
+abbrev pub refusal_status : Refusal → Status
+refusal_status (refusals.Program cause) = statuses.Program
+refusal_status (refusals.Definitions cause) = statuses.Definitions
+refusal_status (refusals.Misfit fault) = statuses.Program
+
+abbrev pub checked_status : Found → Status
+checked_status (NoGraph cause) = statuses.Program
+checked_status (Judged Safe) = statuses.Good
+checked_status (Judged (Alarms count)) = statuses.Alarm
+checked_status (Judged (Mistaken refusal)) = statuses.Document
+
+abbrev pub ran_status : Came → Status
+ran_status TooBig = statuses.Document
+ran_status (To ending.Ended) = statuses.Good
+ran_status (To ending.Stopped) = statuses.Good
+ran_status (To (ending.Fault kind place)) = statuses.Alarm
+ran_status (To ending.FuelSpent) = statuses.Limit
+ran_status (To (ending.Short number)) = statuses.Document
+ran_status (To (ending.Bad number)) = statuses.Document
+
+abbrev pub analysed_status : Results → Status
+analysed_status (results.NoGraph cause) = statuses.Program
+analysed_status (results.Found (analysis.Safe f)) = statuses.Good
+analysed_status (results.Found (analysis.Alarms f count)) = statuses.Alarm
+analysed_status (results.Found (analysis.Paths document)) = statuses.Limit
+analysed_status (results.Found analysis.Unknown) = statuses.Program
 
 -- the status of an answer
 abbrev pub status_of : Answer → Status
-status_of Good = statuses.Good
-status_of (Alarms count) = statuses.Alarm
 status_of Words = statuses.Words
-status_of (Program fault) = statuses.Program
-status_of (Definitions fault) = statuses.Definitions
-status_of (Document mistake) = statuses.Document
+status_of (Refused refusal) = refusal_status refusal
+status_of (Checked found) = checked_status found
+status_of (Ran found) = ran_status found
+status_of (Analysed found) = analysed_status found
 
 -- the number of a status
 abbrev pub code_of : Status → ℕ
@@ -121,21 +112,88 @@ code_of statuses.Document = 6
 code_of statuses.Device = 7
 code_of statuses.Memory = 8
 
--- the status is that of an answer that has its cause, and the answer's text was added to what was written
-pub record Answers (holds : Holds) (words : List (List ℕ)) (old new : Option (List ℕ)) (status : Status) : Type 0 where
+-- ---- documents
+
+-- the document that an analysis has written
+abbrev pub analysed_document : Results → Option (List ℕ)
+analysed_document (results.NoGraph cause) = None
+analysed_document (results.Found (analysis.Safe f)) = Some f.document.items
+analysed_document (results.Found (analysis.Alarms f count)) = Some f.document.items
+analysed_document (results.Found (analysis.Paths document)) = Some document.items
+analysed_document (results.Found analysis.Unknown) = None
+
+abbrev pub document_of : Answer → Option (List ℕ)
+document_of Words = None
+document_of (Refused refusal) = None
+document_of (Checked found) = None
+document_of (Ran found) = None
+document_of (Analysed found) = analysed_document found
+
+-- the words ask for this request, or for none
+abbrev pub IsAsked : List (List ℕ) → Option Request → Type 0
+IsAsked words None = (r : Request) → Asks words r → ⊥
+IsAsked words (Some r) = Asks words r
+
+-- the file that the document of a request goes into
+abbrev pub target_of : Option Request → Option (List ℕ)
+target_of None = None
+target_of (Some (request.Check c)) = None
+target_of (Some (request.Run r)) = None
+target_of (Some (request.Analyse a)) = option_map (λ s. s.now) a.document
+
+-- this is the file that the words name for the document, if they name one
+abbrev pub HasTarget : List (List ℕ) → Option (List ℕ) → Type 0
+HasTarget words target = (name : List ℕ) → (target ≡ Some name) ↔ IsTarget words name
+
+-- where the words ask for it, no run of the program has a fault
+abbrev pub IsSafeForWords : Holds → List (List ℕ) → Type 0
+IsSafeForWords holds words = (r : Request) → Asks words r → AsksForSafety r → IsSafeWhereTold holds (sources_of r)
+
+-- the file of this name holds the document, or is as it was where there is none
+abbrev pub HoldsDocument : Holds → Holds → List ℕ → Option (List ℕ) → Type 0
+HoldsDocument old new name None = new name ≡ old name
+HoldsDocument old new name (Some text) = WhereAnyTold old (new name ≡ Some text)
+
+-- the file of this name is as it was, or holds the front of the document
+abbrev pub HoldsFront : Holds → Holds → List ℕ → Option (List ℕ) → Type 0
+HoldsFront old new name None = new name ≡ old name
+HoldsFront old new name (Some text) = (new name ≡ old name) ⊎ WhereAnyTold old (IsFront text (new name))
+
+-- the document is written into the target; after a fault the target is as it was, or holds the front of it; the others stay
+abbrev pub Keeps : (old new : Holds) → (target document : Option (List ℕ)) → Result ⊤ FileFault → Type 0
+Keeps old new None document result = Stays old new
+Keeps old new (Some name) document (Ok _) = HoldsDocument old new name document × OthersStay name old new
+Keeps old new (Some name) document (Err _) = HoldsFront old new name document × OthersStay name old new
+
+-- every file is as it was, but the one that the words name for the document
+abbrev pub OnlyTargetChanges : List (List ℕ) → Holds → Holds → Type 0
+OnlyTargetChanges words old new = (name : List ℕ) → (IsTarget words name → ⊥) → new name ≡ old name
+
+-- the file that the words name for the document is as it was, or holds the front of one whose answer has its cause
+abbrev pub TargetHoldsPart : List (List ℕ) → Holds → Holds → Type 0
+TargetHoldsPart words old new =
+    (name : List ℕ) → IsTarget words name → (new name ≡ old name) ⊎ ((a : Answer) × IsWhyWords old words a × HoldsFront old new name (document_of a))
+
+-- ---- calls
+
+-- the status is that of an answer that has its cause, its document stands where the words want it, and its text was added to
+-- what was written
+pub record Answers (holds after : Holds) (words : List (List ℕ)) (old new : Option (List ℕ)) (status : Status) : Type 0 where
   pub answer : Answer
   pub is_its : status ≡ status_of answer
   pub why : IsWhyWords holds words answer
+  pub leaves : (name : List ℕ) → IsTarget words name → HoldsDocument holds after name (document_of answer)
   pub prints : AddsIfTold old (text_of answer) new (Ok tt)
 
--- a call ends with an answer, or with the status of a fault; a check of a document has no other
-abbrev pub EndsWith : Holds → List (List ℕ) → (old new : Option (List ℕ)) → Status → Type 0
-EndsWith holds words old new statuses.Limit = ⊥
-EndsWith holds words old new statuses.Device = Unit {0}
-EndsWith holds words old new statuses.Memory = Unit {0}
-EndsWith holds words old new status = Answers holds words old new status
+-- a call ends with an answer, or with the status of a fault
+abbrev pub EndsWith : (holds after : Holds) → List (List ℕ) → (old new : Option (List ℕ)) → Status → Type 0
+EndsWith holds after words old new statuses.Device = Unit {0}
+EndsWith holds after words old new statuses.Memory = Unit {0}
+EndsWith holds after words old new status = Answers holds after words old new status
 
--- the text of an answer that has its cause, or the front of it, or nothing was added where this is told
-abbrev pub PrintsPart : Holds → List (List ℕ) → Option (List ℕ) → Option (List ℕ) → Type 0
-PrintsPart holds words old new =
-    WhereTold old (λ before. (now : List ℕ) × (new ≡ Some now) × ((now ≡ before) ⊎ ((a : Answer) × (n : ℕ) × IsWhyWords holds words a × (now ≡ before ++ take n (text_of a)))))
+-- nothing was added where this is told; or the text of an answer that has its cause, or the front of it, and the answer's document
+-- stands where the words want it
+abbrev pub PrintsPart : (holds after : Holds) → List (List ℕ) → Option (List ℕ) → Option (List ℕ) → Type 0
+PrintsPart holds after words old new =
+    WhereTold old (λ before. (now : List ℕ) × (new ≡ Some now) × ((now ≡ before)
+    ⊎ ((a : Answer) × (n : ℕ) × IsWhyWords holds words a × ((name : List ℕ) → IsTarget words name → HoldsDocument holds after name (document_of a)) × (now ≡ before ++ take n (text_of a)))))

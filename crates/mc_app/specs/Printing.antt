@@ -1,32 +1,29 @@
 -- What is printed with an answer.
 use Rattle.std.specs.Prelude.{ℕ, List, ◌++◌, codes}
 use Rattle.std.specs.Fmt.{decimal}
+use Rattle.mc_base.specs.declared.plain.FaultKind.{FaultKind}
+use Rattle.mc_base.specs.declared.plain.FaultKind.TheVariants as kind
 use Rattle.mc_cert.specs.declared.fault.LineFault.{LineFault}
 use Rattle.mc_cert.specs.declared.fault.LineFault.TheVariants as line_fault
+use Rattle.mc_inputs.specs.Printing.{refusal_text}
+use Rattle.mc_interpret.specs.declared.ending.Ending.{Ending}
+use Rattle.mc_interpret.specs.declared.ending.Ending.TheVariants as ending
 use Rattle.mc_judge.specs.declared.verdict.Refusal.{Refusal as Mistake}
 use Rattle.mc_judge.specs.declared.verdict.Refusal.TheVariants as mistake
-use Rattle.mc_read.specs.Printing.{refusal_text}
-use Rattle.mc_defparse.specs.Printing as defs
+use Rattle.mc_judge.specs.declared.verdict.Verdict.{Verdict}
+use Rattle.mc_judge.specs.declared.verdict.Verdict.TheVariants as verdict
+use Rattle.mc_read.specs.Printing.{place_text}
+use Rattle.mc_analysis.specs.declared.analysis.Analysis.TheVariants as analysis
+use Rattle.mc_app.specs.declared.analysing.Analysed.{Analysed as Results}
+use Rattle.mc_app.specs.declared.analysing.Analysed.TheVariants as results
 use Rattle.mc_app.specs.declared.answer.Answer.{Answer}
-use Rattle.mc_app.specs.declared.answer.Answer.TheVariants.{Good, Alarms, Words, Program, Definitions, Document}
-use Rattle.mc_app.specs.declared.answer.ProgramFault.{ProgramFault}
-use Rattle.mc_app.specs.declared.answer.ProgramFault.TheVariants.{Unread, Misfit, TooLong, NotYet}
-use Rattle.mc_app.specs.declared.answer.NoProgram.TheVariants.{TooBig, Refused}
-use Rattle.mc_app.specs.declared.answer.NoDefinitions.{NoDefinitions}
-use Rattle.mc_app.specs.declared.answer.NoDefinitions.TheVariants as NoDefinitions
-
--- why a program is not checked
-abbrev pub fault_text : ProgramFault → List ℕ
-fault_text (Unread TooBig) = codes "TooBig"
-fault_text (Unread (Refused refusal)) = refusal_text refusal
-fault_text (Misfit refusal) = refusal_text refusal
-fault_text TooLong = codes "TooLong"
-fault_text NotYet = codes "NotYet"
-
--- why a text gives no definitions
-abbrev pub undefined_text : NoDefinitions → List ℕ
-undefined_text NoDefinitions.TooBig = codes "TooBig"
-undefined_text (NoDefinitions.Refused refusal) = defs.refusal_text refusal
+use Rattle.mc_app.specs.declared.answer.Answer.TheVariants.{Words, Refused, Checked, Ran, Analysed}
+use Rattle.mc_app.specs.declared.checking.Checked.{Checked as Found}
+use Rattle.mc_app.specs.declared.checking.Checked.TheVariants as found
+use Rattle.mc_app.specs.declared.graphs.NoGraph.{NoGraph}
+use Rattle.mc_app.specs.declared.graphs.NoGraph.TheVariants.{TooLong, NotYet}
+use Rattle.mc_app.specs.declared.running.Ran.{Ran as Came}
+use Rattle.mc_app.specs.declared.running.Ran.TheVariants.{TooBig, To}
 
 -- why bytes are no line
 abbrev pub line_fault_text : LineFault → List ℕ
@@ -47,11 +44,62 @@ mistake_text (mistake.AfterEnd number) = line_text number ++ codes "after the en
 mistake_text mistake.EndsEarly = codes "ends early"
 mistake_text mistake.NoAlarm = codes "no alarm"
 
--- an answer, in one line
+-- the verdict on a document
+abbrev pub verdict_text : Verdict → List ℕ
+verdict_text verdict.Safe = codes "safe"
+verdict_text (verdict.Alarms count) = codes "alarms: " ++ decimal count
+verdict_text (verdict.Refused refusal) = codes "refused: " ++ mistake_text refusal
+
+-- why there is nothing that documents are judged for
+abbrev pub no_graph_text : NoGraph → List ℕ
+no_graph_text TooLong = codes "program: TooLong"
+no_graph_text NotYet = codes "program: NotYet"
+
+-- what a check comes to
+abbrev pub checked_text : Found → List ℕ
+checked_text (found.NoGraph cause) = no_graph_text cause
+checked_text (found.Judged v) = verdict_text v
+
+-- the kind of a fault
+abbrev pub kind_text : FaultKind → List ℕ
+kind_text kind.Null = codes "null"
+kind_text kind.Freed = codes "freed"
+kind_text kind.Uninit = codes "uninit"
+kind_text kind.BadFree = codes "badfree"
+kind_text kind.Assertion = codes "assertion"
+kind_text kind.Shape = codes "shape"
+kind_text kind.NotEmpty = codes "notempty"
+
+-- what a program comes to
+abbrev pub ending_text : Ending → List ℕ
+ending_text ending.Ended = codes "ended"
+ending_text ending.Stopped = codes "stopped"
+ending_text (ending.Fault kind place) = codes "fault: " ++ kind_text kind ++ codes " at " ++ place_text place
+ending_text ending.FuelSpent = codes "limit: fuel"
+ending_text (ending.Short number) = codes "script: short at " ++ decimal number
+ending_text (ending.Bad number) = codes "script: bad at " ++ decimal number
+
+-- what a run comes to
+abbrev pub ran_text : Came → List ℕ
+ran_text TooBig = codes "script: TooBig"
+ran_text (To ending) = ending_text ending
+
+-- a text as a line
+abbrev pub line : List ℕ → List ℕ
+line text = text ++ codes "\n"
+
+-- what an analysis comes to: a report of its own, or a line
+abbrev pub analysed_text : Results → List ℕ
+analysed_text (results.NoGraph cause) = line (no_graph_text cause)
+analysed_text (results.Found (analysis.Safe f)) = f.report.items
+analysed_text (results.Found (analysis.Alarms f count)) = f.report.items
+analysed_text (results.Found (analysis.Paths document)) = line (codes "limit: Paths")
+analysed_text (results.Found analysis.Unknown) = line (codes "program: NotYet")
+
+-- an answer
 abbrev pub text_of : Answer → List ℕ
-text_of Good = codes "safe\n"
-text_of (Alarms count) = codes "alarms: " ++ decimal count ++ codes "\n"
-text_of Words = codes "words: refused\n"
-text_of (Program fault) = codes "program: " ++ fault_text fault ++ codes "\n"
-text_of (Definitions fault) = codes "definitions: " ++ undefined_text fault ++ codes "\n"
-text_of (Document cause) = codes "refused: " ++ mistake_text cause ++ codes "\n"
+text_of Words = line (codes "words: refused")
+text_of (Refused refusal) = line (refusal_text refusal)
+text_of (Checked found) = line (checked_text found)
+text_of (Ran found) = line (ran_text found)
+text_of (Analysed found) = analysed_text found

@@ -6,8 +6,8 @@ ghost use Rattle.mc_judge.specs.Stages.{Hears, StaysFor};
 ghost use Rattle.mc_outside.specs.Outside.{HasCause, Stays, WhereTold};
 ghost use Rattle.mc_app.specs.Documents.{IsHeard, IsVerdictOn};
 
-use crate::contents::{PIECE, buffer};
 use mc_flow::{Defs, Flow};
+use mc_inputs::{PIECE, buffer};
 use mc_judge::{Judge, Verdict};
 use mc_judges::judges_are_there;
 use mc_kernel::{certificates_are_safe, last_pass_finds_faults};

@@ -3,7 +3,7 @@ ghost use Rattle.std.specs.Prelude.{◌≡◌, ◌≤◌, IfErr, IfOk, List, Mat
 ghost use Rattle.mc_ast.specs.Views.{unit_of};
 ghost use Rattle.mc_flow.specs.Valid.{IsValid};
 ghost use Rattle.mc_straight.specs.declared.tree.Program.{Program as StraightForm};
-ghost use Rattle.mc_app.specs.Programs.{AreLong, IsGraphOf, IsShort};
+ghost use Rattle.mc_app.specs.Checks.{AreLong, IsGraphOf, IsShort};
 
 use mc_ast::Unit;
 use mc_flow::{Flow, valid};

@@ -1,4 +1,6 @@
+mod analyses;
 mod bodies;
+mod runs;
 mod shapes;
 
 use crate::{Status, memcad};
@@ -197,7 +199,7 @@ static DOCUMENTS: [(&str, &str); 20] = [
 ];
 
 // Words beside files p, d and c that hold a program, no definitions and its document.
-static WORDS: [(&str, &str); 25] = [
+static WORDS: [(&str, &str); 29] = [
     ("check p d c", "safe"),
     ("", "words: refused"),
     ("check", "words: refused"),
@@ -205,13 +207,17 @@ static WORDS: [(&str, &str); 25] = [
     ("check p d c c", "words: refused"),
     ("p d c", "words: refused"),
     ("analyse p d c", "words: refused"),
-    ("analyse p d", "words: refused"),
+    ("analyse p d", "safe"),
     ("Check p d c", "words: refused"),
     ("check -p d c", "words: refused"),
     ("check p d --c", "words: refused"),
     ("check p d c --help", "words: refused"),
     ("check p d c --fuel 7", "words: refused"),
-    ("run p d c", "words: refused"),
+    ("run p d c", "ended"),
+    ("run p d", "words: refused"),
+    ("run p d x", ""),
+    ("run p p x", "definitions: Syntax at 1:1"),
+    ("run d d x --entry f", "program: NoEntry at 1:1"),
     // The function that runs begin with.
     ("check p d c --entry main", "safe"),
     ("check --entry f p d c", "program: NoEntry at 1:1"),
@@ -257,11 +263,14 @@ static LENGTHS: [(&str, usize, usize, &str); 6] = [
 
 // The number of the status with which a call ends that printed this.
 fn code(printed: &str) -> u8 {
-    if let [b'r', b'e', b'f', ..] = printed.as_bytes() {
-        return 6;
+    match printed.as_bytes() {
+        [b'r', b'e', b'f', ..] | [b's', b'c', ..] => return 6,
+        [b'f', b'a', b'u', ..] => return 1,
+        _ => {}
     }
     match printed {
-        "safe" => 0,
+        "safe" | "ended" | "stopped" => 0,
+        "limit: fuel" => 5,
         "words: refused" => 2,
         "definitions: TooBig"
         | "definitions: Syntax at 1:1"

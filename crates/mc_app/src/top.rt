@@ -1,31 +1,104 @@
 // The top call.
-ghost use Rattle.std.specs.Prelude.{◌≡◌, ◌<◌, ◌⊎◌, IfOk, map, string_bytes};
+ghost use Rattle.std.specs.Prelude.{◌≡◌, ◌<◌, ◌⊎◌, ℕ, List, IfOk, Some, map, option_map, string_bytes};
+ghost use Rattle.mc_words.specs.Words.{Asks};
 ghost use Rattle.mc_outside.specs.Outside.{HasCause, Stays, Rose, AddsIfTold};
-ghost use Rattle.mc_words.specs.declared.words.Check.{Check};
-ghost use Rattle.mc_words.specs.Words.{AsksCheck};
 ghost use Rattle.mc_app.specs.Printing.{text_of};
-ghost use Rattle.mc_app.specs.Answers.{IsSafeWhereTold, IsWhyWords, EndsWith, PrintsPart};
+ghost use Rattle.mc_app.specs.Answers.{AsksForSafety, EndsWith, HasTarget, IsSafeForWords, IsWhyWords, Keeps, OnlyTargetChanges, PrintsPart, TargetHoldsPart, document_of, sources_of, status_of, target_of};
+ghost use Rattle.mc_app.specs.Checks.{IsSafeWhereTold};
 ghost use Rattle.mc_app.specs.Faults.{fault_status};
 
-use crate::work::answer;
+use crate::analysing::answer_analysis;
+use crate::checking::answer_check;
+use crate::running::answer_run;
 use crate::{Answer, Status};
 use mc_outside::{FileFault, Files, Sink};
+use mc_saving::save;
 use mc_words::{Request, asked};
 use std::alloc::Global;
 
-fn found<F: Files>(alloc: Global, words: &[String], files: &mut F) -> Result<Answer, FileFault>
-    ensures why { IfOk result (λ a. IsWhyWords (F.holds files.old) (map string_bytes words.now) a) }
-    ensures safe { IfOk result (λ a. a ≡ Answer.Good → (c : Check) → AsksCheck (map string_bytes words.now) c → IsSafeWhereTold (F.holds files.old) c) }
+// An answer, and the file that its document goes into.
+#[derive(Drop)]
+struct Reply<'w> {
+    answer: Answer,
+    target: Option<&'w str>,
+}
+
+// What a request comes to.
+fn answered<F: Files>(
+    alloc: Global,
+    files: &mut F,
+    request: Request<'_>,
+) -> Result<Answer, FileFault>
+    ensures why { IfOk result (λ a. (words : List (List ℕ)) → Asks words request.entry → IsWhyWords (F.holds files.old) words a) }
+    ensures safe { IfOk result (λ a. (words : List (List ℕ)) → Asks words request.entry → status_of a ≡ Status.Good → AsksForSafety request.entry → IsSafeWhereTold (F.holds files.old) (sources_of request.entry)) }
+    ensures same { Stays (F.holds files.old) (F.holds files.new) }
+    ensures cause { HasCause (F.faults files.old) (F.faults files.new) result }
+{
+    match request {
+        Request::Check(names) => {
+            let answer = answer_check(alloc, files, names)?;
+            Ok(answer)
+        }
+        Request::Run(names) => {
+            let answer = answer_run(alloc, files, names)?;
+            Ok(answer)
+        }
+        Request::Analyse(names) => {
+            let answer = answer_analysis(alloc, files, names)?;
+            Ok(answer)
+        }
+    }
+}
+
+// The file that the document of a request goes into.
+fn target<'w>(request: Request<'w>) -> Option<&'w str>
+    ensures { option_map (λ s. s.now) result ≡ target_of (Some request.entry) }
+{
+    match request {
+        Request::Check(_) => None,
+        Request::Run(_) => None,
+        Request::Analyse(names) => names.document,
+    }
+}
+
+fn found<'w, F: Files>(
+    alloc: Global,
+    words: &'w [String],
+    files: &mut F,
+) -> Result<Reply<'w>, FileFault>
+    ensures why { IfOk result (λ f. IsWhyWords (F.holds files.old) (map string_bytes words.entry.now) f.answer) }
+    ensures safe { IfOk result (λ f. status_of f.answer ≡ Status.Good → IsSafeForWords (F.holds files.old) (map string_bytes words.entry.now)) }
+    ensures target { IfOk result (λ f. HasTarget (map string_bytes words.entry.now) (option_map (λ s. s.now) f.target)) }
     ensures same { Stays (F.holds files.old) (F.holds files.new) }
     ensures cause { HasCause (F.faults files.old) (F.faults files.new) result }
 {
     match asked(alloc, words)? {
-        Some(Request::Check(names)) => {
-            let answer = answer(alloc, files, names)?;
-            Ok(answer)
+        Some(request) => {
+            let answer = answered(alloc, files, request)?;
+            let target = target(request);
+            Ok(Reply { answer, target })
         }
-        Some(Request::Run(_)) => Ok(Answer::Words),
-        None => Ok(Answer::Words),
+        None => Ok(Reply {
+            answer: Answer::Words,
+            target: None,
+        }),
+    }
+}
+
+// Writes the document of an answer into the file that it goes into.
+fn keep<F: Files>(files: &mut F, reply: &Reply<'_>) -> Result<(), FileFault>
+    ensures kept { Keeps (F.holds files.old) (F.holds files.new) (option_map (λ s. s.now) reply.now.target) (document_of reply.now.answer) result }
+    ensures cause { HasCause (F.faults files.old) (F.faults files.new) result }
+{
+    let Some(name) = reply.target else {
+        return Ok(());
+    };
+    match reply.answer.document() {
+        Some(text) => {
+            save(files, name, text)?;
+            Ok(())
+        }
+        None => Ok(()),
     }
 }
 
@@ -46,29 +119,34 @@ fn status_of(fault: FileFault) -> Status
     }
 }
 
-/// Does what the words ask for, which is to check a certificate. The answer is printed in one line.
+/// Does what the words ask for: checks a document, runs a program on a script, or analyses a program. The answer is printed.
 pub fn memcad<F: Files, K: Sink>(
     alloc: Global,
     words: &[String],
     files: &mut F,
     out: &mut K,
 ) -> Status
-    // Where the answer is that all is well, no run of the program has a fault.
-    ensures safe { result ≡ Status.Good → (c : Check) → AsksCheck (map string_bytes words.now) c → IsSafeWhereTold (F.holds files.old) c }
-    // Each answer has its cause and prints its text. A call without an answer ran out of memory, or the device failed.
-    ensures why { EndsWith (F.holds files.old) (map string_bytes words.now) (K.written out.old) (K.written out.new) result }
+    // Where a document is accepted or a certificate was found, no run of the program has a fault.
+    ensures safe { result ≡ Status.Good → IsSafeForWords (F.holds files.old) (map string_bytes words.now) }
+    // Each answer has its cause, leaves its document and prints its text. A call without an answer ran out of memory, or the
+    // device failed.
+    ensures why { EndsWith (F.holds files.old) (F.holds files.new) (map string_bytes words.now) (K.written out.old) (K.written out.new) result }
     ensures device { result ≡ Status.Device → Rose (F.faults files.old) (F.faults files.new) ⊎ Rose (K.faults out.old) (K.faults out.new) }
     ensures only_device { (F.faults files.old < F.faults files.new) ⊎ (K.faults out.old < K.faults out.new) → result ≡ Status.Device }
-    // Another status prints nothing, or the front of the text of an answer that has its cause.
-    ensures prints_part { PrintsPart (F.holds files.old) (map string_bytes words.now) (K.written out.old) (K.written out.new) }
-    // No file changes.
-    ensures same { Stays (F.holds files.old) (F.holds files.new) }
+    // Another status prints nothing, or the front of the text of an answer that has its cause, whose document stands by then.
+    ensures prints_part { PrintsPart (F.holds files.old) (F.holds files.new) (map string_bytes words.now) (K.written out.old) (K.written out.new) }
+    // No file changes, but the one that the words name for the document, which is as it was or holds the front of one.
+    ensures same { OnlyTargetChanges (map string_bytes words.now) (F.holds files.old) (F.holds files.new) }
+    ensures leaves_part { TargetHoldsPart (map string_bytes words.now) (F.holds files.old) (F.holds files.new) }
 {
     match found(alloc, words, files) {
         Err(fault) => status_of(fault),
-        Ok(answer) => match tell(alloc, &answer, out) {
+        Ok(reply) => match keep(files, &reply) {
             Err(fault) => status_of(fault),
-            Ok(()) => answer.status(),
+            Ok(()) => match tell(alloc, &reply.answer, out) {
+                Err(fault) => status_of(fault),
+                Ok(()) => reply.answer.status(),
+            },
         },
     }
 }

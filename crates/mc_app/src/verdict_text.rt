@@ -1,13 +1,16 @@
-// What is printed of documents that are no certificates.
+// What is printed of checks.
 ghost use Rattle.std.specs.Fmt.{decimal};
-ghost use Rattle.std.specs.Prelude.{◌≡◌, ◌++◌, IfOk, OnOk, codes};
-ghost use Rattle.mc_app.specs.Printing.{line_text, line_fault_text, mistake_text};
+ghost use Rattle.std.specs.Prelude.{◌≡◌, ◌++◌, OnOk, codes};
+ghost use Rattle.mc_app.specs.Printing.{checked_text, line_text, line_fault_text, mistake_text, no_graph_text, verdict_text};
 
+use crate::checking::Checked;
+use crate::graphs::NoGraph;
 use mc_cert::LineFault;
-use mc_judge::Refusal;
+use mc_judge::{Refusal, Verdict};
 use std::alloc::{AllocError, Global};
 
-fn print_number(alloc: Global, out: &mut Vec<u8>, number: u64) -> Result<(), AllocError>
+/// A number in decimal digits.
+pub fn print_number(alloc: Global, out: &mut Vec<u8>, number: u64) -> Result<(), AllocError>
     ensures { OnOk result (out.new.items ≡ out.old.items ++ decimal number) }
 {
     let text = format!(in alloc; "{number}")?;
@@ -73,22 +76,41 @@ fn print_mistake(alloc: Global, out: &mut Vec<u8>, refusal: &Refusal) -> Result<
     Ok(())
 }
 
-/// The text of a document that is refused.
-pub fn refused_text(alloc: Global, refusal: &Refusal) -> Result<Vec<u8>, AllocError>
-    ensures { IfOk result (λ text. text.items ≡ codes "refused: " ++ mistake_text refusal.now ++ codes "\n") }
+fn print_verdict(alloc: Global, out: &mut Vec<u8>, verdict: &Verdict) -> Result<(), AllocError>
+    ensures { OnOk result (out.new.items ≡ out.old.items ++ verdict_text verdict.now) }
 {
-    let mut text = Vec::from_slice(alloc, b"refused: ")?;
-    print_mistake(alloc, &mut text, refusal)?;
-    text.push(b'\n')?;
-    Ok(text)
+    match verdict {
+        Verdict::Safe => out.extend_from_slice(b"safe")?,
+        Verdict::Alarms(count) => {
+            out.extend_from_slice(b"alarms: ")?;
+            print_number(alloc, out, *count)?;
+        }
+        Verdict::Refused(refusal) => {
+            out.extend_from_slice(b"refused: ")?;
+            print_mistake(alloc, out, refusal)?;
+        }
+    }
+    Ok(())
 }
 
-/// The text of a chain in which so many instructions are stuck.
-pub fn alarms_text(alloc: Global, count: u64) -> Result<Vec<u8>, AllocError>
-    ensures { IfOk result (λ text. text.items ≡ codes "alarms: " ++ decimal count ++ codes "\n") }
+/// Adds why there is no flow graph.
+pub fn print_no_graph(out: &mut Vec<u8>, cause: NoGraph) -> Result<(), AllocError>
+    ensures { OnOk result (out.new.items ≡ out.old.items ++ no_graph_text cause) }
 {
-    let mut text = Vec::from_slice(alloc, b"alarms: ")?;
-    print_number(alloc, &mut text, count)?;
-    text.push(b'\n')?;
-    Ok(text)
+    match cause {
+        NoGraph::TooLong => out.extend_from_slice(b"program: TooLong"),
+        NoGraph::NotYet => out.extend_from_slice(b"program: NotYet"),
+    }
+}
+
+impl Checked {
+    /// Adds the text that tells of it.
+    pub fn print(&self, alloc: Global, out: &mut Vec<u8>) -> Result<(), AllocError>
+        ensures { OnOk result (out.new.items ≡ out.old.items ++ checked_text self.now) }
+    {
+        match self {
+            Checked::NoGraph(cause) => print_no_graph(out, *cause),
+            Checked::Judged(verdict) => print_verdict(alloc, out, verdict),
+        }
+    }
 }

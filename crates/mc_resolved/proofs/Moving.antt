@@ -13,7 +13,7 @@ use Rattle.mc_meaning.specs.Moves.{block_variables, head_variables, condition_pl
 use Rattle.mc_resolved.specs.Configs.{Values, Target, perform, again, test, Tasks, done, task, Branch}
 use Rattle.mc_resolved.specs.Moves.{in_a_row, started, tested, behind_loop, at_turn, given, declared_all, moved, Arrives, here, there}
 use Rattle.mc_resolved.specs.Resolving.{start_variables, statement_variables, statements_variables, resolved_condition, resolved_simple, resolved_items, resolved_start, resolved_statement, resolved_statements}
-use Rattle.mc_resolved.specs.Running.{AreKnown, Agree, naming, SameTarget, same_nowhere, same_stored, same_returned, SameTasks, same_done, same_task, ends_call, performs, declares, finishes, again_while, again_do, again_for, tests, goes, ends_block, ends_loop, ends_turn, takes, SameBranch, same_tasks, same_fault, same_stop}
+use Rattle.mc_resolved.specs.Running.{AreKnown, Agree, naming, SameTarget, same_nowhere, same_stored, same_returned, SameTasks, same_done, same_task, ends_call, performs, declares, finishes, again_while, again_do, again_for, tests, goes, ends_block, ends_loop, ends_turn, takes, SameBranch, same_tasks, same_fault, same_stop, AtStep}
 use Rattle.mc_resolved.proofs.Holding.{without_agree}
 use Rattle.mc_resolved.proofs.Knowing.{known_left, known_right, start_known, head_known, behind_known, block_known}
 
@@ -246,27 +246,21 @@ stay_back : (t : Tables) (defs : List Def) {o : Option (named.Values × named.Ta
 stay_back t defs both_stay e = refl
 stay_back t defs (both_move agree same) e = absurd (grind (arith, e))
 
--- both are at a step
-pub record Arrived (t : Tables) (defs : List Def) (values : named.Values) (ts : named.Tasks) (numbered : Values) (us : Tasks) : Type 0 where
-  pub locals : List Variable
-  pub agree : Agree locals values numbered
-  pub same : SameTasks t defs locals ts us
-  pub stays : named_moves.moved t values ts ≡ None
-
+-- ---- to the next step
 pub arrive_forth : (t : Tables) (defs : List Def) {values final : named.Values} {ts ready : named.Tasks} → named_moves.Arrives t values ts final ready
     → (locals : List Variable) (numbered : Values) (us : Tasks) → Agree locals values numbered → SameTasks t defs locals ts us
-    → (n : Values) × (vs : Tasks) × Arrives numbered us n vs × Arrived t defs final ready n vs
+    → (n : Values) × (vs : Tasks) × Arrives numbered us n vs × AtStep t defs final ready n vs
 arrive_forth t defs (named_moves.here {values = values} {tasks = ts} stays) locals numbered us agree same = go (moves t defs locals values numbered agree same)
   where
-    go : Moves t defs values numbered ts us → (n : Values) × (vs : Tasks) × Arrives numbered us n vs × Arrived t defs values ts n vs
+    go : Moves t defs values numbered ts us → (n : Values) × (vs : Tasks) × Arrives numbered us n vs × AtStep t defs values ts n vs
     go (together move) = (numbered, us, here (stay_on t defs move stays), record { locals = locals; agree = agree; same = same; stays = stays })
     go (alone e agree_later same_later less) = absurd (let bad = sym e ∙ stays in grind (arith, bad))
 arrive_forth t defs (named_moves.there {values = values} {later = later} {final = final} {tasks = ts} {next = next} {ready = ready} some path) locals numbered us agree same =
     go (moves t defs locals values numbered agree same) (λ locals numbered us agree same. arrive_forth t defs path locals numbered us agree same)
   where
     go : Moves t defs values numbered ts us
-        → ((locals : List Variable) (numbered : Values) (us : Tasks) → Agree locals later numbered → SameTasks t defs locals next us → (n : Values) × (vs : Tasks) × Arrives numbered us n vs × Arrived t defs final ready n vs)
-        → (n : Values) × (vs : Tasks) × Arrives numbered us n vs × Arrived t defs final ready n vs
+        → ((locals : List Variable) (numbered : Values) (us : Tasks) → Agree locals later numbered → SameTasks t defs locals next us → (n : Values) × (vs : Tasks) × Arrives numbered us n vs × AtStep t defs final ready n vs)
+        → (n : Values) × (vs : Tasks) × Arrives numbered us n vs × AtStep t defs final ready n vs
     go (together move) more =
         let on = moved_on t defs later next move some in
         let there_on = more on.2 on.0 on.1 on.4 on.5 in
@@ -300,7 +294,7 @@ settle (suc k) t defs locals values numbered ts us less agree same = go (moves t
 
 pub arrive_back : (t : Tables) (defs : List Def) {numbered final : Values} {us ready : Tasks} → Arrives numbered us final ready
     → (locals : List Variable) (values : named.Values) (ts : named.Tasks) → Agree locals values numbered → SameTasks t defs locals ts us
-    → (v : named.Values) × (vs : named.Tasks) × named_moves.Arrives t values ts v vs × Arrived t defs v vs final ready
+    → (v : named.Values) × (vs : named.Tasks) × named_moves.Arrives t values ts v vs × AtStep t defs v vs final ready
 arrive_back t defs (here {values = numbered} {tasks = us} stays) locals values ts agree same =
     let settled : Settled t defs values ts numbered us = settle (suc (silent ts)) t defs locals values numbered ts us (omega arith) agree same in
     let none : named_moves.moved t values settled.next ≡ None = stay_back t defs settled.move stays in

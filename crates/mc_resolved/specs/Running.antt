@@ -3,19 +3,27 @@ use Rattle.std.specs.Prelude.{◌≡◌, ◌<◌, ◌↔◌, ℕ, ℤ, List, [],
 use Rattle.mc_text.specs.declared.place.Place.{Place}
 use Rattle.mc_base.specs.Runs.{Final, next, last, Reaches}
 use Rattle.mc_heap.specs.Choices.{Choice}
+use Rattle.mc_heap.specs.Heap.{Heap}
 use Rattle.mc_defs.specs.declared.rules.Def.{Def}
 use Rattle.mc_ast.specs.declared.trees.Base.{Base}
+use Rattle.mc_ast.specs.declared.trees.Name.{Name}
 use Rattle.mc_ast.specs.Trees as tree
 use Rattle.mc_types.specs.Tables.{Tables, Variable, variable_of as declared_variable}
 use Rattle.mc_types.specs.Scopes.{Scope, visible, behind, behind_start}
 use Rattle.mc_meaning.specs.Configs as named
+use Rattle.mc_meaning.specs.Moves as named_moves
 use Rattle.mc_meaning.specs.Steps as named_steps
+use Rattle.mc_meaning.specs.Steps.{where_is}
+use Rattle.mc_meaning.specs.Values as named_values
+use Rattle.mc_meaning.specs.Values.{Evaluated}
 use Rattle.mc_resolved.specs.Programs.{Function, declaration, simple}
 use Rattle.mc_resolved.specs.Configs.{Values, held, Target, nowhere, stored, returned, Task, perform, again, test}
 use Rattle.mc_resolved.specs.Configs.{always, end_block, end_loop, end_turn, end_call, take_result, Tasks, done}
 use Rattle.mc_resolved.specs.Configs.{task, Branch, go_on, fails, stops, Config, Result}
 use Rattle.mc_resolved.specs.Steps.{Step, start}
-use Rattle.mc_resolved.specs.Resolving.{Naming, statement_variables, number_in, numbers_in, resolved_left, resolved_condition, resolved_simple, resolved_items, resolved_statement, resolved_program}
+use Rattle.mc_resolved.specs.Moves.{Arrives}
+use Rattle.mc_resolved.specs.Values.{Evaluates}
+use Rattle.mc_resolved.specs.Resolving.{Naming, statement_variables, number_in, numbers_in, resolved_variable, resolved_expression, resolved_left, resolved_condition, resolved_simple, resolved_items, resolved_statement, resolved_program}
 
 -- a variable is one of these, by its place
 abbrev pub IsKnown : List Variable → Place → Type 0
@@ -95,6 +103,26 @@ pub record Match (t : Tables) (defs : List Def) (c : named.Config) (d : Config) 
 pub data SameResult (t : Tables) (defs : List Def) : named.Result → Result → Type 0 where
   both_go : {c : named.Config} {d : Config} {choices : List Choice} → Match t defs c d → SameResult t defs (next c choices) (next d choices)
   both_end : {f : Final} → SameResult t defs (last f) (last f)
+
+-- where two programs are at these places, each name and each expression has the same value in both
+pub record ValuesAlike (t : Tables) (defs : List Def) (locals vs : List Variable) (values : named.Values) (numbered : Values) (heap : Heap) : Type 0 where
+  pub names : (name : Name) → held numbered (resolved_variable (naming t defs locals) vs name) ≡ named_values.held (where_is t vs values heap) name
+  pub expressions : (e : tree.Expr) (choices : List Choice) (one : Evaluated)
+      → named_values.Evaluates (where_is t vs values heap) e choices one ↔ Evaluates numbered heap (resolved_expression (naming t defs locals) vs e) choices one
+
+-- both are at a step, with the same left to do
+pub record AtStep (t : Tables) (defs : List Def) (values : named.Values) (ts : named.Tasks) (numbered : Values) (us : Tasks) : Type 0 where
+  pub locals : List Variable
+  pub agree : Agree locals values numbered
+  pub same : SameTasks t defs locals ts us
+  pub stays : named_moves.moved t values ts ≡ None
+
+-- where the one comes to its next step, the other comes to the same step
+pub record ArriveAlike (t : Tables) (defs : List Def) (c : named.Config) (d : Config) : Type 0 where
+  pub forth : (values : named.Values) (ts : named.Tasks) → named_moves.Arrives t c.values c.tasks values ts
+      → (numbered : Values) × (us : Tasks) × Arrives d.values d.tasks numbered us × AtStep t defs values ts numbered us
+  pub back : (numbered : Values) (us : Tasks) → Arrives d.values d.tasks numbered us
+      → (values : named.Values) × (ts : named.Tasks) × named_moves.Arrives t c.values c.tasks values ts × AtStep t defs values ts numbered us
 
 abbrev pub program : Tables → List Def → named.Program
 program t defs = record { tables = t; defs = defs }

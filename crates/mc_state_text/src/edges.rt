@@ -27,7 +27,7 @@ fn push_nodes(
 }
 
 /// Adds the name of a predicate.
-fn push_pred(out: &mut Vec<u8>, defs: &[Def], pred: PredId) -> Result<(), NoMemory>
+pub fn push_pred(out: &mut Vec<u8>, defs: &[Def], pred: PredId) -> Result<(), NoMemory>
     ensures { OnOk result (out.new.items ≡ out.old.items ++ pred_text defs.now pred) }
 {
     if let Some(def) = defs.get(pred.0 as usize) {

@@ -10,12 +10,15 @@ mod names;
 mod nodes;
 
 use edges::edge_texts;
+pub use edges::push_pred;
 use joining::{push_next_part, push_part};
 use mc_base::{Atom, Items, NoMemory, VarInfo};
 use mc_defs::{Def, StructInfo};
 use mc_symbolic::State;
+pub use names::push_var;
 use names::var_texts;
 use nodes::atom_texts;
+pub use nodes::{push_node, push_number};
 use std::alloc::Global;
 
 /// The text of a state, where these are its atoms.

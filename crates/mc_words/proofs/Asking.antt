@@ -6,9 +6,10 @@ use Rattle.clap.specs.Faults.{fault_of}
 use Rattle.mc_words.specs.declared.words.Check.{Check}
 use Rattle.mc_words.specs.declared.words.Request.{Request}
 use Rattle.mc_words.specs.declared.words.Request.TheVariants as request
+use Rattle.mc_words.specs.declared.words.Analyse.{Analyse}
 use Rattle.mc_words.specs.declared.words.Run.{Run}
-use Rattle.mc_words.specs.Commands.{check_app, run_app}
-use Rattle.mc_words.specs.Words.{Asks, AsksCheck, AsksRun}
+use Rattle.mc_words.specs.Commands.{analyse_app, check_app, run_app}
+use Rattle.mc_words.specs.Words.{Asks, AsksAnalyse, AsksCheck, AsksRun}
 
 -- the words begin with this one
 abbrev pub BeginsWith : List ℕ → List (List ℕ) → Type 0
@@ -19,33 +20,51 @@ first_byte [] = 0
 first_byte ([] ∷ words) = 0
 first_byte ((b ∷ bytes) ∷ words) = b
 
-two_names : (words : List (List ℕ)) → BeginsWith (codes "check") words → BeginsWith (codes "run") words → ⊥
-unfolding first_byte
-two_names words c r =
-    let e : first_byte words ≡ 99 = ap first_byte c.1 in
-    let d : first_byte words ≡ 114 = ap first_byte r.1 in
-    absurd (omega arith)
+-- words begin with one word alone
+one_name : (words : List (List ℕ)) (name other : List ℕ) → BeginsWith name words → BeginsWith other words → name ≡ other
+one_name words name other c r = let e = c.1 in let d = r.1 in cc
+
+check_or_run : codes "check" ≡ codes "run" → ⊥
+check_or_run e = absurd (grind (arith, e))
+
+check_or_analyse : codes "check" ≡ codes "analyse" → ⊥
+check_or_analyse e = absurd (grind (arith, e))
+
+run_or_analyse : codes "run" ≡ codes "analyse" → ⊥
+run_or_analyse e = absurd (grind (arith, e))
 
 -- a `check` that is none, and words that begin with `check`
 pub no_check : (words : List (List ℕ)) → BeginsWith (codes "check") words → ((c : Check) → AsksCheck words c → ⊥) → (a : Request) → Asks words a → ⊥
 no_check words begins none (request.Check c) asks = none c asks
-no_check words begins none (request.Run c) asks = two_names words begins asks.named.0
+no_check words begins none (request.Run c) asks = check_or_run (one_name words _ _ begins asks.named.0)
+no_check words begins none (request.Analyse c) asks = check_or_analyse (one_name words _ _ begins asks.named.0)
 
 -- a `run` that is none, and words that begin with `run`
 pub no_run : (words : List (List ℕ)) → BeginsWith (codes "run") words → ((c : Run) → AsksRun words c → ⊥) → (a : Request) → Asks words a → ⊥
-no_run words begins none (request.Check c) asks = two_names words asks.named.0 begins
+no_run words begins none (request.Check c) asks = check_or_run (one_name words _ _ asks.named.0 begins)
 no_run words begins none (request.Run c) asks = none c asks
+no_run words begins none (request.Analyse c) asks = run_or_analyse (one_name words _ _ begins asks.named.0)
 
--- words that begin with neither
-pub no_other : (words : List (List ℕ)) → (BeginsWith (codes "check") words → ⊥) → (BeginsWith (codes "run") words → ⊥) → (a : Request) → Asks words a → ⊥
-no_other words check run (request.Check c) asks = check asks.named.0
-no_other words check run (request.Run c) asks = run asks.named.0
+-- an `analyse` that is none, and words that begin with `analyse`
+pub no_analyse : (words : List (List ℕ)) → BeginsWith (codes "analyse") words → ((c : Analyse) → AsksAnalyse words c → ⊥) → (a : Request) → Asks words a → ⊥
+no_analyse words begins none (request.Check c) asks = check_or_analyse (one_name words _ _ asks.named.0 begins)
+no_analyse words begins none (request.Run c) asks = run_or_analyse (one_name words _ _ asks.named.0 begins)
+no_analyse words begins none (request.Analyse c) asks = none c asks
+
+-- words that begin with none of the commands
+pub no_other : (words : List (List ℕ)) → (BeginsWith (codes "check") words → ⊥) → (BeginsWith (codes "run") words → ⊥) → (BeginsWith (codes "analyse") words → ⊥) → (a : Request) → Asks words a → ⊥
+no_other words check run analyse (request.Check c) asks = check asks.named.0
+no_other words check run analyse (request.Run c) asks = run asks.named.0
+no_other words check run analyse (request.Analyse c) asks = analyse asks.named.0
 
 pub check_at_fault : (words : List (List ℕ)) → (fault_of check_app words ≡ [] → ⊥) → (c : Check) → AsksCheck words c → ⊥
 check_at_fault words bad c asks = bad asks.named.1
 
 pub run_at_fault : (words : List (List ℕ)) → (fault_of run_app words ≡ [] → ⊥) → (c : Run) → AsksRun words c → ⊥
 run_at_fault words bad c asks = bad asks.named.1
+
+pub analyse_at_fault : (words : List (List ℕ)) → (fault_of analyse_app words ≡ [] → ⊥) → (c : Analyse) → AsksAnalyse words c → ⊥
+analyse_at_fault words bad c asks = bad asks.named.1
 
 -- words of which this is the first one
 pub first_word : {A : Type 0} (text : A → List ℕ) (words : List A) (x : A) (name : List ℕ) → 1 ≤ length words → x ≡ get_or words 0 x → text x ≡ name → BeginsWith name (map text words)

@@ -15,16 +15,32 @@ option id default = record (new_rule id) { long = Some id; defaults = default �
 abbrev pub number_option : List ℕ → List ℕ → ℕ → Rule
 number_option id default most = record (option id default) { parser = Some (vp.Unsigned 1 most) }
 
--- two files, which every command but one begins with
-unfoldable pub over_programs : List ℕ → List ℕ → App
-over_programs name third =
-    with_rule (with_rule (with_rule (with_rule (new_app name) (place (codes "program"))) (place (codes "definitions"))) (place third))
-    (option (codes "entry") (codes "main"))
+-- `--id VALUE`, which may be left out
+abbrev pub free_option : List ℕ → Rule
+free_option id = record (new_rule id) { long = Some id }
+
+-- two files, with which every command but one begins
+unfoldable pub two_files : List ℕ → App
+two_files name = with_rule (with_rule (new_app name) (place (codes "program"))) (place (codes "definitions"))
+
+-- the function that runs begin with
+abbrev pub entry_option : Rule
+entry_option = option (codes "entry") (codes "main")
+
+-- two files and a third one
+unfoldable pub three_files : List ℕ → List ℕ → App
+three_files name third = with_rule (with_rule (two_files name) (place third)) entry_option
 
 -- `check PROGRAM DEFINITIONS DOCUMENT [--entry F]`
 unfoldable pub check_app : App
-check_app = over_programs (codes "check") (codes "document")
+check_app = three_files (codes "check") (codes "document")
 
 -- `run PROGRAM DEFINITIONS SCRIPT [--entry F] [--fuel N]`
 unfoldable pub run_app : App
-run_app = with_rule (over_programs (codes "run") (codes "script")) (number_option (codes "fuel") (codes "100000") 10000000)
+run_app = with_rule (three_files (codes "run") (codes "script")) (number_option (codes "fuel") (codes "100000") 10000000)
+
+-- `analyse PROGRAM DEFINITIONS [--entry F] [--rounds N] [--disjuncts N] [--document FILE]`
+unfoldable pub analyse_app : App
+analyse_app =
+    with_rule (with_rule (with_rule (with_rule (two_files (codes "analyse")) entry_option)
+    (number_option (codes "rounds") (codes "30") 100)) (number_option (codes "disjuncts") (codes "16") 64)) (free_option (codes "document"))

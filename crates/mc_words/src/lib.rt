@@ -6,4 +6,4 @@ mod commands;
 mod tests;
 mod words;
 
-pub use words::{Check, Request, Run, asked};
+pub use words::{Analyse, Check, Request, Run, asked};

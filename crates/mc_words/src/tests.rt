@@ -1,4 +1,4 @@
-use crate::{Check, Request, Run, asked};
+use crate::{Analyse, Check, Request, Run, asked};
 use std::alloc::{AllocError, Global};
 use std::test::Fail;
 
@@ -36,6 +36,15 @@ const RUN: Run<'static> = Run {
     script: "s",
     start: "main",
     fuel: 100_000,
+};
+
+const ANALYSE: Analyse<'static> = Analyse {
+    program: "p",
+    definitions: "d",
+    start: "main",
+    rounds: 30,
+    disjuncts: 16,
+    document: None,
 };
 
 #[test]
@@ -106,5 +115,47 @@ fn run_has_fuel(rt: HostRuntime) -> Result<(), Fail> {
     assert!(rt; is_refused(alloc, &["run", "p", "d", "s", "--fuel", "10000001"])?);
     assert!(rt; is_refused(alloc, &["run", "p", "d", "s", "--fuel", "0"])?);
     assert!(rt; is_refused(alloc, &["run", "p", "d", "s", "--fuel", "many"])?);
+    Ok(())
+}
+
+#[test]
+fn analyse_names_two_files(rt: HostRuntime) -> Result<(), Fail> {
+    let alloc = rt.alloc();
+    let wanted = Request::Analyse(ANALYSE);
+    assert!(rt; is_asked(alloc, &["analyse", "p", "d"], Some(wanted))?);
+    assert!(rt; is_refused(alloc, &["analyse", "p"])?);
+    assert!(rt; is_refused(alloc, &["analyse", "p", "d", "c"])?);
+    assert!(rt; is_refused(alloc, &["analyse", "p", "d", "--merge"])?);
+    Ok(())
+}
+
+#[test]
+fn analyse_has_limits_and_a_document(rt: HostRuntime) -> Result<(), Fail> {
+    let alloc = rt.alloc();
+    let wanted = Request::Analyse(Analyse {
+        rounds: 100,
+        disjuncts: 1,
+        document: Some("c"),
+        ..ANALYSE
+    });
+    assert!(rt;
+        is_asked(
+            alloc,
+            &[
+                "analyse",
+                "p",
+                "d",
+                "--rounds",
+                "100",
+                "--disjuncts",
+                "1",
+                "--document",
+                "c"
+            ],
+            Some(wanted)
+        )?
+    );
+    assert!(rt; is_refused(alloc, &["analyse", "p", "d", "--rounds", "0"])?);
+    assert!(rt; is_refused(alloc, &["analyse", "p", "d", "--disjuncts", "65"])?);
     Ok(())
 }

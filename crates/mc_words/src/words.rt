@@ -5,8 +5,9 @@ ghost use Rattle.clap.specs.Faults.{fault_of, is_simple_and_free};
 ghost use Rattle.clap.specs.Walk.{rows_of};
 ghost use Rattle.mc_words.specs.declared.words.Check.{Check as Judges};
 ghost use Rattle.mc_words.specs.declared.words.Run.{Run as Runs};
-ghost use Rattle.mc_words.specs.Commands.{check_app, run_app};
-ghost use Rattle.mc_words.specs.Words.{Asks, AsksCheck, AsksRun, IsFor, Reads, ReadsFuel};
+ghost use Rattle.mc_words.specs.declared.words.Analyse.{Analyse as Analyses};
+ghost use Rattle.mc_words.specs.Commands.{analyse_app, check_app, run_app};
+ghost use Rattle.mc_words.specs.Words.{Asks, AsksAnalyse, AsksCheck, AsksRun, IsFor, Reads, ReadsNumber, ReadsPerhaps};
 ghost use Rattle.mc_words.specs.declared.words.Request.{Request as Meant};
 
 use crate::commands;
@@ -36,11 +37,27 @@ pub struct Run<'w> {
     pub fuel: u64,
 }
 
+/// A program is to be analysed.
+#[derive(Clone, Copy, Debug, PartialEq, Eq)]
+pub struct Analyse<'w> {
+    pub program: &'w str,
+    pub definitions: &'w str,
+    /// The function that runs begin with.
+    pub start: &'w str,
+    /// How many passes are made at most, from 1 to 100.
+    pub rounds: u64,
+    /// How many states a cut has at most, from 1 to 64.
+    pub disjuncts: u64,
+    /// Where the document is written, if it is wanted.
+    pub document: Option<&'w str>,
+}
+
 /// A command with what it names.
 #[derive(Clone, Copy, Debug, PartialEq, Eq)]
 pub enum Request<'w> {
     Check(Check<'w>),
     Run(Run<'w>),
+    Analyse(Analyse<'w>),
 }
 
 // The matches of a command, if it finds no fault in the words.
@@ -72,6 +89,22 @@ fn word<'w>(found: &ArgMatches<'w>, id: &str) -> Option<&'w str>
     found.get_str(id)
 }
 
+// The number that a command has read at one of its names.
+fn number(found: &ArgMatches<'_>, id: &str) -> Option<u64>
+    ensures { (app : App) (words : List (List ℕ)) → rows_of (found_of found.now) ≡ matches_of app words
+        → MatchOption result ((n : ℕ) → ReadsNumber app words id.now n → ⊥) (ReadsNumber app words id.now) }
+{
+    found.get_one::<u64>(id)
+}
+
+// The word that a command has read at a name that may be left out.
+fn word_perhaps<'w>(found: &ArgMatches<'w>, id: &str) -> Option<&'w str>
+    ensures { (app : App) (words : List (List ℕ)) → rows_of (found_of found.now) ≡ matches_of app words
+        → ReadsPerhaps app words id.now (option_map (λ s. s.now) result) }
+{
+    found.get_str(id)
+}
+
 // What a `check` names.
 fn check_of<'w>(found: &ArgMatches<'w>) -> Option<Check<'w>>
     ensures { (words : List (List ℕ)) → IsFor (codes "check") check_app words
@@ -86,14 +119,6 @@ fn check_of<'w>(found: &ArgMatches<'w>) -> Option<Check<'w>>
     })
 }
 
-// How much fuel a `run` has.
-fn fuel_of(found: &ArgMatches<'_>) -> Option<u64>
-    ensures { (words : List (List ℕ)) → rows_of (found_of found.now) ≡ matches_of run_app words
-        → MatchOption result ((n : ℕ) → ReadsFuel words n → ⊥) (ReadsFuel words) }
-{
-    found.get_one::<u64>("fuel")
-}
-
 // What a `run` names.
 fn run_of<'w>(found: &ArgMatches<'w>) -> Option<Run<'w>>
     ensures { (words : List (List ℕ)) → IsFor (codes "run") run_app words
@@ -105,7 +130,23 @@ fn run_of<'w>(found: &ArgMatches<'w>) -> Option<Run<'w>>
         definitions: word(found, "definitions")?,
         script: word(found, "script")?,
         start: word(found, "entry")?,
-        fuel: fuel_of(found)?,
+        fuel: number(found, "fuel")?,
+    })
+}
+
+// What an `analyse` names.
+fn analyse_of<'w>(found: &ArgMatches<'w>) -> Option<Analyse<'w>>
+    ensures { (words : List (List ℕ)) → IsFor (codes "analyse") analyse_app words
+        → rows_of (found_of found.now) ≡ matches_of analyse_app words
+        → MatchOption result ((c : Analyses) → AsksAnalyse words c → ⊥) (AsksAnalyse words) }
+{
+    Some(Analyse {
+        program: word(found, "program")?,
+        definitions: word(found, "definitions")?,
+        start: word(found, "entry")?,
+        rounds: number(found, "rounds")?,
+        disjuncts: number(found, "disjuncts")?,
+        document: word_perhaps(found, "document"),
     })
 }
 
@@ -139,6 +180,21 @@ fn asked_run<'w>(alloc: Global, words: &'w [String]) -> Result<Option<Request<'w
     }
 }
 
+// The words behind `analyse`.
+fn asked_analyse<'w>(alloc: Global, words: &'w [String]) -> Result<Option<Request<'w>>, AllocError>
+    requires { (rest : List (List ℕ)) × (map string_bytes words.now ≡ codes "analyse" ∷ rest) }
+    ensures { IfOk result (λ r. MatchOption r ((a : Meant) → Asks (map string_bytes words.entry.now) a → ⊥) (Asks (map string_bytes words.entry.now))) }
+{
+    let command = commands::analyse(alloc)?;
+    let Some(found) = matches(command, words)? else {
+        return Ok(None);
+    };
+    match analyse_of(&found) {
+        Some(analyse) => Ok(Some(Request::Analyse(analyse))),
+        None => Ok(None),
+    }
+}
+
 /// What the words ask for, if they ask for something. The first one names the command, and that command's parser reads
 /// the others.
 pub fn asked<'w>(alloc: Global, words: &'w [String]) -> Result<Option<Request<'w>>, AllocError>
@@ -153,6 +209,9 @@ pub fn asked<'w>(alloc: Global, words: &'w [String]) -> Result<Option<Request<'w
     }
     if name == "run" {
         return asked_run(alloc, words);
+    }
+    if name == "analyse" {
+        return asked_analyse(alloc, words);
     }
     Ok(None)
 }

@@ -1,4 +1,4 @@
-use Rattle.std.proofs.Common.{◌≡◌, ◌++◌, ◌-◌, ◌≤◌, ap, sym, ◌∙◌, arith, take, drop, length}
+use Rattle.std.proofs.Common.{◌++◌, ◌-◌, ◌≤◌, ◌∙◌, arith, length}
 use Rattle.std.proofs.lemmas.List.{take_all}
 use Rattle.mc_app.proofs.Causes.{still}
 use Rattle.mc_app.proofs.Hearing.{front_more, heard_more}

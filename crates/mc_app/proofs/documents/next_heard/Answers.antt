@@ -1,4 +1,4 @@
-use Rattle.std.proofs.Common.{◌≡◌, ◌≤◌, ◌∙◌, length, drop, arith}
+use Rattle.std.proofs.Common.{◌≤◌, ◌∙◌, length, drop, arith}
 use Rattle.mc_app.proofs.Hearing.{front_length, front_of}
 use Rattle.mc_app.proofs.documents.next_heard.Goals as goal
 

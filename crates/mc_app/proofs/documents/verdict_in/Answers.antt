@@ -1,4 +1,4 @@
-use Rattle.std.proofs.Common.{◌≡◌, ◌∙◌, ℕ, List, subst}
+use Rattle.std.proofs.Common.{◌∙◌, ℕ, List, subst}
 use Rattle.mc_app.specs.Documents.{IsVerdictOn}
 use Rattle.mc_app.proofs.Hearing.{means, right_verdict, told_verdict}
 use Rattle.mc_app.proofs.documents.verdict_in.Goals as goal

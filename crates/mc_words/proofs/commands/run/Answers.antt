@@ -5,4 +5,4 @@ use Rattle.mc_words.proofs.commands.run.Goals as goal
 
 pub returns : goal.returns
 unfolding run_app
-returns c = c.in_ok-command.ensures.shape (search rules) ∙ ap₂ with_rule c.in_ok-over_programs.ensures c.fuel.ensures.rule
+returns c = c.in_ok-command.ensures.shape (search rules) ∙ ap₂ with_rule c.in_ok-three_files.ensures c.number-fuel.ensures.rule

@@ -2,12 +2,12 @@ use Rattle.std.proofs.Common.{◌≡◌, ◌∙◌, ap, refl, true, string_bytes
 use Rattle.clap.specs.Words.{app_of, found_of}
 use Rattle.clap.specs.Faults.{is_simple_and_free}
 use Rattle.clap.specs.Walk.{rows_of}
-use Rattle.mc_words.specs.Commands.{check_app, over_programs}
+use Rattle.mc_words.specs.Commands.{check_app, three_files, two_files}
 use Rattle.mc_words.proofs.Asking.{no_check, read_by}
 use Rattle.mc_words.proofs.words.asked_check.Goals as goal
 
 is_free : is_simple_and_free check_app ≡ true
-unfolding check_app over_programs
+unfolding check_app two_files three_files
 is_free = refl
 
 pub matches-requires : goal.matches-requires

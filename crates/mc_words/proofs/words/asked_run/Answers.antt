@@ -2,12 +2,12 @@ use Rattle.std.proofs.Common.{◌≡◌, ◌∙◌, ap, refl, true, string_bytes
 use Rattle.clap.specs.Words.{app_of, found_of}
 use Rattle.clap.specs.Faults.{is_simple_and_free}
 use Rattle.clap.specs.Walk.{rows_of}
-use Rattle.mc_words.specs.Commands.{run_app, over_programs}
+use Rattle.mc_words.specs.Commands.{run_app, three_files, two_files}
 use Rattle.mc_words.proofs.Asking.{no_run, read_by}
 use Rattle.mc_words.proofs.words.asked_run.Goals as goal
 
 is_free : is_simple_and_free run_app ≡ true
-unfolding run_app over_programs
+unfolding run_app two_files three_files
 is_free = refl
 
 pub matches-requires : goal.matches-requires

@@ -1,0 +1,12 @@
+-- The laws on which following a chain stands.
+use Rattle.mc_judges.specs.Judges.{JudgesAreThere}
+use Rattle.mc_reading.specs.Laws.{BegunIsKept, ChainsAreRead, LinesAreAdded, LinesKeep, RulesAreRead}
+
+-- documents are read line by line by a right judge, which is there, and one that has ended is a chain of one pass
+pub record DocumentsAreFollowed : Type 0 where
+  pub judges : JudgesAreThere
+  pub begun : BegunIsKept
+  pub keep : LinesKeep
+  pub rules : RulesAreRead
+  pub added : LinesAreAdded
+  pub chains : ChainsAreRead

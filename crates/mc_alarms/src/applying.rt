@@ -1,0 +1,118 @@
+// Lines that are added to a chain.
+ghost use Rattle.std.specs.Prelude.{◌≡◌, ◌+◌, IfOk, OnOk};
+ghost use Rattle.mc_alarms.specs.Walks.{IsWalk};
+ghost use Rattle.mc_flow.specs.Valid.{IsValid};
+
+use crate::laws::documents_are_followed;
+use crate::lines::{ending, goes_on};
+use crate::walk::{Turn, Walk};
+use mc_base::NoMemory;
+use mc_cert::Line;
+use mc_flow::{Defs, Flow};
+use mc_proof::{ApplyFault, Proof};
+use mc_report::push_alarm;
+use mc_state::{Form, Version};
+use std::alloc::{AllocError, Global};
+
+/// The sum. No memory where it can't be counted.
+fn sum(left: u64, right: u64) -> Result<u64, NoMemory>
+    ensures { IfOk result (λ n. n ≡ left + right) }
+{
+    match left.checked_add(right) {
+        Some(sum) => Ok(sum),
+        None => Err(AllocError),
+    }
+}
+
+impl<'f> Walk<'f> {
+    /// A chain of which the pass is begun.
+    pub fn start(alloc: Global, flow: &'f Flow, defs: &'f Defs) -> Result<Walk<'f>, NoMemory>
+        requires valid { IsValid flow.now defs.now }
+        ensures { IfOk result (IsWalk flow.now defs.now) }
+    {
+        // For the proof alone: documents are read line by line.
+        documents_are_followed();
+        let mut proof = Proof::start(alloc, flow, defs, Form::Chain);
+        let mut lines = Vec::new(alloc);
+        lines.push(Line::Header(Version::One, Form::Chain))?;
+        lines.push(Line::Pass)?;
+        match proof.apply(&Line::Pass) {
+            Ok(()) => Ok(Walk {
+                alloc,
+                proof,
+                lines,
+                text: Vec::new(alloc),
+                ended: 0,
+            }),
+            Err(_) => Err(AllocError),
+        }
+    }
+
+    /// Adds a line at the first branch; whether it is an instance there. Else nothing changes.
+    pub fn apply(&mut self, flow: &Flow, defs: &Defs, line: Line) -> Result<bool, NoMemory>
+        requires { IsWalk flow.now defs.now self.old }
+        ensures { OnOk result (IsWalk flow.now defs.now self.new) }
+    {
+        // For the proof alone: documents are read line by line.
+        documents_are_followed();
+        if !goes_on(&line) {
+            return Ok(false);
+        }
+        let ended = sum(self.ended, ending(&line))?;
+        match self.proof.apply(&line) {
+            Ok(()) => {
+                self.ended = ended;
+                self.lines.push(line)?;
+                Ok(true)
+            }
+            Err(ApplyFault::Premise(_)) => Ok(false),
+            Err(ApplyFault::NoMemory) => Err(AllocError),
+        }
+    }
+
+    /// Goes on by a line.
+    pub fn turn(&mut self, flow: &Flow, defs: &Defs, line: Line) -> Result<Turn, NoMemory>
+        requires { IsWalk flow.now defs.now self.old }
+        ensures { OnOk result (IsWalk flow.now defs.now self.new) }
+    {
+        if self.apply(flow, defs, line)? {
+            Ok(Turn::On)
+        } else {
+            Ok(Turn::Lost)
+        }
+    }
+
+    /// Ends the first branch, with its line in the report, where its instruction lacks something; whether it does.
+    pub fn stick(&mut self, flow: &Flow, defs: &Defs) -> Result<bool, NoMemory>
+        requires { IsWalk flow.now defs.now self.old }
+        ensures { OnOk result (IsWalk flow.now defs.now self.new) }
+    {
+        // For the proof alone: documents are read line by line.
+        documents_are_followed();
+        let Some(branch) = self.proof.current() else {
+            return Ok(false);
+        };
+        let mut line = Vec::new(self.alloc);
+        if !push_alarm(
+            self.alloc,
+            &mut line,
+            flow,
+            defs,
+            branch.point,
+            &branch.state,
+        )? {
+            return Ok(false);
+        }
+        let ended = sum(self.ended, 1)?;
+        match self.proof.apply(&Line::C1) {
+            Ok(()) => {
+                self.ended = ended;
+                self.lines.push(Line::C1)?;
+                self.text.extend_from_slice(line.as_slice())?;
+                Ok(true)
+            }
+            Err(ApplyFault::Premise(_)) => Ok(false),
+            Err(ApplyFault::NoMemory) => Err(AllocError),
+        }
+    }
+}

@@ -1,0 +1,18 @@
+//! The alarms of a program without loops: the chain of one pass in which every branch is followed, each instruction that
+//! lacks something is stuck, and the report of it.
+#![tactic(auto)]
+
+mod applying;
+mod following;
+mod laws;
+mod lines;
+mod orders;
+mod outcome;
+mod plan;
+mod sides;
+mod terms;
+mod walk;
+mod whole;
+
+pub use outcome::{Document, Outcome};
+pub use whole::alarms;

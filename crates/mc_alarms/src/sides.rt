@@ -1,0 +1,88 @@
+// Side branches.
+ghost use Rattle.std.specs.Prelude.{OnOk};
+ghost use Rattle.mc_alarms.specs.Walks.{IsWalk};
+
+use crate::orders::{edge_of, line_of, makes_edge};
+use crate::plan::{Ground, Plan, Task, plan_of};
+use crate::terms::{plain, plain_terms};
+use crate::walk::{Turn, Walk};
+use mc_base::{EdgeId, NoMemory};
+use mc_cert::Line;
+use mc_covering::cover;
+use mc_flow::{Defs, Flow};
+use mc_judging::Branch;
+use std::alloc::Global;
+
+/// How the goal of a side branch is made of the edges of a cover. None where there is none.
+fn plan_at(alloc: Global, defs: &Defs, branch: &Branch) -> Result<Option<Plan>, NoMemory> {
+    let Some(goal) = &branch.goal else {
+        return Ok(None);
+    };
+    let state = &branch.state;
+    if state.is_false() {
+        return Ok(None);
+    }
+    let args = plain_terms(alloc, goal.args.as_slice())?;
+    let at = plain(goal.at);
+    let Some(marks) = cover(alloc, state, defs, &[], goal.pred, at, args.as_slice())? else {
+        return Ok(None);
+    };
+    let task = Task {
+        pred: goal.pred,
+        at,
+        args,
+    };
+    plan_of(Ground { alloc, state, defs }, task, marks.as_slice())
+}
+
+impl Walk<'_> {
+    /// How the goal of the first branch is made.
+    fn plan(&self, defs: &Defs) -> Result<Option<Plan>, NoMemory> {
+        match self.proof.current() {
+            Some(branch) => plan_at(self.alloc, defs, branch),
+            None => Ok(None),
+        }
+    }
+
+    /// The edge that was made last.
+    fn last_edge(&self) -> Option<EdgeId> {
+        match self.proof.current() {
+            Some(branch) => match branch.state.edges().last() {
+                Some(entry) => Some(entry.0),
+                None => None,
+            },
+            None => None,
+        }
+    }
+
+    /// Ends the first branch, which is a side branch, by the lines of a cover.
+    pub fn end_side(&mut self, flow: &Flow, defs: &Defs) -> Result<Turn, NoMemory>
+        requires { IsWalk flow.now defs.now self.old }
+        ensures { OnOk result (IsWalk flow.now defs.now self.new) }
+    {
+        let Some(plan) = self.plan(defs)? else {
+            return Ok(Turn::Lost);
+        };
+        let Plan { orders, last } = plan;
+        let mut made = Vec::new(self.alloc);
+        for order in orders {
+            let makes = makes_edge(&order);
+            let Some(line) = line_of(self.alloc, order, made.as_slice())? else {
+                return Ok(Turn::Lost);
+            };
+            if !self.apply(flow, defs, line)? {
+                return Ok(Turn::Lost);
+            }
+            if makes {
+                match self.last_edge() {
+                    Some(edge) => made.push(edge)?,
+                    None => return Ok(Turn::Lost),
+                }
+            }
+        }
+        match edge_of(last, made.as_slice()) {
+            Some(edge) => self.turn(flow, defs, Line::L14(edge)),
+            None => Ok(Turn::Lost),
+        }
+    }
+}

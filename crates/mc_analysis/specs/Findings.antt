@@ -1,0 +1,47 @@
+-- What is found of a flow graph.
+use Rattle.std.specs.Prelude.{◌≡◌, ◌<◌, ℕ, List, length}
+use Rattle.mc_cert.specs.declared.line.Line.{Line}
+use Rattle.mc_cert.specs.Lines.{lines_of}
+use Rattle.mc_defs.specs.declared.rules.Def.{Def}
+use Rattle.mc_flow.specs.declared.graph.Flow.{Flow}
+use Rattle.mc_alarms.specs.Outcomes.{IsFront}
+use Rattle.mc_alarms.specs.Walks.{ended_by}
+use Rattle.mc_judge.specs.Verdicts.{SpellAll}
+use Rattle.mc_kernel.specs.Branches.{Path}
+use Rattle.mc_kernel.specs.Certificates.{IsValidCertificate}
+use Rattle.mc_reading.specs.Documents.{IsShortChain}
+use Rattle.mc_report.specs.Report.{IsCertificateReport, IsChainReport}
+use Rattle.mc_analysis.specs.declared.analysis.Analysis.{Analysis}
+use Rattle.mc_analysis.specs.declared.analysis.Analysis.TheVariants.{Safe, Alarms, Paths, Unknown}
+use Rattle.mc_analysis.specs.declared.analysis.Findings.{Findings}
+
+-- the document spells a valid certificate, and the report is that of its heads
+pub record IsProved (flow : Flow) (defs : List Def) (f : Findings) : Type 0 where
+  pub lines : List Line
+  pub spelled : SpellAll (lines_of f.document.items) lines
+  pub valid : IsValidCertificate flow defs lines
+  pub report : IsCertificateReport flow defs valid.heads f.report.items
+
+-- the document spells a chain of one pass with so many stuck branches, and the report is that of these
+pub record HasAlarms (flow : Flow) (defs : List Def) (f : Findings) (count : ℕ) : Type 0 where
+  pub lines : List Line
+  pub stuck : List Path
+  pub spelled : SpellAll (lines_of f.document.items) lines
+  pub chain : IsShortChain flow defs lines stuck
+  pub report : IsChainReport flow defs stuck f.report.items
+  pub counted : count ≡ length stuck
+  pub some : 0 < count
+
+-- the document spells the front of a chain of one pass in which more than 65,536 branches are ended
+pub record HasTooManyPaths (flow : Flow) (defs : List Def) (document : List ℕ) : Type 0 where
+  pub lines : List Line
+  pub spelled : SpellAll (lines_of document) lines
+  pub front : IsFront flow defs lines
+  pub many : 65536 < ended_by lines
+
+-- what is found; a search may give up
+abbrev pub IsAnalysis : Flow → List Def → Analysis → Type 0
+IsAnalysis flow defs (Safe f) = IsProved flow defs f
+IsAnalysis flow defs (Alarms f count) = HasAlarms flow defs f count
+IsAnalysis flow defs (Paths document) = HasTooManyPaths flow defs document.items
+IsAnalysis flow defs Unknown = Unit {0}

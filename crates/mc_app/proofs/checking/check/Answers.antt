@@ -1,0 +1,33 @@
+use Rattle.std.proofs.Common.{◌≡◌, ◌≤◌, ℕ, List, length, subst}
+use Rattle.mc_ast.specs.Views.{unit_of}
+use Rattle.mc_defs.specs.declared.rules.Def.{Def}
+use Rattle.mc_flow.specs.declared.graph.Flow.{Flow}
+use Rattle.mc_flow.specs.Steps.{IsSafeFlow}
+use Rattle.mc_judge.specs.declared.verdict.Verdict.TheVariants.{Safe}
+use Rattle.mc_app.specs.Documents.{IsVerdictOn}
+use Rattle.mc_app.specs.Checks.{IsGraphOf, for_graph}
+use Rattle.mc_app.proofs.Safe.{has_entry, safe_graph}
+use Rattle.mc_app.proofs.Whys.{only_ok}
+use Rattle.mc_app.proofs.checking.check.Goals as goal
+
+pub returns-in_ok-verdict-in-Ok-clause-why : goal.returns-in_ok-verdict-in-Ok-clause-why
+returns-in_ok-verdict-in-Ok-clause-why g c =
+    let bound = c.args.bound.now in
+    let unit = unit_of bound.typed.unit in
+    let flow = c.in-Ok.flow in
+    let v = c.in_ok-verdict-in-Ok.verdict in
+    let made = only_ok c.in_ok-flow.field-0 flow (λ (f : Flow). IsGraphOf bound.typed.entry unit bound.defs f) c.in-Ok.is c.in_ok-flow.ensures.graph in
+    let graph = subst (λ (s : List ℕ). IsGraphOf s unit bound.defs flow) c.requires.start made in
+    let short = only_ok c.in_ok-flow.field-0 flow (λ (f : Flow). length f.points ≤ 10000) c.in-Ok.is c.in_ok-flow.ensures.short in
+    (flow, bound.defs, for_graph graph short, λ text h. subst (λ (ds : List Def). IsVerdictOn flow ds text v) c.defs-defs.ensures.same (c.in_ok-verdict-in-Ok.ensures.verdict text h))
+
+pub returns-in_ok-verdict-in-Ok-clause-safe : goal.returns-in_ok-verdict-in-Ok-clause-safe
+returns-in_ok-verdict-in-Ok-clause-safe g c = λ good.
+    let bound = c.args.bound.now in
+    let unit = unit_of bound.typed.unit in
+    let flow = c.in-Ok.flow in
+    let made = only_ok c.in_ok-flow.field-0 flow (λ (f : Flow). IsGraphOf bound.typed.entry unit bound.defs f) c.in-Ok.is c.in_ok-flow.ensures.graph in
+    let graph = subst (λ (s : List ℕ). IsGraphOf s unit bound.defs flow) c.requires.start made in
+    let verdict : c.in_ok-verdict-in-Ok.verdict ≡ Safe = cc in
+    let safe = subst (λ (ds : List Def). IsSafeFlow flow ds) c.defs-defs.ensures.same (c.in_ok-verdict-in-Ok.ensures.safe verdict) in
+    safe_graph c.safe_flow_graphs_mean_safe_trees.ensures c.ascending_places_differ.ensures has_entry c.args.names.start.now unit bound.defs flow c.requires.well_formed graph safe

@@ -1,0 +1,23 @@
+-- Why the analysis of a program comes to what it does, and where its document goes.
+use Rattle.std.specs.Prelude.{◌≡◌, ◌≤◌, ℕ, List, Some, length, option_map}
+use Rattle.mc_ast.specs.Trees.{UnitTree}
+use Rattle.mc_analysis.specs.Findings.{IsAnalysis}
+use Rattle.mc_defs.specs.declared.rules.Def.{Def}
+use Rattle.mc_flow.specs.declared.graph.Flow.{Flow}
+use Rattle.mc_words.specs.declared.words.Analyse.{Analyse}
+use Rattle.mc_words.specs.Words.{AsksAnalyse}
+use Rattle.mc_app.specs.Checks.{AreLong, IsGraphOf}
+use Rattle.mc_app.specs.declared.analysing.Analysed.{Analysed}
+use Rattle.mc_app.specs.declared.analysing.Analysed.TheVariants.{NoGraph, Found}
+use Rattle.mc_app.specs.declared.graphs.NoGraph.TheVariants.{TooLong, NotYet}
+
+-- each flow graph of the program is too long; or this is found of one that is not; a search may give up
+abbrev pub IsWhyAnalysed : Analyse → UnitTree → List Def → Analysed → Type 0
+IsWhyAnalysed a unit defs (NoGraph TooLong) = AreLong a.start.now unit defs
+IsWhyAnalysed a unit defs (NoGraph NotYet) = Unit {0}
+IsWhyAnalysed a unit defs (Found analysis) =
+    (flow : Flow) × IsGraphOf a.start.now unit defs flow × (length flow.points ≤ 10000) × IsAnalysis flow defs analysis
+
+-- the words ask for an analysis whose document goes into the file of this name
+abbrev pub IsTarget : List (List ℕ) → List ℕ → Type 0
+IsTarget words name = (a : Analyse) × AsksAnalyse words a × (option_map (λ s. s.now) a.document ≡ Some name)

@@ -1,0 +1,17 @@
+use Rattle.std.proofs.Common.{rules, ◌≡◌, ℕ, List, subst}
+use Rattle.mc_read.specs.Refusals.{IsFault}
+use Rattle.mc_types.specs.Typing.{IsWellTyped}
+use Rattle.mc_ast.specs.Views.{unit_of}
+use Rattle.mc_inputs.proofs.Picking.{refused_of}
+use Rattle.mc_inputs.proofs.reading.read_program.Goals as goal
+
+pub returns-in-Ok-clause-well_formed : goal.returns-in-Ok-clause-well_formed
+returns-in-Ok-clause-well_formed c =
+    let program = c.in-Ok.ensures.read in
+    let same : c.as_bytes.result.now ≡ c.args.start.now = search rules in
+    (subst (λ (s : List ℕ). IsWellTyped (unit_of c.in-Ok.typed.unit) s) same program.typed, c.programs_have_distinct_places.ensures c.args.bytes.now (unit_of c.in-Ok.typed.unit) program.read)
+
+pub returns-in-Err-Refused-clause-read : goal.returns-in-Err-Refused-clause-read
+returns-in-Err-Refused-clause-read c =
+    let same : c.as_bytes.result.now ≡ c.args.start.now = search rules in
+    (c.requires, refused_of c.args.bytes.now c.args.start.now c.in-Err-Refused.field-0 c.in-Err-Refused.fault c.in-Err-Refused.field-0-is (subst (λ (s : List ℕ). IsFault c.args.bytes.now s c.in-Err-Refused.field-0) same c.in-Err-Refused.ensures.read))

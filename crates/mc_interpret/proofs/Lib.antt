@@ -1,0 +1,3 @@
+mod Asking
+mod Entries
+pub mod Runs

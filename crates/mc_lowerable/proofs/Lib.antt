@@ -1,0 +1,5 @@
+pub mod Named
+pub mod Scoping
+pub mod Statements
+pub mod Entry
+pub mod Wholes

@@ -1,0 +1,13 @@
+//! Whether a state fits a head of another shape: by folds that make of its edges those of the head.
+#![tactic(auto)]
+
+mod beginning;
+mod fitting;
+mod ground;
+mod inductive;
+mod making;
+mod partial;
+mod segments;
+
+pub use fitting::find_fit;
+pub use partial::{Fit, Part};

@@ -1,0 +1,11 @@
+//! Open branches of a program, to which lines are applied one after the other, without a document: what the rules give is
+//! what the kernel gives.
+#![tactic(auto)]
+
+mod advancing;
+mod entering;
+mod paths;
+mod stack;
+
+pub use mc_judging::Branch;
+pub use paths::Paths;

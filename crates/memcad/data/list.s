@@ -1,0 +1,7 @@
+["input",1]
+["malloc",8]
+["input",5]
+["input",1]
+["malloc",16]
+["input",7]
+["input",0]

@@ -1,0 +1,3 @@
+["input",1]
+["malloc",0]
+["input",5]
