@@ -5,8 +5,6 @@ mod cause;
 mod laws;
 mod print;
 mod reading;
-#[cfg(test)]
-mod tests;
 
 pub use cause::{Cause, ReadFault, Refusal};
 pub use laws::{

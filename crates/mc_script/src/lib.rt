@@ -5,8 +5,6 @@ mod line;
 mod read;
 mod script;
 mod shapes;
-#[cfg(test)]
-mod tests;
 
 pub use line::{NamedBlock, ScriptLine};
 pub use read::line_of;
