@@ -7,3 +7,6 @@ mod NamedKinds
 mod JointKinds
 mod JointEdges
 mod JoinMade
+mod Regions
+mod NamedStand
+mod JointStands

@@ -9,4 +9,6 @@ pub use examples::{
     counter_joins, empty_joins, folding_joins, naming_joins, refused_joins, segment_joins,
     stuck_joins,
 };
-pub use laws::{joins_are_determined, joins_make_well, steps_are_determined, stuck_is_every};
+pub use laws::{
+    joins_are_determined, joins_are_sound, joins_make_well, steps_are_determined, stuck_is_every,
+};
