@@ -177,7 +177,7 @@ module _ (defs : List Def) (v : Valuation) where
   seg_side Right a b pred own args others «end» stop ends stops part s m =
       subst (λ (p : PredId). meaning.Seg defs p (v b.0) (map (at_node v) others) (v stop.0) (map (at_node v) stops) part) (sym s) m
 
-same_sat : (defs : List Def) (pred : PredId) (x y : ℤ) (xs ys : List ℤ) (part : Region) → x ≡ y → xs ≡ ys → Sat defs pred y ys part → Sat defs pred x xs part
+pub same_sat : (defs : List Def) (pred : PredId) (x y : ℤ) (xs ys : List ℤ) (part : Region) → x ≡ y → xs ≡ ys → Sat defs pred y ys part → Sat defs pred x xs part
 same_sat defs pred x y xs ys part e f m =
     subst (λ (z : ℤ). Sat defs pred z xs part) (sym e) (subst (λ (zs : List ℤ). Sat defs pred y zs part) (sym f) m)
 

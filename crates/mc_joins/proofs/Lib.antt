@@ -10,3 +10,4 @@ mod JoinMade
 mod Regions
 mod NamedStand
 mod JointStands
+mod SideParts
