@@ -11,3 +11,4 @@ mod Regions
 mod NamedStand
 mod JointStands
 mod SideParts
+mod SideStands
