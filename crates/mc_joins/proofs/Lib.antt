@@ -12,3 +12,4 @@ mod NamedStand
 mod JointStands
 mod SideParts
 mod SideStands
+mod JoinsStand

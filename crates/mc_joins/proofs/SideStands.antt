@@ -183,13 +183,13 @@ module _ (laws : SoundLaws) (defs : List Def) (vars : List VarInfo) (structs : L
         let got = map_some _ (edge_for (with_pairs j.pairs (pairs_of s.left.edge s.right.edge)) s.left.edge s.right.edge) s.made s.is in
         after s.made (subst SS got.2 (joined_stands k s got.0 got.1)) s.after
       where
-        closed : (other : Side) (made : Joining) → SS made → SS (closing other p made)
-        closed other made there =
-            subst (λ (h : Half). SideStands defs values region (pick side left right) high side h made.pairs made.edges) (sym (closing_half side other p made)) there
+        closed : (other : Side) (m : Joining) → SS m → SS (closing other p m)
+        closed other m there =
+            subst (λ (h : Half). SideStands defs values region (pick side left right) high side h m.pairs m.edges) (sym (closing_half side other p m)) there
 
-        after : (made : Joining) → SS made → ((made ≡ k) ⊎ ((other : Side) × ((p.0.0 == 0) ≡ false) × (closing other p made ≡ k))) → SS k
-        after made there (inl same) = subst SS same there
-        after made there (inr c) = subst SS c.2 (closed c.0 made there)
+        after : (m : Joining) → SS m → ((m ≡ k) ⊎ ((other : Side) × ((p.0.0 == 0) ≡ false) × (closing other p m ≡ k))) → SS k
+        after m there (inl same) = subst SS same there
+        after m there (inr c) = subst SS c.2 (closed c.0 m there)
 
   pub all_stand : (steps : List JoinStep) (j last : Joining) → I j → SS j → after_steps basis j steps ≡ Some last → I last × SS last
   all_stand [] j last i st e = let same : j ≡ last = cc e in (subst I same i, subst SS same st)
