@@ -1,10 +1,9 @@
 -- Whatever stands for either of two states stands for what a whole join of them gives.
-use Rattle.std.proofs.Common.{◌≡◌, ◌⊎◌, ◌<◌, ◌≤◌, ◌+◌, ℕ, zero, suc, ℤ, pos, ◌+ℤ◌, ◌≤ℤ◌, ◌<ℤ◌, List, [], ◌∷◌, Bool, true, false, Option, Some, None, get_or, length, slice_get, refl, ap, sym, ◌∙◌, subst, inl, inr, arith, eqb-true}
-use Rattle.std.specs.Prelude.{◌==◌, ◌&&◌, IsTrue, if◌then◌else◌}
+use Rattle.std.proofs.Common.{◌≡◌, ◌⊎◌, ◌≤◌, ◌+◌, ℕ, zero, suc, ℤ, pos, ◌+ℤ◌, ◌≤ℤ◌, ◌<ℤ◌, List, [], ◌∷◌, Bool, true, false, Option, Some, get_or, length, slice_get, refl, ap, sym, ◌∙◌, subst, inl, inr, arith, eqb-true}
+use Rattle.std.specs.Prelude.{◌==◌, ◌&&◌, if◌then◌else◌}
 use Rattle.std.specs.Int.{int_max, int_min}
 use Rattle.std.specs.List.{AllByRecursion}
 use Rattle.std.proofs.lemmas.Int.{ints, clamps}
-use Rattle.mc_base.specs.declared.ids.EdgeId.{EdgeId}
 use Rattle.mc_base.specs.declared.ids.NodeId.{NodeId}
 use Rattle.mc_base.specs.declared.plain.Atom.{Atom}
 use Rattle.mc_base.specs.declared.plain.Atom.TheVariants.{Eq, Ne, In}
@@ -15,29 +14,24 @@ use Rattle.mc_base.specs.Atoms.{IsTrueAtom}
 use Rattle.mc_base.specs.Kinds.{InKind}
 use Rattle.mc_base.specs.Nodes.{Valuation, null}
 use Rattle.mc_heap.specs.Heap.{Region, IsAtAddresses}
-use Rattle.mc_heap.specs.Parts.{Split, IsEmpty, Star}
-use Rattle.mc_defs.specs.Conditions.{IsDefs}
+use Rattle.mc_heap.specs.Parts.{Split, IsEmpty}
 use Rattle.mc_defs.specs.declared.rules.Def.{Def}
 use Rattle.mc_defs.specs.declared.shapes.StructInfo.{StructInfo}
-use Rattle.mc_graph.specs.declared.edge.Edge.{Edge}
 use Rattle.mc_graph.specs.Graph.{Edges, Graph, numbered}
 use Rattle.mc_join.specs.Joint.{Pairs, IsLate, IsJointRange, IsOfBoth, sides}
 use Rattle.mc_pure.specs.Derived.{Follows}
 use Rattle.mc_pure.specs.Pure.{Kinds, HasKind, kind_of}
-use Rattle.mc_premises.specs.Known.{Test}
-use Rattle.mc_state.specs.declared.line.JoinStep.{JoinStep}
 use Rattle.mc_state.specs.declared.line.Side.{Side}
 use Rattle.mc_state.specs.declared.line.Side.TheVariants.{Left, Right}
 use Rattle.mc_state.specs.Fits.{IsWellMade}
-use Rattle.mc_state.specs.Stands.{VarsMeet, EdgeMeets, EdgesMeet, Parts, StandsBy, Stands}
+use Rattle.mc_state.specs.Stands.{VarsMeet, EdgeMeets, EdgesMeet, StandsBy, Stands}
 use Rattle.mc_state.specs.State.{State, pure_of}
-use Rattle.mc_joins.specs.Joinings.{Joining, Pair, half, of_side, known_both, begun}
-use Rattle.mc_joins.specs.Laws.{KnowsMade, JoinsAreSound}
-use Rattle.mc_joins.specs.Parts.{Basis}
-use Rattle.mc_joins.specs.Steps.{known_for, after_steps}
-use Rattle.mc_joins.specs.Whole.{AreJointAtoms, Joins, all_used, kinds_from, kinds_of_pairs, result_of}
+use Rattle.mc_joins.specs.Joinings.{Joining, Pair, half, of_side, begun}
+use Rattle.mc_joins.specs.Laws.{JoinsAreSound}
+use Rattle.mc_joins.specs.Steps.{known_for}
+use Rattle.mc_joins.specs.Whole.{AreJointAtoms, all_used, kinds_from, kinds_of_pairs, result_of}
 use Rattle.mc_joins.proofs.JoinMade.{Inv, at_places, begun_inv}
-use Rattle.mc_joins.proofs.JointKinds.{NoNull, Proper, Listed, no_null, pair_kind, kinds_step}
+use Rattle.mc_joins.proofs.JointKinds.{NoNull, Proper, no_null, pair_kind, kinds_step}
 use Rattle.mc_joins.proofs.JointStands.{Respects, pick, may_long, vars_side}
 use Rattle.mc_joins.proofs.Regions.{star_numbered}
 use Rattle.mc_joins.proofs.SideParts.{SoundLaws}

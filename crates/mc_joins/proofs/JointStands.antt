@@ -1,6 +1,6 @@
 -- What meets an edge of a side meets the edge of the result that is made of it, and what meets an edge goes on to meet
 -- it where its nodes keep their values.
-use Rattle.std.proofs.Common.{◌≡◌, ◌<◌, ◌+◌, ℕ, zero, suc, ℤ, pos, List, [], ◌∷◌, ◌++◌, Bool, true, false, Option, Some, None, length, map, slice_get, refl, ap, ap₂, sym, ◌∙◌, subst, arith}
+use Rattle.std.proofs.Common.{◌≡◌, ◌<◌, ◌+◌, ℕ, suc, ℤ, pos, List, [], ◌∷◌, Bool, true, false, Option, Some, None, length, map, slice_get, refl, ap, ap₂, sym, ◌∙◌, subst, arith}
 use Rattle.std.specs.Prelude.{◌||◌, not, cond, nat_lt, unwrap_or, zip}
 use Rattle.std.specs.List.{AllByRecursion, list_any, prefix_len}
 use Rattle.mc_base.specs.declared.ids.EdgeId.{EdgeId}

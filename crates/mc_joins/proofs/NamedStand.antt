@@ -1,6 +1,6 @@
 -- What stands for a state stands for one with nodes named for terms, where those have the terms' values.
-use Rattle.std.proofs.Common.{◌≡◌, ◌<◌, ◌≤◌, ◌+◌, ℕ, zero, suc, ℤ, pos, ◌+ℤ◌, ◌-ℤ◌, List, [], ◌∷◌, ◌++◌, Option, Some, None, map, length, slice_get, refl, ap, ap₂, sym, ◌∙◌, subst, arith, le_trans, lt_of_lt_of_le}
-use Rattle.std.specs.Prelude.{Ok, Err, find, option_map}
+use Rattle.std.proofs.Common.{◌≡◌, ◌≤◌, ◌+◌, ℕ, zero, suc, ℤ, pos, ◌+ℤ◌, ◌-ℤ◌, List, [], ◌∷◌, ◌++◌, Option, Some, map, length, slice_get, refl, ap, ap₂, sym, ◌∙◌, subst, arith, le_trans, lt_of_lt_of_le}
+use Rattle.std.specs.Prelude.{Ok, Err, option_map}
 use Rattle.std.specs.List.{AllByRecursion}
 use Rattle.std.proofs.lemmas.Int.{ints}
 use Rattle.mc_base.specs.declared.ids.NodeId.{NodeId}

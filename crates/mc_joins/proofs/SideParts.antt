@@ -1,8 +1,6 @@
 -- What a side gives to a step: where the side's unused edges have a region, the edge that is joined has a part of it, and
 -- the edges that are left the rest.
-use Rattle.std.proofs.Common.{◌≡◌, ◌<◌, ℕ, ℤ, pos, ◌+ℤ◌, List, [], ◌∷◌, Bool, true, false, Option, Some, None, map, slice_get, refl, ap, ap₂, sym, ◌∙◌, subst, arith, lt_of_lt_of_le}
-use Rattle.std.specs.Prelude.{filter, not, option_map}
-use Rattle.std.specs.List.{AllByRecursion}
+use Rattle.std.proofs.Common.{◌≡◌, ℕ, ℤ, pos, ◌+ℤ◌, List, Bool, true, Option, Some, None, map, refl, sym, ◌∙◌, subst, arith, lt_of_lt_of_le}
 use Rattle.std.proofs.lemmas.Int.{ints}
 use Rattle.mc_base.specs.declared.ids.EdgeId.{EdgeId}
 use Rattle.mc_base.specs.declared.ids.NodeId.{NodeId}
@@ -41,11 +39,11 @@ use Rattle.mc_cover.specs.Laws.{FirstIsCover, FirstIsSegCover, FirstTakesEdges}
 use Rattle.mc_joins.specs.Joinings.{Half, Joining, Pair, half, of_side, is_alone, free_edges, edge_at}
 use Rattle.mc_graph.specs.Edges.{start_of}
 use Rattle.mc_joins.specs.Laws.{KnowsMade}
-use Rattle.mc_joins.specs.Parts.{Basis, Part, Named, nodes_of_args, standing_args, as_it_is, empty_seg, ind_part, folded_ind, ended_part, seg_part, folded_seg}
+use Rattle.mc_joins.specs.Parts.{Basis, Part, nodes_of_args, as_it_is, empty_seg, ind_part, folded_ind, ended_part, seg_part, folded_seg}
 use Rattle.mc_joins.proofs.JoinMade.{Inv, PartBy, as_is, of_none, by_fold, by_seg_fold, half_made, half_fit, edge_found}
 use Rattle.mc_joins.proofs.JointStands.{same_sat, same_seg, edges_agree}
-use Rattle.mc_joins.proofs.NamedStand.{NameStands, args_stand}
-use Rattle.mc_joins.proofs.Regions.{SplitLaws, nowhere_empty, none_left, parted, merged, star_take, filter_ascend, found_with, passing, others_passing, looked}
+use Rattle.mc_joins.proofs.NamedStand.{args_stand}
+use Rattle.mc_joins.proofs.Regions.{SplitLaws, nowhere_empty, none_left, parted, merged, star_take, filter_ascend, found_with, others_passing, looked}
 use Rattle.mc_joins.proofs.Steady.{bind_some, map_some, args_made}
 
 -- the laws on which it rests

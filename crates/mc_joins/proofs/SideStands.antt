@@ -1,8 +1,7 @@
 -- Whatever stood for a side's first state goes on to stand for what a join has made of it.
-use Rattle.std.proofs.Common.{◌≡◌, ◌⊎◌, ◌<◌, ℕ, zero, suc, ℤ, List, [], ◌∷◌, ◌++◌, Bool, true, false, Option, Some, None, slice_get, refl, ap, sym, ◌∙◌, subst, inl, inr}
-use Rattle.std.specs.Prelude.{◌==◌, ◌||◌, IsTrue, option_and_then, if◌then◌else◌}
+use Rattle.std.proofs.Common.{◌≡◌, ◌⊎◌, ℕ, zero, suc, ℤ, List, [], ◌∷◌, ◌++◌, Bool, true, false, Option, Some, slice_get, refl, ap, sym, ◌∙◌, subst, inl, inr}
+use Rattle.std.specs.Prelude.{◌==◌, ◌||◌, IsTrue, if◌then◌else◌}
 use Rattle.std.specs.List.{AllByRecursion, list_any}
-use Rattle.mc_base.specs.declared.ids.EdgeId.{EdgeId}
 use Rattle.mc_base.specs.declared.ids.NodeId.{NodeId}
 use Rattle.mc_base.specs.declared.plain.Kind.{Kind}
 use Rattle.mc_base.specs.declared.plain.VarInfo.{VarInfo}
@@ -25,15 +24,15 @@ use Rattle.mc_state.specs.declared.line.Side.TheVariants.{Left, Right}
 use Rattle.mc_state.specs.Fits.{IsWellMade}
 use Rattle.mc_state.specs.Stands.{EdgeMeets, EdgesMeet, StandsBy}
 use Rattle.mc_state.specs.State.{State}
-use Rattle.mc_joins.specs.Joinings.{Half, Joining, Pair, half, of_side, same_pair, with_pair, with_pairs, begun}
+use Rattle.mc_joins.specs.Joinings.{Half, Joining, Pair, half, of_side, same_pair, with_pair, with_pairs}
 use Rattle.mc_joins.specs.Laws.{KnowsMade}
 use Rattle.mc_joins.specs.Parts.{Basis, Part}
 use Rattle.mc_joins.specs.Steps.{pairs_of, edge_for, half_after, closing, after_step, after_steps}
-use Rattle.mc_joins.proofs.JoinMade.{Inv, PartAt, PartBy, Stepped, joined_to, has_place, begun_inv, step_inv, taken, listed_one, half_made}
+use Rattle.mc_joins.proofs.JoinMade.{Inv, PartBy, Stepped, joined_to, has_place, step_inv, taken, listed_one, half_made}
 use Rattle.mc_joins.proofs.JointKinds.{OneKind, Listed, any_left, itself}
 use Rattle.mc_joins.proofs.JointStands.{Respects, pick, edge_stands}
 use Rattle.mc_joins.proofs.Regions.{none_left, star_one, star_append, others_ascend, nowhere_empty}
-use Rattle.mc_joins.proofs.SideParts.{SoundLaws, PartTaken, PartStands, part_stands}
+use Rattle.mc_joins.proofs.SideParts.{SoundLaws, part_stands}
 use Rattle.mc_joins.proofs.Steady.{bind_some, map_some}
 
 -- what stands for a side: the edges of the result have a part of the region by each valuation that gives each node of it
