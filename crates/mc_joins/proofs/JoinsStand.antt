@@ -95,15 +95,15 @@ range_holds : (kind : Kind) (round : ℕ) (thresholds : List ℤ) (x h y k lo hi
     → (lo ≤ℤ int_min x y) × (int_max h k ≤ℤ hi)
 range_holds kind round thresholds x h y k lo hi j = elim (late_or kind round) [
   | inl late ↦ let wide = j.wide late in (
-      elim (below_or x (int_min x y)) [
-        | inl kept ↦ (let same : lo ≡ x = wide.0.kept kept in omega (arith, ints, kept, same))
-        | inr moved ↦ (wide.0.moved moved).reached
-      ],
-      elim (below_or (int_max h k) h) [
-        | inl kept ↦ (let same : hi ≡ h = wide.1.kept kept in omega (arith, ints, kept, same))
-        | inr moved ↦ (wide.1.moved moved).reached
-      ],
-    )
+    elim (below_or x (int_min x y)) [
+      | inl kept ↦ (let same : lo ≡ x = wide.0.kept kept in omega (arith, ints, kept, same))
+      | inr moved ↦ (wide.0.moved moved).reached
+    ],
+    elim (below_or (int_max h k) h) [
+      | inl kept ↦ (let same : hi ≡ h = wide.1.kept kept in omega (arith, ints, kept, same))
+      | inr moved ↦ (wide.1.moved moved).reached
+    ],
+  )
   | inr soon ↦ let hull = j.hull soon in (let low = hull.0 in let high = hull.1 in (omega (arith, ints, low), omega (arith, ints, high)))
 ]
 
@@ -116,8 +116,8 @@ right_range x h y k lo hi z a b = (omega (arith, ints, clamps, a.0, b.0), omega 
 -- ---- what a join gives
 
 module _ (laws : SoundLaws) (defs : List Def) (vars : List VarInfo) (structs : List StructInfo) (values : List (Option ℤ)) (region : Region) (addresses : IsAtAddresses region)
-  (left right : State) (side : Side) (high : ℕ) (last : Joining) (i : Inv defs vars structs left right last)
-  (st : SideStands defs values region (pick side left right) high side (half last side) last.pairs last.edges) where
+    (left right : State) (side : Side) (high : ℕ) (last : Joining) (i : Inv defs vars structs left right last)
+    (st : SideStands defs values region (pick side left right) high side (half last side) last.pairs last.edges) where
   abbrev w : Valuation
   w = joint_value side last.pairs st.v
 

@@ -13,3 +13,4 @@ mod JointStands
 mod SideParts
 mod SideStands
 mod JoinsStand
+mod ExampleStands

@@ -62,7 +62,7 @@ own_value : (z y add : ℤ) → z ≡ y +ℤ (pos 0 -ℤ add) → y ≡ z +ℤ a
 own_value z y add e = omega (arith, ints, e)
 
 module _ (judged : SpareIsJudged) (stays : SpareStaysMade) (spare : LawOfSpare) (truth : DerivedIsTrue) (defs : List Def) (vars : List VarInfo) (structs : List StructInfo)
-  (know : State → Test) (tells : KnowsMade defs vars structs know) (values : List (Option ℤ)) (region : Region) (addresses : IsAtAddresses region) where
+    (know : State → Test) (tells : KnowsMade defs vars structs know) (values : List (Option ℤ)) (region : Region) (addresses : IsAtAddresses region) where
   abbrev basis : Basis
   basis = record { know = know; defs = defs }
 

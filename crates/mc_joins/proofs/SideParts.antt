@@ -84,8 +84,8 @@ plain_value : (v : Valuation) (n : NodeId) → term_value v (plain n) ≡ v n.0
 plain_value v n = let z : ℤ = v n.0 in (let e : z +ℤ pos 0 ≡ z = omega (arith, ints) in e)
 
 module _ (laws : SoundLaws) (defs : List Def) (vars : List VarInfo) (structs : List StructInfo) (fit : IsDefs defs) (know : State → Test) (tells : KnowsMade defs vars structs know)
-  (values : List (Option ℤ)) (region : Region) (addresses : IsAtAddresses region) (first_left first_right : State) (j : Joining) (i : Inv defs vars structs first_left first_right j)
-  (side : Side) (p : Pair) (high : ℕ) (ids : IdsAscend 0 (half j side).unused high) where
+    (values : List (Option ℤ)) (region : Region) (addresses : IsAtAddresses region) (first_left first_right : State) (j : Joining) (i : Inv defs vars structs first_left first_right j)
+    (side : Side) (p : Pair) (high : ℕ) (ids : IdsAscend 0 (half j side).unused high) where
   abbrev basis : Basis
   basis = record { know = know; defs = defs }
 
@@ -122,8 +122,7 @@ module _ (laws : SoundLaws) (defs : List Def) (vars : List VarInfo) (structs : L
       let two = parted laws.splits M test es left m in
       let got = makes two.0 two.3 in
       let whole = laws.splits.right left two.0 two.1 got.0 got.1 two.2 got.2 in
-      let same = others_passing test found.used es picked found.left 0 high ids picks in
-      (
+      let same = others_passing test found.used es picked found.left 0 high ids picks in (
         got.0,
         whole.0,
         whole.2,

@@ -122,7 +122,7 @@ side_kind Left j p one = (one.0, one.1)
 side_kind Right j p one = (one.0, one.2)
 
 module _ (laws : SoundLaws) (defs : List Def) (vars : List VarInfo) (structs : List StructInfo) (fit : IsDefs defs) (know : State → Test) (tells : KnowsMade defs vars structs know)
-  (values : List (Option ℤ)) (region : Region) (addresses : IsAtAddresses region) (left right : State) (side : Side) (high : ℕ) where
+    (values : List (Option ℤ)) (region : Region) (addresses : IsAtAddresses region) (left right : State) (side : Side) (high : ℕ) where
   abbrev basis : Basis
   basis = record { know = know; defs = defs }
 
@@ -154,8 +154,8 @@ module _ (laws : SoundLaws) (defs : List Def) (vars : List VarInfo) (structs : L
         (subst (λ (x : NodeId). Listed now (p.0, x)) (sym s.right_at.starts) (listed_kept fresh j.pairs p s.listed)) in
         let old : (u : Valuation) → Respects side now t.w u → Respects side j.pairs st.v u =
         λ u respects n q e.
-            let one = side_kind side j q (listed_one defs vars structs left right laws.judged laws.stays laws.new_kinds laws.told know tells j i q (has_place j.pairs n q e)) in
-            respects n q (place_kept fresh j.pairs n q e) ∙ t.agree (of_side side q).0 (laws.below (half j side).state (of_side side q) made.bounded one) in
+        let one = side_kind side j q (listed_one defs vars structs left right laws.judged laws.stays laws.new_kinds laws.told know tells j i q (has_place j.pairs n q e)) in
+        respects n q (place_kept fresh j.pairs n q e) ∙ t.agree (of_side side q).0 (laws.below (half j side).state (of_side side q) made.bounded one) in
         let result : SideStands defs values region (pick side left right) high side (half_after (half j side) part) now (j.edges ++ new ∷ []) = record {
           v = t.w;
           back = λ u su. st.back u (gives.back u su);
