@@ -117,6 +117,27 @@ pub record PartAt (defs : List Def) (vars : List VarInfo) (structs : List Struct
   pub fits : Fits defs structs part.state.kinds part.edge
   pub starts : start_of part.edge ≡ n
 
+-- how a side gives a part at a pair: an edge as it is, an empty segment, or edges that are folded
+pub data PartBy (w : Basis) (j : Joining) (side : Side) (p : Pair) (part : Part) : Type 0 where
+  as_is : (e : EdgeId × Edge) → edge_at j side p ≡ Some e → as_it_is (half j side) e ≡ part → PartBy w j side p part
+  of_none : (pred : PredId) → empty_seg w (half j side) pred (of_side side p) ≡ part → PartBy w j side p part
+  by_fold : (pred : PredId) (args : List Term) → folded_ind w j side p pred args ≡ Some part → PartBy w j side p part
+  by_seg_fold : (pred : PredId) (args : List Term) (stop : NodeId) (ends : List Term) → folded_seg w j side p pred args stop ends ≡ Some part → PartBy w j side p part
+
+-- a step at a pair: what either side gives there, what is made of them, and what comes of it
+pub record Stepped (defs : List Def) (vars : List VarInfo) (structs : List StructInfo) (w : Basis) (j : Joining) (p : Pair) (k : Joining) : Type 0 where
+  pub left : Part
+  pub right : Part
+  pub left_at : PartAt defs vars structs j.left p.0 left
+  pub right_at : PartAt defs vars structs j.right p.1 right
+  pub left_by : PartBy w j Left p left
+  pub right_by : PartBy w j Right p right
+  pub listed : Listed j.pairs p
+  pub alike : Alike left.edge right.edge
+  pub made : Joining
+  pub is : joined j left right ≡ Some made
+  pub after : (made ≡ k) ⊎ ((side : Side) × ((p.0.0 == 0) ≡ false) × (closing side p made ≡ k))
+
 -- the kinds of pairs stay where states grow and pairs are added
 module _ (j k : Joining) (j_none : NoNull j.left.state.kinds) (k_none : NoNull k.left.state.kinds) (l : Grow j.left.state.kinds k.left.state.kinds) (r : Grow j.right.state.kinds k.right.state.kinds) where
   grow_pairs : (n : ℕ) (ps qs : Pairs) → AllByRecursion (Proper j.left.state.kinds j.right.state.kinds) ps → (kind : Kind) (m : NodeId) → kind_of (kinds_from j n ps) m ≡ Some kind
@@ -147,7 +168,7 @@ module _ (defs : List Def) (vars : List VarInfo) (structs : List StructInfo) (le
   abbrev I : Joining → Type 0
   I = Inv defs vars structs left right
 
-  abbrev joined_to : Joining → Part → Part → Edge → Joining
+  abbrev pub joined_to : Joining → Part → Part → Edge → Joining
   joined_to j l r new =
       record {
         left = half_after j.left l;
@@ -218,11 +239,11 @@ module _ (defs : List Def) (vars : List VarInfo) (structs : List StructInfo) (le
       abbrev At : Side → NodeId → Part → Type 0
       At side n part = PartAt defs vars structs (half j side) n part
 
-      half_made : (side : Side) → IsWellMade defs vars structs (half j side).state
+      pub half_made : (side : Side) → IsWellMade defs vars structs (half j side).state
       half_made Left = i.left_made
       half_made Right = i.right_made
 
-      half_fit : (side : Side) → AllByRecursion (λ (e : EdgeId × Edge). Fits defs structs (half j side).state.kinds e.1) (half j side).unused
+      pub half_fit : (side : Side) → AllByRecursion (λ (e : EdgeId × Edge). Fits defs structs (half j side).state.kinds e.1) (half j side).unused
       half_fit Left = i.left_fit
       half_fit Right = i.right_fit
 
@@ -230,7 +251,7 @@ module _ (defs : List Def) (vars : List VarInfo) (structs : List StructInfo) (le
       half_none side = no_null 1 (half j side).state.kinds (half j side).state.next (omega arith) (half_made side).bounded.kinds
 
       -- the edge of a side at a pair
-      edge_found : (side : Side) (p : Pair) (e : EdgeId × Edge) → edge_at j side p ≡ Some e
+      pub edge_found : (side : Side) (p : Pair) (e : EdgeId × Edge) → edge_at j side p ≡ Some e
           → Has (half j side).unused e × Fits defs structs (half j side).state.kinds e.1 × (start_of e.1 ≡ of_side side p)
       edge_found side p e is = at (is_closed j side p) is
         where
@@ -331,7 +352,7 @@ module _ (defs : List Def) (vars : List VarInfo) (structs : List StructInfo) (le
               later p is (all_has (Proper j.left.state.kinds j.right.state.kinds) i.rest p i.proper found.0).0 found.1
 
       -- a listed pair is of one kind
-      listed_one : (q : Pair) → Has j.pairs q → OneKind j.left.state.kinds j.right.state.kinds q
+      pub listed_one : (q : Pair) → Has j.pairs q → OneKind j.left.state.kinds j.right.state.kinds q
       listed_one q h = at (subst (λ (ps : Pairs). Has ps q) i.front h)
         where
           at : Has ((null, null) ∷ i.rest) q → OneKind j.left.state.kinds j.right.state.kinds q
@@ -456,10 +477,33 @@ module _ (defs : List Def) (vars : List VarInfo) (structs : List StructInfo) (le
       alike_turned (Seg a args pred «end» ends) (Ind b own others) s = absurd s
       alike_turned (Seg a args pred «end» ends) (Seg b others own stop stops) s = sym s
 
-      side_inv : (side : Side) (p : Pair) (mine theirs : Part) → At side (of_side side p) mine → At (across side) (of_side (across side) p) theirs → Listed j.pairs p → Alike mine.edge theirs.edge
-          → (k : Joining) → joined_from j side mine theirs ≡ Some k → I k
-      side_inv Left p mine theirs a b listed alike k e = joined_inv j i p.0 p.1 mine theirs a b listed alike k e
-      side_inv Right p mine theirs a b listed alike k e = joined_inv j i p.0 p.1 theirs mine b a listed (alike_turned mine.edge theirs.edge alike) k e
+      abbrev Step : Pair → Joining → Type 0
+      Step p k = Stepped defs vars structs basis j p k
+
+      abbrev After : Pair → Joining → Joining → Type 0
+      After p made k = (made ≡ k) ⊎ ((side : Side) × ((p.0.0 == 0) ≡ false) × (closing side p made ≡ k))
+
+      parts_step : (p : Pair) (l r : Part) → At Left p.0 l → At Right p.1 r → PartBy basis j Left p l → PartBy basis j Right p r → Listed j.pairs p → Alike l.edge r.edge
+          → (made k : Joining) → joined j l r ≡ Some made → After p made k → Step p k
+      parts_step p l r a b la rb listed alike made k e after = record {
+        left = l;
+        right = r;
+        left_at = a;
+        right_at = b;
+        left_by = la;
+        right_by = rb;
+        listed = listed;
+        alike = alike;
+        made = made;
+        is = e;
+        after = after;
+      }
+
+      side_step : (side : Side) (p : Pair) (mine theirs : Part) → At side (of_side side p) mine → At (across side) (of_side (across side) p) theirs → PartBy basis j side p mine
+          → PartBy basis j (across side) p theirs → Listed j.pairs p → Alike mine.edge theirs.edge → (made k : Joining) → joined_from j side mine theirs ≡ Some made → After p made k → Step p k
+      side_step Left p mine theirs a b mb tb listed alike made k e after = parts_step p mine theirs a b mb tb listed alike made k e after
+      side_step Right p mine theirs a b mb tb listed alike made k e after =
+          parts_step p theirs mine b a tb mb listed (alike_turned mine.edge theirs.edge alike) made k e after
 
       ptr_of : (p : Pair) → Pointers p → (side : Side) → HasKind (half j side).state.kinds Ptr (of_side side p)
       ptr_of p ptrs Left = ptrs.0
@@ -469,14 +513,14 @@ module _ (defs : List Def) (vars : List VarInfo) (structs : List StructInfo) (le
       only_both true o x e = (refl, e)
       only_both false o x e = absurd (cc e)
 
-      both_inv : (of_form : Edge → Edge → Bool) → ((e f : Edge) → of_form e f ≡ true → Alike e f) → (p : Pair) → Listed j.pairs p → (k : Joining) → by_both of_form j p ≡ Some k → I k
-      both_inv of_form alike p listed k is =
+      both_step : (of_form : Edge → Edge → Bool) → ((e f : Edge) → of_form e f ≡ true → Alike e f) → (p : Pair) → Listed j.pairs p → (k : Joining) → by_both of_form j p ≡ Some k → Step p k
+      both_step of_form alike p listed k is =
           let both = bind_some (λ (both : (EdgeId × Edge) × (EdgeId × Edge)). only_if (of_form both.0.1 both.1.1) (joined j (as_it_is j.left both.0) (as_it_is j.right both.1)))
           (option_zip (edge_at j Left p) (edge_at j Right p)) k is in
           let zs = zip_some (edge_at j Left p) (edge_at j Right p) both.0 both.1 in
           let t = only_both (of_form both.0.0.1 both.0.1.1) (joined j (as_it_is j.left both.0.0) (as_it_is j.right both.0.1)) k both.2 in
-          joined_inv j i p.0 p.1 (as_it_is j.left both.0.0) (as_it_is j.right both.0.1) (as_is_at Left p both.0.0 zs.0) (as_is_at Right p both.0.1 zs.1) listed
-          (alike both.0.0.1 both.0.1.1 t.0) k t.1
+          parts_step p (as_it_is j.left both.0.0) (as_it_is j.right both.0.1) (as_is_at Left p both.0.0 zs.0) (as_is_at Right p both.0.1 zs.1)
+          (as_is both.0.0 zs.0 refl) (as_is both.0.1 zs.1 refl) listed (alike both.0.0.1 both.0.1.1 t.0) k k t.1 (inl refl)
 
       ind_alike : (e f : Edge) (pred : PredId) (parts : IndParts) (n : NodeId) (ns : List NodeId) → ind_of pred (Some e) ≡ Some parts → f ≡ Ind n pred ns → Alike e f
       ind_alike (Block a shape fields) f pred parts n ns e is = absurd (cc e)
@@ -484,18 +528,19 @@ module _ (defs : List Def) (vars : List VarInfo) (structs : List StructInfo) (le
           subst (Alike (Ind a own args)) (sym is) (same_pred own pred (if_some (own.0 == pred.0) _ parts e).0)
       ind_alike (Seg a args own stop ends) f pred parts n ns e is = absurd (cc e)
 
-      four_inv : (p : Pair) → Pointers p → Listed j.pairs p → (pred : PredId) (side : Side) (k : Joining) → by_ind basis j p pred side ≡ Some k → I k
-      four_inv p ptrs listed pred side k is =
+      four_step : (p : Pair) → Pointers p → Listed j.pairs p → (pred : PredId) (side : Side) (k : Joining) → by_ind basis j p pred side ≡ Some k → Step p k
+      four_step p ptrs listed pred side k is =
           let found = bind_some (four_from basis j p pred side) (edge_at j side p) k is in
           let parts = bind_some (four_with basis j p pred side found.0) (ind_of pred (Some found.0.1)) k found.2 in
           let part = bind_some (λ (theirs : Part). joined_from j side (as_it_is (half j side) found.0) theirs) (folded_ind basis j (across side) p pred (four_args basis j p pred side parts.0)) k
           (only_both (is_none (ind_of pred (edge_there j (across side) p))) _ k parts.2).1 in
           let theirs = ind_at (across side) p pred (four_args basis j p pred side parts.0) part.0 (ptr_of p ptrs (across side)) part.1 in
-          side_inv side p (as_it_is (half j side) found.0) part.0 (as_is_at side p found.0 found.1) theirs.0 listed
-          (ind_alike found.0.1 part.0.edge pred parts.0 (of_side (across side) p) theirs.1.0 parts.1 theirs.1.1) k part.2
+          side_step side p (as_it_is (half j side) found.0) part.0 (as_is_at side p found.0 found.1) theirs.0 (as_is found.0 found.1 refl)
+          (by_fold pred (four_args basis j p pred side parts.0) part.1) listed
+          (ind_alike found.0.1 part.0.edge pred parts.0 (of_side (across side) p) theirs.1.0 parts.1 theirs.1.1) k k part.2 (inl refl)
 
-      five_inv : (p : Pair) → Pointers p → Listed j.pairs p → (pred : PredId) (k : Joining) → by_folds basis j p pred ≡ Some k → I k
-      five_inv p ptrs listed pred k is =
+      five_step : (p : Pair) → Pointers p → Listed j.pairs p → (pred : PredId) (k : Joining) → by_folds basis j p pred ≡ Some k → Step p k
+      five_step p ptrs listed pred k is =
           let both = bind_some (five_with j) (option_zip (guessed_ind basis j p pred Left) (guessed_ind basis j p pred Right)) k
           (only_both (are_unlike (edge_there j Left p) (edge_there j Right p)) _ k is).1 in
           let zs = zip_some (guessed_ind basis j p pred Left) (guessed_ind basis j p pred Right) both.0 both.1 in
@@ -503,7 +548,7 @@ module _ (defs : List Def) (vars : List VarInfo) (structs : List StructInfo) (le
           let r = ind_at Right p pred _ both.0.1 ptrs.1 zs.1 in
           let alike : Alike both.0.0.edge both.0.1.edge =
           subst (λ (x : Edge). Alike x both.0.1.edge) (sym l.1.1) (subst (Alike (Ind p.0 pred l.1.0)) (sym r.1.1) refl) in
-          joined_inv j i p.0 p.1 both.0.0 both.0.1 l.0 r.0 listed alike k (only_both (uses_edge both.0.0 || uses_edge both.0.1) _ k both.2).1
+          parts_step p both.0.0 both.0.1 l.0 r.0 (by_fold pred _ zs.0) (by_fold pred _ zs.1) listed alike k k (only_both (uses_edge both.0.0 || uses_edge both.0.1) _ k both.2).1 (inl refl)
 
       closing_inv : (side : Side) (p : Pair) (k : Joining) → I k → (p.0.0 == 0) ≡ false → I (closing side p k)
       closing_inv side p k c e = record {
@@ -540,8 +585,8 @@ module _ (defs : List Def) (vars : List VarInfo) (structs : List StructInfo) (le
           other_ptr j.left.state.kinds j.right.state.kinds one.0 q.0 q.1 (half_none Left) one.1 one.2 (subst (HasKind j.left.state.kinds Ptr) (sym same) ptrs.0)
           (λ z. l (sym (ap (λ (n : NodeId). n.0) same) ∙ z))
 
-      six_inv : (p : Pair) → Pointers p → Listed j.pairs p → (e : Ending) (k : Joining) → by_j6 basis j p e ≡ Some k → I k
-      six_inv p ptrs listed e k is =
+      six_step : (p : Pair) → Pointers p → Listed j.pairs p → (e : Ending) (k : Joining) → by_j6 basis j p e ≡ Some k → Step p k
+      six_step p ptrs listed e k is =
           let q = bind_some (six_to basis j p e) (slice_get j.pairs e.place) k is in
           let ends = only_both (may_end e.side p q.0) _ k q.2 in
           let a = and_both (not (p.0.0 == 0) && not (p.1.0 == 0) && (of_side (across e.side) q.0).0 == (of_side (across e.side) p).0 && not ((of_side e.side q.0).0 == (of_side e.side p).0)) (not ((of_side e.side q.0).0 == 0)) ends.0 in
@@ -554,8 +599,8 @@ module _ (defs : List Def) (vars : List VarInfo) (structs : List StructInfo) (le
           let stop = end_ptr e.side p q.0 ptrs (listed_one q.0 (has_place j.pairs e.place q.0 q.1)) (same_node (of_side (across e.side) q.0) (of_side (across e.side) p) c.1) (not_zero p.0.0 d.0) (not_zero p.1.0 d.1) in
           let mine = seg_at e.side p e.pred _ (of_side e.side q.0) (six_ends basis j e q.0) part.0 (ptr_of p ptrs e.side) stop part.1 in
           let alike : Alike part.0.edge theirs.edge = subst (λ (x : Edge). Alike x theirs.edge) (sym mine.1.2) refl in
-          let there = side_inv e.side p part.0 theirs mine.0 (empty_at (across e.side) p e.pred mine.2.0 mine.2.1 (ptr_of p ptrs (across e.side))) listed alike done.0 done.1 in
-          subst I done.2 (closing_inv (across e.side) p done.0 there (is_apart (p.0.0 == 0) d.0))
+          side_step e.side p part.0 theirs mine.0 (empty_at (across e.side) p e.pred mine.2.0 mine.2.1 (ptr_of p ptrs (across e.side))) (by_seg_fold e.pred _ (of_side e.side q.0) (six_ends basis j e q.0) part.1)
+          (of_none e.pred refl) listed alike done.0 k done.1 (inr (across e.side, is_apart (p.0.0 == 0) d.0, done.2))
 
       seg_alike : (e f : Edge) (pred : PredId) (s : SegParts) (n : NodeId) (xs : List NodeId) (stop : NodeId) (es : List NodeId) → seg_of (Some e) ≡ Some s → (s.pred.0 == pred.0) ≡ true → f ≡ Seg n xs pred stop es → Alike f e
       seg_alike (Block a shape fields) f pred s n xs stop es e same is = absurd (cc e)
@@ -566,8 +611,8 @@ module _ (defs : List Def) (vars : List VarInfo) (structs : List StructInfo) (le
           let own_is : own ≡ pred = ap (λ (x : SegParts). x.pred) got ∙ same_pred s.pred pred same in
           subst (λ (x : Edge). Alike x (Seg a args own end ends)) (sym is) (sym own_is)
 
-      seven_inv : (p : Pair) → Pointers p → Listed j.pairs p → (e : Ending) (k : Joining) → by_j7 basis j p e ≡ Some k → I k
-      seven_inv p ptrs listed e k is =
+      seven_step : (p : Pair) → Pointers p → Listed j.pairs p → (e : Ending) (k : Joining) → by_j7 basis j p e ≡ Some k → Step p k
+      seven_step p ptrs listed e k is =
           let q = bind_some (λ (q : Pair). option_and_then (seven_from basis j p e q) (edge_at j (across e.side) p)) (slice_get j.pairs e.place) k is in
           let found = bind_some (seven_from basis j p e q.0) (edge_at j (across e.side) p) k q.2 in
           let s = bind_some (seven_with basis j p e q.0 found.0) (seg_of (Some found.0.1)) k found.2 in
@@ -579,26 +624,36 @@ module _ (defs : List Def) (vars : List VarInfo) (structs : List StructInfo) (le
           let part = bind_some (λ (mine : Part). joined_from j e.side mine (as_it_is (half j (across e.side)) found.0))
           (guessed_seg basis j e.side p e.pred (of_side e.side q.0) (seven_ends basis j e q.0 s.0)) k to.1 in
           let mine = seg_at e.side p e.pred _ (of_side e.side q.0) (seven_ends basis j e q.0 s.0) part.0 (ptr_of p ptrs e.side) stop part.1 in
-          side_inv e.side p part.0 (as_it_is (half j (across e.side)) found.0) mine.0 (as_is_at (across e.side) p found.0 found.1) listed
-          (seg_alike found.0.1 part.0.edge e.pred s.0 (of_side e.side p) mine.1.0 (of_side e.side q.0) mine.1.1 s.1 c.0 mine.1.2) k part.2
+          side_step e.side p part.0 (as_it_is (half j (across e.side)) found.0) mine.0 (as_is_at (across e.side) p found.0 found.1)
+          (by_seg_fold e.pred _ (of_side e.side q.0) (seven_ends basis j e q.0 s.0) part.1) (as_is found.0 found.1 refl) listed
+          (seg_alike found.0.1 part.0.edge e.pred s.0 (of_side e.side p) mine.1.0 (of_side e.side q.0) mine.1.1 s.1 c.0 mine.1.2) k k part.2 (inl refl)
 
-      at_inv : (p : Pair) → Pointers p → Listed j.pairs p → (step : JoinStep) (k : Joining) → step_at basis j p step ≡ Some k → I k
-      at_inv p ptrs listed J1 k is = both_inv are_blocks blocks_alike p listed k (only_both (no_j6 basis j p) _ k is).1
-      at_inv p ptrs listed J2 k is = both_inv are_inds inds_alike p listed k (only_both (no_j6 basis j p) _ k is).1
-      at_inv p ptrs listed J3 k is = both_inv are_segs segs_alike p listed k (only_both (no_j6 basis j p && no_j7 basis j p) _ k is).1
-      at_inv p ptrs listed (J4 pred) k is =
-          or_some I (by_ind basis j p pred Left) (by_ind basis j p pred Right) k (four_inv p ptrs listed pred Left k) (four_inv p ptrs listed pred Right k)
+      at_step : (p : Pair) → Pointers p → Listed j.pairs p → (step : JoinStep) (k : Joining) → step_at basis j p step ≡ Some k → Step p k
+      at_step p ptrs listed J1 k is = both_step are_blocks blocks_alike p listed k (only_both (no_j6 basis j p) _ k is).1
+      at_step p ptrs listed J2 k is = both_step are_inds inds_alike p listed k (only_both (no_j6 basis j p) _ k is).1
+      at_step p ptrs listed J3 k is = both_step are_segs segs_alike p listed k (only_both (no_j6 basis j p && no_j7 basis j p) _ k is).1
+      at_step p ptrs listed (J4 pred) k is =
+          or_some (Step p) (by_ind basis j p pred Left) (by_ind basis j p pred Right) k (four_step p ptrs listed pred Left k) (four_step p ptrs listed pred Right k)
           (only_both (no_j6 basis j p && no_j7 basis j p) _ k is).1
-      at_inv p ptrs listed (J5 pred) k is = five_inv p ptrs listed pred k (only_both (no_j6 basis j p && no_j7 basis j p) _ k is).1
-      at_inv p ptrs listed (J6 pred side place) k is = six_inv p ptrs listed (record { pred = pred; side = side; place = place }) k is
-      at_inv p ptrs listed (J7 pred side place) k is =
-          seven_inv p ptrs listed (record { pred = pred; side = side; place = place }) k (only_both (no_j6 basis j p) _ k is).1
+      at_step p ptrs listed (J5 pred) k is = five_step p ptrs listed pred k (only_both (no_j6 basis j p && no_j7 basis j p) _ k is).1
+      at_step p ptrs listed (J6 pred side place) k is = six_step p ptrs listed (record { pred = pred; side = side; place = place }) k is
+      at_step p ptrs listed (J7 pred side place) k is =
+          seven_step p ptrs listed (record { pred = pred; side = side; place = place }) k (only_both (no_j6 basis j p) _ k is).1
 
-      step_inv : (step : JoinStep) (k : Joining) → after_step basis j step ≡ Some k → I k
-      step_inv step k is =
+      pub taken : (step : JoinStep) (k : Joining) → after_step basis j step ≡ Some k → (p : Pair) × Step p k
+      taken step k is =
           let p = bind_some (λ (p : Pair). step_at basis j p step) (next_pair j) k is in
           let at = pointers p.0 p.1 in
-          at_inv p.0 at.0 at.1 step k p.2
+          (p.0, at_step p.0 at.0 at.1 step k p.2)
+
+      pub step_inv : (step : JoinStep) (k : Joining) → after_step basis j step ≡ Some k → I k
+      step_inv step k is =
+          let t = taken step k is in
+          after t.0 t.1.made (joined_inv j i t.0.0 t.0.1 t.1.left t.1.right t.1.left_at t.1.right_at t.1.listed t.1.alike t.1.made t.1.is) t.1.after
+        where
+          after : (p : Pair) (made : Joining) → I made → After p made k → I k
+          after p made there (inl same) = subst I same there
+          after p made there (inr c) = subst I c.2 (closing_inv c.0 p made there c.1)
 
     pub steps_inv : (steps : List JoinStep) (j last : Joining) → I j → after_steps basis j steps ≡ Some last → I last
     steps_inv [] j last i e = let same : j ≡ last = cc e in subst I same i
@@ -608,7 +663,7 @@ module _ (defs : List Def) (vars : List VarInfo) (structs : List StructInfo) (le
 
   -- ---- the beginning and the end
 
-  begun_inv : IsWellMade defs vars structs left → IsWellMade defs vars structs right → I (begun left right)
+  pub begun_inv : IsWellMade defs vars structs left → IsWellMade defs vars structs right → I (begun left right)
   begun_inv lm rm =
       let ks = map (λ (x : VarInfo). x.kind) vars in
       let w = with_more left.kinds right.kinds [] (known_both left.env right.env) (both_kinds left.kinds right.kinds ks left.env right.env lm.fits_program.vars_fit rm.fits_program.vars_fit) in
@@ -672,7 +727,7 @@ module _ (defs : List Def) (vars : List VarInfo) (structs : List StructInfo) (le
       let step = kinds_step j none n p ps a.0.0.0 (pair_kind j none p a.0.0.0 a.0.0.1 a.0.0.2 a.0.1) in
       subst (λ (ks : Kinds). NodesAscend n ks high) (sym step) (omega arith, omega arith, kinds_ascend j none (suc n) high ps a.1 (omega arith))
 
-  at_places : (P : Atom → Type 0) (atoms : List Atom) → ((f : Atom) → Among atoms f → P f) → AllByRecursion P atoms
+  pub at_places : (P : Atom → Type 0) (atoms : List Atom) → ((f : Atom) → Among atoms f → P f) → AllByRecursion P atoms
   at_places P [] f = tt
   at_places P (a ∷ atoms) f = (f a (0, refl), at_places P atoms (λ g among. f g (suc among.0, among.1)))
 

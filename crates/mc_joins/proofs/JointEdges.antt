@@ -92,12 +92,12 @@ all_front P [] ys a = (tt, a)
 all_front P (x ∷ xs) ys a = let rest = all_front P xs ys a.1 in ((a.0, rest.0), rest.1)
 
 -- the arguments of one predicate have one list of kinds
-one_params : (defs : List Def) (rk : Kinds) (pred own : PredId) (def : Def) (args : List NodeId) → pred ≡ own → slice_get defs pred.0 ≡ Some def → ArgsFit defs rk own args → HaveKinds rk def.params args
+pub one_params : (defs : List Def) (rk : Kinds) (pred own : PredId) (def : Def) (args : List NodeId) → pred ≡ own → slice_get defs pred.0 ≡ Some def → ArgsFit defs rk own args → HaveKinds rk def.params args
 one_params defs rk pred own def args same is g =
     let one : g.0 ≡ def = let there : slice_get defs own.0 ≡ Some def = ap (λ (p : PredId). slice_get defs p.0) (sym same) ∙ is in cc (g.1, there) in
     subst (λ (d : Def). HaveKinds rk d.params args) one g.2
 
-one_fields : (structs : List StructInfo) (rk : Kinds) (shape own : StructId) (info other : StructInfo) (fields : List (Option NodeId)) → shape ≡ own → slice_get structs shape.0 ≡ Some info
+pub one_fields : (structs : List StructInfo) (rk : Kinds) (shape own : StructId) (info other : StructInfo) (fields : List (Option NodeId)) → shape ≡ own → slice_get structs shape.0 ≡ Some info
     → slice_get structs own.0 ≡ Some other → MayHaveKinds rk (map (λ f. f.kind) other.fields) fields → MayHaveKinds rk (map (λ f. f.kind) info.fields) fields
 one_fields structs rk shape own info other fields same is also h =
     let one : other ≡ info = let there : slice_get structs own.0 ≡ Some info = ap (λ (p : StructId). slice_get structs p.0) (sym same) ∙ is in cc (also, there) in

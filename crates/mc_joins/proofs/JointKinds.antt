@@ -40,7 +40,7 @@ both_true : (a b : Bool) → (a && b) ≡ true → (a ≡ true) × (b ≡ true)
 both_true true b e = (refl, e)
 both_true false b e = absurd (cc e)
 
-same_of : (p q : Pair) → same_pair p q ≡ true → p ≡ q
+pub same_of : (p q : Pair) → same_pair p q ≡ true → p ≡ q
 same_of p q e =
     let both = both_true (p.0.0 == q.0.0) (p.1.0 == q.1.0) e in
     let l : p.0 ≡ q.0 = ap (λ (i : ℕ). let n : NodeId = record { 0 = i } in n) (eqb-true p.0.0 q.0.0 both.0) in

@@ -7,3 +7,10 @@ mod NamedKinds
 mod JointKinds
 mod JointEdges
 mod JoinMade
+mod Regions
+mod NamedStand
+mod JointStands
+mod SideParts
+mod SideStands
+mod JoinsStand
+mod ExampleStands

@@ -1,11 +1,14 @@
 -- What holds of the steps of joins.
-use Rattle.std.specs.Prelude.{◌≡◌, ◌↔◌, ℕ, ℤ, true, is_some, Some, None, List}
+use Rattle.std.specs.Prelude.{◌≡◌, ◌↔◌, ℕ, ℤ, true, is_some, Option, Some, None, List}
 use Rattle.mc_base.specs.declared.plain.VarInfo.{VarInfo}
+use Rattle.mc_heap.specs.Heap.{Region, IsAtAddresses}
+use Rattle.mc_defs.specs.Conditions.{IsDefs}
 use Rattle.mc_defs.specs.declared.rules.Def.{Def}
 use Rattle.mc_defs.specs.declared.shapes.StructInfo.{StructInfo}
 use Rattle.mc_premises.specs.Known.{Test, Tells}
 use Rattle.mc_state.specs.declared.line.JoinStep.{JoinStep}
 use Rattle.mc_state.specs.Fits.{IsWellMade}
+use Rattle.mc_state.specs.Stands.{Stands}
 use Rattle.mc_state.specs.State.{State}
 use Rattle.mc_joins.specs.Joinings.{Joining, begun, next_pair}
 use Rattle.mc_joins.specs.Parts.{Basis}
@@ -61,3 +64,12 @@ JoinsMakeWell =
     (left right : State) (steps : List JoinStep) (t : State)
     → KnowsMade defs vars structs know → IsWellMade defs vars structs left → IsWellMade defs vars structs right
     → Joins (record { know = know; defs = defs }) round thresholds left right steps t → IsWellMade defs vars structs t
+
+-- whatever stands for either of two well-made states stands for what a whole join of them gives
+abbrev pub JoinsAreSound : Type 0
+JoinsAreSound =
+    (defs : List Def) (vars : List VarInfo) (structs : List StructInfo) (know : State → Test) (round : ℕ) (thresholds : List ℤ)
+    (left right : State) (steps : List JoinStep) (t : State) (values : List (Option ℤ)) (region : Region)
+    → IsDefs defs → KnowsMade defs vars structs know → IsWellMade defs vars structs left → IsWellMade defs vars structs right
+    → Joins (record { know = know; defs = defs }) round thresholds left right steps t → IsAtAddresses region
+    → (Stands defs values region left → Stands defs values region t) × (Stands defs values region right → Stands defs values region t)

@@ -2,18 +2,25 @@
 ghost use Rattle.std.specs.Prelude.{◌≡◌, pos, true, false, is_some, Some, None, [], ◌∷◌};
 ghost use Rattle.mc_base.specs.declared.plain.Atom.TheVariants.{In};
 ghost use Rattle.mc_base.specs.declared.plain.Kind.TheVariants.{Int};
-ghost use Rattle.mc_defs.specs.Examples.{list_id, lenlist_id, tree_id};
+ghost use Rattle.mc_defs.specs.Examples.{defs, list_id, lenlist_id, tree_id, blocks, two_cells};
 ghost use Rattle.mc_graph.specs.declared.edge.Edge.TheVariants.{Ind};
+ghost use Rattle.mc_heap.specs.Instances.{nowhere};
 ghost use Rattle.mc_join.specs.Joint.{IsJointRange};
 ghost use Rattle.mc_pure.specs.Examples.{node};
+ghost use Rattle.mc_state.specs.CoverExamples.{at_seven};
 ghost use Rattle.mc_state.specs.declared.line.JoinStep.TheVariants.{J1, J2, J4, J5, J6, J7};
 ghost use Rattle.mc_state.specs.declared.line.Side.TheVariants.{Left, Right};
+ghost use Rattle.mc_state.specs.Stands.{Stands, StandsBy};
 ghost use Rattle.mc_joins.specs.Examples.{by_atoms, pair, all_joined, all_joined_but, cell, list_at, way, state_of};
 ghost use Rattle.mc_joins.specs.Examples.{a_list, a_cell, a_tree, at_start, one_on, some_on, both_null};
 ghost use Rattle.mc_joins.specs.Examples.{a_length, one_longer, with_longer, at_zero, at_one};
 ghost use Rattle.mc_joins.specs.Joinings.{begun, next_pair};
 ghost use Rattle.mc_joins.specs.Steps.{after_step, after_steps, is_stuck};
 ghost use Rattle.mc_joins.specs.Whole.{result_of};
+
+use mc_defs::predicates_are_bodies;
+use mc_heap::parts_regroup;
+use mc_state::{body_premises, covers_are_sound, example_covers};
 
 /// A list and a cell that points to a list are a list, from either side.
 pub fn folding_joins()
@@ -62,3 +69,24 @@ pub fn counter_joins()
     ensures second { IsJointRange Int 2 (pos 0 ∷ pos 9 ∷ []) (pos 0) (pos 0) (pos 1) (pos 1) (pos 0) (pos 1) }
     ensures third { IsJointRange Int 3 (pos 0 ∷ pos 9 ∷ []) (pos 0) (pos 0) (pos 1) (pos 1) (pos 0) (pos 9) }
 {}
+
+/// Two cells stand for a cell and a list, and for what the join of a list with those gives.
+pub fn cells_stand_for_join()
+    ensures cell { StandsBy defs at_seven (Some (pos 7) ∷ []) (blocks two_cells) a_cell }
+    ensures joined { Stands defs (Some (pos 7) ∷ []) (blocks two_cells) (result_of a_list a_cell (all_joined a_list a_cell (pair 0 0 ∷ pair 1 1 ∷ []) (list_at 1 ∷ [])) []) }
+{
+    parts_regroup();
+    body_premises();
+    example_covers();
+    covers_are_sound();
+}
+
+/// Null without a heap stands for the list and for what the join gives, and does not stand for the cell.
+pub fn null_stands_for_join()
+    ensures list { Stands defs (Some (pos 0) ∷ []) nowhere a_list }
+    ensures joined { Stands defs (Some (pos 0) ∷ []) nowhere (result_of a_list a_cell (all_joined a_list a_cell (pair 0 0 ∷ pair 1 1 ∷ []) (list_at 1 ∷ [])) []) }
+    ensures cell { ¬ Stands defs (Some (pos 0) ∷ []) nowhere a_cell }
+{
+    parts_regroup();
+    predicates_are_bodies();
+}

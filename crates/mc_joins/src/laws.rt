@@ -1,10 +1,12 @@
 // What holds of the steps of joins. Each law is what a function with no body ensures.
-ghost use Rattle.mc_joins.specs.Laws.{StuckIsEvery, JoinsAreDetermined};
+ghost use Rattle.mc_joins.specs.Laws.{StuckIsEvery, JoinsAreDetermined, JoinsAreSound};
 ghost use Rattle.mc_joins.specs.Laws.{JoinsMakeWell, StepsAreDetermined, StepsKeepMade, PrefixesAreDetermined};
 
-use mc_fold::{naming_is_judged, naming_makes_well};
-use mc_premises::tests_tell;
-use mc_state::nodes_are_there;
+use mc_cover::firsts_are_covers;
+use mc_fold::{naming_is_judged, naming_is_sound, naming_makes_well};
+use mc_heap::parts_regroup;
+use mc_premises::{picks_are_named, tests_tell};
+use mc_state::{covers_are_sound, derived_is_true, new_nodes_are_free, nodes_are_there};
 
 /// A join is stuck exactly where there is a next pair and no step at all applies there.
 pub fn stuck_is_every()
@@ -37,4 +39,21 @@ pub fn joins_make_well()
     naming_makes_well();
     nodes_are_there();
     tests_tell();
+}
+
+/// What stands for either of two well-made states stands for what a whole join of them gives.
+pub fn joins_are_sound()
+    ensures { JoinsAreSound }
+{
+    parts_regroup();
+    naming_is_judged();
+    naming_makes_well();
+    naming_is_sound();
+    nodes_are_there();
+    new_nodes_are_free();
+    derived_is_true();
+    covers_are_sound();
+    tests_tell();
+    picks_are_named();
+    firsts_are_covers();
 }

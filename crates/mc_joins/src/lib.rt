@@ -6,7 +6,9 @@ mod examples;
 mod laws;
 
 pub use examples::{
-    counter_joins, empty_joins, folding_joins, naming_joins, refused_joins, segment_joins,
-    stuck_joins,
+    cells_stand_for_join, counter_joins, empty_joins, folding_joins, naming_joins,
+    null_stands_for_join, refused_joins, segment_joins, stuck_joins,
 };
-pub use laws::{joins_are_determined, joins_make_well, steps_are_determined, stuck_is_every};
+pub use laws::{
+    joins_are_determined, joins_are_sound, joins_make_well, steps_are_determined, stuck_is_every,
+};
