@@ -8,8 +8,6 @@ mod definitions;
 #[cfg(test)]
 mod documents;
 #[cfg(test)]
-mod equalities;
-#[cfg(test)]
 mod heaps;
 #[cfg(test)]
 mod instances;
