@@ -1,0 +1,4 @@
+mod Operands
+mod Judged
+mod Advancing
+mod Staying

@@ -1,0 +1,1 @@
+-- Branches stay inside.
