@@ -1,8 +1,7 @@
 -- Branches advance, or their instructions are unmet.
-use Rattle.std.proofs.Common.{◌≡◌, ◌⊎◌, inl, inr, ℕ, ◌<◌, List, [], ◌∷◌, map, Bool, true, false, not, Option, Some, None, pos, slice_get, refl, sym, ap, subst, ◌∙◌, eqb-true}
-use Rattle.std.specs.Prelude.{◌==◌, ◌&&◌, ◌||◌, is_some, option_and_then, option_map, if◌then◌else◌}
+use Rattle.std.proofs.Common.{◌≡◌, ◌⊎◌, inl, inr, ℕ, List, [], ◌∷◌, map, Bool, true, false, not, Option, Some, None, pos, slice_get, refl, sym, ap, ◌∙◌, eqb-true}
+use Rattle.std.specs.Prelude.{◌==◌, ◌&&◌, option_and_then, option_map, if◌then◌else◌}
 use Rattle.std.specs.List.{find, list_all, list_any}
-use Rattle.std.specs.Ordering.{int_eq}
 use Rattle.mc_base.specs.declared.ids.EdgeId.{EdgeId}
 use Rattle.mc_base.specs.declared.ids.NodeId.{NodeId}
 use Rattle.mc_base.specs.declared.ids.PointId.{PointId}
@@ -44,7 +43,7 @@ use Rattle.mc_step.specs.JudgedLaws.{FieldsAreThere, IsStepBy, StepsAreJudged}
 use Rattle.mc_step.specs.Next.{Next}
 use Rattle.mc_step.specs.Operands.{HasBlock, code_at, operand_node, with_operand}
 use Rattle.mc_step.specs.Unmet.{IsUnmet, taken}
-use Rattle.mc_unmet.specs.Gaps.{first_unknown, may_unfold, lacks, gap_if, block_gap, is_unknown, lacks_field, or_else, field_gap, free_gap, freed_gap, empty_gap, lacking, unknown_or, gap_of, gap_at}
+use Rattle.mc_unmet.specs.Gaps.{first_unknown, may_unfold, lacks, gap_if, block_gap, is_unknown, lacks_field, or_else, field_gap, free_gap, lacking, unknown_or, gap_of, gap_at}
 use Rattle.mc_unmet.specs.Laws.{GapsAreTold}
 use Rattle.mc_kernel.specs.Branches.{Path, Setting, MayStep, path_of}
 use Rattle.mc_kernel.specs.Instances.{accessed, accessed_by, accessed_outside}
@@ -53,7 +52,7 @@ use Rattle.mc_kernel.specs.Judges.{Knowledge, judged_line}
 use Rattle.mc_judges.specs.Judges.{JudgesAreThere}
 use Rattle.mc_reading.specs.Documents.{IsMade}
 use Rattle.mc_progress.specs.Progress.{Advances, BranchesAdvance, ChainsAdvance, IsInside, advances}
-use Rattle.mc_progress.proofs.Judged.{Found, Gives, and_two, and_split, either, found_or, have_gives, item_at, need_gives, or_left, or_one, or_right, then_gives}
+use Rattle.mc_progress.proofs.Judged.{Found, Gives, and_two, and_split, either, found_or, have_gives, item_at, need_gives, or_one, or_right, then_gives}
 use Rattle.mc_progress.proofs.Operands.{all_known, first_known, still_known, two_known}
 
 -- what lower crates prove
@@ -74,9 +73,6 @@ swapped s a b (inr wrong) = inr wrong
 -- a gap where the test holds
 gap_given : (test : Bool) (gap : Gap) → test ≡ true → gap_if test gap ≡ Some gap
 gap_given test gap e = ap (λ (z : Bool). gap_if z gap) e
-
-not_there : (test : Bool) → test ≡ false → not test ≡ true
-not_there test e = ap not e
 
 module _ (laws : Laws) (flow : Flow) (defs : List Def) (g : Setting) (b : Path) (valid : IsValid flow defs) (made : IsMade flow defs b) (may : MayStep g b)
     (k : Knowledge) (asked : IsAsked k flow defs b) where
@@ -329,9 +325,9 @@ module _ (laws : Laws) (flow : Flow) (defs : List Def) (g : Setting) (b : Path) 
       freed_nothing none =
           by_lack n (accessed_is (instr.Free (Var x) q) at ∙ is) (is_block_at know n) none
           (λ lack.
-              by_lacking (instr.Free (Var x) q) at known (NoBlock n)
-              (ap (option_and_then (free_gap know defs es)) is
-              ∙ gap_given _ (NoBlock n) (and_two (not (equal know n null)) (lacks (is_block_at know n) know defs n es) (ap not other) lack)))
+          by_lacking (instr.Free (Var x) q) at known (NoBlock n)
+          (ap (option_and_then (free_gap know defs es)) is
+          ∙ gap_given _ (NoBlock n) (and_two (not (equal know n null)) (lacks (is_block_at know n) know defs n es) (ap not other) lack)))
 
       freed_found : Found (is_block_at know n) es → Answer
       freed_found f =

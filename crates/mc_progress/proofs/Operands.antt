@@ -58,5 +58,5 @@ all_known s (o ∷ os) e =
     let rest = all_known (with_operand s o) os (still_known s o os one.1) in (
       one.0.0 ∷ rest.0,
       ap (λ (n : Option NodeId). with_first n (operand_nodes (with_operand s o) os)) one.0.1
-      ∙ ap (λ (ns : Option (List NodeId)). with_first (Some one.0.0) ns) rest.1,
+          ∙ ap (λ (ns : Option (List NodeId)). with_first (Some one.0.0) ns) rest.1,
     )
