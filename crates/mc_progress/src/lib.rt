@@ -1,5 +1,4 @@
-//! That branches of documents go on, as laws: where an instruction's line may stand, one is an instance, or one that
-//! unfolds what is accessed, or the instruction is unmet.
+//! That branches of documents go on, as laws: each advances by some line, or its instruction is unmet.
 #![tactic(auto)]
 
 mod laws;
