@@ -1,5 +1,5 @@
 -- Rules whose premises are met give something, and items that pass tests.
-use Rattle.std.proofs.Common.{◌≡◌, ◌⊎◌, inl, inr, ℕ, zero, suc, ◌<◌, List, [], ◌∷◌, length, Bool, true, false, Option, Some, slice_get, refl, ap, ◌∙◌, arith}
+use Rattle.std.proofs.Common.{◌≡◌, ◌⊎◌, inl, inr, ℕ, zero, suc, ◌<◌, List, [], ◌∷◌, length, Bool, true, false, Option, Some, None, slice_get, refl, sym, ap, ◌∙◌, arith}
 use Rattle.std.specs.Prelude.{◌&&◌, ◌||◌, cond, Ok}
 use Rattle.std.specs.List.{find, list_any}
 use Rattle.mc_premises.specs.Premises.{Judged, need, have, then_give}
@@ -50,12 +50,17 @@ pub record Found {A : Type 0} (test : A → Bool) (xs : List A) : Type 0 where
   pub passes : test item ≡ true
   pub listed : (other : A → Bool) → other item ≡ true → list_any other xs ≡ true
 
+-- no item passes
+pub record NoneFound {A : Type 0} (test : A → Bool) (xs : List A) : Type 0 where
+  pub found : find test xs ≡ None
+  pub none : list_any test xs ≡ false
+
 -- an item is found, or none passes
-pub found_or : {A : Type 0} (test : A → Bool) (xs : List A) → Found test xs ⊎ (list_any test xs ≡ false)
-found_or test [] = inr refl
+pub found_or : {A : Type 0} (test : A → Bool) (xs : List A) → Found test xs ⊎ NoneFound test xs
+found_or test [] = inr (record { found = refl; none = refl })
 found_or {A} test (x ∷ xs) = at (test x) refl (found_or test xs)
   where
-    at : (b : Bool) → test x ≡ b → Found test xs ⊎ (list_any test xs ≡ false) → Found test (x ∷ xs) ⊎ (list_any test (x ∷ xs) ≡ false)
+    at : (b : Bool) → test x ≡ b → Found test xs ⊎ NoneFound test xs → Found test (x ∷ xs) ⊎ NoneFound test (x ∷ xs)
     at true e rest = inl (record {
       item = x;
       found = ap (λ (z : Bool). cond z (Some x) (find test xs)) e;
@@ -68,7 +73,21 @@ found_or {A} test (x ∷ xs) = at (test x) refl (found_or test xs)
       passes = f.passes;
       listed = λ other g. or_right (other x) (list_any other xs) (f.listed other g);
     })
-    at false e (inr none) = inr (ap (λ (z : Bool). z || list_any test xs) e ∙ none)
+    at false e (inr n) = inr (record {
+      found = ap (λ (z : Bool). cond z (Some x) (find test xs)) e ∙ n.found;
+      none = ap (λ (z : Bool). z || list_any test xs) e ∙ n.none;
+    })
+
+-- where each item that passes a test passes one of two others, and none passes those, none passes it
+pub none_of_two : {A : Type 0} (test one other : A → Bool) (xs : List A) → ((x : A) → test x ≡ true → (one x ≡ true) ⊎ (other x ≡ true))
+    → list_any one xs ≡ false → list_any other xs ≡ false → list_any test xs ≡ false
+none_of_two test one other xs each no_one no_other = elim (found_or test xs) [
+  | inr n ↦ n.none
+  | inl f ↦ elim (each f.item f.passes) [
+    | inl e ↦ let two : true ≡ false = sym (f.listed one e) ∙ no_one in absurd (cc two)
+    | inr e ↦ let two : true ≡ false = sym (f.listed other e) ∙ no_other in absurd (cc two)
+  ]
+]
 
 -- what stands at a place of a list
 pub item_at : {A : Type 0} (xs : List A) (place : ℕ) → place < length xs → (x : A) × (slice_get xs place ≡ Some x)

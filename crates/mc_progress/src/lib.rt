@@ -3,4 +3,4 @@
 
 mod laws;
 
-pub use laws::{branches_advance, branches_stay_inside};
+pub use laws::{asked_lines_are_right, branches_advance, branches_stay_inside};
