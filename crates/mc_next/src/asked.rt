@@ -2,6 +2,8 @@
 ghost use Rattle.std.specs.Prelude.{◌≡◌};
 ghost use Rattle.mc_flow.specs.Valid.{IsValid};
 ghost use Rattle.mc_kernel.specs.Judges.{is_cut};
+ghost use Rattle.mc_premises.specs.Known.{Test, Tells};
+ghost use Rattle.mc_progress.specs.Asked.{at_code};
 
 use crate::access::accessed;
 use crate::stepping::instance;
@@ -14,6 +16,7 @@ use mc_instructions::code_at;
 use mc_judging::Branch;
 use mc_lacking::lacking_at;
 use mc_state::Form;
+use mc_symbolic::State;
 use std::alloc::Global;
 
 /// Whether the point is a cut.
@@ -37,12 +40,14 @@ fn stuck(form: Form) -> Option<Line> {
 }
 
 /// The line of an instruction that lacks nothing, or the one that unfolds what it accesses.
-fn at_code(defs: &Defs, code: &Instr, branch: &Branch) -> Option<Line> {
-    if let Some(line) = instance(&branch.state, code) {
+pub fn at_code(defs: &Defs, code: &Instr, state: &State) -> Option<Line>
+    ensures { (know : Test) → Tells know state.now → result ≡ at_code know defs.now state.now code.now }
+{
+    if let Some(line) = instance(state, code) {
         return Some(line);
     }
-    match accessed(&branch.state, code) {
-        Some(node) => at_node(&branch.state, defs, node),
+    match accessed(state, code) {
+        Some(node) => at_node(state, defs, node),
         None => None,
     }
 }
@@ -62,7 +67,7 @@ fn at_instruction(
     };
     match lacking_at(alloc, flow, defs, branch.point, &branch.state)? {
         Some(_) => Ok(stuck(form)),
-        None => Ok(at_code(defs, code, branch)),
+        None => Ok(at_code(defs, code, &branch.state)),
     }
 }
 

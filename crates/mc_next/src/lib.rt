@@ -7,6 +7,6 @@ mod stepping;
 mod unfolding;
 
 pub use access::accessed;
-pub use asked::next_line;
+pub use asked::{at_code, next_line};
 pub use stepping::instance;
 pub use unfolding::{at_end, at_node, at_null, at_start, false_or_null};

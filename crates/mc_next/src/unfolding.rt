@@ -1,4 +1,9 @@
 // Which edge is to be unfolded.
+ghost use Rattle.std.specs.Prelude.{◌≡◌};
+ghost use Rattle.mc_base.specs.Nodes.{null};
+ghost use Rattle.mc_premises.specs.Known.{Test, Tells};
+ghost use Rattle.mc_progress.specs.Asked.{at_end, at_node, at_start, ends_at, false_or_null, from_start, is_summary, starts_at};
+
 use mc_base::{EdgeId, NodeId};
 use mc_cert::Line;
 use mc_defs::Defs;
@@ -6,32 +11,54 @@ use mc_graph::Edge;
 use mc_symbolic::State;
 use mc_unfolding::{Segment, is_reached_back};
 
-const NULL: NodeId = NodeId(0);
+pub const NULL: NodeId = NodeId(0);
 
 /// The line that unfolds an edge from its start; None for a block.
-fn from_start(id: EdgeId, edge: &Edge) -> Option<Line> {
-    match edge {
+fn from_start(edge: &(EdgeId, Edge)) -> Option<Line>
+    ensures { result ≡ from_start edge.now }
+{
+    match &edge.1 {
         Edge::Block { .. } => None,
-        Edge::Ind { .. } => Some(Line::L1(id)),
-        Edge::Seg { .. } => Some(Line::L2(id)),
+        Edge::Ind { .. } => Some(Line::L1(edge.0)),
+        Edge::Seg { .. } => Some(Line::L2(edge.0)),
     }
 }
 
+/// Whether an edge is no block.
+fn is_summary(edge: &Edge) -> bool
+    ensures { result ≡ is_summary edge.now }
+{
+    match edge {
+        Edge::Block { .. } => false,
+        Edge::Ind { .. } => true,
+        Edge::Seg { .. } => true,
+    }
+}
+
+/// Whether an edge is no block, and starts at a node that is equal.
+fn starts_at(state: &State, node: NodeId, edge: &(EdgeId, Edge)) -> bool
+    ensures { (know : Test) → Tells know state.now → result ≡ starts_at know node edge.now }
+{
+    is_summary(&edge.1) && state.are_equal(edge.1.start(), node)
+}
+
 /// The line that unfolds the least edge, but for blocks, that starts at a node which is equal.
-pub fn at_start(state: &State, node: NodeId) -> Option<Line> {
-    for entry in state.edges() {
-        if state.are_equal(entry.1.start(), node) {
-            if let Some(line) = from_start(entry.0, &entry.1) {
-                return Some(line);
-            }
+pub fn at_start(state: &State, node: NodeId) -> Option<Line>
+    ensures { (know : Test) → Tells know state.now → result ≡ at_start know node state.now.graph.edges }
+{
+    for edge in state.edges() {
+        if starts_at(state, node, edge) {
+            return from_start(edge);
         }
     }
     None
 }
 
 /// Whether a segment can be unfolded from its end where the node is accessed.
-fn ends_at(state: &State, defs: &Defs, node: NodeId, edge: &Edge) -> bool {
-    match edge {
+fn ends_at(state: &State, defs: &Defs, node: NodeId, edge: &(EdgeId, Edge)) -> bool
+    ensures { (know : Test) → Tells know state.now → result ≡ ends_at know defs.now node edge.now }
+{
+    match &edge.1 {
         Edge::Block { .. } => false,
         Edge::Ind { .. } => false,
         Edge::Seg {
@@ -54,22 +81,28 @@ fn ends_at(state: &State, defs: &Defs, node: NodeId, edge: &Edge) -> bool {
 }
 
 /// The line that unfolds the least segment of which an end argument at a back position is equal to the node.
-pub fn at_end(state: &State, defs: &Defs, node: NodeId) -> Option<Line> {
-    for entry in state.edges() {
-        if ends_at(state, defs, node, &entry.1) {
-            return Some(Line::L15(entry.0));
+pub fn at_end(state: &State, defs: &Defs, node: NodeId) -> Option<Line>
+    ensures { (know : Test) → Tells know state.now → result ≡ at_end know defs.now node state.now.graph.edges }
+{
+    for edge in state.edges() {
+        if ends_at(state, defs, node, edge) {
+            return Some(Line::L15(edge.0));
         }
     }
     None
 }
 
 /// The line that unfolds the least edge, but for blocks, that starts at null.
-pub fn at_null(state: &State) -> Option<Line> {
+pub fn at_null(state: &State) -> Option<Line>
+    ensures { (know : Test) → Tells know state.now → result ≡ at_start know null state.now.graph.edges }
+{
     at_start(state, NULL)
 }
 
 /// The line that ends a branch whose state is false; else the one that unfolds an edge at null.
-pub fn false_or_null(state: &State) -> Option<Line> {
+pub fn false_or_null(state: &State) -> Option<Line>
+    ensures { (know : Test) → Tells know state.now → result ≡ false_or_null know state.now.graph.edges }
+{
     if state.is_false() {
         return Some(Line::L12);
     }
@@ -77,7 +110,9 @@ pub fn false_or_null(state: &State) -> Option<Line> {
 }
 
 /// The line that unfolds an edge at a node that is accessed: from its start, and where there is none from its end.
-pub fn at_node(state: &State, defs: &Defs, node: NodeId) -> Option<Line> {
+pub fn at_node(state: &State, defs: &Defs, node: NodeId) -> Option<Line>
+    ensures { (know : Test) → Tells know state.now → result ≡ at_node know defs.now state.now.graph.edges node }
+{
     match at_start(state, node) {
         Some(line) => Some(line),
         None => at_end(state, defs, node),

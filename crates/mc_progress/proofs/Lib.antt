@@ -1,0 +1,6 @@
+mod Operands
+mod Judged
+mod Unfolding
+mod Instructions
+mod Advancing
+mod Staying
