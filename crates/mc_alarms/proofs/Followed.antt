@@ -1,6 +1,6 @@
 -- Chains that are followed line by line.
-use Rattle.std.proofs.Common.{◌≡◌, ◌++◌, ◌∷◌, ◌∙◌, ◌+◌, ◌≤◌, ℕ, List, [], Bool, true, false, Some, option_map, refl, sym, ap, subst, length, append_assoc, arith}
-use Rattle.std.specs.Prelude.{Ok}
+use Rattle.std.proofs.Common.{◌≡◌, ◌++◌, ◌∷◌, ◌∙◌, ◌+◌, ◌≤◌, ◌⊎◌, inl, inr, ℕ, List, [], Bool, true, false, Option, Some, None, Contains, option_map, refl, sym, ap, subst, length, append_assoc, arith}
+use Rattle.std.specs.Prelude.{Err, IfOk, Ok, Result, is_some}
 use Rattle.std.specs.List.{AllByRecursion}
 use Rattle.std.proofs.lemmas.List.{append-nil}
 use Rattle.mc_cert.specs.declared.line.Line.{Line}
@@ -12,17 +12,26 @@ use Rattle.mc_premises.specs.Premises.{Judged, need, have}
 use Rattle.mc_state.specs.declared.line.Form.TheVariants.{Chain}
 use Rattle.mc_state.specs.declared.line.Version.TheVariants.{One}
 use Rattle.mc_state.specs.declared.raw_state.RawState.{RawState}
-use Rattle.mc_kernel.specs.Branches.{Path, roots}
+use Rattle.mc_kernel.specs.Branches.{IsPlain, MayStep, Path, Setting, roots}
+use Rattle.mc_kernel.specs.Instances.{IsInstance, IsStuck}
 use Rattle.mc_kernel.specs.Judges.{Knowledge}
-use Rattle.mc_kernel.specs.Readings.{Reading, Stage, begun, behind, cutting, finished, first_branch, heading, has_no_branch, marked, ready, reading_line, ruled, ruling}
-use Rattle.mc_proof.specs.Positions.{IsApplied, Position, Stands, position_of}
+use Rattle.mc_kernel.specs.Readings.{Reading, Stage, begun, behind, cutting, finished, first_branch, heading, has_no_branch, marked, ready, reading_line, ruled, ruling, setting_of}
+use Rattle.mc_base.specs.declared.ids.PointId.{PointId}
+use Rattle.mc_premises.specs.Known.{Test, Tells}
+use Rattle.mc_progress.specs.Asked.{IsRight, false_or_null}
+use Rattle.mc_progress.specs.Progress.{IsInside, advances}
+use Rattle.mc_proof.specs.Lines.{setting_at}
+use Rattle.mc_proof.specs.Positions.{IsApplied, IsRefusedHere, Position, Stands, position_of}
 use Rattle.mc_reading.specs.Documents.{IsAskedHere, IsJudge, IsKept, IsMade, IsReadAt, IsShortChain, is_rule, reading_document}
 use Rattle.mc_report.specs.Report.{AreAlarmLines, IsAlarmLine, count_line}
-use Rattle.mc_alarms.specs.Laws.{DocumentsAreFollowed}
+use Rattle.mc_alarms.specs.Laws.{BranchesAreFollowed, DocumentsAreFollowed}
 use Rattle.mc_alarms.specs.declared.outcome.Document.{Document}
-use Rattle.mc_alarms.specs.Outcomes.{IsFront, IsWhole}
-use Rattle.mc_alarms.specs.Walks.{IsFollowed, ended_by, ending, goes_on}
-use Rattle.mc_alarms.proofs.Going.{goes_by_rule, goes_unmarked}
+use Rattle.mc_alarms.specs.Outcomes.{IsFront, IsLost, IsWhole}
+use Rattle.mc_alarms.specs.Walks.{AreOpen, IsAtCode, IsAtFirst, IsAtSide, IsCodeLine, IsFollowed, IsMet, IsNowhere, MayApply, ended_by, ending, goes_on}
+use Rattle.mc_alarms.specs.declared.walk.Turn.{Turn}
+use Rattle.mc_alarms.specs.declared.walk.Turn.TheVariants.{Lost}
+use Rattle.mc_state.specs.declared.goal.Goal.{Goal}
+use Rattle.mc_alarms.proofs.Going.{goes_by_advance, goes_by_rule, goes_unmarked}
 
 -- what holds of a flow graph and definitions holds of equal ones
 move : (P : Flow → List Def → Type 0) (f g : Flow) (d e : List Def) → f ≡ g → d ≡ e → P f d → P g e
@@ -98,6 +107,11 @@ module _ (laws : DocumentsAreFollowed) (flow : Flow) (defs : List Def) (valid : 
       pub open_are : old.branches ≡ first ∷ others
       pub stuck_are : next.stuck ≡ last.stuck ++ marked l first
       pub begun_still : next.stage ≡ ruling
+      pub paths : List Path
+      pub instance : IsInstance flow defs (setting_at old) l first paths
+      pub branches_are : next.branches ≡ paths ++ others
+      pub same_form : next.form ≡ last.form
+      pub same_cuts : next.cuts ≡ last.cuts
 
     ruled_by : (l : Line) (last : Reading) (old : Position) (next : Reading) → is_rule l ≡ true → Stands k well last old
         → old.flow ≡ flow → old.defs ≡ defs → old.stage ≡ ruling → reading_line k well flow defs l last ≡ Ok next → IsRuled l last old next
@@ -112,7 +126,26 @@ module _ (laws : DocumentsAreFollowed) (flow : Flow) (defs : List Def) (valid : 
           open_are = sym (ap (λ (q : Position). q.branches) stands.here) ∙ ap (λ (r : Reading). r.branches) same ∙ i.open_are;
           stuck_are = ap (λ (r : Reading). r.stuck) i.gives ∙ ap (λ (r : Reading). r.stuck ++ marked l i.first) (sym same);
           begun_still = ap (λ (r : Reading). r.stage) i.gives ∙ ap (λ (r : Reading). r.stage) (sym same) ∙ stage;
+          paths = i.next;
+          instance = subst (λ (g : Setting). IsInstance flow defs g l i.first i.next) (ap setting_of (sym same) ∙ ap setting_at stands.here) i.instance;
+          branches_are = ap (λ (r : Reading). r.branches) i.gives;
+          same_form = ap (λ (r : Reading). r.form) i.gives ∙ ap (λ (r : Reading). r.form) (sym same);
+          same_cuts = ap (λ (r : Reading). r.cuts) i.gives ∙ ap (λ (r : Reading). r.cuts) (sym same);
         }
+
+    -- what comes of it where the document stands then
+    record IsMoved (old new : Position) (others paths : List Path) : Type 0 where
+      pub branches_are : new.branches ≡ paths ++ others
+      pub form_is : new.form ≡ old.form
+      pub cuts_are : new.cuts ≡ old.cuts
+
+    moved_by : (l : Line) (last next : Reading) (old new : Position) → Stands k well last old → Stands k well next new → (i : IsRuled l last old next)
+        → IsMoved old new i.others i.paths
+    moved_by l last next old new before behind_it i = record {
+      branches_are = sym (ap (λ (q : Position). q.branches) behind_it.here) ∙ i.branches_are;
+      form_is = sym (ap (λ (q : Position). q.form) behind_it.here) ∙ i.same_form ∙ ap (λ (q : Position). q.form) before.here;
+      cuts_are = sym (ap (λ (q : Position). q.cuts) behind_it.here) ∙ i.same_cuts ∙ ap (λ (q : Position). q.cuts) before.here;
+    }
 
     still_begun : (next : Reading) (new : Position) → Stands k well next new → next.stage ≡ ruling → new.stage ≡ ruling
     still_begun next new stands e = sym (ap (λ (q : Position). q.stage) stands.here) ∙ e
@@ -127,15 +160,35 @@ module _ (laws : DocumentsAreFollowed) (flow : Flow) (defs : List Def) (valid : 
 
   -- ---- lines that are added
 
-  pub goes_further : (lines : List Line) (l : Line) (old new : Position) (text : List ℕ) (ended n : ℕ) → goes_on l ≡ true
+  -- what comes of the first branch is open, where the line advances it or it is a side branch
+  module _ (more_laws : BranchesAreFollowed) (g : Setting) (l : Line) (b : Path) (next : List Path) (here : IsInside flow b × (b.closing ≡ false))
+      (fits : IsPlain b → advances l ≡ true) (i : IsInstance flow defs g l b next) where
+    next_open : AreOpen flow next
+    next_open = all_two next (more_laws.inside flow defs g l b next valid here.0 i) (more_laws.still_open flow defs g l b next here.1 fits i)
+      where
+        all_two : (bs : List Path) → AllByRecursion (IsInside flow) bs → AllByRecursion (λ c. c.closing ≡ false) bs → AreOpen flow bs
+        all_two [] one two = tt
+        all_two (c ∷ bs) one two = ((one.0, two.0), all_two bs one.1 two.1)
+
+  both_open : (bs cs : List Path) → AreOpen flow bs → AreOpen flow cs → AreOpen flow (bs ++ cs)
+  both_open [] cs one two = two
+  both_open (b ∷ bs) cs one two = (one.0, both_open bs cs one.1 two)
+
+  pub goes_further : (more_laws : BranchesAreFollowed) (lines : List Line) (l : Line) (old new : Position) (text : List ℕ) (ended n : ℕ) → goes_on l ≡ true → MayApply l old
       → IsFollowed flow defs lines old text ended → IsApplied l old new → n ≡ ended + ending l
       → IsFollowed flow defs (lines ++ l ∷ []) new text n
-  goes_further lines l old new text ended n goes f applied count =
+  goes_further more_laws lines l old new text ended n goes fits f applied count =
       let one = laws.judges flow defs valid in
       let r = f.reads one.0 one.1 one.2 in
       let m = more one.0 one.1 one.2 f.behind l r.last old new r.read r.stands f.of_flow f.of_defs applied in
       let i = ruled_by one.0 one.1 one.2 l r.last old m.next (goes_by_rule l goes) r.stands f.of_flow f.of_defs f.begun m.line_read in
+      let v = moved_by one.0 one.1 one.2 l r.last m.next old new r.stands m.stands i in
+      let before : AreOpen flow (i.first ∷ i.others) = subst (AreOpen flow) i.open_are f.open_are in
+      let after : AreOpen flow i.paths = next_open more_laws (setting_at old) l i.first i.paths before.0 (fits i.first i.others i.open_are) i.instance in
       record {
+        form_is = v.form_is ∙ f.form_is;
+        no_cuts = v.cuts_are ∙ f.no_cuts;
+        open_are = subst (AreOpen flow) (sym v.branches_are) (both_open i.paths i.others after before.1);
         valid = valid;
         behind = f.behind ++ l ∷ [];
         spelled = spelled_more lines f.behind l f.spelled;
@@ -166,7 +219,13 @@ module _ (laws : DocumentsAreFollowed) (flow : Flow) (defs : List Def) (valid : 
       let r = f.reads one.0 one.1 one.2 in
       let m = more one.0 one.1 one.2 f.behind line.C1 r.last old new r.read r.stands f.of_flow f.of_defs applied in
       let i = ruled_by one.0 one.1 one.2 line.C1 r.last old m.next refl r.stands f.of_flow f.of_defs f.begun m.line_read in
+      let v = moved_by one.0 one.1 one.2 line.C1 r.last m.next old new r.stands m.stands i in
+      let before : AreOpen flow (i.first ∷ i.others) = subst (AreOpen flow) i.open_are f.open_are in
+      let stuck : IsStuck flow defs (setting_at old) i.first i.paths = i.instance in
       record {
+        form_is = v.form_is ∙ f.form_is;
+        no_cuts = v.cuts_are ∙ f.no_cuts;
+        open_are = subst (AreOpen flow) (sym (v.branches_are ∙ ap (λ (bs : List Path). bs ++ i.others) stuck.gives)) before.1;
         valid = valid;
         behind = f.behind ++ line.C1 ∷ [];
         spelled = spelled_more lines f.behind line.C1 f.spelled;
@@ -194,11 +253,20 @@ module _ (laws : DocumentsAreFollowed) (flow : Flow) (defs : List Def) (valid : 
   record IsPassed (next : Reading) : Type 0 where
     pub stage : next.stage ≡ ruling
     pub none : next.stuck ≡ []
+    pub form_is : next.form ≡ Chain
+    pub no_cuts : next.cuts ≡ []
+    pub branches_are : next.branches ≡ roots flow []
 
   passed : (k : Knowledge) (well : RawState → Bool) (next : Reading) → reading_line k well flow defs line.Pass (begun Chain) ≡ Ok next → IsPassed next
   passed k well next e =
       let same : ruled (begun Chain) (roots flow []) ≡ next = need_ok 1 _ (ruled (begun Chain) (roots flow [])) next e in
-      record { stage = sym (ap (λ (r : Reading). r.stage) same); none = sym (ap (λ (r : Reading). r.stuck) same) }
+      record {
+        stage = sym (ap (λ (r : Reading). r.stage) same);
+        none = sym (ap (λ (r : Reading). r.stuck) same);
+        form_is = sym (ap (λ (r : Reading). r.form) same);
+        no_cuts = sym (ap (λ (r : Reading). r.cuts) same);
+        branches_are = sym (ap (λ (r : Reading). r.branches) same);
+      }
 
   pub starts : (old new : Position) → old ≡ position_of flow defs (begun Chain) → IsApplied line.Pass old new
       → IsFollowed flow defs (line.Header One Chain ∷ line.Pass ∷ []) new [] 0
@@ -211,6 +279,9 @@ module _ (laws : DocumentsAreFollowed) (flow : Flow) (defs : List Def) (valid : 
       let m = more one.0 one.1 one.2 [] line.Pass (begun Chain) old new refl (stand one.0 one.1 one.2) pf pd applied in
       let i = passed one.0 one.1 m.next m.line_read in
       record {
+        form_is = sym (ap (λ (q : Position). q.form) m.stands.here) ∙ i.form_is;
+        no_cuts = sym (ap (λ (q : Position). q.cuts) m.stands.here) ∙ i.no_cuts;
+        open_are = subst (AreOpen flow) (sym (sym (ap (λ (q : Position). q.branches) m.stands.here) ∙ i.branches_are)) ((valid.begins, refl), tt);
         valid = valid;
         behind = line.Pass ∷ [];
         spelled = refl;
@@ -287,6 +358,193 @@ pub same_followed : (flow : Flow) (defs : List Def) (lines own : List Line) (p :
     → IsFollowed flow defs lines p text ended → IsFollowed flow defs own p mine ended
 same_followed flow defs lines own p text mine ended e g f =
     subst (λ (t : List ℕ). IsFollowed flow defs own p t ended) (sym g) (subst (λ (ls : List Line). IsFollowed flow defs ls p text ended) (sym e) f)
+
+-- the line is surely applied: it goes on, may be applied, and is an instance at the first open branch
+pub record IsSure (flow : Flow) (defs : List Def) (l : Line) (p : Position) : Type 0 where
+  pub goes : goes_on l ≡ true
+  pub may : MayApply l p
+  pub there : IsNowhere flow defs l p → ⊥
+
+-- what a turn by it would say if it were lost
+abbrev pub Refused : Flow → List Def → Line → Position → Position → Type 0
+Refused flow defs l old new = (new ≡ old) × (goes_on l ≡ true → IsNowhere flow defs l old)
+
+-- it never is
+pub never_lost : {E : Type 0} (flow : Flow) (defs : List Def) (l : Line) (old new : Position) (r : Result Turn E) → IsSure flow defs l old
+    → IfOk r (λ turn. turn ≡ Lost → Refused flow defs l old new) → IfOk r (λ turn. turn ≡ Lost → ⊥)
+never_lost flow defs l old new (Ok turn) sure h = λ e. sure.there ((h e).1 sure.goes)
+never_lost flow defs l old new (Err x) sure h = tt
+
+-- the same line
+pub same_sure : (flow : Flow) (defs : List Def) (asked : Option Line) (l m : Line) (p : Position) → asked ≡ Some l → asked ≡ Some m → IsSure flow defs l p → IsSure flow defs m p
+same_sure flow defs asked l m p e g sure = subst (λ (n : Line). IsSure flow defs n p) same sure
+  where
+    some : Some l ≡ Some m
+    some = sym e ∙ g
+
+    same : l ≡ m
+    same = let both = some in cc
+
+-- a goal that is there
+pub goal_there : (o : Option Goal) → is_some o ≡ true → (goal : Goal) × (o ≡ Some goal)
+goal_there None e = absurd (cc e)
+goal_there (Some goal) e = (goal, refl)
+
+pub no_goal : (o : Option Goal) → is_some o ≡ false → o ≡ None
+no_goal None e = refl
+no_goal (Some goal) e = absurd (cc e)
+
+-- the first open branch, and the others
+pub current_at : (p : Position) (c : Path) → Some c ≡ option_map (λ (d : Path × List Path). d.0) (first_branch p.branches) → (others : List Path) × (p.branches ≡ c ∷ others)
+current_at p c e = by p.branches e
+  where
+    by : (bs : List Path) → Some c ≡ option_map (λ (d : Path × List Path). d.0) (first_branch bs) → (others : List Path) × (bs ≡ c ∷ others)
+    by [] e = absurd (cc e)
+    by (b ∷ bs) e = let same : c ≡ b = some_same c b e in (bs, ap (λ (d : Path). d ∷ bs) (sym same))
+      where
+        some_same : (c b : Path) → Some c ≡ Some b → c ≡ b
+        some_same c b e = cc e
+
+pub current_is : (p : Position) (c b : Path) (others : List Path) → p.branches ≡ b ∷ others → Some c ≡ option_map (λ (d : Path × List Path). d.0) (first_branch p.branches) → c ≡ b
+current_is p c b others is e =
+    let some : Some c ≡ Some b = e ∙ ap (λ (bs : List Path). option_map (λ (d : Path × List Path). d.0) (first_branch bs)) is in cc some
+
+-- the first branch has no instance of a line that is refused, and is as a line that is right needs
+module _ (laws : DocumentsAreFollowed) (flow : Flow) (defs : List Def) (lines : List Line) (p : Position) (text : List ℕ) (ended : ℕ)
+    (f : IsFollowed flow defs lines p text ended) where
+  pub refused_nowhere : (l : Line) (premise : ℕ) → is_rule l ≡ true → IsRefusedHere l p premise → IsNowhere flow defs l p
+  refused_nowhere l premise rule refused b others next is i =
+      let one = laws.judges flow defs f.valid in
+      let k = one.0 in
+      let well = one.1 in
+      let r = f.reads k well one.2 in
+      let last = r.last in
+      let stage : last.stage ≡ ruling = ap (λ (q : Position). q.stage) r.stands.here ∙ f.begun in
+      let kept : IsKept flow defs last = move (λ (h : Flow) (d : List Def). IsKept h d last) p.flow flow p.defs defs f.of_flow f.of_defs r.stands.kept in
+      let new : Reading = record last { branches = next ++ others; stuck = last.stuck ++ marked l b } in
+      let at : IsReadAt flow defs l last new = record {
+        begun_rules = last;
+        is_ready = ap (ready flow last) stage;
+        first = b;
+        others = others;
+        open_are = ap (λ (q : Position). q.branches) r.stands.here ∙ is;
+        next = next;
+        instance = subst (λ (g : Setting). IsInstance flow defs g l b next) (sym (ap setting_at r.stands.here)) i;
+        gives = refl;
+      } in
+      let yes : reading_line k well flow defs l last ≡ Ok new =
+      (laws.rules k well flow defs l last new (asked_here laws flow defs f.valid k well one.2 last stage kept) rule).1 at in
+      let no_line : reading_line k well flow defs l last ≡ Err premise =
+      move (λ (h : Flow) (d : List Def). reading_line k well h d l last ≡ Err premise) p.flow flow p.defs defs f.of_flow f.of_defs (refused k well last r.stands) in
+      let clash : ◌≡◌ {A = Judged Reading} (Ok new) (Err premise) = sym yes ∙ no_line in
+      cc clash
+
+  module _ (b : Path) (others : List Path) (is : p.branches ≡ b ∷ others) where
+    here_open : IsInside flow b × (b.closing ≡ false)
+    here_open = (subst (AreOpen flow) is f.open_are).0
+
+    -- a test that tells what is derived at the first branch, whose state is well made
+    record IsTold : Type 0 where
+      pub know : Test
+      pub tells : Tells know b.state
+      pub made : IsMade flow defs b
+
+    told : IsTold
+    told =
+        let one = laws.judges flow defs f.valid in
+        let r = f.reads one.0 one.1 one.2 in
+        let kept : IsKept flow defs r.last = move (λ (h : Flow) (d : List Def). IsKept h d r.last) p.flow flow p.defs defs f.of_flow f.of_defs r.stands.kept in
+        let made : IsMade flow defs b =
+        (subst (λ (bs : List Path). AllByRecursion (IsMade flow defs) bs) (ap (λ (q : Position). q.branches) r.stands.here ∙ is) kept.branches).0 in
+        record { know = one.0.know b.state; tells = (one.2.asked b made).given.tells; made = made }
+
+    -- where it is no side branch, an instruction's line may stand there
+    may_step : IsPlain b → MayStep (setting_at p) b
+    may_step plain = record {
+      plain = plain;
+      open_still = here_open.1;
+      before_cut = inl (λ there. no_cut p.cuts f.no_cuts there);
+    }
+      where
+        no_cut : (cuts : List PointId) → cuts ≡ [] → Contains cuts b.point → ⊥
+        no_cut [] e there = let less = there.1 in absurd (omega (arith, less))
+        no_cut (c ∷ cuts) e there = cc e
+
+  -- the line that is asked for first is an instance
+  pub first_is_right : (more_laws : BranchesAreFollowed) (l : Line) → IsAtFirst l p → IsSure flow defs l p
+  first_is_right more_laws l at = by (more_laws.first t.know flow defs (setting_at p) b t.made (here_open b at.others at.branches_are).1 t.tells)
+    where
+      b : Path
+      b = at.first
+
+      t : IsTold b at.others at.branches_are
+      t = told b at.others at.branches_are
+
+      same_line : (m n : Line) → Some m ≡ Some n → m ≡ n
+      same_line m n e = cc e
+
+      by : IsRight flow defs (setting_at p) b (false_or_null t.know b.state.graph.edges) ⊎ (false_or_null t.know b.state.graph.edges ≡ None) → IsSure flow defs l p
+      by (inr none) = let two : None ≡ Some l = sym none ∙ at.asked t.know t.tells in absurd (cc two)
+      by (inl r) =
+          let same : r.line ≡ l = same_line r.line l (sym r.is ∙ at.asked t.know t.tells) in
+          let such : advances l ≡ true = subst (λ (m : Line). advances m ≡ true) same r.is_such in
+          record {
+            goes = goes_by_advance l such;
+            may = λ c others is plain. such;
+            there = λ none. none b at.others r.next at.branches_are (subst (λ (m : Line). IsInstance flow defs (setting_at p) m b r.next) same r.instance);
+          }
+
+  -- so is the one of an instruction that is not unmet
+  pub code_is_right : (more_laws : BranchesAreFollowed) (asked : Option Line) → IsAtCode p → IsMet flow defs p → IsCodeLine flow defs p asked
+      → (l : Line) × (asked ≡ Some l) × IsSure flow defs l p
+  code_is_right more_laws asked at met is_line =
+      let b = at.first in
+      let t = told b at.others at.branches_are in
+      let r = more_laws.code t.know flow defs (setting_at p) b f.valid t.made (here_open b at.others at.branches_are).0 (may_step b at.others at.branches_are at.plain) t.tells
+      (at.nothing_first t.know t.tells) (λ gap unmet. met b at.others gap at.branches_are unmet) in (
+        r.line,
+        is_line b at.others t.know at.branches_are t.tells ∙ r.is,
+        record {
+          goes = goes_by_advance r.line r.is_such;
+          may = λ c others is plain. r.is_such;
+          there = λ none. none b at.others r.next at.branches_are r.instance;
+        },
+      )
+
+  -- an instruction that is unmet is stuck
+  pub stuck_is_right : IsAtCode p → IsNowhere flow defs line.C1 p → IsMet flow defs p
+  stuck_is_right at none b others gap is unmet =
+      let same : at.first ≡ b = same_first at.first b at.others others (sym at.branches_are ∙ is) in
+      none b others [] is (record {
+        chain = f.form_is;
+        plain = subst IsPlain same at.plain;
+        open_still = (here_open b others is).1;
+        gap = gap;
+        unmet = unmet;
+        gives = refl;
+      })
+    where
+      same_first : (b c : Path) (bs cs : List Path) → ◌≡◌ {A = List Path} (b ∷ bs) (c ∷ cs) → b ≡ c
+      same_first b c bs cs e = cc e
+
+  -- the lines end at a side branch
+  pub ends_at_side : IsAtSide p → IsLost flow defs lines
+  ends_at_side at = record {
+    behind = f.behind;
+    spelled = f.spelled;
+    reads = λ k well judge.
+        let r = f.reads k well judge in
+        record {
+          last = r.last;
+          read = r.read;
+          not_ended = λ e. (let clash : ruling ≡ finished = sym (ap (λ (q : Position). q.stage) r.stands.here ∙ f.begun) ∙ e in cc clash);
+          first = at.first;
+          others = at.others;
+          branches_are = ap (λ (q : Position). q.branches) r.stands.here ∙ at.branches_are;
+          goal = at.goal;
+          side = at.side;
+        };
+  }
 
 -- nothing is changed by a line that is refused
 pub refused_stays : (flow : Flow) (defs : List Def) (lines : List Line) (old new : Position) (text : List ℕ) (ended : ℕ) → new ≡ old

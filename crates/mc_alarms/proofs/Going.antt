@@ -4,6 +4,7 @@ use Rattle.mc_cert.specs.declared.line.Line.{Line}
 use Rattle.mc_cert.specs.declared.line.Line.TheVariants as line
 use Rattle.mc_kernel.specs.Branches.{Path}
 use Rattle.mc_kernel.specs.Readings.{marked}
+use Rattle.mc_progress.specs.Progress.{advances}
 use Rattle.mc_reading.specs.Documents.{is_rule}
 use Rattle.mc_alarms.specs.Walks.{goes_on}
 
@@ -19,3 +20,12 @@ goes_by_rule other e = refl
 pub goes_unmarked : (l : Line) (b : Path) → goes_on l ≡ true → marked l b ≡ []
 goes_unmarked line.C1 b e = absurd (cc e)
 goes_unmarked other b e = refl
+
+pub goes_by_advance : (l : Line) → advances l ≡ true → goes_on l ≡ true
+goes_by_advance (line.Header version form) e = absurd (cc e)
+goes_by_advance (line.Cut p) e = absurd (cc e)
+goes_by_advance (line.Head p raw) e = absurd (cc e)
+goes_by_advance line.Pass e = absurd (cc e)
+goes_by_advance line.End e = absurd (cc e)
+goes_by_advance line.C1 e = absurd (cc e)
+goes_by_advance other e = refl

@@ -1,5 +1,7 @@
 -- The laws on which following a chain stands.
 use Rattle.mc_judges.specs.Judges.{JudgesAreThere}
+use Rattle.mc_progress.specs.Asked.{CodeLinesAreRight, FirstLinesAreRight}
+use Rattle.mc_progress.specs.Progress.{LinesStayInside, LinesStayOpen}
 use Rattle.mc_reading.specs.Laws.{BegunIsKept, ChainsAreRead, LinesAreAdded, LinesKeep, RulesAreRead}
 
 -- documents are read line by line by a right judge, which is there, and one that has ended is a chain of one pass
@@ -10,3 +12,10 @@ pub record DocumentsAreFollowed : Type 0 where
   pub rules : RulesAreRead
   pub added : LinesAreAdded
   pub chains : ChainsAreRead
+
+-- the line that a branch asks for is an instance, and what comes of branches stays inside the flow graph and open
+pub record BranchesAreFollowed : Type 0 where
+  pub first : FirstLinesAreRight
+  pub code : CodeLinesAreRight
+  pub inside : LinesStayInside
+  pub still_open : LinesStayOpen

@@ -1,5 +1,6 @@
 -- A chain that is being written.
-use Rattle.std.specs.Prelude.{◌≡◌, ◌+◌, ℕ, Bool, true, false, List, [], ◌∷◌, Ok}
+use Rattle.std.specs.Prelude.{◌≡◌, ◌+◌, ℕ, Bool, true, false, List, [], ◌∷◌, Option, Some, None, Ok, option_and_then}
+use Rattle.std.specs.List.{AllByRecursion}
 use Rattle.mc_cert.specs.declared.line.Line.{Line}
 use Rattle.mc_cert.specs.declared.line.Line.TheVariants as line
 use Rattle.mc_defs.specs.declared.rules.Def.{Def}
@@ -8,11 +9,23 @@ use Rattle.mc_flow.specs.Valid.{IsValid}
 use Rattle.mc_state.specs.declared.line.Form.TheVariants.{Chain}
 use Rattle.mc_state.specs.declared.line.Version.TheVariants.{One}
 use Rattle.mc_state.specs.declared.raw_state.RawState.{RawState}
+use Rattle.mc_kernel.specs.Branches.{IsPlain, Path}
+use Rattle.mc_kernel.specs.Instances.{IsInstance}
 use Rattle.mc_kernel.specs.Judges.{Knowledge}
 use Rattle.mc_kernel.specs.Readings.{Reading, ruling}
 use Rattle.mc_reading.specs.Documents.{IsJudge, reading_document}
+use Rattle.mc_premises.specs.Known.{Test, Tells}
+use Rattle.mc_progress.specs.Asked.{at_code, false_or_null}
+use Rattle.mc_progress.specs.Progress.{IsInside, advances}
+use Rattle.mc_proof.specs.Lines.{setting_at}
 use Rattle.mc_proof.specs.Positions.{Position, Stands}
 use Rattle.mc_report.specs.Report.{AreAlarmLines}
+use Rattle.mc_state.specs.declared.goal.Goal.{Goal}
+use Rattle.mc_step.specs.declared.gap.Gap.{Gap}
+use Rattle.mc_step.specs.Operands.{code_at}
+use Rattle.mc_step.specs.Unmet.{IsUnmet}
+use Rattle.mc_alarms.specs.declared.following.Act.{Act}
+use Rattle.mc_alarms.specs.declared.following.Act.TheVariants.{Apply, EndSide, Code, Rest}
 use Rattle.mc_alarms.specs.declared.walk.Walk.{Walk}
 
 -- the line is one of a rule that ends no branch as stuck
@@ -39,6 +52,10 @@ abbrev pub ended_by : List Line → ℕ
 ended_by [] = 0
 ended_by (l ∷ lines) = ending l + ended_by lines
 
+-- each branch is at a point of the flow graph, and none is closing
+abbrev pub AreOpen : Flow → List Path → Type 0
+AreOpen flow branches = AllByRecursion (λ b. IsInside flow b × (b.closing ≡ false)) branches
+
 -- whoever judges rightly, the lines behind the header are read up to here, and the text is the lines of the stuck branches
 pub record IsReadTo (k : Knowledge) (well : RawState → Bool) (flow : Flow) (defs : List Def) (lines : List Line) (p : Position)
     (text : List ℕ) : Type 0 where
@@ -58,7 +75,60 @@ pub record IsFollowed (flow : Flow) (defs : List Def) (lines : List Line) (p : P
   pub begun : p.stage ≡ ruling
   pub reads : (k : Knowledge) (well : RawState → Bool) → IsJudge k well flow defs → IsReadTo k well flow defs behind p text
   pub counted : ended ≡ ended_by lines
+  pub form_is : p.form ≡ Chain
+  pub no_cuts : p.cuts ≡ []
+  pub open_are : AreOpen flow p.branches
 
 -- a walk has followed its lines
 abbrev pub IsWalk : Flow → List Def → Walk → Type 0
 IsWalk flow defs walk = IsFollowed flow defs walk.lines.items walk.proof walk.text.items walk.ended
+
+-- ---- the first open branch
+
+-- it is a side branch
+pub record IsAtSide (p : Position) : Type 0 where
+  pub first : Path
+  pub others : List Path
+  pub branches_are : p.branches ≡ first ∷ others
+  pub goal : Goal
+  pub side : first.goal ≡ Some goal
+
+-- it is no side branch, and neither false nor has it an edge at null
+pub record IsAtCode (p : Position) : Type 0 where
+  pub first : Path
+  pub others : List Path
+  pub branches_are : p.branches ≡ first ∷ others
+  pub plain : IsPlain first
+  pub nothing_first : (know : Test) → Tells know first.state → false_or_null know first.state.graph.edges ≡ None
+
+-- a line ends it as false, or unfolds an edge at null
+pub record IsAtFirst (l : Line) (p : Position) : Type 0 where
+  pub first : Path
+  pub others : List Path
+  pub branches_are : p.branches ≡ first ∷ others
+  pub asked : (know : Test) → Tells know first.state → false_or_null know first.state.graph.edges ≡ Some l
+
+-- what it asks for
+abbrev pub IsAct : Position → Act → Type 0
+IsAct p (Apply l) = IsAtFirst l p
+IsAct p EndSide = IsAtSide p
+IsAct p Code = IsAtCode p
+IsAct p Rest = Unit {0}
+
+-- a line advances it, where it is no side branch
+abbrev pub MayApply : Line → Position → Type 0
+MayApply l p = (b : Path) (others : List Path) → p.branches ≡ b ∷ others → IsPlain b → advances l ≡ true
+
+-- a line is no instance there
+abbrev pub IsNowhere : Flow → List Def → Line → Position → Type 0
+IsNowhere flow defs l p = (b : Path) (others next : List Path) → p.branches ≡ b ∷ others → IsInstance flow defs (setting_at p) l b next → ⊥
+
+-- its instruction is not unmet
+abbrev pub IsMet : Flow → List Def → Position → Type 0
+IsMet flow defs p = (b : Path) (others : List Path) (gap : Gap) → p.branches ≡ b ∷ others → IsUnmet flow defs b.point b.state gap → ⊥
+
+-- its instruction asks for this line
+abbrev pub IsCodeLine : Flow → List Def → Position → Option Line → Type 0
+IsCodeLine flow defs p asked =
+    (b : Path) (others : List Path) (know : Test) → p.branches ≡ b ∷ others → Tells know b.state
+    → asked ≡ option_and_then (at_code know defs b.state) (code_at flow b.point)

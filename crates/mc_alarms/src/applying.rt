@@ -1,9 +1,10 @@
 // Lines that are added to a chain.
-ghost use Rattle.std.specs.Prelude.{◌≡◌, ◌+◌, IfOk, OnOk};
-ghost use Rattle.mc_alarms.specs.Walks.{IsWalk};
+ghost use Rattle.std.specs.Prelude.{◌≡◌, ◌+◌, IfOk, OnOk, true, false};
+ghost use Rattle.mc_alarms.specs.declared.walk.Turn.TheVariants.{Lost};
+ghost use Rattle.mc_alarms.specs.Walks.{IsAtCode, IsMet, IsNowhere, IsWalk, MayApply, goes_on};
 ghost use Rattle.mc_flow.specs.Valid.{IsValid};
 
-use crate::laws::documents_are_followed;
+use crate::laws::{branches_are_followed, documents_are_followed};
 use crate::lines::{ending, goes_on};
 use crate::walk::{Turn, Walk};
 use mc_base::NoMemory;
@@ -32,6 +33,7 @@ impl<'f> Walk<'f> {
     {
         // For the proof alone: documents are read line by line.
         documents_are_followed();
+        branches_are_followed();
         let mut proof = Proof::start(alloc, flow, defs, Form::Chain);
         let mut lines = Vec::new(alloc);
         lines.push(Line::Header(Version::One, Form::Chain))?;
@@ -50,11 +52,15 @@ impl<'f> Walk<'f> {
 
     /// Adds a line at the first branch; whether it is an instance there. Else nothing changes.
     pub fn apply(&mut self, flow: &Flow, defs: &Defs, line: Line) -> Result<bool, NoMemory>
-        requires { IsWalk flow.now defs.now self.old }
-        ensures { OnOk result (IsWalk flow.now defs.now self.new) }
+        requires followed { IsWalk flow.now defs.now self.old }
+        requires may { MayApply line self.old.proof }
+        ensures follows { OnOk result (IsWalk flow.now defs.now self.new) }
+        ensures refused { IfOk result (λ applied. applied ≡ false
+            → (self.new.proof ≡ self.old.proof) × (goes_on line ≡ true → IsNowhere flow.now defs.now line self.old.proof)) }
     {
         // For the proof alone: documents are read line by line.
         documents_are_followed();
+        branches_are_followed();
         if !goes_on(&line) {
             return Ok(false);
         }
@@ -72,8 +78,11 @@ impl<'f> Walk<'f> {
 
     /// Goes on by a line.
     pub fn turn(&mut self, flow: &Flow, defs: &Defs, line: Line) -> Result<Turn, NoMemory>
-        requires { IsWalk flow.now defs.now self.old }
-        ensures { OnOk result (IsWalk flow.now defs.now self.new) }
+        requires followed { IsWalk flow.now defs.now self.old }
+        requires may { MayApply line self.old.proof }
+        ensures follows { OnOk result (IsWalk flow.now defs.now self.new) }
+        ensures lost { IfOk result (λ turn. turn ≡ Lost
+            → (self.new.proof ≡ self.old.proof) × (goes_on line ≡ true → IsNowhere flow.now defs.now line self.old.proof)) }
     {
         if self.apply(flow, defs, line)? {
             Ok(Turn::On)
@@ -84,11 +93,15 @@ impl<'f> Walk<'f> {
 
     /// Ends the first branch, with its line in the report, where its instruction lacks something; whether it does.
     pub fn stick(&mut self, flow: &Flow, defs: &Defs) -> Result<bool, NoMemory>
-        requires { IsWalk flow.now defs.now self.old }
-        ensures { OnOk result (IsWalk flow.now defs.now self.new) }
+        requires followed { IsWalk flow.now defs.now self.old }
+        requires here { IsAtCode self.old.proof }
+        ensures follows { OnOk result (IsWalk flow.now defs.now self.new) }
+        ensures met { IfOk result (λ stuck. stuck ≡ false
+            → (self.new.proof ≡ self.old.proof) × IsMet flow.now defs.now self.old.proof) }
     {
         // For the proof alone: documents are read line by line.
         documents_are_followed();
+        branches_are_followed();
         let Some(branch) = self.proof.current() else {
             return Ok(false);
         };

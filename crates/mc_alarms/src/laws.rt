@@ -1,7 +1,8 @@
 // What the proofs of this crate stand on. The laws are what a function ensures that does nothing.
-ghost use Rattle.mc_alarms.specs.Laws.{DocumentsAreFollowed};
+ghost use Rattle.mc_alarms.specs.Laws.{BranchesAreFollowed, DocumentsAreFollowed};
 
 use mc_judges::judges_are_there;
+use mc_progress::{asked_lines_are_right, branches_stay_inside};
 use mc_reading::{documents_are_read, documents_go_on, lines_are_read};
 
 /// Documents are read line by line, and the lines of a chain that has ended are one of one pass.
@@ -12,4 +13,12 @@ pub fn documents_are_followed()
     lines_are_read();
     documents_go_on();
     documents_are_read();
+}
+
+/// The line that a branch asks for is an instance there, and what comes of it stays inside the flow graph and open.
+pub fn branches_are_followed()
+    ensures { BranchesAreFollowed }
+{
+    asked_lines_are_right();
+    branches_stay_inside();
 }

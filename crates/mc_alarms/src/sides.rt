@@ -1,6 +1,7 @@
 // Side branches.
-ghost use Rattle.std.specs.Prelude.{OnOk};
-ghost use Rattle.mc_alarms.specs.Walks.{IsWalk};
+ghost use Rattle.std.specs.Prelude.{◌≡◌, true, IfOk, OnOk};
+ghost use Rattle.mc_alarms.specs.declared.walk.Turn.TheVariants.{Lost};
+ghost use Rattle.mc_alarms.specs.Walks.{IsAtSide, IsWalk};
 
 use crate::orders::{edge_of, line_of, makes_edge};
 use crate::plan::{Ground, Plan, Task, plan_of};
@@ -55,10 +56,22 @@ impl Walk<'_> {
         }
     }
 
+    /// Whether the first branch is a side branch.
+    fn is_at_side(&self) -> bool
+        ensures { result ≡ true → IsAtSide self.now.proof }
+    {
+        match self.proof.current() {
+            Some(branch) => branch.goal.is_some(),
+            None => false,
+        }
+    }
+
     /// Ends the first branch, which is a side branch, by the lines of a cover.
     pub fn end_side(&mut self, flow: &Flow, defs: &Defs) -> Result<Turn, NoMemory>
-        requires { IsWalk flow.now defs.now self.old }
-        ensures { OnOk result (IsWalk flow.now defs.now self.new) }
+        requires followed { IsWalk flow.now defs.now self.old }
+        requires here { IsAtSide self.old.proof }
+        ensures follows { OnOk result (IsWalk flow.now defs.now self.new) }
+        ensures lost { IfOk result (λ turn. turn ≡ Lost → IsAtSide self.new.proof) }
     {
         let Some(plan) = self.plan(defs)? else {
             return Ok(Turn::Lost);
@@ -66,6 +79,9 @@ impl Walk<'_> {
         let Plan { orders, last } = plan;
         let mut made = Vec::new(self.alloc);
         for order in orders {
+            if !self.is_at_side() {
+                return Ok(Turn::On);
+            }
             let makes = makes_edge(&order);
             let Some(line) = line_of(self.alloc, order, made.as_slice())? else {
                 return Ok(Turn::Lost);
@@ -74,11 +90,13 @@ impl Walk<'_> {
                 return Ok(Turn::Lost);
             }
             if makes {
-                match self.last_edge() {
-                    Some(edge) => made.push(edge)?,
-                    None => return Ok(Turn::Lost),
+                if let Some(edge) = self.last_edge() {
+                    made.push(edge)?;
                 }
             }
+        }
+        if !self.is_at_side() {
+            return Ok(Turn::On);
         }
         match edge_of(last, made.as_slice()) {
             Some(edge) => self.turn(flow, defs, Line::L14(edge)),

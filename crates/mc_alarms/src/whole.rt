@@ -1,7 +1,7 @@
 // The alarms of a program.
 ghost use Rattle.std.specs.Prelude.{◌≡◌, ◌≤◌, [], IfOk};
-ghost use Rattle.mc_alarms.specs.Outcomes.{IsFront, IsOutcome};
-ghost use Rattle.mc_alarms.specs.Walks.{IsWalk, ended_by};
+ghost use Rattle.mc_alarms.specs.Outcomes.{IsFront, IsLost, IsOutcome};
+ghost use Rattle.mc_alarms.specs.Walks.{IsAtSide, IsWalk, ended_by};
 ghost use Rattle.mc_flow.specs.Valid.{IsValid};
 
 use crate::laws::documents_are_followed;
@@ -19,6 +19,7 @@ impl Walk<'_> {
         requires { IsWalk flow.now defs.now self }
         ensures front { IsFront flow.now defs.now result.items }
         ensures counted { self.entry.ended ≡ ended_by result.items }
+        ensures lost { IsAtSide self.entry.proof → IsLost flow.now defs.now result.items }
     {
         // For the proof alone: they are those of this program.
         let _points = flow.points.len();

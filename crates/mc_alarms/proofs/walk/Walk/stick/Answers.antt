@@ -1,4 +1,4 @@
-use Rattle.std.proofs.Common.{◌≡◌, ◌++◌, ◌∙◌, ℕ, List, Some, Option, option_map, ap, sym, subst}
+use Rattle.std.proofs.Common.{◌≡◌, ◌++◌, ◌∙◌, ℕ, List, Some, Option, option_map, ap, refl, sym, subst}
 use Rattle.std.specs.Borrow.{Bor}
 use Rattle.std.specs.Prelude.{Err}
 use Rattle.mc_cert.specs.declared.line.Line.TheVariants.{C1}
@@ -6,13 +6,14 @@ use Rattle.mc_judging.specs.declared.branch.Branch.{Branch}
 use Rattle.mc_judging.specs.Judging.{path}
 use Rattle.mc_kernel.specs.Branches.{Path}
 use Rattle.mc_kernel.specs.Readings.{first_branch}
+use Rattle.mc_step.specs.Unmet.{IsUnmet}
 use Rattle.mc_proof.specs.declared.fault.ApplyFault.{ApplyFault}
 use Rattle.mc_proof.specs.Positions.{Applies}
-use Rattle.mc_alarms.proofs.Followed.{refused_stays, same_followed, sticks}
+use Rattle.mc_alarms.proofs.Followed.{current_is, refused_nowhere, refused_stays, same_followed, stuck_is_right, sticks}
 use Rattle.mc_alarms.proofs.walk.Walk.stick.Goals as goal
 
-pub returns-in-Ok : goal.returns-in-Ok
-returns-in-Ok c =
+pub returns-in-Ok-clause-follows : goal.returns-in-Ok-clause-follows
+returns-in-Ok-clause-follows c =
     let flow = c.args.flow.now in
     let defs = c.args.defs.now in
     let old = c.args.self.now in
@@ -22,11 +23,35 @@ returns-in-Ok c =
     same_followed flow defs _ c.push.new.self.items c.apply.new.self (old.text.items ++ own.0) c.extend_from_slice.new.self.items c.in_ok-ended.ended
     c.in_ok-push-in-Ok.ensures.items
     (c.in_ok-extend_from_slice-in-Ok.ensures.items ∙ ap (λ (t : List ℕ). old.text.items ++ t) (c.as_slice.ensures.value ∙ own.2 ∙ ap (λ (t : List ℕ). t ++ own.0) c.new-line.ensures.items))
-    (sticks c.documents_are_followed.ensures flow defs c.requires.valid old.lines.items old.proof c.apply.new.self old.text.items own.0
-    old.ended c.in_ok-ended.ended (path c.in-Some.branch.now) c.requires current own.1 c.in-Ok.ensures c.in_ok-ended.ensures)
+    (sticks c.documents_are_followed.ensures flow defs c.requires.followed.valid old.lines.items old.proof c.apply.new.self old.text.items own.0
+    old.ended c.in_ok-ended.ended (path c.in-Some.branch.now) c.requires.followed current own.1 c.in-Ok.ensures c.in_ok-ended.ensures)
 
-pub returns-in-Err-Premise : goal.returns-in-Err-Premise
-returns-in-Err-Premise c =
+pub returns-in-Err-Premise-clause-follows : goal.returns-in-Err-Premise-clause-follows
+returns-in-Err-Premise-clause-follows c =
     let old = c.args.self.now in
     let told = subst (λ (f : ApplyFault). Applies C1 old.proof c.apply.new.self (Err f)) c.in-Err-Premise.field-0-is c.in-Err-Premise.ensures in
-    refused_stays c.args.flow.now c.args.defs.now old.lines.items old.proof c.apply.new.self old.text.items old.ended told.1 c.requires
+    refused_stays c.args.flow.now c.args.defs.now old.lines.items old.proof c.apply.new.self old.text.items old.ended told.1 c.requires.followed
+
+pub returns-in-Err-Premise-clause-met : goal.returns-in-Err-Premise-clause-met
+returns-in-Err-Premise-clause-met c = λ e.
+    let old = c.args.self.now in
+    let flow = c.args.flow.now in
+    let defs = c.args.defs.now in
+    let told = subst (λ (f : ApplyFault). Applies C1 old.proof c.apply.new.self (Err f)) c.in-Err-Premise.field-0-is c.in-Err-Premise.ensures in
+    let laws = c.documents_are_followed.ensures in (
+      told.1,
+      stuck_is_right laws flow defs old.lines.items old.proof old.text.items old.ended c.requires.followed c.requires.here
+          (refused_nowhere laws flow defs old.lines.items old.proof old.text.items old.ended c.requires.followed C1 _ refl told.0),
+    )
+
+pub returns-then-not-branch-clause-met : goal.returns-then-not-branch-clause-met
+returns-then-not-branch-clause-met c = λ e.
+    let old = c.args.self.now in
+    let met = c.in_ok-push_alarm.ensures.met c.if-not-branch.true in
+    let current : Some (path c.in-Some.branch.now) ≡ option_map (λ (b : Path × List Path). b.0) (first_branch old.proof.branches) =
+    sym (ap (λ (b : Option (Bor Branch)). option_map (λ (b : Bor Branch). path b.now) b) c.in-Some.is) ∙ c.current.ensures in (
+      refl,
+      λ b others gap is unmet.
+          met.1 gap
+          (subst (λ (d : Path). IsUnmet c.args.flow.now c.args.defs.now d.point d.state gap) (sym (current_is old.proof (path c.in-Some.branch.now) b others is current)) unmet),
+    )
