@@ -29,7 +29,7 @@ copied_map f (Some x) = refl
 
 -- ---- where statements stand
 pub inside_block : (w : World) (c d : Context) (i : ℕ) (xs : List ℕ)
-    → d ≡ record { function = c.function; occurrence = c.occurrence; depth = c.depth; block = Some i; turns = c.turns }
+    → d ≡ record { function = c.function; occurrence = c.occurrence; block = Some i; turns = c.turns }
     → w.blocks i ≡ xs ++ blocks_in w c.block → around_of w d ≡ in_block (around_of w c) xs
 inside_block w c d i xs is opened =
     ap (λ x. around_of w x) is

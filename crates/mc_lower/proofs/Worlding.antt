@@ -1,5 +1,5 @@
 -- The finished flow graph as a world, with the points of its labels.
-use Rattle.std.proofs.Common.{◌≡◌, ◌<◌, ◌≤◌, ◌+◌, ◌++◌, ℕ, zero, suc, List, [], ◌∷◌, Option, Some, None, refl, sym, ap, ◌∙◌, subst, length, map, get_or, option_map, arith, inl, inr}
+use Rattle.std.proofs.Common.{◌≡◌, ◌<◌, ◌≤◌, ◌+◌, ◌++◌, ℕ, zero, suc, List, [], ◌∷◌, Option, Some, None, refl, sym, ap, ◌∙◌, subst, length, map, get_or, option_map, arith, inl, inr, Vec, Global}
 use Rattle.std.proofs.lemmas.List.{length-map}
 use Rattle.std.proofs.lemmas.List.Elements.{All-weaker}
 use Rattle.std.proofs.lemmas.Option.{same_Some, slice_get-map, slice_get_cases}
@@ -20,50 +20,18 @@ use Rattle.mc_lower.specs.declared.builder.Builder.{Builder}
 use Rattle.mc_lower.specs.declared.lowering.Lowered.{Lowered}
 use Rattle.mc_lower.specs.declared.builder.Draft.{Draft}
 use Rattle.mc_lower.specs.declared.builder.Label.{Label}
-use Rattle.mc_lower.specs.declared.builder.Opened.{Opened}
 use Rattle.mc_lower.specs.declared.builder.Owner.{Owner as OwnerCode}
 use Rattle.mc_lower.specs.declared.builder.Variable.{Variable}
-use Rattle.mc_lower.specs.Finished.{AreApart, AreOnce, AreThose, IsFinished, IsFlowOf, IsInner, IsValidFlow, point_at}
+use Rattle.mc_lower.specs.Finished.{AreApart, AreOnce, AreThose, IsFinished, IsFlowOf, IsValidFlow, point_at}
 use Rattle.mc_lower.specs.Worlds.{World, Agrees, AllAt, blocks_in, owner_of, point_in, role_of}
 
 -- ---- blocks
-abbrev pub around_in : (ℕ → List ℕ) → Option ℕ → List ℕ
-around_in rest None = []
-around_in rest (Some j) = rest j
+abbrev block_at : Option (Vec ℕ Global) → List ℕ
+block_at None = []
+block_at (Some xs) = xs.items
 
-abbrev pub block_in : (ℕ → List ℕ) → Option Opened → List ℕ
-block_in rest None = []
-block_in rest (Some o) = o.numbers.now ++ around_in rest o.around
-
--- the variables of a block and of so many around it
-abbrev pub blocks_to : List Opened → ℕ → ℕ → List ℕ
-blocks_to blocks zero i = []
-blocks_to blocks (suc n) i = block_in (λ j. blocks_to blocks n j) (slice_get blocks i)
-
-abbrev pub blocks_of : List Opened → ℕ → List ℕ
-blocks_of blocks i = blocks_to blocks (suc i) i
-
-same_around : (f g : ℕ → List ℕ) (o : Option ℕ) → ((j : ℕ) → o ≡ Some j → f j ≡ g j) → around_in f o ≡ around_in g o
-same_around f g None same = refl
-same_around f g (Some j) same = same j refl
-
-same_block : (f g : ℕ → List ℕ) (o : Option Opened) → ((x : Opened) (j : ℕ) → o ≡ Some x → x.around ≡ Some j → f j ≡ g j) → block_in f o ≡ block_in g o
-same_block f g None same = refl
-same_block f g (Some x) same = ap (λ xs. x.numbers.now ++ xs) (same_around f g x.around (λ j is. same x j refl is))
-
-same_blocks : (blocks : List Opened) → AllAt IsInner blocks → (n m i : ℕ) → i < n → i < m → blocks_to blocks n i ≡ blocks_to blocks m i
-same_blocks blocks inner zero m i ln lm = absurd (omega arith)
-same_blocks blocks inner (suc n) zero i ln lm = absurd (omega arith)
-same_blocks blocks inner (suc n) (suc m) i ln lm =
-    same_block (λ j. blocks_to blocks n j) (λ j. blocks_to blocks m j) (slice_get blocks i)
-    (λ x j there is. let lt : j < i = inner i x there j is in same_blocks blocks inner n m j (omega arith) (omega arith))
-
-pub block_there : (blocks : List Opened) → AllAt IsInner blocks
-    → AllAt (λ i o. blocks_of blocks i ≡ o.numbers.now ++ around_in (blocks_of blocks) o.around) blocks
-block_there blocks inner = λ i o there.
-    ap (block_in (λ j. blocks_to blocks i j)) there
-    ∙ ap (λ xs. o.numbers.now ++ xs) (same_around (λ j. blocks_to blocks i j) (blocks_of blocks) o.around
-    (λ j is. let lt : j < i = inner i o there j is in same_blocks blocks inner i (suc j) j lt (omega arith)))
+abbrev pub blocks_of : List (Vec ℕ Global) → ℕ → List ℕ
+blocks_of blocks i = block_at (slice_get blocks i)
 
 -- ---- where the `return` of each occurrence goes
 abbrev total : List ℕ → ℕ
@@ -170,10 +138,6 @@ world_of program b x f =
       apart = outs_apart f.table b.outs.items f.settled.apart;
     }
 
-around_blocks : (w : World) (o : Option ℕ) → around_in w.blocks o ≡ blocks_in w o
-around_blocks w None = refl
-around_blocks w (Some j) = refl
-
 pub finished_agrees : (program : Program) (b : Builder) (x : Lowered) (f : IsFinished b x) → program.functions ≡ map function_of b.program.now.functions.items
     → Agrees (world_of program b x f) b
 finished_agrees program b x f is =
@@ -186,8 +150,7 @@ finished_agrees program b x f is =
       infos = λ i v there. ap (λ l. slice_get l i) f.vars ∙ mapped_there (λ (u : Variable). u.info) b.variables.items i v there;
       marks = f.settled.marks;
       outs = outs_there f.table b.outs.items;
-      blocks = λ i o there. block_there b.blocks.items f.settled.inner i o there
-          ∙ ap (λ xs. o.numbers.now ++ xs) (around_blocks (world_of program b x f) o.around);
+      blocks = λ i xs there. ap block_at there;
     }
 
 -- the finished flow graph lowers the program with which the builder began
@@ -227,11 +190,6 @@ flow_there program structs old new x entry is_program is_structs found alone mad
       subst (λ fs. IsLowering (graph_of (record { functions = fs; entry = program.entry; defs = defs }) new f.table x) (function_of entry) m.1 count) same lowering,
       m.0.structs ∙ is_structs,
     )
-
-pub short_there : (b : Builder) (x : Lowered) → IsFinished b x → length x.flow.points ≤ 10000
-short_there b x f =
-    let same : length x.flow.points ≡ length b.points.items = ap (λ l. length l) f.points ∙ length-map b.points.items (point_in (point_at f.table)) in
-    subst (λ n. n ≤ 10000) (sym same) f.settled.short
 
 -- ---- validity
 pub valid_there : (program : Resolved) (structs : Structs) (x : Lowered)

@@ -1,5 +1,8 @@
 pub mod Worlds
 pub mod Owned
 pub mod Valued
+pub mod Lowerable
+pub mod Knowns
+pub mod Ready
 pub mod Left
 pub mod Finished

@@ -1,5 +1,5 @@
 -- A flow graph while it is made, seen from the finished one.
-use Rattle.std.specs.Prelude.{◌≡◌, ◌++◌, ℕ, suc, List, [], map, Option, Some, None, length, slice_get}
+use Rattle.std.specs.Prelude.{◌≡◌, ℕ, suc, List, [], map, Option, Some, None, length, slice_get}
 use Rattle.mc_base.specs.declared.ids.PointId.{PointId}
 use Rattle.mc_text.specs.declared.place.Place.{Place}
 use Rattle.mc_flow.specs.declared.graph.Point.{Point}
@@ -14,7 +14,6 @@ use Rattle.mc_lower.specs.declared.builder.Builder.{Builder}
 use Rattle.mc_lower.specs.declared.builder.Draft.{Draft}
 use Rattle.mc_lower.specs.declared.builder.Label.{Label}
 use Rattle.mc_lower.specs.declared.builder.Mark.{Mark}
-use Rattle.mc_lower.specs.declared.builder.Opened.{Opened}
 use Rattle.mc_lower.specs.declared.builder.Owner.{Owner as OwnerCode}
 use Rattle.mc_lower.specs.declared.builder.Role.{Role as RoleCode}
 use Rattle.mc_lower.specs.declared.builder.Variable.{Variable}
@@ -92,7 +91,7 @@ pub record Agrees (w : World) (b : Builder) : Type 0 where
   pub infos : AllAt (λ i v. slice_get w.graph.flow.vars i ≡ Some v.info) b.variables.items
   pub marks : AllAt (λ i m. IsMarked w.at m) b.marks.items
   pub outs : AllAt (λ i l. w.at l.0 ≡ w.out i) b.outs.items
-  pub blocks : AllAt (λ i o. w.blocks i ≡ o.numbers.now ++ blocks_in w o.around) b.blocks.items
+  pub blocks : AllAt (λ i xs. w.blocks i ≡ xs.items) b.blocks.items
 
 -- how far it is made
 abbrev pub stage_of : World → Builder → Stage

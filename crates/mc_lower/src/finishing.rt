@@ -2,11 +2,11 @@
 ghost use Rattle.std.specs.Prelude.{ℕ, ◌≡◌, ◌↔◌, ◌++◌, ◌∷◌, [], IfOk, OnOk, IsTrue, map};
 ghost use Rattle.mc_flow.specs.declared.graph.Point.{Point};
 ghost use Rattle.mc_lowering.specs.Lowering.{AreThresholds, operands};
-ghost use Rattle.mc_lower.specs.Finished.{AreApart, AreConstants, AreOnce, AreSettled, AreThose, IsFinished, IsInner, constants, point_at};
+ghost use Rattle.mc_lower.specs.Finished.{AreApart, AreConstants, AreOnce, AreSettled, AreThose, IsFinished, constants, point_at};
 ghost use Rattle.mc_lower.specs.Worlds.{AllAt, IsMarked, point_in, role_of, settled, target as point_of_target};
 
 use crate::builder::{
-    ABSENT, BuildFault, Builder, Draft, Label, MAX_POINTS, Mark, Opened, Role, Variable,
+    ABSENT, BuildFault, Builder, Draft, Label, Mark, Role, Variable,
 };
 use crate::lowering::Lowered;
 use crate::owners::find;
@@ -113,20 +113,6 @@ fn are_once(variables: &[Variable]) -> bool
     for at in 0..variables.len() {
         if find(variables, variables[at].owner) != Some(at) {
             return false;
-        }
-    }
-    true
-}
-
-// Whether each block stands inside an earlier one, or inside none.
-fn are_inner(blocks: &[Opened]) -> bool
-    ensures { IsTrue result → AllAt IsInner blocks.now }
-{
-    for at in 0..blocks.len() {
-        if let Some(around) = blocks[at].around {
-            if around >= at {
-                return false;
-            }
         }
     }
     true
@@ -355,11 +341,9 @@ fn checked_points(builder: &Builder) -> Result<Vec<usize>, BuildFault>
     let outs = builder.outs.as_slice();
     let table = points_of(builder.alloc, builder.labels, marks)?;
     let lasts = last_labels(builder.alloc, table.as_slice(), outs, builder.points.len())?;
-    let fits = builder.points.len() <= MAX_POINTS
-        && all_hold(table.as_slice(), marks)
+    let fits = all_hold(table.as_slice(), marks)
         && are_apart(table.as_slice(), outs, lasts.as_slice())
-        && are_once(builder.variables.as_slice())
-        && are_inner(builder.blocks.as_slice());
+        && are_once(builder.variables.as_slice());
     if fits { Ok(table) } else { Err(ABSENT) }
 }
 

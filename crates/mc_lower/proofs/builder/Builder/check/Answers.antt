@@ -7,11 +7,11 @@ use Rattle.mc_lower.proofs.Agreeing.{elsewhere}
 use Rattle.mc_lower.proofs.Meeting.{checked}
 use Rattle.mc_lower.proofs.builder.Builder.check.Goals as goal
 
-pub returns : goal.returns
-returns c = λ w agrees.
+pub returns-clause-leads : goal.returns-clause-leads
+returns-clause-leads c = λ w agrees.
     let new = c.put.new.self in
-    let put = c.in_ok-put.ensures w (elsewhere w new c.in_ok-yes.yes agrees) in
-    let tested = c.in_ok-test.ensures w (elsewhere w c.test.new.self c.in_ok-no.no put.0) in
+    let put = c.in_ok-put.ensures.leads w (elsewhere w new c.in_ok-yes.yes agrees) in
+    let tested = c.in_ok-test.ensures.leads w (elsewhere w c.test.new.self c.in_ok-no.no put.0) in
     let second_label = c.in_ok-no.ensures.kept w tested.0 in
     let first_label = c.in_ok-yes.ensures.kept w second_label.0 in (
       first_label.0,

@@ -2,11 +2,12 @@ use Rattle.std.proofs.Common.{◌≡◌, Some, refl, ◌∙◌}
 use Rattle.std.specs.Prelude.{slice_get}
 use Rattle.mc_lower.specs.Worlds.{owner_of}
 use Rattle.mc_lower.proofs.Agreeing.{before}
+use Rattle.mc_lower.proofs.Having.{made_last}
 use Rattle.mc_lower.proofs.Owning.{created}
 use Rattle.mc_lower.proofs.builder.Builder.create.Goals as goal
 
-pub returns : goal.returns
-returns c = λ w agrees.
+pub returns-clause-leads : goal.returns-clause-leads
+returns-clause-leads c = λ w agrees.
     let old = c.args.self.now in
     let items = c.in_ok-push.ensures.items in (
       record {
@@ -22,3 +23,6 @@ returns c = λ w agrees.
       },
       created w c.args.owner c.args.info old _ c.len.result (c.len.ensures ∙ old.variables.ok.0) items refl refl agrees,
     )
+
+pub returns-clause-same : goal.returns-clause-same
+returns-clause-same c = made_last c.args.self.now _ _ c.in_ok-push.ensures.items

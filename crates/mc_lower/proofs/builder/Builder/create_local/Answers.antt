@@ -8,9 +8,9 @@ use Rattle.mc_lower.specs.Worlds.{stage_of}
 use Rattle.mc_lower.proofs.Owning.{info_same}
 use Rattle.mc_lower.proofs.builder.Builder.create_local.Goals as goal
 
-pub returns : goal.returns
-returns c = λ w agrees.
-    let made = c.in_ok-variable.ensures w agrees in
+pub returns-clause-leads : goal.returns-clause-leads
+returns-clause-leads c = λ w agrees.
+    let made = c.in_ok-variable.ensures.leads w agrees in
     let l = c.in-Some.local.now in (
       made.0,
       record {

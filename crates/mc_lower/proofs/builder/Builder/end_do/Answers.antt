@@ -6,11 +6,11 @@ use Rattle.mc_lower.proofs.Agreeing.{elsewhere}
 use Rattle.mc_lower.proofs.Meeting.{did}
 use Rattle.mc_lower.proofs.builder.Builder.end_do.Goals as goal
 
-pub returns : goal.returns
-returns c = λ w agrees.
-    let last = c.in_ok-skip-2.ensures w agrees in
-    let tested = c.in_ok-test.ensures w (elsewhere w c.test.new.self c.args.turns.exit last.0) in
-    let first = c.in_ok-skip.ensures w tested.0 in
+pub returns-clause-leads : goal.returns-clause-leads
+returns-clause-leads c = λ w agrees.
+    let last = c.in_ok-skip-2.ensures.leads w agrees in
+    let tested = c.in_ok-test.ensures.leads w (elsewhere w c.test.new.self c.args.turns.exit last.0) in
+    let first = c.in_ok-skip.ensures.leads w tested.0 in
     let met = c.in_ok-meet.ensures.kept w first.0 in
     let b = c.meet.new.self in
     let out = w.out c.args.occurrence in

@@ -7,10 +7,10 @@ use Rattle.mc_lower.proofs.Agreeing.{elsewhere}
 use Rattle.mc_lower.proofs.Meeting.{exited}
 use Rattle.mc_lower.proofs.builder.Builder.end_for.Goals as goal
 
-pub returns : goal.returns
-returns c = λ w agrees.
-    let left = c.in_ok-leave.ensures w agrees in
-    let skipped = c.in_ok-skip.ensures w left.0 in
+pub returns-clause-leads : goal.returns-clause-leads
+returns-clause-leads c = λ w agrees.
+    let left = c.in_ok-leave.ensures.leads w agrees in
+    let skipped = c.in_ok-skip.ensures.leads w left.0 in
     let b = c.meet.new.self in
     let met = c.in_ok-meet.ensures.kept w (elsewhere w b c.args.exit skipped.0) in
     let new = stage_of w c.leave.new.self in
