@@ -1,5 +1,5 @@
 -- What agrees with more agrees with less.
-use Rattle.std.proofs.Common.{◌≡◌, ◌++◌, ℕ, zero, suc, List, [], ◌∷◌, Some, None, refl, sym, ap, ◌∙◌, subst, length, map, ◌≤◌, drop, get_or, arith}
+use Rattle.std.proofs.Common.{◌≡◌, ◌++◌, ℕ, zero, suc, List, [], ◌∷◌, Some, None, refl, sym, ap, ◌∙◌, subst, length, ◌≤◌, drop, get_or, arith}
 use Rattle.std.specs.Prelude.{slice_get}
 use Rattle.mc_base.specs.declared.ids.PointId.{PointId}
 use Rattle.mc_text.specs.declared.place.Place.{Place}

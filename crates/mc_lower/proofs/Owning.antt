@@ -1,13 +1,12 @@
 -- Variables of the flow graph so far, in the finished one.
-use Rattle.std.proofs.Common.{◌≡◌, ◌<◌, ◌++◌, ℕ, suc, List, [], ◌∷◌, Some, None, refl, sym, ap, ◌∙◌, subst, length}
+use Rattle.std.proofs.Common.{◌≡◌, ◌++◌, ℕ, List, [], ◌∷◌, Some, sym, ap, ◌∙◌, subst, length}
 use Rattle.std.proofs.lemmas.Option.{slice_get_within}
 use Rattle.std.specs.Prelude.{slice_get}
 use Rattle.mc_base.specs.declared.plain.Kind.{Kind}
 use Rattle.mc_base.specs.declared.plain.VarInfo.{VarInfo}
-use Rattle.mc_lowering.specs.Graphs.{Stage, stage, var, Creates, creates, IsMade, is_made}
+use Rattle.mc_lowering.specs.Graphs.{stage, var, Creates, creates, IsMade, is_made}
 use Rattle.mc_lower.specs.declared.builder.Builder.{Builder}
 use Rattle.mc_lower.specs.declared.builder.Owner.{Owner as OwnerCode}
-use Rattle.mc_lower.specs.declared.builder.Variable.{Variable}
 use Rattle.mc_lower.specs.Owned.{IsFirst}
 use Rattle.mc_lower.specs.Worlds.{World, Agrees, owner_of, stage_of}
 use Rattle.mc_lower.proofs.Agreeing.{at_last, one_more}

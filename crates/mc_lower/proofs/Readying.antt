@@ -1,23 +1,22 @@
 -- What statements and tasks need, and what they leave ready.
-use Rattle.std.proofs.Common.{◌≡◌, ◌<◌, ◌≤◌, ◌+◌, ◌++◌, ℕ, zero, suc, Bool, true, false, List, [], ◌∷◌, Option, Some, None, refl, sym, ap, ◌∙◌, subst, length, map, take, arith, inl, inr, Bor, rules}
+use Rattle.std.proofs.Common.{◌≡◌, ◌<◌, ◌≤◌, ◌++◌, ℕ, zero, suc, true, false, List, [], ◌∷◌, Option, Some, None, refl, sym, ap, ◌∙◌, subst, length, map, take, arith, inl, inr, Bor, rules}
 use Rattle.std.proofs.lemmas.List.{length-map}
 use Rattle.std.proofs.lemmas.List.Elements.{Contains-append_cases, Contains-append_left, Contains-append_right, Contains-push, Contains-push_cases}
 use Rattle.std.proofs.lemmas.Option.{same_Some, slice_get_within}
 use Rattle.std.proofs.lemmas.Slice.Zip.{AllZip-long}
-use Rattle.std.specs.Prelude.{Contains, IsSome, IsTrue, option_and_then, option_map, slice_get}
+use Rattle.std.specs.Prelude.{Contains, IsSome, IsTrue, option_and_then, slice_get}
 use Rattle.mc_base.specs.declared.plain.Kind.{Kind}
 use Rattle.mc_base.specs.declared.ids.VarId.{VarId}
 use Rattle.mc_text.specs.declared.place.Place.{Place}
 use Rattle.mc_resolved.specs.declared.program.Condition.{Condition}
 use Rattle.mc_resolved.specs.declared.program.ForHead.{ForHead}
-use Rattle.mc_resolved.specs.declared.program.Function.{Function as FunctionCode}
 use Rattle.mc_resolved.specs.declared.program.Initial.{Initial as InitialCode}
 use Rattle.mc_resolved.specs.declared.program.Simple.{Simple as SimpleCode}
 use Rattle.mc_resolved.specs.declared.program.Statement.{Statement}
 use Rattle.mc_base.specs.declared.ids.PredId.{PredId}
 use Rattle.mc_resolved.specs.Programs.{Expr, Argument, Cond, Call, Right, expression, result_of, allocation, Action, assign, add, subtract, call, Simple, Initial}
 use Rattle.mc_resolved.specs.Programs.{declaration, empty, simple, free, assert, assume, assume_shape, assert_shape, assert_empty, break_loop, continue_loop, returns}
-use Rattle.mc_resolved.specs.Programs.{Start, nothing, declares, performs, Head, Stmt, Stmts, no_more, then, block, if_only, if_else, while_loop, do_loop, for_loop, Function}
+use Rattle.mc_resolved.specs.Programs.{nothing, declares, performs, Head, Stmt, then, block, if_only, if_else, while_loop, do_loop, for_loop, Function}
 use Rattle.mc_resolved.specs.Views.{action_of, condition_of, function_of, head_of, initial_of, local_of, program_of, simple_of, statement_of, stmts_of}
 use Rattle.mc_length.specs.Lengths.{all_declared, below, declared, items_declared, start_declared}
 use Rattle.mc_lowering.specs.Lowering.{IsMain}
@@ -29,13 +28,13 @@ use Rattle.mc_lower.specs.declared.calls.Entered.{Entered}
 use Rattle.mc_lower.specs.declared.tasks.Context.{Context}
 use Rattle.mc_lower.specs.declared.tasks.Task.{Task}
 use Rattle.mc_lower.specs.declared.tasks.Turns.{Turns}
-use Rattle.mc_lower.specs.Lowerable.{AllNameOnly, AreLowerable, AreLowerableItems, IsLowerable, IsLowerableAction, IsLowerableLast, IsLowerableRight, IsLowerableStart, TestsOnly, TestsOnlyPerhaps}
+use Rattle.mc_lower.specs.Lowerable.{AllNameOnly, AreLowerable, IsLowerableAction, IsLowerableLast, IsLowerableRight, IsLowerableStart, TestsOnly, TestsOnlyPerhaps}
 use Rattle.mc_lower.specs.Knowns.{Known, Source, State, IsAnswered, IsOpen, IsThere, with_local, with_occurrence, with_owners}
-use Rattle.mc_lower.specs.Ready.{Fits, FitsAll, FitsFor, FitsItems, FitsStatement, Grown, HasResult, IsActionReady, IsArgumentReady, AreArgumentsReady, IsBegun, IsCallReady, IsEntered, IsLastReady, IsNamed, IsReady, IsReturnReady, IsRightReady, IsSound, IsTestReady, IsTestReadyPerhaps, Later, Needs, Ready, Stands, entry_result, functions_in, here, loops, locals_to, makes, with_awaited}
+use Rattle.mc_lower.specs.Ready.{Fits, FitsAll, FitsFor, FitsItems, FitsStatement, Grown, HasResult, IsActionReady, IsArgumentReady, AreArgumentsReady, IsBegun, IsCallReady, IsEntered, IsLastReady, IsNamed, IsReady, IsReturnReady, IsRightReady, IsSound, IsTestReady, IsTestReadyPerhaps, Later, Ready, entry_result, functions_in, here, loops, locals_to, makes, with_awaited}
 use Rattle.mc_lower.specs.Left.{IsBehind, IsCommand}
 use Rattle.mc_lower.specs.Valued.{target_of}
 use Rattle.mc_lower.specs.declared.values.Target.{Target}
-use Rattle.mc_lower.proofs.Having.{AreThere, argument_ready, arguments_ready, expression_ready, expressions_ready, fields_ready, test_ready, test_ready_perhaps, within}
+use Rattle.mc_lower.proofs.Having.{argument_ready, arguments_ready, expression_ready, expressions_ready, fields_ready, test_ready, test_ready_perhaps}
 
 abbrev pub at : Source → State → Known
 at src s = record { source = src; state = s }

@@ -9,7 +9,7 @@ use Rattle.mc_flow.specs.declared.instr.Operand.{Operand}
 use Rattle.mc_flow.specs.declared.instr.Operand.TheVariants.{Const}
 use Rattle.mc_resolved.specs.Programs.{Expr, Cond, plain as plain_cond, compare, negation, both, either}
 use Rattle.mc_resolved.specs.Views.{condition_of}
-use Rattle.mc_lowering.specs.Graphs.{Graph, plain, Stage, stage, point, IsPoint, Appends, appends, Undefines, undefines, undefines_none}
+use Rattle.mc_lowering.specs.Graphs.{Graph, plain, Stage, stage, point, IsPoint, appends, Undefines, undefines, undefines_none}
 use Rattle.mc_lowering.specs.Values.{Evaluates, decides, Compares, compares, Tests, tests_plain, tests_compare, tests_negation, tests_both, tests_either, tests_always, tests_once}
 use Rattle.mc_lower.specs.declared.builder.Builder.{Builder}
 use Rattle.mc_lower.specs.declared.builder.Label.{Label}

@@ -1,12 +1,11 @@
 -- The finished flow graph as a world, with the points of its labels.
-use Rattle.std.proofs.Common.{◌≡◌, ◌<◌, ◌≤◌, ◌+◌, ◌++◌, ℕ, zero, suc, List, [], ◌∷◌, Option, Some, None, refl, sym, ap, ◌∙◌, subst, length, map, get_or, option_map, arith, inl, inr, Vec, Global}
+use Rattle.std.proofs.Common.{◌≡◌, ◌≤◌, ◌+◌, ℕ, zero, suc, List, [], ◌∷◌, Option, Some, None, refl, sym, ap, ◌∙◌, subst, length, map, option_map, arith, inl, inr, Vec, Global}
 use Rattle.std.proofs.lemmas.List.{length-map}
 use Rattle.std.proofs.lemmas.List.Elements.{All-weaker}
 use Rattle.std.proofs.lemmas.Option.{same_Some, slice_get-map, slice_get_cases}
-use Rattle.std.specs.Prelude.{All, slice_get}
+use Rattle.std.specs.Prelude.{slice_get}
 use Rattle.mc_base.specs.declared.ids.PointId.{PointId}
-use Rattle.mc_lowering.specs.Graphs.{Graph, Owner, Role, local, result, temporary}
-use Rattle.mc_defs.specs.declared.rules.Def.{Def}
+use Rattle.mc_lowering.specs.Graphs.{Graph, Owner, Role, local}
 use Rattle.mc_defs.specs.declared.shapes.Structs.{Structs}
 use Rattle.mc_resolved.specs.declared.program.Function.{Function as FunctionCode}
 use Rattle.mc_resolved.specs.declared.program.Resolved.{Resolved}
@@ -23,7 +22,7 @@ use Rattle.mc_lower.specs.declared.builder.Label.{Label}
 use Rattle.mc_lower.specs.declared.builder.Owner.{Owner as OwnerCode}
 use Rattle.mc_lower.specs.declared.builder.Variable.{Variable}
 use Rattle.mc_lower.specs.Finished.{AreApart, AreOnce, AreThose, IsFinished, IsFlowOf, IsValidFlow, point_at}
-use Rattle.mc_lower.specs.Worlds.{World, Agrees, AllAt, blocks_in, owner_of, point_in, role_of}
+use Rattle.mc_lower.specs.Worlds.{World, Agrees, AllAt, owner_of, point_in, role_of}
 
 -- ---- blocks
 abbrev block_at : Option (Vec ℕ Global) → List ℕ

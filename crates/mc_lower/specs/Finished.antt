@@ -3,7 +3,6 @@ use Rattle.std.specs.Prelude.{◌≡◌, ℕ, suc, ℤ, List, map, Some, None, O
 use Rattle.mc_base.specs.declared.ids.PointId.{PointId}
 use Rattle.mc_defs.specs.declared.rules.Def.{Def}
 use Rattle.mc_defs.specs.declared.shapes.Structs.{Structs}
-use Rattle.mc_flow.specs.declared.graph.Point.{Point}
 use Rattle.mc_flow.specs.Valid.{IsValid}
 use Rattle.mc_resolved.specs.declared.program.Resolved.{Resolved}
 use Rattle.mc_resolved.specs.Programs.{Function}
@@ -21,7 +20,7 @@ use Rattle.mc_lower.specs.declared.builder.Draft.{Draft}
 use Rattle.mc_lower.specs.declared.builder.Label.{Label}
 use Rattle.mc_lower.specs.declared.builder.Variable.{Variable}
 use Rattle.mc_lower.specs.declared.lowering.Lowered.{Lowered}
-use Rattle.mc_lower.specs.Worlds.{World, AllAt, IsMarked, point_in, role_of, stage_of}
+use Rattle.mc_lower.specs.Worlds.{AllAt, IsMarked, point_in, role_of}
 
 -- the point of a label in a table
 abbrev pub point_at : List ℕ → ℕ → ℕ

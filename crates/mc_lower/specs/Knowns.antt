@@ -1,6 +1,5 @@
 -- What the lowering of a statement rests on: the program, and what was made by then.
-use Rattle.std.specs.Prelude.{◌≡◌, ◌<◌, ◌≤◌, ◌++◌, ℕ, suc, List, [], ◌∷◌, Option, Some, None, Contains, length}
-use Rattle.mc_base.specs.declared.plain.Kind.{Kind}
+use Rattle.std.specs.Prelude.{◌≡◌, ◌<◌, ◌++◌, ℕ, suc, List, [], ◌∷◌, Option, Some, None, Contains, length}
 use Rattle.mc_defs.specs.declared.shapes.Structs.{Structs}
 use Rattle.mc_resolved.specs.declared.program.Resolved.{Resolved}
 use Rattle.mc_lower.specs.declared.builder.Builder.{Builder}

@@ -12,7 +12,6 @@ use Rattle.mc_lowering.specs.Graphs.{Graph, plain, Stage, stage, Appends, Undefi
 use Rattle.mc_lowering.specs.Values.{Operation, an_input, a_field, a_sum, a_difference, a_product, Takes, Evaluates}
 use Rattle.mc_lowering.specs.Values.{Computes, Tests, TestsPerhaps, Puts}
 use Rattle.mc_lower.specs.declared.builder.Builder.{Builder}
-use Rattle.mc_lower.specs.declared.builder.Label.{Label}
 use Rattle.mc_lower.specs.declared.conditions.Ways.{Ways}
 use Rattle.mc_lower.specs.declared.conditions.Work.{Work as Tested}
 use Rattle.mc_lower.specs.declared.values.How.{How}

@@ -16,7 +16,6 @@ use Rattle.mc_lower.specs.declared.builder.Label.{Label}
 use Rattle.mc_lower.specs.declared.builder.Mark.{Mark}
 use Rattle.mc_lower.specs.declared.builder.Owner.{Owner as OwnerCode}
 use Rattle.mc_lower.specs.declared.builder.Role.{Role as RoleCode}
-use Rattle.mc_lower.specs.declared.builder.Variable.{Variable}
 
 -- the finished flow graph, with the point of each label, the point that the `return` of each occurrence of a function
 -- goes to, and the variables of each block and of those around it in the same loop; occurrences are told apart by their

@@ -1,4 +1,4 @@
-use Rattle.std.proofs.Common.{◌<◌, ◌≤◌, arith}
+use Rattle.std.proofs.Common.{arith}
 use Rattle.mc_lower.proofs.Measuring.{are_too_long, are_short, few_there}
 use Rattle.mc_lower.proofs.lowering.lower.Goals as goal
 

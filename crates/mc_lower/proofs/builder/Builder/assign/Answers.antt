@@ -1,4 +1,4 @@
-use Rattle.std.proofs.Common.{◌≡◌, [], length, map, sym, subst, arith}
+use Rattle.std.proofs.Common.{◌≡◌, length, map, sym, subst, arith}
 use Rattle.std.proofs.lemmas.Bool.Decides.{nat_tests}
 use Rattle.mc_resolved.specs.Views.{field_of, right_of}
 use Rattle.mc_lowering.specs.Lowering.{Assigns, assigns_variable}

@@ -1,7 +1,7 @@
 use Rattle.mc_lower.proofs.Readying.{nothing_made}
 use Rattle.mc_lower.specs.Knowns.{known}
 use Rattle.mc_lower.specs.Ready.{Needs}
-use Rattle.std.proofs.Common.{map, sym, subst}
+use Rattle.std.proofs.Common.{sym, subst}
 use Rattle.mc_lower.specs.Left.{Met}
 use Rattle.mc_lower.specs.Worlds.{stage_of}
 use Rattle.mc_lower.proofs.builder.Builder.behind.Goals as goal

@@ -1,17 +1,14 @@
 use Rattle.mc_lower.proofs.Readying.{needs_assert, needs_assert_shape, needs_assume, needs_assume_shape, needs_break, needs_continue, needs_free, nothing_declared}
 use Rattle.mc_resolved.specs.Views.{condition_of, expression_of, statement_of}
-use Rattle.std.proofs.Common.{map, ap, ◌∙◌, sym, subst}
-use Rattle.std.specs.Prelude.{option_map}
-use Rattle.mc_resolved.specs.Programs.{block, if_only, if_else, while_loop, do_loop, for_loop, returns}
-use Rattle.mc_resolved.specs.Views.{condition_of, function_of, head_of, initial_of, right_of, statement_of, stmts_of}
-use Rattle.mc_lowering.specs.Lowering.{Declares, Lowers, declarations, simples, frees, empties, emptiness_asserted}
+use Rattle.std.proofs.Common.{ap, ◌∙◌, sym, subst}
+use Rattle.mc_resolved.specs.Views.{condition_of, statement_of}
+use Rattle.mc_lowering.specs.Lowering.{Lowers, frees, emptiness_asserted}
 use Rattle.mc_lower.specs.Left.{around_of}
 use Rattle.mc_lower.specs.Worlds.{stage_of}
 use Rattle.mc_lower.proofs.Meeting.{checked_fail, checked_end}
-use Rattle.mc_lower.proofs.Resting.{copied_map, pushed}
-use Rattle.mc_lower.proofs.Seen.{declaration_statement_seen, block_statement_seen, empty_statement_seen, simple_statement_seen, free_statement_seen, assert_statement_seen, assume_statement_seen}
-use Rattle.mc_lower.proofs.Seen.{assume_shape_statement_seen, assert_shape_statement_seen, assert_empty_statement_seen, if_statement_seen, if_else_statement_seen}
-use Rattle.mc_lower.proofs.Seen.{while_statement_seen, do_statement_seen, for_statement_seen, break_statement_seen, continue_statement_seen, return_statement_seen}
+use Rattle.mc_lower.proofs.Seen.{free_statement_seen, assert_statement_seen, assume_statement_seen}
+use Rattle.mc_lower.proofs.Seen.{assume_shape_statement_seen, assert_shape_statement_seen, assert_empty_statement_seen}
+use Rattle.mc_lower.proofs.Seen.{break_statement_seen, continue_statement_seen}
 use Rattle.mc_lower.proofs.builder.Builder.command.Goals as goal
 
 pub returns-in_ok-free-in-Free-clause-leads : goal.returns-in_ok-free-in-Free-clause-leads

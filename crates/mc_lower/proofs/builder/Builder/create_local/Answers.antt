@@ -1,7 +1,6 @@
 use Rattle.std.proofs.Common.{subst, sym, ap, refl, ◌∙◌, length}
 use Rattle.std.proofs.lemmas.Option.{slice_get-map, slice_get_read}
 use Rattle.std.specs.Prelude.{option_map, slice_get}
-use Rattle.mc_base.specs.declared.plain.VarInfo.{VarInfo}
 use Rattle.mc_resolved.specs.Views.{local_of}
 use Rattle.mc_lowering.specs.Graphs.{local, Creates}
 use Rattle.mc_lower.specs.Worlds.{stage_of}

@@ -1,7 +1,6 @@
 use Rattle.mc_lower.proofs.Readying.{declared_low, declared_right, local_grown, local_made, local_then, ready_same}
 use Rattle.mc_lower.specs.Knowns.{IsThere, known}
 use Rattle.mc_lower.specs.Ready.{IsRightReady, Later}
-use Rattle.mc_lower.specs.Valued.{target_of}
 use Rattle.mc_resolved.specs.Views.{initial_of}
 use Rattle.std.proofs.Common.{[], ap, refl, ◌∙◌}
 use Rattle.std.proofs.Common.{◌∷◌, sym, subst}

@@ -1,5 +1,5 @@
 use Rattle.mc_lower.proofs.Readying.{ready_do, ready_same}
-use Rattle.std.proofs.Common.{◌≡◌, ◌∷◌, ap, ◌∙◌, subst, sym}
+use Rattle.std.proofs.Common.{◌∷◌, ap, ◌∙◌, subst, sym}
 use Rattle.mc_resolved.specs.Views.{condition_of, statement_of}
 use Rattle.mc_lowering.specs.Lowering.{Lowers}
 use Rattle.mc_lower.specs.declared.tasks.Task.{Task}

@@ -1,4 +1,4 @@
-use Rattle.std.proofs.Common.{subst, sym, ap, ◌∙◌, length}
+use Rattle.std.proofs.Common.{subst, sym, ap, length}
 use Rattle.mc_resolved.specs.Views.{condition_of}
 use Rattle.mc_lower.specs.Left.{EndsDo}
 use Rattle.mc_lower.specs.Worlds.{stage_of}

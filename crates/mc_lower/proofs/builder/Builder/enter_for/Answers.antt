@@ -1,7 +1,7 @@
 use Rattle.mc_lower.proofs.Readying.{for_condition, ready_enter_for, ready_same}
 use Rattle.mc_lower.specs.Knowns.{known}
 use Rattle.mc_lower.specs.Ready.{IsTestReadyPerhaps}
-use Rattle.std.proofs.Common.{◌≡◌, ◌∷◌, ap, ◌∙◌, subst, sym}
+use Rattle.std.proofs.Common.{◌∷◌, ap, ◌∙◌, subst, sym}
 use Rattle.std.specs.Prelude.{option_map}
 use Rattle.mc_resolved.specs.Views.{condition_of, head_of, statement_of}
 use Rattle.mc_lowering.specs.Lowering.{Lowers}

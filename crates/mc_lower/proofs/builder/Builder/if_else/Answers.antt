@@ -1,7 +1,6 @@
 use Rattle.mc_lower.proofs.Readying.{needs_if_else, ready_if_else, ready_same}
-use Rattle.mc_lower.specs.Knowns.{known}
 use Rattle.mc_lower.specs.Ready.{IsTestReady}
-use Rattle.std.proofs.Common.{◌≡◌, ◌∷◌, ap, ◌∙◌, subst, sym}
+use Rattle.std.proofs.Common.{◌∷◌, ap, ◌∙◌, subst, sym}
 use Rattle.mc_resolved.specs.Views.{condition_of, statement_of}
 use Rattle.mc_lower.specs.declared.tasks.Task.{Task}
 use Rattle.mc_lower.specs.Left.{around_of}

@@ -1,4 +1,3 @@
-use Rattle.std.proofs.Common.{ℕ}
 use Rattle.std.specs.Prelude.{Contains}
 use Rattle.mc_lower.proofs.Gathering.{Gathers}
 use Rattle.mc_lower.proofs.builder.Builder.made_among.Given as goal

@@ -1,4 +1,4 @@
-use Rattle.std.proofs.Common.{ℕ, ◌<◌}
+use Rattle.std.proofs.Common.{◌<◌}
 use Rattle.mc_lower.proofs.Gathering.{Gathers}
 use Rattle.mc_lower.proofs.builder.Builder.made_below.Given as goal
 

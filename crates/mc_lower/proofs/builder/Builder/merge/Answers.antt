@@ -1,5 +1,4 @@
-use Rattle.std.proofs.Common.{subst, sym, ap, ◌∙◌, length}
-use Rattle.mc_lowering.specs.Graphs.{stage}
+use Rattle.std.proofs.Common.{subst, sym, ap, length}
 use Rattle.mc_lower.specs.Left.{Merges}
 use Rattle.mc_lower.specs.Worlds.{stage_of}
 use Rattle.mc_lower.proofs.Meeting.{merged}

@@ -2,17 +2,14 @@ use Rattle.mc_lower.specs.Knowns.{known}
 use Rattle.mc_length.specs.Lengths.{declared}
 use Rattle.mc_lower.specs.Ready.{FitsStatement, Later}
 use Rattle.std.proofs.Common.{map, ap, ◌∙◌, sym, subst}
-use Rattle.std.specs.Prelude.{option_map}
-use Rattle.mc_resolved.specs.Programs.{block, if_only, if_else, while_loop, do_loop, for_loop, returns}
-use Rattle.mc_resolved.specs.Views.{condition_of, function_of, head_of, initial_of, right_of, statement_of, stmts_of}
-use Rattle.mc_lowering.specs.Lowering.{Declares, Lowers, declarations, simples, frees, empties, emptiness_asserted}
+use Rattle.mc_resolved.specs.Programs.{block, if_only, if_else, while_loop, do_loop, for_loop}
+use Rattle.mc_resolved.specs.Views.{condition_of, head_of, statement_of, stmts_of}
+use Rattle.mc_lowering.specs.Lowering.{Lowers}
 use Rattle.mc_lower.specs.Left.{around_of}
 use Rattle.mc_lower.specs.Worlds.{stage_of}
-use Rattle.mc_lower.proofs.Meeting.{checked_fail, checked_end}
-use Rattle.mc_lower.proofs.Resting.{copied_map, pushed}
-use Rattle.mc_lower.proofs.Seen.{declaration_statement_seen, block_statement_seen, empty_statement_seen, simple_statement_seen, free_statement_seen, assert_statement_seen, assume_statement_seen}
-use Rattle.mc_lower.proofs.Seen.{assume_shape_statement_seen, assert_shape_statement_seen, assert_empty_statement_seen, if_statement_seen, if_else_statement_seen}
-use Rattle.mc_lower.proofs.Seen.{while_statement_seen, do_statement_seen, for_statement_seen, break_statement_seen, continue_statement_seen, return_statement_seen}
+use Rattle.mc_lower.proofs.Seen.{block_statement_seen}
+use Rattle.mc_lower.proofs.Seen.{if_statement_seen, if_else_statement_seen}
+use Rattle.mc_lower.proofs.Seen.{while_statement_seen, do_statement_seen, for_statement_seen}
 use Rattle.mc_lower.proofs.builder.Builder.outer.Goals as goal
 
 pub returns-in_ok-block-in-Block-clause-leads : goal.returns-in_ok-block-in-Block-clause-leads

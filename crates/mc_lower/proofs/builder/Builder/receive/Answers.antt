@@ -1,7 +1,7 @@
 use Rattle.std.proofs.Common.{add-one, length}
 use Rattle.mc_lower.proofs.Agreeing.{one_more}
 use Rattle.mc_lower.proofs.Having.{received_same, with_none}
-use Rattle.std.proofs.Common.{◌≡◌, ◌<◌, ◌+◌, ◌-◌, ◌++◌, suc, [], ◌∷◌, refl, sym, ap, subst, ◌∙◌, arith}
+use Rattle.std.proofs.Common.{◌≡◌, ◌+◌, ◌-◌, ◌++◌, suc, [], ◌∷◌, refl, sym, ap, subst, ◌∙◌, arith}
 use Rattle.std.proofs.lemmas.List.{append-nil, append_assoc}
 use Rattle.mc_resolved.specs.Views.{function_of}
 use Rattle.mc_lowering.specs.Lowering.{Receives, receives_none}

@@ -2,7 +2,7 @@ use Rattle.mc_lower.proofs.Readying.{ready_left, ready_same}
 use Rattle.mc_lower.specs.Knowns.{known}
 use Rattle.mc_lower.specs.Ready.{IsReturnReady}
 use Rattle.std.proofs.Common.{[], refl}
-use Rattle.std.proofs.Common.{None, sym, subst}
+use Rattle.std.proofs.Common.{sym, subst}
 use Rattle.std.specs.Prelude.{option_map}
 use Rattle.mc_resolved.specs.Programs.{returns as returning}
 use Rattle.mc_resolved.specs.Views.{right_of}

@@ -1,4 +1,4 @@
-use Rattle.std.proofs.Common.{ap, sym, subst}
+use Rattle.std.proofs.Common.{sym, subst}
 use Rattle.mc_resolved.specs.Views.{right_of}
 use Rattle.mc_lowering.specs.Lowering.{SetsTo}
 use Rattle.mc_lower.specs.Worlds.{stage_of}

@@ -1,7 +1,7 @@
 use Rattle.mc_lower.proofs.Readying.{ready_left, ready_next, ready_same}
 use Rattle.mc_lower.specs.Knowns.{known}
 use Rattle.std.proofs.Common.{refl}
-use Rattle.std.proofs.Common.{map, sym, subst}
+use Rattle.std.proofs.Common.{sym, subst}
 use Rattle.mc_lower.specs.Left.{Met}
 use Rattle.mc_lower.specs.Worlds.{stage_of}
 use Rattle.mc_lower.proofs.builder.Builder.step.Goals as goal

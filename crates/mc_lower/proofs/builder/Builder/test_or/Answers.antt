@@ -1,7 +1,6 @@
 use Rattle.std.proofs.Common.{subst, sym, length}
 use Rattle.mc_lowering.specs.Graphs.{stage}
 use Rattle.mc_lower.specs.Valued.{TestsOn, tests_on}
-use Rattle.mc_lower.specs.Worlds.{stage_of}
 use Rattle.mc_lower.proofs.Agreeing.{elsewhere}
 use Rattle.mc_resolved.specs.Views.{condition_of}
 use Rattle.mc_lower.proofs.builder.Builder.test_or.Goals as goal

@@ -1,6 +1,6 @@
 use Rattle.mc_lower.proofs.Readying.{ready_turn, ready_turn_none, ready_same, ready_two}
-use Rattle.std.proofs.Common.{◌∷◌, ◌∙◌}
-use Rattle.std.proofs.Common.{None, ap, ◌∙◌, length, subst, sym}
+use Rattle.std.proofs.Common.{◌∙◌}
+use Rattle.std.proofs.Common.{ap, ◌∙◌, length, subst, sym}
 use Rattle.std.specs.Prelude.{option_map}
 use Rattle.mc_resolved.specs.Views.{head_of, simple_of}
 use Rattle.mc_lowering.specs.Lowering.{Finishes, finishes, finishes_none}

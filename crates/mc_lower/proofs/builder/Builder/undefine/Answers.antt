@@ -1,4 +1,4 @@
-use Rattle.std.proofs.Common.{◌≡◌, ◌<◌, [], length, ap, arith}
+use Rattle.std.proofs.Common.{◌≡◌, ◌<◌, length, ap, arith}
 use Rattle.std.proofs.lemmas.Bool.Decides.{nat_tests}
 use Rattle.mc_lower.proofs.Agreeing.{undefined_none, undefined_some, is_none}
 use Rattle.mc_lower.proofs.builder.Builder.undefine.Goals as goal

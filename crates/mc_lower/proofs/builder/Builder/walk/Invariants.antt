@@ -1,4 +1,4 @@
-use Rattle.std.proofs.Common.{◌≡◌, ℕ, List, map, drop}
+use Rattle.std.proofs.Common.{List, map, drop}
 use Rattle.mc_base.specs.declared.ids.VarId.{VarId}
 use Rattle.mc_resolved.specs.Programs.{FieldAt}
 use Rattle.mc_resolved.specs.Views.{field_of}

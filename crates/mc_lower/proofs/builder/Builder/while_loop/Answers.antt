@@ -1,7 +1,6 @@
 use Rattle.mc_lower.proofs.Readying.{needs_while, ready_while, ready_same}
-use Rattle.mc_lower.specs.Knowns.{known}
 use Rattle.mc_lower.specs.Ready.{IsTestReady}
-use Rattle.std.proofs.Common.{◌≡◌, ◌∷◌, ap, ◌∙◌, subst, sym}
+use Rattle.std.proofs.Common.{◌∷◌, ap, ◌∙◌, subst, sym}
 use Rattle.mc_resolved.specs.Views.{condition_of, statement_of}
 use Rattle.mc_lowering.specs.Lowering.{Lowers}
 use Rattle.mc_lower.specs.declared.tasks.Task.{Task}
