@@ -1,7 +1,7 @@
 -- What is known of a flow graph while it is made, and what expressions need of it.
 use Rattle.std.proofs.Common.{◌≡◌, ◌<◌, ◌+◌, ◌++◌, ℕ, zero, suc, List, [], ◌∷◌, Option, Some, None, refl, sym, ap, ◌∙◌, subst, length, map, get_or, arith, inl, inr, add-one}
 use Rattle.std.proofs.lemmas.List.{append-nil, append_assoc}
-use Rattle.std.proofs.lemmas.List.Elements.{Contains-append_cases}
+use Rattle.std.proofs.lemmas.List.Elements.{Contains-append_cases, Contains-append_left, Contains-append_right}
 use Rattle.std.proofs.lemmas.Option.{same_Some}
 use Rattle.std.specs.Prelude.{Contains, slice_get}
 use Rattle.std.specs.List.{AllZip}
@@ -17,11 +17,12 @@ use Rattle.mc_resolved.specs.Programs.{Cond, plain, compare, negation, both, eit
 use Rattle.mc_resolved.specs.Views.{argument_of, expression_of, field_of}
 use Rattle.mc_valid.specs.Kinds.{Here, LeadsTo, IsOf, AreCompared, IsCondition, IsConditionPerhaps}
 use Rattle.mc_lower.specs.declared.builder.Builder.{Builder}
-use Rattle.mc_lower.specs.declared.builder.Owner.{Owner as OwnerCode}
-use Rattle.mc_lower.specs.declared.builder.Variable.{Variable}
+use Rattle.mc_lower.specs.declared.variables.Owner.{Owner as OwnerCode}
+use Rattle.mc_lower.specs.declared.variables.Variable.{Variable}
 use Rattle.mc_lower.specs.Lowerable.{NamesOnly, AllNameOnly, TestsOnly, TestsOnlyPerhaps, IsMadeArgument, AreMadeArguments}
+use Rattle.mc_lower.specs.Once.{IsNew}
 use Rattle.mc_lower.specs.Knowns.{Known, State, IsThere, known, lasting, owners_of, with_block, with_local, with_occurrence, with_owners}
-use Rattle.mc_lower.specs.Ready.{HasKind, HaveKinds, IsReady, AreReady, IsTestReady, IsTestReadyPerhaps, IsArgumentReady, AreArgumentsReady, Grown, in_state, locals_to}
+use Rattle.mc_lower.specs.Ready.{HasKind, HaveKinds, IsReady, AreReady, IsTestReady, IsTestReadyPerhaps, IsArgumentReady, AreArgumentsReady, Still, in_state, locals_to}
 
 -- ---- owners
 pub owners_last : (vs : List Variable) (v : Variable) → owners_of (vs ++ v ∷ []) ≡ owners_of vs ++ lasting v.owner
@@ -48,6 +49,14 @@ none_owned (v ∷ vs) o none found =
       | inr later ↦ none_owned vs o (λ i u there is. none (suc i) u there is) later
     ]
 
+-- an owner is new who is not among these
+pub new_if : (vs : List Variable) (o : OwnerCode) → lasting o ≡ o ∷ [] → (Contains (owners_of vs) o → ⊥) → IsNew vs o
+new_if [] o is none i v there same = let never : None ≡ Some v = there in absurd (cc never)
+new_if (u ∷ vs) o is none zero v there same =
+    let one : lasting u.owner ≡ o ∷ [] = ap (λ (z : Variable). lasting z.owner) (same_Some u v there) ∙ ap lasting same ∙ is in
+    none (Contains-append_left (lasting u.owner) (owners_of vs) o (subst (λ l. Contains l o) (sym one) (0, omega arith, refl)))
+new_if (u ∷ vs) o is none (suc i) v there same = new_if vs o is (λ found. none (Contains-append_right (lasting u.owner) (owners_of vs) o found)) i v there same
+
 abbrev with_these : Builder → List OwnerCode → Known
 with_these b os =
     record {
@@ -56,11 +65,11 @@ with_these b os =
     }
 
 -- what is known after a variable was put last
-pub made_last : (b : Builder) (vs : List Variable) (v : Variable) → vs ≡ b.variables.items ++ v ∷ [] → with_these b (owners_of vs) ≡ with_owners (lasting v.owner) (known b)
-made_last b vs v is = ap (with_these b) (ap owners_of is ∙ owners_last b.variables.items v)
+pub made_last : (b : Builder) (vs : List Variable) (v : Variable) → vs ≡ b.variables.list.items ++ v ∷ [] → with_these b (owners_of vs) ≡ with_owners (lasting v.owner) (known b)
+made_last b vs v is = ap (with_these b) (ap owners_of is ∙ owners_last b.variables.list.items v)
 
 pub with_none : (b : Builder) → known b ≡ with_owners [] (known b)
-with_none b = ap (with_these b) (sym (append-nil (owners_of b.variables.items)))
+with_none b = ap (with_these b) (sym (append-nil (owners_of b.variables.list.items)))
 
 pub received_same : (old now new : Known) (i n : ℕ) → new ≡ with_local i n now → now ≡ with_owners (locals_to i n) old
     → new ≡ with_owners (locals_to i (n + 1)) old
@@ -144,25 +153,25 @@ arguments_ready k i made [] there names = tt
 arguments_ready k i made (a ∷ args) there names = (argument_ready k i made a there names.0, arguments_ready k i made args there names.1)
 
 -- ---- what is ready stays ready
-pub still_ready : (k : Known) (s : State) (i j : ℕ) (xs : List ℕ) (e : Expr) → Grown k.state j xs s → IsReady k i e → IsReady (in_state k s) i e
-still_ready k s i j xs (number n) grown ready = tt
-still_ready k s i j xs input grown ready = tt
-still_ready k s i j xs (value l) grown ready = (grown.owners _ ready.0, ready.1)
-still_ready k s i j xs (minus e) grown ready = still_ready k s i j xs e grown ready
-still_ready k s i j xs (times a b) grown ready = (still_ready k s i j xs a grown ready.0, still_ready k s i j xs b grown ready.1)
-still_ready k s i j xs (plus a b) grown ready = (still_ready k s i j xs a grown ready.0, still_ready k s i j xs b grown ready.1)
-still_ready k s i j xs (difference a b) grown ready = (still_ready k s i j xs a grown ready.0, still_ready k s i j xs b grown ready.1)
+pub still_ready : (k : Known) (s : State) (i : ℕ) (e : Expr) → Still k.state s → IsReady k i e → IsReady (in_state k s) i e
+still_ready k s i (number n) still ready = tt
+still_ready k s i input still ready = tt
+still_ready k s i (value l) still ready = (still.owners _ ready.0, ready.1)
+still_ready k s i (minus e) still ready = still_ready k s i e still ready
+still_ready k s i (times a b) still ready = (still_ready k s i a still ready.0, still_ready k s i b still ready.1)
+still_ready k s i (plus a b) still ready = (still_ready k s i a still ready.0, still_ready k s i b still ready.1)
+still_ready k s i (difference a b) still ready = (still_ready k s i a still ready.0, still_ready k s i b still ready.1)
 
-pub all_still_ready : (k : Known) (s : State) (i j : ℕ) (xs : List ℕ) (es : List Expr) → Grown k.state j xs s → AreReady k i es → AreReady (in_state k s) i es
-all_still_ready k s i j xs [] grown ready = tt
-all_still_ready k s i j xs (e ∷ es) grown ready = (still_ready k s i j xs e grown ready.0, all_still_ready k s i j xs es grown ready.1)
+pub all_still_ready : (k : Known) (s : State) (i : ℕ) (es : List Expr) → Still k.state s → AreReady k i es → AreReady (in_state k s) i es
+all_still_ready k s i [] still ready = tt
+all_still_ready k s i (e ∷ es) still ready = (still_ready k s i e still ready.0, all_still_ready k s i es still ready.1)
 
 -- ---- blocks and occurrences
 abbrev pub with_counts : Builder → (blocks occurrences : ℕ) → Known
 with_counts b n m =
     record {
       source = record { program = b.program.now; structs = b.structs.now };
-      state = record { owners = owners_of b.variables.items; blocks = n; occurrences = m };
+      state = record { owners = owners_of b.variables.list.items; blocks = n; occurrences = m };
     }
 
 pub one_block_more : (b : Builder) (n : ℕ) → n ≡ suc (length b.blocks.items) → with_counts b n (length b.outs.items) ≡ with_block (known b)

@@ -19,9 +19,10 @@ use Rattle.mc_lower.specs.declared.builder.Builder.{Builder}
 use Rattle.mc_lower.specs.declared.lowering.Lowered.{Lowered}
 use Rattle.mc_lower.specs.declared.builder.Draft.{Draft}
 use Rattle.mc_lower.specs.declared.builder.Label.{Label}
-use Rattle.mc_lower.specs.declared.builder.Owner.{Owner as OwnerCode}
-use Rattle.mc_lower.specs.declared.builder.Variable.{Variable}
-use Rattle.mc_lower.specs.Finished.{AreApart, AreOnce, AreThose, IsFinished, IsFlowOf, IsValidFlow, point_at}
+use Rattle.mc_lower.specs.declared.variables.Owner.{Owner as OwnerCode}
+use Rattle.mc_lower.specs.declared.variables.Variable.{Variable}
+use Rattle.mc_lower.specs.Once.{AreOnce}
+use Rattle.mc_lower.specs.Finished.{AreApart, AreThose, IsFinished, IsFlowOf, IsValidFlow, point_at}
 use Rattle.mc_lower.specs.Worlds.{World, Agrees, AllAt, owner_of, point_in, role_of}
 
 -- ---- blocks
@@ -122,7 +123,7 @@ graph_of program b table x =
     record {
       program = program;
       flow = x.flow;
-      owners = map (λ (v : Variable). owner_of (out_of table b.outs.items) v.owner) b.variables.items;
+      owners = map (λ (v : Variable). owner_of (out_of table b.outs.items) v.owner) b.variables.list.items;
       roles = map (λ (d : Draft). role_of d.role) b.points.items;
       stops = x.stops;
     }
@@ -145,8 +146,8 @@ finished_agrees program b x f is =
       structs = f.structs;
       points = λ i d there. ap (λ l. slice_get l i) f.points ∙ mapped_there (point_in (point_at f.table)) b.points.items i d there;
       roles = mapped_there (λ (d : Draft). role_of d.role) b.points.items;
-      owners = mapped_there (λ (v : Variable). owner_of (out_of f.table b.outs.items) v.owner) b.variables.items;
-      infos = λ i v there. ap (λ l. slice_get l i) f.vars ∙ mapped_there (λ (u : Variable). u.info) b.variables.items i v there;
+      owners = mapped_there (λ (v : Variable). owner_of (out_of f.table b.outs.items) v.owner) b.variables.list.items;
+      infos = λ i v there. ap (λ l. slice_get l i) f.vars ∙ mapped_there (λ (u : Variable). u.info) b.variables.list.items i v there;
       marks = f.settled.marks;
       outs = outs_there f.table b.outs.items;
       blocks = λ i xs there. ap block_at there;
@@ -157,7 +158,7 @@ pub flow_there : (program : Resolved) (structs : Structs) (old new : Builder) (x
     → old.program.now ≡ program → old.structs.now ≡ structs
     → ((w : World) → Agrees w old → slice_get w.graph.program.functions program.entry ≡ Some (function_of entry))
     → entry.parameters ≡ 0
-    → ((w : World) → Agrees w new → Agrees w old × (out : ℕ) × Makes w.graph (function_of entry) out (length new.variables.items) × (length new.points.items ≡ suc out))
+    → ((w : World) → Agrees w new → Agrees w old × (out : ℕ) × Makes w.graph (function_of entry) out (length new.variables.list.items) × (length new.points.items ≡ suc out))
     → IsFinished new x → IsFlowOf program structs x
 flow_there program structs old new x entry is_program is_structs found alone made f = λ defs.
     let whole : Program = record { functions = map function_of new.program.now.functions.items; entry = program.entry; defs = defs } in
@@ -165,7 +166,7 @@ flow_there program structs old new x entry is_program is_structs found alone mad
     let m = made w (finished_agrees whole new x f refl) in
     let same : map function_of new.program.now.functions.items ≡ map function_of program.functions.items =
     m.0.functions ∙ ap (λ (r : Resolved). map function_of r.functions.items) is_program in
-    let count : ℕ = length new.variables.items in
+    let count : ℕ = length new.variables.list.items in
     let lowering : IsLowering w.graph (function_of entry) m.1 count =
     record {
       there = found w m.0;
@@ -173,9 +174,9 @@ flow_there program structs old new x entry is_program is_structs found alone mad
       made = m.2;
       points = ap (λ l. length l) f.points ∙ length-map new.points.items (point_in (point_at f.table)) ∙ m.3;
       roles = length-map new.points.items (λ (d : Draft). role_of d.role) ∙ m.3;
-      variables = ap (λ l. length l) f.vars ∙ length-map new.variables.items (λ (v : Variable). v.info);
-      owners = length-map new.variables.items (λ (v : Variable). owner_of (out_of f.table new.outs.items) v.owner);
-      once = once_owned (out_of f.table new.outs.items) new.variables.items w.apart f.settled.once;
+      variables = ap (λ l. length l) f.vars ∙ length-map new.variables.list.items (λ (v : Variable). v.info);
+      owners = length-map new.variables.list.items (λ (v : Variable). owner_of (out_of f.table new.outs.items) v.owner);
+      once = once_owned (out_of f.table new.outs.items) new.variables.list.items w.apart new.variables.once;
       heads = of_roles w.graph new.points.items head x.flow.heads refl f.heads;
       merges = of_roles w.graph new.points.items merge x.flow.merges refl f.merges;
       stops = of_roles w.graph new.points.items stop x.stops refl f.stops;

@@ -18,7 +18,6 @@ use Rattle.mc_valid.specs.Kinds.{IsWellMade}
 use Rattle.mc_lower.specs.declared.builder.Builder.{Builder}
 use Rattle.mc_lower.specs.declared.builder.Draft.{Draft}
 use Rattle.mc_lower.specs.declared.builder.Label.{Label}
-use Rattle.mc_lower.specs.declared.builder.Variable.{Variable}
 use Rattle.mc_lower.specs.declared.lowering.Lowered.{Lowered}
 use Rattle.mc_lower.specs.Worlds.{AllAt, IsMarked, point_in, role_of}
 
@@ -30,12 +29,6 @@ point_at table l = slice_index_or table l 0
 abbrev pub AreApart : (ℕ → ℕ) → List Label → Type 0
 AreApart at outs =
     (i j : ℕ) (l m : Label) → slice_get outs i ≡ Some l → slice_get outs j ≡ Some m → at l.0 ≡ at m.0 → i ≡ j
-
--- no two variables have one owner
-abbrev pub AreOnce : List Variable → Type 0
-AreOnce variables =
-    (i j : ℕ) (v u : Variable) → slice_get variables i ≡ Some v → slice_get variables j ≡ Some u → v.owner ≡ u.owner
-    → i ≡ j
 
 -- these are the points of a role, ascending
 pub record AreThose (drafts : List Draft) (role : Role) (ps : List PointId) : Type 0 where
@@ -65,14 +58,13 @@ pub data Ends (g : Graph) (out : ℕ) : Stage → Stage → Type 0 where
 pub record AreSettled (b : Builder) (table : List ℕ) : Type 0 where
   pub marks : AllAt (λ i m. IsMarked (point_at table) m) b.marks.items
   pub apart : AreApart (point_at table) b.outs.items
-  pub once : AreOnce b.variables.items
 
 -- the flow graph, with points in place of labels
 pub record IsFinished (b : Builder) (x : Lowered) : Type 0 where
   pub table : List ℕ
   pub settled : AreSettled b table
   pub points : x.flow.points ≡ map (point_in (point_at table)) b.points.items
-  pub vars : x.flow.vars ≡ map (λ v. v.info) b.variables.items
+  pub vars : x.flow.vars ≡ map (λ v. v.info) b.variables.list.items
   pub structs : x.flow.structs ≡ b.structs.now
   pub heads : AreThose b.points.items head x.flow.heads
   pub merges : AreThose b.points.items merge x.flow.merges

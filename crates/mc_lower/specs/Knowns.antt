@@ -3,8 +3,8 @@ use Rattle.std.specs.Prelude.{◌≡◌, ◌<◌, ◌++◌, ℕ, suc, List, [], 
 use Rattle.mc_defs.specs.declared.shapes.Structs.{Structs}
 use Rattle.mc_resolved.specs.declared.program.Resolved.{Resolved}
 use Rattle.mc_lower.specs.declared.builder.Builder.{Builder}
-use Rattle.mc_lower.specs.declared.builder.Owner.{Owner as OwnerCode}
-use Rattle.mc_lower.specs.declared.builder.Variable.{Variable}
+use Rattle.mc_lower.specs.declared.variables.Owner.{Owner as OwnerCode}
+use Rattle.mc_lower.specs.declared.variables.Variable.{Variable}
 
 -- what is lowered
 pub record Source : Type 0 where
@@ -36,7 +36,7 @@ known b =
     record {
       source = record { program = b.program.now; structs = b.structs.now };
       state =
-      record { owners = owners_of b.variables.items; blocks = length b.blocks.items; occurrences = length b.outs.items };
+      record { owners = owners_of b.variables.list.items; blocks = length b.blocks.items; occurrences = length b.outs.items };
     }
 
 abbrev pub nothing_known : Resolved → Structs → Known
@@ -94,3 +94,12 @@ IsAnswered k i = Contains k.state.owners (OwnerCode.Result i)
 abbrev pub IsOpen : Known → Option ℕ → Type 0
 IsOpen k None = Unit {0}
 IsOpen k (Some i) = i < k.state.blocks
+
+-- what is owned is of an occurrence that there is
+abbrev pub IsWithin : ℕ → OwnerCode → Type 0
+IsWithin n (OwnerCode.Local i x) = i < n
+IsWithin n (OwnerCode.Result i) = i < n
+IsWithin n (OwnerCode.Temporary j kind) = Unit {0}
+
+abbrev pub IsBounded : State → Type 0
+IsBounded s = (o : OwnerCode) → Contains s.owners o → IsWithin s.occurrences o

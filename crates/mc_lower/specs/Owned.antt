@@ -5,8 +5,8 @@ use Rattle.mc_text.specs.declared.place.Place.{Place}
 use Rattle.mc_flow.specs.declared.instr.Instr.TheVariants.{Undef}
 use Rattle.mc_resolved.specs.Programs.{Function, Local}
 use Rattle.mc_lowering.specs.Graphs.{Graph, local, plain, Stage, Appends, Creates, AreMade}
-use Rattle.mc_lower.specs.declared.builder.Owner.{Owner as OwnerCode}
-use Rattle.mc_lower.specs.declared.builder.Variable.{Variable}
+use Rattle.mc_lower.specs.declared.variables.Owner.{Owner as OwnerCode}
+use Rattle.mc_lower.specs.declared.variables.Variable.{Variable}
 
 -- the number of the first variable of an owner, if there is one
 abbrev pub IsFirst : List Variable → OwnerCode → Option ℕ → Type 0

@@ -1,5 +1,5 @@
 -- What has to be known before something is lowered: what it names is there, and made by then.
-use Rattle.std.specs.Prelude.{◌≡◌, ◌<◌, ◌≤◌, ◌++◌, ℕ, zero, suc, Bool, true, false, List, [], ◌∷◌, Option, Some, None, IsSome, option_and_then, map, Contains, length, slice_get}
+use Rattle.std.specs.Prelude.{◌≡◌, ◌<◌, ◌≤◌, ◌++◌, ◌⊎◌, ℕ, zero, suc, Bool, true, false, List, [], ◌∷◌, Option, Some, None, IsSome, option_and_then, map, Contains, length, slice_get}
 use Rattle.mc_base.specs.declared.plain.Kind.{Kind}
 use Rattle.mc_defs.specs.declared.rules.Def.{Def}
 use Rattle.mc_defs.specs.declared.shapes.Structs.{Structs}
@@ -15,8 +15,8 @@ use Rattle.mc_lowering.specs.Values.{struct_at}
 use Rattle.mc_lowering.specs.Scopes.{AreScoped, AreScopedIn, DeclareIn, FinishesIn, IsScopedIn}
 use Rattle.mc_valid.specs.Kinds.{Here, AreDeclared, AreOfKinds, IsConditionPerhaps, IsLast, IsOfKinds, IsWellMade}
 use Rattle.mc_length.specs.Lengths.{all_declared, declared, items_declared}
-use Rattle.mc_lower.specs.Lowerable.{AreLowerable, AreLowerableItems, IsLowerable, IsLowerableLast, IsLowerableProgram, TestsOnlyPerhaps}
-use Rattle.mc_lower.specs.declared.builder.Owner.{Owner as OwnerCode}
+use Rattle.mc_lower.specs.Lowerable.{AreLowerable, AreLowerableItems, IsLowerable, IsLowerableLast, IsLowerableProgram, IsOnce, TestsOnlyPerhaps}
+use Rattle.mc_lower.specs.declared.variables.Owner.{Owner as OwnerCode}
 use Rattle.mc_lower.specs.declared.tasks.Context.{Context}
 use Rattle.mc_lower.specs.declared.tasks.Task.{Task}
 use Rattle.mc_lower.specs.declared.tasks.Turns.{Turns}
@@ -24,7 +24,7 @@ use Rattle.mc_lower.specs.declared.values.Work.{Work}
 use Rattle.mc_resolved.specs.Views.{expression_of}
 use Rattle.mc_lower.specs.declared.conditions.Work.{Work as Tested}
 use Rattle.mc_lower.specs.declared.calls.Entered.{Entered}
-use Rattle.mc_lower.specs.Knowns.{Source, State, Known, IsThere, IsAnswered, IsOpen, with_result}
+use Rattle.mc_lower.specs.Knowns.{Source, State, Known, IsBounded, IsThere, IsAnswered, IsOpen, with_result}
 use Rattle.mc_lower.specs.Valued.{target_of}
 
 -- ---- values
@@ -97,6 +97,7 @@ functions_in s = map function_of s.program.functions.items
 -- ---- calls and simple statements
 pub record IsCallReady (k : Known) (i : ℕ) (result : Option Kind) (c : Call) : Type 0 where
   pub sound : IsSound k.source
+  pub bounded : IsBounded k.state
   pub callee : Function
   pub there : slice_get (functions_in k.source) c.function ≡ Some callee
   pub counted : callee.parameters ≤ length callee.locals
@@ -141,6 +142,7 @@ HasResult k i (Some kind) = IsAnswered k i
 
 pub record Stands (k : Known) (c : Context) : Type 0 where
   pub sound : IsSound k.source
+  pub bounded : IsBounded k.state
   pub occurs : c.occurrence < k.state.occurrences
   pub block : IsOpen k c.block
   pub result : HasResult k c.occurrence (function_of c.function.now).result
@@ -153,9 +155,12 @@ here k c sound =
       function = function_of c.function.now;
     }
 
--- with some variables that are made it can be lowered, it is of its kinds, and in scope
-pub record Fits (k : Known) (c : Context) (P : List ℕ → Type 0) (Q : Here → Type 0) (R : ℕ → List ℕ → Type 0) : Type 0 where
+-- with some variables that are made it can be lowered, it is of its kinds, and in scope; it makes these variables, which are new
+pub record Fits (k : Known) (c : Context) (news : List ℕ) (P : List ℕ → Type 0) (Q : Here → Type 0) (R : ℕ → List ℕ → Type 0)
+    : Type 0 where
   pub stands : Stands k c
+  pub new : (x : ℕ) → Contains news x → IsThere k c.occurrence x → ⊥
+  pub once : IsOnce news
   pub made : List ℕ
   pub are_made : (x : ℕ) → Contains made x → IsThere k c.occurrence x
   pub lowerable : P made
@@ -165,20 +170,20 @@ pub record Fits (k : Known) (c : Context) (P : List ℕ → Type 0) (Q : Here �
 
 abbrev pub FitsStatement : Known → Context → Stmt → Type 0
 FitsStatement k c a =
-    Fits k c (λ made. IsLowerable k.source.structs (loops c.turns) made a) (λ h. IsOfKinds h a) (λ n s. IsScopedIn n s a)
+    Fits k c (declared a) (λ made. IsLowerable k.source.structs (loops c.turns) made a) (λ h. IsOfKinds h a) (λ n s. IsScopedIn n s a)
 
 abbrev pub FitsAll : Known → Context → Stmts → Type 0
 FitsAll k c ss =
-    Fits k c (λ made. AreLowerable k.source.structs (loops c.turns) made ss) (λ h. AreOfKinds h ss) (λ n s. AreScopedIn n s ss)
+    Fits k c (all_declared ss) (λ made. AreLowerable k.source.structs (loops c.turns) made ss) (λ h. AreOfKinds h ss) (λ n s. AreScopedIn n s ss)
 
 abbrev pub FitsItems : Known → Context → List Initial → Type 0
 FitsItems k c items =
-    Fits k c (λ made. AreLowerableItems k.source.structs made items) (λ h. AreDeclared h items) (λ n s. DeclareIn n s items)
+    Fits k c (items_declared items) (λ made. AreLowerableItems k.source.structs made items) (λ h. AreDeclared h items) (λ n s. DeclareIn n s items)
 
 -- a `for` behind its first part
 abbrev pub FitsFor : Known → Context → Head → Stmt → Type 0
 FitsFor k c h a =
-    Fits k c
+    Fits k c (declared a)
     (λ made. TestsOnlyPerhaps made h.condition × IsLowerableLast k.source.structs made h.last × IsLowerable k.source.structs true made a)
     (λ at. IsConditionPerhaps at h.condition × IsLast at h.last × IsOfKinds at a)
     (λ n s. FinishesIn n s h.last × IsScopedIn n s a)
@@ -237,12 +242,19 @@ whose (Task.EndCall place c) = c.occurrence
 whose (Task.Take place target answer i) = i
 whose (Task.Answer place own answer i) = i
 
--- what was made is still there, and so are these variables of an occurrence
-pub record Grown (s : State) (i : ℕ) (xs : List ℕ) (t : State) : Type 0 where
+-- what was made is still there
+pub record Still (s t : State) : Type 0 where
   pub owners : (o : OwnerCode) → Contains s.owners o → Contains t.owners o
   pub blocks : s.blocks ≤ t.blocks
   pub occurrences : s.occurrences ≤ t.occurrences
+  pub bounded : IsBounded s → IsBounded t
+
+-- what was made is still there, and these variables of an occurrence are there too; of it and of those before, no others are
+pub record Grown (s : State) (i : ℕ) (xs : List ℕ) (t : State) : Type 0 where
+  pub still : Still s t
   pub made : (x : ℕ) → Contains xs x → Contains t.owners (OwnerCode.Local i x)
+  pub only : (j x : ℕ) → j < s.occurrences → Contains t.owners (OwnerCode.Local j x)
+      → Contains s.owners (OwnerCode.Local j x) ⊎ ((j ≡ i) × Contains xs x)
 
 abbrev pub in_state : Known → State → Known
 in_state k s = record { source = k.source; state = s }
@@ -268,7 +280,9 @@ Later k i xs ts = (s : State) → Grown k.state i xs s → Ready (in_state k s) 
 -- a call whose body is next
 pub record IsBegun (k : Known) (c : Call) (e : Entered) (m : Known) : Type 0 where
   pub source : m.source ≡ k.source
-  pub grown : Grown k.state e.callee.occurrence [] m.state
+  pub grown : (i : ℕ) → Grown k.state i [] m.state
+  pub latest : k.state.occurrences ≤ e.callee.occurrence
+  pub no_others : (x : ℕ) → IsThere m e.callee.occurrence x → x < e.callee.function.now.parameters
   pub there : slice_get (functions_in k.source) c.function ≡ Some (function_of e.callee.function.now)
   pub occurs : e.callee.occurrence < m.state.occurrences
   pub block : e.callee.block ≡ None

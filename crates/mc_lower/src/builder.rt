@@ -5,7 +5,8 @@ ghost use Rattle.mc_flow.specs.declared.instr.Instr.TheVariants.{Skip, Copy, Und
 ghost use Rattle.mc_lower.specs.Knowns.{IsOpen, Keeps, known, nothing_known, with_block, with_occurrence};
 ghost use Rattle.mc_lower.specs.Worlds.{GoesTo, World, Agrees, IsPut, Lays, Leads, blocks_in, role_of, stage_of};
 
-use mc_base::{Items, Kind, PointId, VarId, VarInfo};
+use crate::variables::Variables;
+use mc_base::{Items, PointId, VarId};
 use mc_defs::Structs;
 use mc_flow::{Instr, Operand};
 use mc_resolved::Resolved;
@@ -78,22 +79,6 @@ pub struct Draft {
     pub place: Place,
 }
 
-/// Whose a variable is: that of a number in an occurrence of a function, the result of an occurrence, or a temporary by its number
-/// and kind.
-#[derive(Clone, Copy, PartialEq, Eq)]
-pub enum Owner {
-    Local(usize, usize),
-    Result(usize),
-    Temporary(usize, Kind),
-}
-
-/// A variable of the flow graph.
-#[derive(Drop)]
-pub struct Variable {
-    pub owner: Owner,
-    pub info: VarInfo,
-}
-
 /// A flow graph so far.
 #[derive(Drop)]
 pub struct Builder<'a> {
@@ -101,7 +86,7 @@ pub struct Builder<'a> {
     pub program: &'a Resolved,
     pub structs: &'a Structs,
     pub points: Vec<Draft>,
-    pub variables: Vec<Variable>,
+    pub variables: Variables,
     pub marks: Vec<Mark>,
     /// Where the `return` of each occurrence of a function goes.
     pub outs: Vec<Label>,
@@ -117,7 +102,7 @@ impl<'a> Builder<'a> {
     /// The empty flow graph, whose goal is its first point.
     pub fn new(alloc: Global, program: &'a Resolved, structs: &'a Structs) -> Builder<'a>
         ensures points { result.points.items ≡ [] }
-        ensures variables { result.variables.items ≡ [] }
+        ensures variables { result.variables.list.items ≡ [] }
         ensures known { known result ≡ nothing_known program.now structs.now }
         ensures program { result.program.now ≡ program.now }
         ensures structs { result.structs.now ≡ structs.now }
@@ -127,7 +112,7 @@ impl<'a> Builder<'a> {
             program,
             structs,
             points: Vec::new(alloc),
-            variables: Vec::new(alloc),
+            variables: Variables::new(alloc),
             marks: Vec::new(alloc),
             outs: Vec::new(alloc),
             blocks: Vec::new(alloc),

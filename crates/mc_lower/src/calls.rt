@@ -1,13 +1,13 @@
 // Calls, simple statements and declarations are lowered, or what they are made of is next.
-ghost use Rattle.std.specs.Prelude.{Some, ◌≡◌, ◌<◌, ◌≤◌, [], ◌∷◌, Option, IfOk, IsSome, OnOk, length, map, slice_get};
+ghost use Rattle.std.specs.Prelude.{ℕ, Some, ◌≡◌, ◌<◌, ◌≤◌, [], ◌∷◌, Option, IfOk, IsSome, OnOk, length, map, slice_get};
 ghost use Rattle.mc_base.specs.declared.plain.Kind.{Kind};
-ghost use Rattle.mc_length.specs.Lengths.{items_declared};
+ghost use Rattle.mc_length.specs.Lengths.{all_declared, items_declared};
 ghost use Rattle.mc_lowering.specs.Graphs.{Stage};
 ghost use Rattle.mc_lowering.specs.Lowering.{Awaits, Declares, LowersAll, Lowers, Passes, Performs, Receives};
 ghost use Rattle.mc_resolved.specs.Programs.{assign, call as performs_call, result_of, returns};
 ghost use Rattle.mc_resolved.specs.Views.{action_of, call_of, expression_of, function_of, initial_of, right_of};
 ghost use Rattle.mc_lower.specs.Left.{AnswersResult, Begins, DeclaresFirst, EndsCall, IsEntered, PassesAll, Rest, TakesResult, around_of};
-ghost use Rattle.mc_lower.specs.Knowns.{IsAnswered, Keeps, Known, known, with_owners};
+ghost use Rattle.mc_lower.specs.Knowns.{IsAnswered, IsThere, Keeps, Known, known, with_owners};
 ghost use Rattle.mc_lower.specs.Ready.{AreReady, FitsAll, FitsItems, IsActionReady, IsBegun, IsCallReady, IsNamed, IsRightReady, Later, Needs, Ready, functions_in, locals_to, with_awaited};
 ghost use Rattle.mc_lower.specs.Valued.{target_of};
 ghost use Rattle.mc_lower.specs.declared.tasks.Task.TheVariants.{EndCall};
@@ -44,7 +44,8 @@ impl<'a> Builder<'a> {
 
     // A variable is made for each parameter of an occurrence of a function.
     fn receive(&mut self, function: &Function, occurrence: usize) -> Result<Vec<VarId>, BuildFault>
-        requires { function.now.parameters ≤ length function.now.locals.items }
+        requires low { function.now.parameters ≤ length function.now.locals.items }
+        requires new { (x : ℕ) → IsThere (known self.old) occurrence x → ⊥ }
         ensures count { IfOk result (λ vs. length vs.items ≡ function.now.parameters) }
         ensures same { OnOk result (known self.new ≡ with_owners (locals_to occurrence function.now.parameters) (known self.old)) }
         ensures leads { IfOk result (λ vs. (w : World) → Agrees w self.new → Agrees w self.old × Receives w.graph (function_of function.now) (w.out occurrence) 0 function.now.parameters (stage_of w self.old) vs.items (stage_of w self.new)) }
@@ -95,6 +96,7 @@ impl<'a> Builder<'a> {
         function: &Function,
         occurrence: usize,
     ) -> Result<Option<VarId>, BuildFault>
+        requires { IsAnswered (known self.old) occurrence → ⊥ }
         ensures answered { IfOk result (λ r. IsSome function.now.result → IsSome r) }
         ensures same { OnOk result (known self.new ≡ with_awaited occurrence function.now.result (known self.old)) }
         ensures leads { IfOk result (λ r. (w : World) → Agrees w self.new → Agrees w self.old × Awaits w.graph (w.out occurrence) place function.now.result (stage_of w self.old) r (stage_of w self.new)) }
@@ -210,7 +212,7 @@ fn push_body<'a>(
     place: Place,
     callee: Context<'a>,
 ) -> Result<(), BuildFault>
-    ensures ready { OnOk result ((k : Known) → FitsAll k callee.entry (function_of callee.entry.function.now).body → Needs k (EndCall place callee.entry) → Later k callee.entry.occurrence [] tasks.old → Ready k tasks.new) }
+    ensures ready { OnOk result ((k : Known) → FitsAll k callee.entry (function_of callee.entry.function.now).body → Needs k (EndCall place callee.entry) → Later k callee.entry.occurrence (all_declared (function_of callee.entry.function.now).body) tasks.old → Ready k tasks.new) }
     ensures leads { OnOk result ((w : World) (s u : Stage) → Rest w tasks.new s u → (m : Stage) × LowersAll w.graph (around_of w callee.entry) (function_of callee.entry.function.now).body s m × ((n : Stage) × EndsCall w.graph (w.out callee.entry.occurrence) place (length (function_of callee.entry.function.now).locals) m n × Rest w tasks.old n u)) }
 {
     push(tasks, Task::EndCall(place, callee))?;

@@ -76,7 +76,7 @@ impl<'a> Builder<'a> {
         to: Label,
     ) -> Result<(), BuildFault>
         ensures same { OnOk result (Keeps self.old self.new) }
-        ensures leads { OnOk result ((w : World) → Agrees w self.new → Agrees w self.old × Undefines w.graph place temporaries.now (stage (w.at from.0) (length self.old.points.items) (length self.old.variables.items)) (stage (w.at to.0) (length self.new.points.items) (length self.new.variables.items))) }
+        ensures leads { OnOk result ((w : World) → Agrees w self.new → Agrees w self.old × Undefines w.graph place temporaries.now (stage (w.at from.0) (length self.old.points.items) (length self.old.variables.list.items)) (stage (w.at to.0) (length self.new.points.items) (length self.new.variables.list.items))) }
     {
         self.goal = from;
         self.undefine(place, temporaries)?;
@@ -95,7 +95,7 @@ impl<'a> Builder<'a> {
         ways: Ways,
     ) -> Result<(), BuildFault>
         ensures same { OnOk result (Keeps self.old self.new) }
-        ensures leads { OnOk result ((w : World) → Agrees w self.new → Agrees w self.old × Compares w.graph place comparison left right temporaries.now (stage_of w self.old) (w.at ways.yes.0) (w.at ways.no.0) (length self.new.points.items) (length self.new.variables.items)) }
+        ensures leads { OnOk result ((w : World) → Agrees w self.new → Agrees w self.old × Compares w.graph place comparison left right temporaries.now (stage_of w self.old) (w.at ways.yes.0) (w.at ways.no.0) (length self.new.points.items) (length self.new.variables.list.items)) }
     {
         let yes = self.label()?;
         let no = self.label()?;
@@ -170,7 +170,7 @@ impl<'a> Builder<'a> {
         requires others { AreTestsReady (known self.old) occurrence work.old }
         ensures same { OnOk result (Keeps self.old self.new) }
         ensures ready { OnOk result (AreTestsReady (known self.new) occurrence work.new) }
-        ensures leads { OnOk result ((w : World) (n k : ℕ) → Agrees w self.new → Testing w occurrence work.new (length self.new.points.items) (length self.new.variables.items) n k → Agrees w self.old × Testing w occurrence (record { from = self.old.goal; condition = condition.entry; ways = ways } ∷ work.old) (length self.old.points.items) (length self.old.variables.items) n k) }
+        ensures leads { OnOk result ((w : World) (n k : ℕ) → Agrees w self.new → Testing w occurrence work.new (length self.new.points.items) (length self.new.variables.list.items) n k → Agrees w self.old × Testing w occurrence (record { from = self.old.goal; condition = condition.entry; ways = ways } ∷ work.old) (length self.old.points.items) (length self.old.variables.list.items) n k) }
     {
         let from = self.goal;
         match condition {
@@ -232,7 +232,7 @@ impl<'a> Builder<'a> {
         requires others { AreTestsReady (known self.old) occurrence work.old }
         ensures same { OnOk result (Keeps self.old self.new) }
         ensures ready { OnOk result (AreTestsReady (known self.new) occurrence work.new) }
-        ensures leads { OnOk result ((w : World) (n k : ℕ) → Agrees w self.new → Testing w occurrence work.new (length self.new.points.items) (length self.new.variables.items) n k → Agrees w self.old × Testing w occurrence (next.entry ∷ work.old) (length self.old.points.items) (length self.old.variables.items) n k) }
+        ensures leads { OnOk result ((w : World) (n k : ℕ) → Agrees w self.new → Testing w occurrence work.new (length self.new.points.items) (length self.new.variables.list.items) n k → Agrees w self.old × Testing w occurrence (next.entry ∷ work.old) (length self.old.points.items) (length self.old.variables.list.items) n k) }
     {
         self.goal = next.from;
         self.enter_condition(occurrence, next.condition, next.ways, work)?;

@@ -2,14 +2,14 @@
 ghost use Rattle.std.specs.Prelude.{ℕ, ◌≡◌, ◌↔◌, ◌++◌, ◌∷◌, [], IfOk, OnOk, IsTrue, map};
 ghost use Rattle.mc_flow.specs.declared.graph.Point.{Point};
 ghost use Rattle.mc_lowering.specs.Lowering.{AreThresholds, operands};
-ghost use Rattle.mc_lower.specs.Finished.{AreApart, AreConstants, AreOnce, AreSettled, AreThose, IsFinished, constants, point_at};
+ghost use Rattle.mc_lower.specs.Finished.{AreApart, AreConstants, AreSettled, AreThose, IsFinished, constants, point_at};
 ghost use Rattle.mc_lower.specs.Worlds.{AllAt, IsMarked, point_in, role_of, settled, target as point_of_target};
 
 use crate::builder::{
-    ABSENT, BuildFault, Builder, Draft, Label, Mark, Role, Variable,
+    ABSENT, BuildFault, Builder, Draft, Label, Mark, Role,
 };
 use crate::lowering::Lowered;
-use crate::owners::find;
+use crate::variables::Variable;
 use mc_base::{Items, PointId, VarInfo};
 use mc_defs::{FieldInfo, StructInfo, Structs};
 use mc_flow::{Flow, Instr, Operand, Point};
@@ -100,18 +100,6 @@ fn are_apart(table: &[usize], outs: &[Label], lasts: &[usize]) -> bool
 {
     for at in 0..outs.len() {
         if lasts.get(point_of(table, outs[at])).copied() != Some(at) {
-            return false;
-        }
-    }
-    true
-}
-
-// Whether no two variables have one owner.
-fn are_once(variables: &[Variable]) -> bool
-    ensures { IsTrue result → AreOnce variables.now }
-{
-    for at in 0..variables.len() {
-        if find(variables, variables[at].owner) != Some(at) {
             return false;
         }
     }
@@ -342,8 +330,7 @@ fn checked_points(builder: &Builder) -> Result<Vec<usize>, BuildFault>
     let table = points_of(builder.alloc, builder.labels, marks)?;
     let lasts = last_labels(builder.alloc, table.as_slice(), outs, builder.points.len())?;
     let fits = all_hold(table.as_slice(), marks)
-        && are_apart(table.as_slice(), outs, lasts.as_slice())
-        && are_once(builder.variables.as_slice());
+        && are_apart(table.as_slice(), outs, lasts.as_slice());
     if fits { Ok(table) } else { Err(ABSENT) }
 }
 
@@ -359,7 +346,7 @@ pub fn finish(builder: Builder) -> Result<Lowered, BuildFault>
     let stops = of_role(alloc, builder.points.as_slice(), Role::Stop)?;
     let thresholds = thresholds(alloc, builder.points.as_slice())?;
     let points = settle(alloc, table.as_slice(), builder.points)?;
-    let vars = infos(alloc, builder.variables)?;
+    let vars = infos(alloc, builder.variables.list)?;
     Ok(Lowered {
         flow: Flow {
             points,

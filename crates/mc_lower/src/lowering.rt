@@ -55,6 +55,7 @@ impl<'a> Builder<'a> {
 
     // The result of the entry, where it has one.
     fn begin(&mut self, entry: &Function, occurrence: usize) -> Result<(), BuildFault>
+        requires { IsAnswered (known self.old) occurrence → ⊥ }
         ensures same { OnOk result (known self.new ≡ with_awaited occurrence entry.now.result (known self.old)) }
         ensures leads { OnOk result (Leads (λ w s u. Answers w.graph (w.out occurrence) (function_of entry.now).result s u) self.old self.new) }
     {
@@ -116,11 +117,12 @@ impl<'a> Builder<'a> {
     // A Skip, the entry, and an End.
     fn make_entry(&mut self, entry: &'a Function) -> Result<(), BuildFault>
         requires no_points { self.old.points.items ≡ [] }
-        requires no_variables { self.old.variables.items ≡ [] }
+        requires no_variables { self.old.variables.list.items ≡ [] }
+        requires no_owners { (known self.old).state.owners ≡ [] }
         requires no_occurrences { (known self.old).state.occurrences ≡ 0 }
         requires sound { IsSound (known self.old).source }
         requires there { slice_get (functions_in (known self.old).source) (known self.old).source.program.entry ≡ Some (function_of entry.now) }
-        ensures { OnOk result ((w : World) → Agrees w self.new → Agrees w self.old × (out : ℕ) × Makes w.graph (function_of entry.now) out (length self.new.variables.items) × (length self.new.points.items ≡ suc out)) }
+        ensures { OnOk result ((w : World) → Agrees w self.new → Agrees w self.old × (out : ℕ) × Makes w.graph (function_of entry.now) out (length self.new.variables.list.items) × (length self.new.points.items ≡ suc out)) }
     {
         self.skip(Role::Plain, NOWHERE)?;
         let occurrence = self.occur()?;

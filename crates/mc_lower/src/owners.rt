@@ -4,10 +4,12 @@ ghost use Rattle.mc_lowering.specs.Graphs.{Creates, IsMade, AreMade, Leaves, Use
 ghost use Rattle.mc_lowering.specs.Lowering.{result_info};
 ghost use Rattle.mc_resolved.specs.Views.{function_of};
 ghost use Rattle.mc_lower.specs.Knowns.{IsAnswered, IsOpen, IsThere, Keeps, known, lasting, owners_of, with_local, with_owners, with_result};
+ghost use Rattle.mc_lower.specs.Once.{IsNew};
 ghost use Rattle.mc_lower.specs.Owned.{CreatesLocal, Forgets, IsFirst, IsLocalOf};
 ghost use Rattle.mc_lower.specs.Worlds.{Agrees, Leads, World, blocks_in, owner_of, stage_of};
 
-use crate::builder::{BuildFault, Builder, Owner, Variable};
+use crate::builder::{BuildFault, Builder};
+use crate::variables::{Owner, Variable};
 use mc_base::{Items, Kind, VarId, VarInfo};
 use mc_resolved::{Function, Local};
 use mc_text::Place;
@@ -59,22 +61,24 @@ fn is_below(owner: Owner, occurrence: usize, count: usize) -> bool
 impl<'a> Builder<'a> {
     // The variable of this owner.
     fn owned(&self, owner: Owner) -> Option<VarId>
-        ensures none { result ≡ None → Contains (owners_of self.now.variables.items) owner → ⊥ }
+        ensures none { result ≡ None → Contains (owners_of self.now.variables.list.items) owner → ⊥ }
+        ensures new { result ≡ None → IsNew self.now.variables.list.items owner }
         ensures made { IfSome result (λ v. (w : World) → Agrees w self.now → IsMade w.graph (owner_of w.out owner) v (stage_of w self.now)) }
     {
-        match find(self.variables.as_slice(), owner) {
+        match find(self.variables.list.as_slice(), owner) {
             Some(number) => Some(VarId(number as u64)),
             None => None,
         }
     }
 
-    // The next variable, for this owner.
+    // The next variable, for an owner who has none.
     fn create(&mut self, owner: Owner, info: VarInfo) -> Result<VarId, BuildFault>
+        requires { IsNew self.old.variables.list.items owner }
         ensures same { OnOk result (known self.new ≡ with_owners (lasting owner) (known self.old)) }
         ensures leads { IfOk result (λ v. (w : World) → Agrees w self.new → Agrees w self.old × Creates w.graph (owner_of w.out owner) info (stage_of w self.old) v (stage_of w self.new)) }
     {
-        let variable = VarId(self.variables.len() as u64);
-        self.variables.push(Variable { owner, info })?;
+        let variable = VarId(self.variables.list.len() as u64);
+        self.variables.add(Variable { owner, info })?;
         Ok(variable)
     }
 
@@ -107,7 +111,8 @@ impl<'a> Builder<'a> {
         occurrence: usize,
         number: usize,
     ) -> Result<VarId, BuildFault>
-        requires { number < length function.now.locals.items }
+        requires low { number < length function.now.locals.items }
+        requires new { IsThere (known self.old) occurrence number → ⊥ }
         ensures same { OnOk result (known self.new ≡ with_local occurrence number (known self.old)) }
         ensures leads { IfOk result (λ v. (w : World) → Agrees w self.new → Agrees w self.old × CreatesLocal w.graph (function_of function.now) (w.out occurrence) number (stage_of w self.old) v (stage_of w self.new)) }
     {
@@ -121,6 +126,7 @@ impl<'a> Builder<'a> {
 
     /// Makes the result of an occurrence.
     pub fn create_result(&mut self, occurrence: usize, kind: Kind) -> Result<VarId, BuildFault>
+        requires { IsAnswered (known self.old) occurrence → ⊥ }
         ensures same { OnOk result (known self.new ≡ with_result occurrence (known self.old)) }
         ensures leads { IfOk result (λ v. (w : World) → Agrees w self.new → Agrees w self.old × Creates w.graph (result_of (w.out occurrence)) (result_info kind) (stage_of w self.old) v (stage_of w self.new)) }
     {
@@ -147,8 +153,8 @@ impl<'a> Builder<'a> {
         ensures { IfOk result (λ vs. (w : World) → Agrees w self.now → AreMade w.graph (w.out occurrence) (λ x. Contains numbers.now x) (stage_of w self.now) vs.items) }
     {
         let mut made = Vec::new(self.alloc);
-        for number in 0..self.variables.len() {
-            if is_among(self.variables[number].owner, occurrence, numbers) {
+        for number in 0..self.variables.list.len() {
+            if is_among(self.variables.list[number].owner, occurrence, numbers) {
                 made.push(VarId(number as u64))?;
             }
         }
@@ -160,8 +166,8 @@ impl<'a> Builder<'a> {
         ensures { IfOk result (λ vs. (w : World) → Agrees w self.now → AreMade w.graph (w.out occurrence) (λ x. x < count) (stage_of w self.now) vs.items) }
     {
         let mut made = Vec::new(self.alloc);
-        for number in 0..self.variables.len() {
-            if is_below(self.variables[number].owner, occurrence, count) {
+        for number in 0..self.variables.list.len() {
+            if is_below(self.variables.list[number].owner, occurrence, count) {
                 made.push(VarId(number as u64))?;
             }
         }

@@ -31,4 +31,4 @@ run-requires c =
     let here : Context = record { function = c.args.entry; occurrence = c.args.occurrence; block = None; turns = None } in
     let t = Task.Statements c.as_slice.result here in
     subst (λ l. Ready (known c.args.self.now) l) (sym (c.in_ok-push.ensures ∙ ap (λ l. t ∷ l) c.new-tasks.ensures))
-    (subst (λ l. FitsAll (known c.args.self.now) here (stmts_of (map statement_of l))) (sym c.as_slice.ensures.value) c.requires.fits, λ s f. entered_on (known c.args.self.now).source (known c.args.self.now).state s c.args.occurrence _ f c.requires.entered)
+    (subst (λ l. FitsAll (known c.args.self.now) here (stmts_of (map statement_of l))) (sym c.as_slice.ensures.value) c.requires.fits, λ s f. entered_on (known c.args.self.now).source (known c.args.self.now).state s f.still c.requires.entered)

@@ -1,3 +1,5 @@
+use Rattle.mc_length.specs.Lengths.{all_declared}
+use Rattle.mc_resolved.specs.Views.{function_of}
 use Rattle.mc_lower.proofs.Readying.{begun_fits, ready_call}
 use Rattle.mc_lower.specs.Knowns.{known}
 use Rattle.mc_resolved.specs.Views.{call_of}
@@ -16,5 +18,5 @@ returns-clause-ready c = λ later.
     let b = c.in_ok-entered.ensures.begun in
     let sound = c.requires.1.sound in
     let m = known c.enter_call.new.self in
-    let fits = begun_fits (known c.args.self.now) m (call_of c.args.call.now) c.in_ok-entered.entered sound b in
-    c.in_ok-push_body.ensures.ready m fits b.occurs (ready_call _ _ _ _ c.args.context.occurrence _ c.args.tasks.now b.source b.grown later)
+    let fits = begun_fits (known c.args.self.now) m (call_of c.args.call.now) c.in_ok-entered.entered sound c.requires.1.bounded b in
+    c.in_ok-push_body.ensures.ready m fits b.occurs (ready_call _ _ _ _ c.args.context.occurrence _ (all_declared (function_of c.in_ok-entered.entered.callee.function.now).body) c.args.tasks.now b.source b.grown b.latest later)

@@ -1,3 +1,5 @@
+use Rattle.mc_length.specs.Lengths.{all_declared}
+use Rattle.mc_resolved.specs.Views.{function_of}
 use Rattle.mc_lower.proofs.Readying.{answered_there, begun_fits, ready_take}
 use Rattle.mc_lower.specs.Knowns.{known}
 use Rattle.std.proofs.Common.{[], Some, sym, subst}
@@ -24,10 +26,10 @@ returns-clause-ready c = λ later.
     let b = c.in_ok-entered.ensures.begun in
     let sound = c.requires.call.1.sound in
     let m = known c.enter_call.new.self in
-    let fits = begun_fits (known c.args.self.now) m (call_of c.args.call.now) c.in_ok-entered.entered sound b in
+    let fits = begun_fits (known c.args.self.now) m (call_of c.args.call.now) c.in_ok-entered.entered sound c.requires.call.1.bounded b in
     let some = answered_there (known c.args.self.now) c.args.context.occurrence c.requires.call.0 (call_of c.args.call.now) _ c.in_ok-entered.entered.answer c.requires.call.1 b.there b.answered in
-    c.in_ok-push_body.ensures.ready m fits b.occurs (subst (λ l. Later m c.in_ok-entered.entered.callee.occurrence [] l) (sym c.in_ok-push.ensures)
-    (ready_take _ _ _ _ c.args.context.occurrence _ c.args.place c.args.target c.in_ok-entered.entered.answer c.args.tasks.now b.source b.grown c.requires.named some later))
+    c.in_ok-push_body.ensures.ready m fits b.occurs (subst (λ l. Later m c.in_ok-entered.entered.callee.occurrence (all_declared (function_of c.in_ok-entered.entered.callee.function.now).body) l) (sym c.in_ok-push.ensures)
+    (ready_take _ _ _ _ c.args.context.occurrence _ (all_declared (function_of c.in_ok-entered.entered.callee.function.now).body) c.args.place c.args.target c.in_ok-entered.entered.answer c.args.tasks.now b.source b.grown b.latest c.requires.named some later))
 
 pub enter_call-requires : goal.enter_call-requires
 enter_call-requires c =

@@ -1,3 +1,5 @@
+use Rattle.mc_lower.specs.declared.variables.Owner.{Owner}
+use Rattle.mc_lower.proofs.Having.{new_if}
 use Rattle.std.proofs.Common.{subst, sym, ap, refl, ◌∙◌, length}
 use Rattle.std.proofs.lemmas.Option.{slice_get-map, slice_get_read}
 use Rattle.std.specs.Prelude.{option_map, slice_get}
@@ -21,3 +23,6 @@ returns-clause-leads c = λ w agrees.
             (info_same c.in_ok-info.info l.name l.kind c.in_ok-info.ensures.name c.in_ok-info.ensures.kind) made.1;
       },
     )
+
+pub create-requires : goal.create-requires
+create-requires c = new_if c.args.self.now.variables.list.items (Owner.Local c.args.occurrence c.args.number) refl c.requires.new

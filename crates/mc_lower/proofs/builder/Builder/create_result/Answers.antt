@@ -1,3 +1,6 @@
+use Rattle.std.proofs.Common.{refl}
+use Rattle.mc_lower.specs.declared.variables.Owner.{Owner}
+use Rattle.mc_lower.proofs.Having.{new_if}
 use Rattle.std.proofs.Common.{subst, ◌∙◌}
 use Rattle.mc_lowering.specs.Graphs.{result, Creates}
 use Rattle.mc_lower.specs.Worlds.{stage_of}
@@ -10,3 +13,6 @@ returns-clause-leads c = λ w agrees.
       subst (λ n. Creates w.graph (result (w.out c.args.occurrence)) (record { name = n; kind = c.args.kind }) (stage_of w c.args.self.now) c.in_ok-variable.variable (stage_of w c.create.new.self))
           (c.of-name.ensures ∙ c.in_ok-from_slice.ensures.items) made.1,
     )
+
+pub create-requires : goal.create-requires
+create-requires c = new_if c.args.self.now.variables.list.items (Owner.Result c.args.occurrence) refl c.requires

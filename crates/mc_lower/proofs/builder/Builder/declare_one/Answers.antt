@@ -1,3 +1,4 @@
+use Rattle.mc_lower.proofs.Readying.{one_low}
 use Rattle.mc_lower.proofs.Readying.{declared_low, declared_right, local_grown, local_made, local_then, ready_same}
 use Rattle.mc_lower.specs.Knowns.{IsThere, known}
 use Rattle.mc_lower.specs.Ready.{IsRightReady, Later}
@@ -36,8 +37,8 @@ returns-in_ok-assign_right-in-Some-clause-leads c = λ w u agrees rest.
       ),
     )
 
-pub create_local-requires : goal.create_local-requires
-create_local-requires c =
+pub create_local-requires-clause-low : goal.create_local-requires-clause-low
+create_local-requires-clause-low c =
     declared_low _ _ c.args.context (initial_of c.args.item.now) c.requires
 
 pub assign_right-requires-clause-named : goal.assign_right-requires-clause-named
@@ -47,13 +48,16 @@ assign_right-requires-clause-named c =
 pub assign_right-requires-clause-right : goal.assign_right-requires-clause-right
 assign_right-requires-clause-right c =
     subst (λ k. IsRightReady k c.args.context.occurrence (right_of c.in-Some.right)) (sym c.in_ok-variable.ensures.same)
-    (declared_right _ _ _ c.args.context c.args.item.now.variable (option_map right_of c.args.item.now.value) _ (ap (λ o. option_map right_of o) c.in-Some.is) (local_grown (known c.args.self.now) c.args.context.occurrence c.args.item.now.variable) c.requires)
+    (declared_right _ _ _ c.args.context c.args.item.now.variable (option_map right_of c.args.item.now.value) _ (ap (λ o. option_map right_of o) c.in-Some.is) (local_grown (known c.args.self.now) c.args.context.occurrence c.args.item.now.variable c.requires.stands.occurs) c.requires)
 
 pub returns-in_ok-undefine_all-in-None-clause-ready : goal.returns-in_ok-undefine_all-in-None-clause-ready
 returns-in_ok-undefine_all-in-None-clause-ready c = λ later.
-    ready_same _ _ _ _ (c.in_ok-undefine_all-in-None.ensures.same ∙ c.in_ok-variable.ensures.same) refl (later _ (local_grown (known c.args.self.now) c.args.context.occurrence c.args.item.now.variable))
+    ready_same _ _ _ _ (c.in_ok-undefine_all-in-None.ensures.same ∙ c.in_ok-variable.ensures.same) refl (later _ (local_grown (known c.args.self.now) c.args.context.occurrence c.args.item.now.variable c.requires.stands.occurs))
 
 pub returns-in_ok-assign_right-in-Some-clause-ready : goal.returns-in_ok-assign_right-in-Some-clause-ready
 returns-in_ok-assign_right-in-Some-clause-ready c = λ later.
     c.in_ok-assign_right-in-Some.ensures.ready (subst (λ k. Later k c.args.context.occurrence [] c.args.tasks.now) (sym c.in_ok-variable.ensures.same)
-    (λ t g. later t (local_then (known c.args.self.now) c.args.context.occurrence c.args.item.now.variable t g)))
+    (λ t g. later t (local_then (known c.args.self.now) c.args.context.occurrence c.args.item.now.variable t c.requires.stands.occurs g)))
+
+pub create_local-requires-clause-new : goal.create_local-requires-clause-new
+create_local-requires-clause-new c = c.requires.new c.args.item.now.variable (0, one_low, refl)

@@ -1,3 +1,4 @@
+use Rattle.mc_lower.proofs.Readying.{nobody_answered}
 use Rattle.std.proofs.Common.{◌≡◌, ◌<◌, Some, None, ap, refl, subst, sym, ◌∙◌}
 use Rattle.std.specs.Prelude.{slice_get}
 use Rattle.mc_lower.specs.declared.tasks.Context.{Context}
@@ -30,14 +31,14 @@ body-requires-clause-fits c =
     let first = c.in_ok-occurrence.ensures.last ∙ ap (λ k. k.state.occurrences) c.in_ok-skip.ensures.same ∙ c.requires.no_occurrences in
     let is = c.in_ok-begin.ensures.same ∙ ap (λ k. with_awaited c.in_ok-occurrence.occurrence c.args.entry.now.result k) (c.in_ok-occurrence.ensures.same ∙ ap (λ k. with_occurrence k) c.in_ok-skip.ensures.same) in
     let e : Context = record { function = c.args.entry; occurrence = c.in_ok-occurrence.occurrence; block = None; turns = None } in
-    let both = entry_begins (known c.args.self.now) (known c.begin.new.self) e c.requires.sound c.requires.there first refl refl is in both.0
+    let both = entry_begins (known c.args.self.now) (known c.begin.new.self) e c.requires.sound c.requires.no_owners c.requires.there first refl refl is in both.0
 
 pub body-requires-clause-entered : goal.body-requires-clause-entered
 body-requires-clause-entered c =
     let first = c.in_ok-occurrence.ensures.last ∙ ap (λ k. k.state.occurrences) c.in_ok-skip.ensures.same ∙ c.requires.no_occurrences in
     let is = c.in_ok-begin.ensures.same ∙ ap (λ k. with_awaited c.in_ok-occurrence.occurrence c.args.entry.now.result k) (c.in_ok-occurrence.ensures.same ∙ ap (λ k. with_occurrence k) c.in_ok-skip.ensures.same) in
     let e : Context = record { function = c.args.entry; occurrence = c.in_ok-occurrence.occurrence; block = None; turns = None } in
-    let both = entry_begins (known c.args.self.now) (known c.begin.new.self) e c.requires.sound c.requires.there first refl refl is in both.1
+    let both = entry_begins (known c.args.self.now) (known c.begin.new.self) e c.requires.sound c.requires.no_owners c.requires.there first refl refl is in both.1
 
 pub fall-requires : goal.fall-requires
 fall-requires c =
@@ -52,3 +53,7 @@ end-requires c =
     let first = c.in_ok-occurrence.ensures.last ∙ ap (λ k. k.state.occurrences) c.in_ok-skip.ensures.same ∙ c.requires.no_occurrences in
     subst (λ k. c.in_ok-occurrence.occurrence < k.state.occurrences) (sym c.in_ok-fall.ensures.same)
     (subst (λ i. i < (known c.body.new.self).state.occurrences) (sym first) c.in_ok-body.ensures.entered.0)
+
+pub begin-requires : goal.begin-requires
+begin-requires c = λ found.
+    nobody_answered (known c.args.self.now) (known c.occur.new.self) c.in_ok-occurrence.occurrence c.requires.no_owners (c.in_ok-occurrence.ensures.same ∙ ap (λ k. with_occurrence k) c.in_ok-skip.ensures.same) found

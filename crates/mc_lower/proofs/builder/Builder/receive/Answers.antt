@@ -1,3 +1,5 @@
+use Rattle.mc_lower.specs.Knowns.{known}
+use Rattle.mc_lower.proofs.Readying.{not_received}
 use Rattle.std.proofs.Common.{add-one, length}
 use Rattle.mc_lower.proofs.Agreeing.{one_more}
 use Rattle.mc_lower.proofs.Having.{received_same, with_none}
@@ -58,3 +60,6 @@ returns-clause-leads c = λ w agrees.
     let zero : count - n ≡ 0 = omega arith in
     let e = c.loop-number.invariant.leads w [] s agrees (subst (λ k. Receives w.graph f (w.out c.args.occurrence) n k s [] s) (sym zero) receives_none) in
     (e.0, subst (λ l. Receives w.graph f (w.out c.args.occurrence) 0 count (stage_of w c.args.self.now) l s) (append-nil c.loop-number.parameters.items) e.1)
+
+pub create_local-requires-clause-new : goal.create_local-requires-clause-new
+create_local-requires-clause-new c = not_received (known c.args.self.now) (known c.loop-number.self) c.args.occurrence c.loop-number.number c.requires.new c.loop-number.invariant.same

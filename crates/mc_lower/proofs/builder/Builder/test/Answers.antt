@@ -22,7 +22,7 @@ parts-preserved c =
       λ w n k agrees f.
           let e = c.in_ok-test_next-in-Some.ensures.leads w n k agrees f in
           let b = c.parts.self in
-          c.parts.invariant.leads w n k e.0 (subst (λ l. Testing w c.args.occurrence l (length b.points.items) (length b.variables.items) n k) (sym c.in-Some.ensures) e.1);
+          c.parts.invariant.leads w n k e.0 (subst (λ l. Testing w c.args.occurrence l (length b.points.items) (length b.variables.list.items) n k) (sym c.in-Some.ensures) e.1);
       same = c.in_ok-test_next-in-Some.ensures.same ∙ c.parts.invariant.same;
       ready = c.in_ok-test_next-in-Some.ensures.ready;
     }
@@ -31,5 +31,5 @@ pub returns-in-None-clause-leads : goal.returns-in-None-clause-leads
 returns-in-None-clause-leads c = λ w agrees.
     let b = c.parts.self in
     let n = length b.points.items in
-    let k = length b.variables.items in
+    let k = length b.variables.list.items in
     c.parts.invariant.leads w n k agrees (subst (λ l. Testing w c.args.occurrence l n k n k) (sym c.in-None.ensures.0) (refl, refl))
