@@ -19,7 +19,7 @@ use Rattle.mc_valid.specs.Kinds.{Here, LeadsTo, IsOf, AreCompared, IsCondition, 
 use Rattle.mc_lower.specs.declared.builder.Builder.{Builder}
 use Rattle.mc_lower.specs.declared.variables.Owner.{Owner as OwnerCode}
 use Rattle.mc_lower.specs.declared.variables.Variable.{Variable}
-use Rattle.mc_lower.specs.Lowerable.{NamesOnly, AllNameOnly, TestsOnly, TestsOnlyPerhaps, IsMadeArgument, AreMadeArguments}
+use Rattle.mc_lowerable.specs.Lowerable.{NamesOnly, AllNameOnly, TestsOnly, TestsOnlyPerhaps, IsMadeArgument, AreMadeArguments}
 use Rattle.mc_lower.specs.Once.{IsNew}
 use Rattle.mc_lower.specs.Knowns.{Known, State, IsThere, known, lasting, owners_of, with_block, with_local, with_occurrence, with_owners}
 use Rattle.mc_lower.specs.Ready.{HasKind, HaveKinds, IsReady, AreReady, IsTestReady, IsTestReadyPerhaps, IsArgumentReady, AreArgumentsReady, Still, in_state, locals_to}

@@ -28,7 +28,7 @@ use Rattle.mc_lower.specs.declared.calls.Entered.{Entered}
 use Rattle.mc_lower.specs.declared.tasks.Context.{Context}
 use Rattle.mc_lower.specs.declared.tasks.Task.{Task}
 use Rattle.mc_lower.specs.declared.tasks.Turns.{Turns}
-use Rattle.mc_lower.specs.Lowerable.{IsOnce, AllNameOnly, AreLowerable, IsLowerableAction, IsLowerableLast, IsLowerableRight, IsLowerableStart, TestsOnly, TestsOnlyPerhaps}
+use Rattle.mc_lowerable.specs.Lowerable.{IsOnce, AllNameOnly, AreLowerable, IsLowerableAction, IsLowerableLast, IsLowerableRight, IsLowerableStart, TestsOnly, TestsOnlyPerhaps}
 use Rattle.mc_lower.specs.Knowns.{Known, Source, State, IsAnswered, IsBounded, IsOpen, IsThere, IsWithin, with_local, with_occurrence, with_owners}
 use Rattle.mc_lower.specs.Ready.{Fits, FitsAll, FitsFor, FitsItems, FitsStatement, Grown, HasResult, Still, IsActionReady, IsArgumentReady, AreArgumentsReady, IsBegun, IsCallReady, IsEntered, IsLastReady, IsNamed, IsReady, IsReturnReady, IsRightReady, IsSound, IsTestReady, IsTestReadyPerhaps, Later, Ready, entry_result, functions_in, here, loops, locals_to, makes, with_awaited}
 use Rattle.mc_lower.specs.Left.{IsBehind, IsCommand}
@@ -161,13 +161,13 @@ fits_in src s t c b turns xs ys some news P P' Q Q' R R' grown is_open part p q 
     let here_part = part fits.once in
     record {
       stands =
-      record {
-        sound = fits.stands.sound;
-        bounded = grown.still.bounded fits.stands.bounded;
-        occurs = lower_still s t c.occurrence grown.still fits.stands.occurs;
-        block = is_open;
-        result = result_on src s t c.occurrence (function_of c.function.now).result grown.still fits.stands.result;
-      };
+          record {
+            sound = fits.stands.sound;
+            bounded = grown.still.bounded fits.stands.bounded;
+            occurs = lower_still s t c.occurrence grown.still fits.stands.occurs;
+            block = is_open;
+            result = result_on src s t c.occurrence (function_of c.function.now).result grown.still fits.stands.result;
+          };
       new = λ x found there. elim (grown.only c.occurrence x fits.stands.occurs there) [ inl a ↦ fits.new x (here_part.sub x found) a | inr e ↦ here_part.apart x found e.1 ];
       once = here_part.once;
       made = xs ++ fits.made;
@@ -186,13 +186,13 @@ fits_on src s t c xs ys some news P P' Q Q' R R' grown part p q r fits =
     let here_part = part fits.once in
     record {
       stands =
-      record {
-        sound = fits.stands.sound;
-        bounded = grown.still.bounded fits.stands.bounded;
-        occurs = lower_still s t c.occurrence grown.still fits.stands.occurs;
-        block = open_on src s t c.block grown.still fits.stands.block;
-        result = result_on src s t c.occurrence (function_of c.function.now).result grown.still fits.stands.result;
-      };
+          record {
+            sound = fits.stands.sound;
+            bounded = grown.still.bounded fits.stands.bounded;
+            occurs = lower_still s t c.occurrence grown.still fits.stands.occurs;
+            block = open_on src s t c.block grown.still fits.stands.block;
+            result = result_on src s t c.occurrence (function_of c.function.now).result grown.still fits.stands.result;
+          };
       new = λ x found there. elim (grown.only c.occurrence x fits.stands.occurs there) [ inl a ↦ fits.new x (here_part.sub x found) a | inr e ↦ here_part.apart x found e.1 ];
       once = here_part.once;
       made = xs ++ fits.made;
@@ -209,13 +209,13 @@ pub fits_still : (src : Source) (s t : State) (c : Context) (news : List ℕ) (P
 fits_still src s t c news P P' Q Q' R still p q fits =
     record {
       stands =
-      record {
-        sound = fits.stands.sound;
-        bounded = still.bounded fits.stands.bounded;
-        occurs = lower_still s t c.occurrence still fits.stands.occurs;
-        block = open_on src s t c.block still fits.stands.block;
-        result = result_on src s t c.occurrence (function_of c.function.now).result still fits.stands.result;
-      };
+          record {
+            sound = fits.stands.sound;
+            bounded = still.bounded fits.stands.bounded;
+            occurs = lower_still s t c.occurrence still fits.stands.occurs;
+            block = open_on src s t c.block still fits.stands.block;
+            result = result_on src s t c.occurrence (function_of c.function.now).result still fits.stands.result;
+          };
       new = λ x found there. nothing_in x found;
       once = tt;
       made = fits.made;
@@ -301,25 +301,25 @@ pub ready_if_only : (src : Source) (s : State) (c : Context) (place : Place) (d 
     → FitsStatement (at src s) c (if_only place d (statement_of a.now)) → Later (at src s) c.occurrence (declared (if_only place d (statement_of a.now))) ts
     → Ready (at src s) (Task.Statement a c ∷ Task.Merge place l ∷ ts)
 ready_if_only src s c place d a l ts fits later = (
-      fits_on src s s c [] [] _ _ _ _ _ _ _ _ (grown_none s c.occurrence) (λ o. part_all _ o) (λ made p. p.1) (λ h q. q.1) (λ n scope r. r) fits,
-      λ t f. (tt, λ u g. later u (grown_on s t u c.occurrence 0 _ f g)),
-    )
+  fits_on src s s c [] [] _ _ _ _ _ _ _ _ (grown_none s c.occurrence) (λ o. part_all _ o) (λ made p. p.1) (λ h q. q.1) (λ n scope r. r) fits,
+  λ t f. (tt, λ u g. later u (grown_on s t u c.occurrence 0 _ f g)),
+)
 
 pub ready_if_else : (src : Source) (s : State) (c : Context) (place : Place) (d : Cond) (a b : Bor Statement) (l m : Label) (ts : List Task)
     → FitsStatement (at src s) c (if_else place d (statement_of a.now) (statement_of b.now))
     → Later (at src s) c.occurrence (declared (if_else place d (statement_of a.now) (statement_of b.now))) ts
     → Ready (at src s) (Task.Statement a c ∷ Task.Otherwise l m ∷ Task.Statement b c ∷ Task.Merge place m ∷ ts)
 ready_if_else src s c place d a b l m ts fits later = (
-      fits_on src s s c [] [] _ _ _ _ _ _ _ _ (grown_none s c.occurrence) (λ o. part_left (declared (statement_of a.now)) (declared (statement_of b.now)) o) (λ made p. p.1) (λ h q. q.1) (λ n scope r. r.0) fits,
-      λ t f. (
-        tt,
-        λ u g.
-            let first = grown_on s t u c.occurrence 0 (declared (statement_of a.now)) f g in (
-              fits_on src s u c (declared (statement_of a.now)) [] _ _ _ _ _ _ _ _ first (λ o. part_right (declared (statement_of a.now)) (declared (statement_of b.now)) o) (λ made p. p.2) (λ h q. q.2) (λ n scope r. r.1) fits,
-              λ v e. (tt, λ w i. later w (grown_both s u w c.occurrence _ _ first (grown_on u v w c.occurrence 0 _ e i))),
-            ),
-      ),
-    )
+  fits_on src s s c [] [] _ _ _ _ _ _ _ _ (grown_none s c.occurrence) (λ o. part_left (declared (statement_of a.now)) (declared (statement_of b.now)) o) (λ made p. p.1) (λ h q. q.1) (λ n scope r. r.0) fits,
+  λ t f. (
+    tt,
+    λ u g.
+        let first = grown_on s t u c.occurrence 0 (declared (statement_of a.now)) f g in (
+          fits_on src s u c (declared (statement_of a.now)) [] _ _ _ _ _ _ _ _ first (λ o. part_right (declared (statement_of a.now)) (declared (statement_of b.now)) o) (λ made p. p.2) (λ h q. q.2) (λ n scope r. r.1) fits,
+          λ v e. (tt, λ w i. later w (grown_both s u w c.occurrence _ _ first (grown_on u v w c.occurrence 0 _ e i))),
+        ),
+  ),
+)
 
 abbrev pub looping : Context → Turns → Context
 looping c t = record { function = c.function; occurrence = c.occurrence; block = None; turns = Some t }
@@ -352,9 +352,9 @@ pub ready_for : (src : Source) (s t : State) (c : Context) (h : Bor ForHead) (a 
     → FitsStatement (at src s) c (for_loop (head_of h.now) (statement_of a.now)) → Later (at src s) c.occurrence (declared (for_loop (head_of h.now) (statement_of a.now))) ts
     → Ready (at src t) (Task.For h a c ∷ ts)
 ready_for src s t c h a ts f fits later = (
-      fits_on src s t c (start_declared (head_of h.now).start) (head_of h.now).variables _ _ _ _ _ _ _ _ f (λ o. part_right (start_declared (head_of h.now).start) (declared (statement_of a.now)) o) (λ made p. (p.1, p.2, p.3)) (λ e q. (q.1, q.2, q.3)) (λ n scope r. (r.2, r.3)) fits,
-      λ u g. later u (grown_both s t u c.occurrence _ _ f g),
-    )
+  fits_on src s t c (start_declared (head_of h.now).start) (head_of h.now).variables _ _ _ _ _ _ _ _ f (λ o. part_right (start_declared (head_of h.now).start) (declared (statement_of a.now)) o) (λ made p. (p.1, p.2, p.3)) (λ e q. (q.1, q.2, q.3)) (λ n scope r. (r.2, r.3)) fits,
+  λ u g. later u (grown_both s t u c.occurrence _ _ f g),
+)
 
 pub ready_for_nothing : (src : Source) (s : State) (c : Context) (h : Bor ForHead) (a : Bor Statement) (ts : List Task) → (head_of h.now).start ≡ nothing
     → FitsStatement (at src s) c (for_loop (head_of h.now) (statement_of a.now)) → Later (at src s) c.occurrence (declared (for_loop (head_of h.now) (statement_of a.now))) ts
@@ -367,21 +367,21 @@ pub ready_for_declaring : (src : Source) (s : State) (c : Context) (h : Bor ForH
     → FitsStatement (at src s) c (for_loop (head_of h.now) (statement_of a.now)) → Later (at src s) c.occurrence (declared (for_loop (head_of h.now) (statement_of a.now))) ts
     → Ready (at src s) (Task.Declare place items c ∷ Task.For h a c ∷ ts)
 ready_for_declaring src s c h a place items ts is fits later = (
-      fits_on src s s c [] (head_of h.now).variables _ _ _ _ _ _ _ _ (grown_none s c.occurrence)
-          (λ o. subst (λ x. Part [] (start_declared x) (start_declared (head_of h.now).start ++ declared (statement_of a.now))) is (part_left (start_declared (head_of h.now).start) (declared (statement_of a.now)) o)) (λ made p. subst (λ x. IsLowerableStart src.structs made x) is p.0) (λ e q. subst (λ x. Rattle.mc_valid.specs.Kinds.IsStart e x) is q.0)
-          (λ n scope r. subst (λ x. Rattle.mc_lowering.specs.Scopes.StartsIn n ((head_of h.now).variables ++ scope) x) is r.1) fits,
-      λ t f. ready_for src s t c h a ts (subst (λ x. Grown s c.occurrence (start_declared x) t) (sym is) f) fits later,
-    )
+  fits_on src s s c [] (head_of h.now).variables _ _ _ _ _ _ _ _ (grown_none s c.occurrence)
+      (λ o. subst (λ x. Part [] (start_declared x) (start_declared (head_of h.now).start ++ declared (statement_of a.now))) is (part_left (start_declared (head_of h.now).start) (declared (statement_of a.now)) o)) (λ made p. subst (λ x. IsLowerableStart src.structs made x) is p.0) (λ e q. subst (λ x. Rattle.mc_valid.specs.Kinds.IsStart e x) is q.0)
+      (λ n scope r. subst (λ x. Rattle.mc_lowering.specs.Scopes.StartsIn n ((head_of h.now).variables ++ scope) x) is r.1) fits,
+  λ t f. ready_for src s t c h a ts (subst (λ x. Grown s c.occurrence (start_declared x) t) (sym is) f) fits later,
+)
 
 pub ready_for_performing : (src : Source) (s : State) (c : Context) (h : Bor ForHead) (a : Bor Statement) (x : Bor SimpleCode) (ts : List Task)
     → (head_of h.now).start ≡ performs (simple_of x.now)
     → FitsStatement (at src s) c (for_loop (head_of h.now) (statement_of a.now)) → Later (at src s) c.occurrence (declared (for_loop (head_of h.now) (statement_of a.now))) ts
     → Ready (at src s) (Task.Simple x c ∷ Task.For h a c ∷ ts)
 ready_for_performing src s c h a x ts is fits later = (
-      action_fits src s c (action_of x.now.action) [] Any
-          (fits_on src s s c [] [] [] _ _ _ _ _ _ Any (grown_none s c.occurrence) (λ o. part_none _ _) (λ made p. subst (λ y. IsLowerableStart src.structs made y) is p.0) (λ e q. subst (λ y. Rattle.mc_valid.specs.Kinds.IsStart e y) is q.0) (λ n scope r. tt) fits),
-      λ t f. ready_for src s t c h a ts (subst (λ y. Grown s c.occurrence (start_declared y) t) (sym is) f) fits later,
-    )
+  action_fits src s c (action_of x.now.action) [] Any
+      (fits_on src s s c [] [] [] _ _ _ _ _ _ Any (grown_none s c.occurrence) (λ o. part_none _ _) (λ made p. subst (λ y. IsLowerableStart src.structs made y) is p.0) (λ e q. subst (λ y. Rattle.mc_valid.specs.Kinds.IsStart e y) is q.0) (λ n scope r. tt) fits),
+  λ t f. ready_for src s t c h a ts (subst (λ y. Grown s c.occurrence (start_declared y) t) (sym is) f) fits later,
+)
 
 pub ready_enter_for : (src : Source) (s : State) (c e : Context) (h : Bor ForHead) (a : Bor Statement) (l : Label) (turns : Turns) (ts : List Task) → e ≡ looping c turns
     → FitsFor (at src s) c (head_of h.now) (statement_of a.now) → Later (at src s) c.occurrence (declared (statement_of a.now)) ts
@@ -481,12 +481,12 @@ pub ready_body : (k : Known) (e : Context) (body : Bor (List Statement)) (place 
     → FitsAll k e (function_of e.function.now).body → e.occurrence < k.state.occurrences → Later k e.occurrence (all_declared (function_of e.function.now).body) ts
     → Ready k (Task.Statements body e ∷ Task.EndCall place e ∷ ts)
 ready_body k e body place ts is fits occurs later = (
-      subst (λ l. FitsAll k e (stmts_of (map statement_of l))) (sym is) fits,
-      λ t f. (
-        lower_still k.state t e.occurrence f.still occurs,
-        λ u g. later u (grown_on k.state t u e.occurrence e.occurrence _ (subst (λ l. Grown k.state e.occurrence (all_declared (stmts_of (map statement_of l))) t) is f) g),
-      ),
-    )
+  subst (λ l. FitsAll k e (stmts_of (map statement_of l))) (sym is) fits,
+  λ t f. (
+    lower_still k.state t e.occurrence f.still occurs,
+    λ u g. later u (grown_on k.state t u e.occurrence e.occurrence _ (subst (λ l. Grown k.state e.occurrence (all_declared (stmts_of (map statement_of l))) t) is f) g),
+  ),
+)
 
 awaited_source : (k : Known) (i : ℕ) (o : Option Kind) → (with_awaited i o k).source ≡ k.source
 awaited_source k i None = refl
@@ -603,9 +603,9 @@ ready_declaration src s c place items a ts is fits later =
 pub ready_simple : (src : Source) (s : State) (c : Context) (x : Bor SimpleCode) (a : Stmt) (ts : List Task) → a ≡ simple (simple_of x.now)
     → FitsStatement (at src s) c a → Later (at src s) c.occurrence (declared a) ts → Ready (at src s) (Task.Simple x c ∷ ts)
 ready_simple src s c x a ts is fits later = (
-      action_fits src s c (action_of x.now.action) [] (λ n scope. IsScopedIn n scope (simple (simple_of x.now))) (subst (λ y. FitsStatement (at src s) c y) is fits),
-      subst (λ y. Later (at src s) c.occurrence (declared y) ts) is later,
-    )
+  action_fits src s c (action_of x.now.action) [] (λ n scope. IsScopedIn n scope (simple (simple_of x.now))) (subst (λ y. FitsStatement (at src s) c y) is fits),
+  subst (λ y. Later (at src s) c.occurrence (declared y) ts) is later,
+)
 
 -- where nothing is made, what was left is ready
 pub ready_left : (src : Source) (s : State) (i : ℕ) (xs : List ℕ) (ts : List Task) → xs ≡ [] → Later (at src s) i xs ts → Ready (at src s) ts

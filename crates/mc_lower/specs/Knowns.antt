@@ -36,7 +36,7 @@ known b =
     record {
       source = record { program = b.program.now; structs = b.structs.now };
       state =
-      record { owners = owners_of b.variables.list.items; blocks = length b.blocks.items; occurrences = length b.outs.items };
+          record { owners = owners_of b.variables.list.items; blocks = length b.blocks.items; occurrences = length b.outs.items };
     }
 
 abbrev pub nothing_known : Resolved → Structs → Known
@@ -56,7 +56,7 @@ with_owners os k =
     record {
       source = k.source;
       state =
-      record { owners = k.state.owners ++ os; blocks = k.state.blocks; occurrences = k.state.occurrences };
+          record { owners = k.state.owners ++ os; blocks = k.state.blocks; occurrences = k.state.occurrences };
     }
 
 abbrev pub with_local : (i x : ℕ) → Known → Known
@@ -70,7 +70,7 @@ with_block k =
     record {
       source = k.source;
       state =
-      record { owners = k.state.owners; blocks = suc k.state.blocks; occurrences = k.state.occurrences };
+          record { owners = k.state.owners; blocks = suc k.state.blocks; occurrences = k.state.occurrences };
     }
 
 abbrev pub with_occurrence : Known → Known
@@ -78,7 +78,7 @@ with_occurrence k =
     record {
       source = k.source;
       state =
-      record { owners = k.state.owners; blocks = k.state.blocks; occurrences = suc k.state.occurrences };
+          record { owners = k.state.owners; blocks = k.state.blocks; occurrences = suc k.state.occurrences };
     }
 
 -- ---- what is there

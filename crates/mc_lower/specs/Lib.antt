@@ -2,7 +2,6 @@ pub mod Worlds
 pub mod Owned
 pub mod Valued
 pub mod Once
-pub mod Lowerable
 pub mod Knowns
 pub mod Ready
 pub mod Left

@@ -15,7 +15,7 @@ use Rattle.mc_lowering.specs.Values.{struct_at}
 use Rattle.mc_lowering.specs.Scopes.{AreScoped, AreScopedIn, DeclareIn, FinishesIn, IsScopedIn}
 use Rattle.mc_valid.specs.Kinds.{Here, AreDeclared, AreOfKinds, IsConditionPerhaps, IsLast, IsOfKinds, IsWellMade}
 use Rattle.mc_length.specs.Lengths.{all_declared, declared, items_declared}
-use Rattle.mc_lower.specs.Lowerable.{AreLowerable, AreLowerableItems, IsLowerable, IsLowerableLast, IsLowerableProgram, IsOnce, TestsOnlyPerhaps}
+use Rattle.mc_lowerable.specs.Lowerable.{AreLowerable, AreLowerableItems, IsLowerable, IsLowerableLast, IsLowerableProgram, IsOnce, TestsOnlyPerhaps}
 use Rattle.mc_lower.specs.declared.variables.Owner.{Owner as OwnerCode}
 use Rattle.mc_lower.specs.declared.tasks.Context.{Context}
 use Rattle.mc_lower.specs.declared.tasks.Task.{Task}

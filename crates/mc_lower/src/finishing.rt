@@ -5,9 +5,7 @@ ghost use Rattle.mc_lowering.specs.Lowering.{AreThresholds, operands};
 ghost use Rattle.mc_lower.specs.Finished.{AreApart, AreConstants, AreSettled, AreThose, IsFinished, constants, point_at};
 ghost use Rattle.mc_lower.specs.Worlds.{AllAt, IsMarked, point_in, role_of, settled, target as point_of_target};
 
-use crate::builder::{
-    ABSENT, BuildFault, Builder, Draft, Label, Mark, Role,
-};
+use crate::builder::{ABSENT, BuildFault, Builder, Draft, Label, Mark, Role};
 use crate::lowering::Lowered;
 use crate::variables::Variable;
 use mc_base::{Items, PointId, VarInfo};

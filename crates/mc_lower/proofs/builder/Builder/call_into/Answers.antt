@@ -2,7 +2,7 @@ use Rattle.mc_length.specs.Lengths.{all_declared}
 use Rattle.mc_resolved.specs.Views.{function_of}
 use Rattle.mc_lower.proofs.Readying.{answered_there, begun_fits, ready_take}
 use Rattle.mc_lower.specs.Knowns.{known}
-use Rattle.std.proofs.Common.{[], Some, sym, subst}
+use Rattle.std.proofs.Common.{Some, sym, subst}
 use Rattle.mc_lower.specs.Ready.{Later}
 use Rattle.std.proofs.Common.{◌∷◌}
 use Rattle.mc_resolved.specs.Views.{call_of}

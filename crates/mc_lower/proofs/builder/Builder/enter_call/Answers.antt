@@ -1,7 +1,7 @@
 use Rattle.mc_lower.proofs.Readying.{none_there, not_answered, received_still}
 use Rattle.mc_lower.proofs.Readying.{begun_there, call_counts}
 use Rattle.mc_lower.specs.Knowns.{known}
-use Rattle.std.proofs.Common.{[], ap, refl, length, ◌∙◌, arith}
+use Rattle.std.proofs.Common.{ap, refl, length, ◌∙◌, arith}
 use Rattle.std.proofs.lemmas.List.{length-map}
 use Rattle.std.proofs.lemmas.Option.{slice_get_within}
 use Rattle.mc_resolved.specs.Views.{local_of}

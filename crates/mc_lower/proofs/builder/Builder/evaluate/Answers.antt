@@ -11,7 +11,7 @@ pub parts-init : goal.parts-init
 parts-init c =
     record {
       leads =
-      λ w o ts u agrees f.
+          λ w o ts u agrees f.
           let whole = Work.Whole c.args.expression in
           (agrees, evaluated w.graph (w.out c.args.site.occurrence) c.args.site.place whole (expression_of c.args.expression.now) _ _ _ ts _ u o (c.in_ok-push.ensures ∙ ap (λ l. whole ∷ l) c.new-work.ensures) c.new-made.ensures f (λ x. x));
       same = refl;
@@ -22,7 +22,7 @@ pub parts-preserved : goal.parts-preserved
 parts-preserved c =
     record {
       leads =
-      λ w o ts u agrees f.
+          λ w o ts u agrees f.
           let e = c.in_ok-evaluate_next-in-Some.ensures.leads w o ts u agrees f in
           c.parts.invariant.leads w o ts u e.0
           (subst (λ l. Finishes w.graph (w.out c.args.site.occurrence) c.args.site.place l c.parts.made c.parts.temporaries.items (stage_of w c.parts.self) o ts u) (sym c.in-Some.ensures) e.1);

@@ -15,9 +15,9 @@ abbrev pub invariant-parts : goal.invariant-parts
 invariant-parts l =
     record {
       leads :
-      (w : World) (o : Operand) (ts : List VarId) (u : Stage) → Agrees w l.self
-      → Finishes w.graph (w.out l.site.occurrence) l.site.place l.work l.made l.temporaries.items (stage_of w l.self) o ts u
-      → Agrees w l.fn.self × Evaluates w.graph (w.out l.site.occurrence) l.site.place (expression_of l.expression) l.fn.temporaries.items (stage_of w l.fn.self) o ts u;
+          (w : World) (o : Operand) (ts : List VarId) (u : Stage) → Agrees w l.self
+          → Finishes w.graph (w.out l.site.occurrence) l.site.place l.work l.made l.temporaries.items (stage_of w l.self) o ts u
+          → Agrees w l.fn.self × Evaluates w.graph (w.out l.site.occurrence) l.site.place (expression_of l.expression) l.fn.temporaries.items (stage_of w l.fn.self) o ts u;
       same : Keeps l.fn.self l.self;
       ready : IsWorkReady (known l.self) l.site.occurrence l.work (length l.made);
     }

@@ -16,7 +16,7 @@ pub loop-at-init : goal.loop-at-init
 loop-at-init c =
     record {
       leads =
-      λ w os ws u agrees rest.
+          λ w os ws u agrees rest.
           (agrees, subst (λ l. EvaluatesAll w.graph (w.out c.args.site.occurrence) c.args.site.place (map expression_of c.args.expressions.now) c.args.temporaries.now.items (stage_of w c.args.self.now) (l ++ os) ws u) (sym c.new-operands.ensures.items) rest);
       same = refl;
       count = ap (λ l. length l) c.new-operands.ensures.items;
@@ -26,7 +26,7 @@ pub loop-at-preserved : goal.loop-at-preserved
 loop-at-preserved c =
     record {
       leads =
-      λ w os ws u agrees rest.
+          λ w os ws u agrees rest.
           let es = c.args.expressions.now in
           let at = c.loop-at.at in
           let o = c.in_ok-operand.operand in

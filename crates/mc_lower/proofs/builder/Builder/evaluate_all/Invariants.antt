@@ -13,10 +13,10 @@ abbrev pub invariant-loop-at : goal.invariant-loop-at
 invariant-loop-at l =
     record {
       leads :
-      (w : World) (os : List Operand) (ws : List VarId) (u : Stage) → Agrees w l.self
-      → EvaluatesAll w.graph (w.out l.site.occurrence) l.site.place (map expression_of (drop l.at l.expressions)) l.temporaries.items (stage_of w l.self) os ws u
-      → Agrees w l.fn.self
-      × EvaluatesAll w.graph (w.out l.site.occurrence) l.site.place (map expression_of l.expressions) l.fn.temporaries.items (stage_of w l.fn.self) (l.operands.items ++ os) ws u;
+          (w : World) (os : List Operand) (ws : List VarId) (u : Stage) → Agrees w l.self
+          → EvaluatesAll w.graph (w.out l.site.occurrence) l.site.place (map expression_of (drop l.at l.expressions)) l.temporaries.items (stage_of w l.self) os ws u
+          → Agrees w l.fn.self
+          × EvaluatesAll w.graph (w.out l.site.occurrence) l.site.place (map expression_of l.expressions) l.fn.temporaries.items (stage_of w l.fn.self) (l.operands.items ++ os) ws u;
       same : Keeps l.fn.self l.self;
       count : length l.operands.items ≡ l.at;
     }

@@ -11,7 +11,7 @@ pub loop-at-preserved : goal.loop-at-preserved
 loop-at-preserved c =
     record {
       leads =
-      λ w u agrees rest.
+          λ w u agrees rest.
           let vs = c.args.parameters.now in
           let os = c.args.operands.now in
           let at = c.loop-at.at in
@@ -38,5 +38,3 @@ returns-clause-leads c = λ w agrees.
     let no_operands : drop at os ≡ [] = drop_all at os (omega arith) in
     c.loop-at.invariant.leads w s agrees
     (subst (λ l. Passes w.graph c.args.place l (drop at os) s s) (sym no_parameters) (subst (λ l. Passes w.graph c.args.place [] l s s) (sym no_operands) passes_none))
-
-

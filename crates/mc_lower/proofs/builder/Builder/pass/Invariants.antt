@@ -9,7 +9,7 @@ abbrev pub invariant-loop-at : goal.invariant-loop-at
 invariant-loop-at l =
     record {
       leads :
-      (w : World) (u : Stage) → Agrees w l.self → Passes w.graph l.place (drop l.at l.parameters) (drop l.at l.operands) (stage_of w l.self) u
-      → Agrees w l.fn.self × Passes w.graph l.place l.parameters l.operands (stage_of w l.fn.self) u;
+          (w : World) (u : Stage) → Agrees w l.self → Passes w.graph l.place (drop l.at l.parameters) (drop l.at l.operands) (stage_of w l.self) u
+          → Agrees w l.fn.self × Passes w.graph l.place l.parameters l.operands (stage_of w l.fn.self) u;
       same : Keeps l.fn.self l.self;
     }

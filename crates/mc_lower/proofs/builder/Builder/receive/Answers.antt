@@ -15,7 +15,7 @@ pub loop-number-init : goal.loop-number-init
 loop-number-init c =
     record {
       leads =
-      λ w vs u agrees rest.
+          λ w vs u agrees rest.
           let f = function_of c.args.function.now in
           let count = c.args.function.now.parameters in
           let s = stage_of w c.args.self.now in
@@ -32,7 +32,7 @@ pub loop-number-preserved : goal.loop-number-preserved
 loop-number-preserved c =
     record {
       leads =
-      λ w vs u agrees rest.
+          λ w vs u agrees rest.
           let f = function_of c.args.function.now in
           let count = c.args.function.now.parameters in
           let n = c.loop-number.number in

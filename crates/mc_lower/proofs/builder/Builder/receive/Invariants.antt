@@ -13,10 +13,10 @@ abbrev pub invariant-loop-number : goal.invariant-loop-number
 invariant-loop-number l =
     record {
       leads :
-      (w : World) (vs : List VarId) (u : Stage) → Agrees w l.self
-      → Receives w.graph (function_of l.function) (w.out l.occurrence) l.number (l.function.parameters - l.number) (stage_of w l.self) vs u
-      → Agrees w l.fn.self
-      × Receives w.graph (function_of l.function) (w.out l.occurrence) 0 l.function.parameters (stage_of w l.fn.self) (l.parameters.items ++ vs) u;
+          (w : World) (vs : List VarId) (u : Stage) → Agrees w l.self
+          → Receives w.graph (function_of l.function) (w.out l.occurrence) l.number (l.function.parameters - l.number) (stage_of w l.self) vs u
+          → Agrees w l.fn.self
+          × Receives w.graph (function_of l.function) (w.out l.occurrence) 0 l.function.parameters (stage_of w l.fn.self) (l.parameters.items ++ vs) u;
       same : known l.self ≡ with_owners (locals_to l.occurrence l.number) (known l.fn.self);
       count : length l.parameters.items ≡ l.number;
     }

@@ -10,7 +10,7 @@ pub tasks-init : goal.tasks-init
 tasks-init c =
     record {
       leads =
-      λ w u agrees rest. (agrees, rest);
+          λ w u agrees rest. (agrees, rest);
       source = refl;
       ready = c.requires;
     }
@@ -19,7 +19,7 @@ pub tasks-preserved : goal.tasks-preserved
 tasks-preserved c =
     record {
       leads =
-      λ w u agrees rest.
+          λ w u agrees rest.
           let e = c.in_ok-step-in-Some.ensures.leads w u agrees rest in
           c.tasks.invariant.leads w u e.0 (subst (λ l. Rest w l (stage_of w c.tasks.self) u) (sym c.in-Some.ensures) e.1);
       source = c.in_ok-step-in-Some.ensures.source ∙ c.tasks.invariant.source;

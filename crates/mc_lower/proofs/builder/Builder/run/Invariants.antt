@@ -10,7 +10,7 @@ abbrev pub invariant-tasks : goal.invariant-tasks
 invariant-tasks l =
     record {
       leads :
-      (w : World) (u : Stage) → Agrees w l.self → Rest w l.tasks (stage_of w l.self) u → Agrees w l.fn.self × Rest w l.fn.tasks (stage_of w l.fn.self) u;
+          (w : World) (u : Stage) → Agrees w l.self → Rest w l.tasks (stage_of w l.self) u → Agrees w l.fn.self × Rest w l.fn.tasks (stage_of w l.fn.self) u;
       source : (known l.self).source ≡ (known l.fn.self).source;
       ready : Ready (known l.self) l.tasks;
     }

@@ -8,7 +8,7 @@ pub parts-init : goal.parts-init
 parts-init c =
     record {
       leads =
-      λ w n k agrees f.
+          λ w n k agrees f.
           let t : Work = record { from = c.args.self.now.goal; condition = c.args.condition; ways = c.args.ways } in
           (agrees, tested w c.args.occurrence t _ _ _ n k (c.in_ok-push.ensures ∙ ap (λ l. t ∷ l) c.new-work.ensures) f);
       same = refl;
@@ -19,7 +19,7 @@ pub parts-preserved : goal.parts-preserved
 parts-preserved c =
     record {
       leads =
-      λ w n k agrees f.
+          λ w n k agrees f.
           let e = c.in_ok-test_next-in-Some.ensures.leads w n k agrees f in
           let b = c.parts.self in
           c.parts.invariant.leads w n k e.0 (subst (λ l. Testing w c.args.occurrence l (length b.points.items) (length b.variables.list.items) n k) (sym c.in-Some.ensures) e.1);

@@ -11,9 +11,9 @@ abbrev pub invariant-parts : goal.invariant-parts
 invariant-parts l =
     record {
       leads :
-      (w : World) (n k : ℕ) → Agrees w l.self → Testing w l.occurrence l.work (length l.self.points.items) (length l.self.variables.list.items) n k
-      → Agrees w l.fn.self
-      × Tests w.graph (w.out l.occurrence) (condition_of l.condition) (stage_of w l.fn.self) (w.at l.fn.ways.yes.0) (w.at l.fn.ways.no.0) n k;
+          (w : World) (n k : ℕ) → Agrees w l.self → Testing w l.occurrence l.work (length l.self.points.items) (length l.self.variables.list.items) n k
+          → Agrees w l.fn.self
+          × Tests w.graph (w.out l.occurrence) (condition_of l.condition) (stage_of w l.fn.self) (w.at l.fn.ways.yes.0) (w.at l.fn.ways.no.0) n k;
       same : Keeps l.fn.self l.self;
       ready : AreTestsReady (known l.self) l.occurrence l.work;
     }

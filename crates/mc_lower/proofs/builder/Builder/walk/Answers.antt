@@ -18,7 +18,7 @@ pub loop-at-init : goal.loop-at-init
 loop-at-init c =
     record {
       leads =
-      λ w z last ws u agrees walks_there. (agrees, walks_there);
+          λ w z last ws u agrees walks_there. (agrees, walks_there);
       same = refl;
       below = c.requires.some;
     }
@@ -27,7 +27,7 @@ pub loop-at-preserved : goal.loop-at-preserved
 loop-at-preserved c =
     record {
       leads =
-      λ w z last ws u agrees rest.
+          λ w z last ws u agrees rest.
           let fields = c.args.fields.now in
           let at = c.loop-at.at in
           let bound = c.loop-at-test.true in
