@@ -2,6 +2,7 @@ pub mod Worlds
 pub mod Owned
 pub mod Valued
 pub mod Once
+pub mod Lines
 pub mod Knowns
 pub mod Ready
 pub mod Left
