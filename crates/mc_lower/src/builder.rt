@@ -22,7 +22,7 @@ pub const NOWHERE: Place = Place { line: 1, column: 1 };
 /// Why no flow graph is made.
 #[derive(Clone, Copy, Debug, PartialEq, Eq)]
 pub enum BuildFault {
-    /// The program names what is not there.
+    /// What is known of labels does not hold together, or two occurrences of functions have one point.
     Absent,
     NoMemory,
 }
@@ -39,7 +39,7 @@ impl<T: Drop> From<AllocFailed<T>> for BuildFault {
     }
 }
 
-/// A program that names what is not there has no flow graph, of any length.
+/// What is made is no flow graph.
 pub const ABSENT: BuildFault = BuildFault::Absent;
 
 /// A point that may not be known yet.

@@ -154,7 +154,7 @@ fn build(alloc: Global, program: &Resolved, structs: &Structs) -> Result<Lowered
 pub enum LowerFault {
     /// Each has more than 10,000 points.
     TooLong,
-    /// The program names what is not there. Each flow graph of it has at most 10,000 points.
+    /// What was made is no flow graph. Each flow graph of the program has at most 10,000 points.
     Absent,
     NoMemory,
 }
