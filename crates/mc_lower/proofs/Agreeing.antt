@@ -1,5 +1,5 @@
 -- What agrees with more agrees with less.
-use Rattle.std.proofs.Common.{◌≡◌, ◌++◌, ℕ, zero, suc, List, [], ◌∷◌, Some, None, refl, sym, ap, ◌∙◌, subst, length, map, ◌≤◌, drop, get_or, arith}
+use Rattle.std.proofs.Common.{◌≡◌, ◌++◌, ℕ, zero, suc, List, [], ◌∷◌, Some, None, refl, sym, ap, ◌∙◌, subst, length, ◌≤◌, drop, get_or, arith}
 use Rattle.std.specs.Prelude.{slice_get}
 use Rattle.mc_base.specs.declared.ids.PointId.{PointId}
 use Rattle.mc_text.specs.declared.place.Place.{Place}
@@ -77,12 +77,12 @@ elsewhere w b l agrees =
 pub laid : (w : World) (role : RoleCode) (place : Place) (code : Instr) (next : Label) (old new : Builder) → IsPut w role place code old new
     → Lays w role place code next (stage_of w old) (stage_of w (with_goal new next))
 laid w role place code next old new is_put =
-    let k : ℕ = length old.variables.items in
+    let k : ℕ = length old.variables.list.items in
     let n : ℕ = length old.points.items in
-    let from : Stage → Type 0 = λ s. Lays w role place code next s (stage (w.at next.0) (length new.points.items) (length new.variables.items)) in
+    let from : Stage → Type 0 = λ s. Lays w role place code next s (stage (w.at next.0) (length new.points.items) (length new.variables.list.items)) in
     let to : Stage → Type 0 = λ u. Lays w role place code next (stage n n k) u in
     subst from (ap (λ a. stage a n k) (sym is_put.at))
-    (subst to (ap (λ m. stage (w.at next.0) m k) (sym is_put.points) ∙ ap (λ v. stage (w.at next.0) (length new.points.items) (length v.items)) (sym is_put.variables))
+    (subst to (ap (λ m. stage (w.at next.0) m k) (sym is_put.points) ∙ ap (λ v. stage (w.at next.0) (length new.points.items) (length v.list.items)) (sym is_put.variables))
     (lays is_put.there))
 
 -- with the instruction that it comes to
@@ -120,18 +120,18 @@ pub met : (w : World) (l : Label) (old new : Builder) → w.at old.goal.0 ≡ w.
     → stage_of w old ≡ stage_of w (with_goal new l)
 met w l old new same kept =
     let points : length old.points.items ≡ length new.points.items = ap points_in kept in
-    let variables : length old.variables.items ≡ length new.variables.items = ap variables_in kept in
-    ap (λ a. stage a (length old.points.items) (length old.variables.items)) same
-    ∙ ap (λ n. stage (w.at l.0) n (length old.variables.items)) points ∙ ap (λ k. stage (w.at l.0) (length new.points.items) k) variables
+    let variables : length old.variables.list.items ≡ length new.variables.list.items = ap variables_in kept in
+    ap (λ a. stage a (length old.points.items) (length old.variables.list.items)) same
+    ∙ ap (λ n. stage (w.at l.0) n (length old.variables.list.items)) points ∙ ap (λ k. stage (w.at l.0) (length new.points.items) k) variables
 
 -- what goes on to a label goes there, and what comes next stands elsewhere
 pub gone : (w : World) (l next : Label) (old new : Builder) → w.at old.goal.0 ≡ w.at l.0 → stage_of w old ≡ stage_of w new
     → GoesTo (w.at l.0) (stage_of w old) (stage_of w (with_goal new next))
 gone w l next old new same kept =
     let n : ℕ = length old.points.items in
-    let k : ℕ = length old.variables.items in
+    let k : ℕ = length old.variables.list.items in
     let points : n ≡ length new.points.items = ap points_in kept in
-    let variables : k ≡ length new.variables.items = ap variables_in kept in
+    let variables : k ≡ length new.variables.list.items = ap variables_in kept in
     subst (λ s. GoesTo (w.at l.0) s (stage_of w (with_goal new next))) (ap (λ a. stage a n k) (sym same))
-    (subst (λ m. GoesTo (w.at l.0) (stage (w.at l.0) n k) (stage (w.at next.0) m (length new.variables.items))) points
+    (subst (λ m. GoesTo (w.at l.0) (stage (w.at l.0) n k) (stage (w.at next.0) m (length new.variables.list.items))) points
     (subst (λ j. GoesTo (w.at l.0) (stage (w.at l.0) n k) (stage (w.at next.0) n j)) variables goes_to))

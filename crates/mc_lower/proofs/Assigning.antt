@@ -1,5 +1,5 @@
 -- What assignments come to in the finished flow graph.
-use Rattle.std.proofs.Common.{◌≡◌, ℕ, List, [], ◌∷◌, refl, sym, ap, ◌∙◌, subst}
+use Rattle.std.proofs.Common.{◌≡◌, ℕ, List, [], ◌∷◌, refl, subst}
 use Rattle.mc_base.specs.declared.ids.VarId.{VarId}
 use Rattle.mc_base.specs.declared.plain.Kind.{Kind}
 use Rattle.mc_base.specs.declared.plain.Kind.TheVariants.{Int, Ptr}
@@ -8,7 +8,7 @@ use Rattle.mc_flow.specs.declared.instr.Instr.TheVariants.{Copy, Malloc, Store}
 use Rattle.mc_flow.specs.Steps.{field_count}
 use Rattle.mc_flow.specs.declared.instr.Operand.{Operand}
 use Rattle.mc_flow.specs.declared.instr.Operand.TheVariants.{Var}
-use Rattle.mc_resolved.specs.Programs.{FieldAt, Expr, value as expression_value, Right, expression, allocation}
+use Rattle.mc_resolved.specs.Programs.{FieldAt, Expr, value as expression_value, expression, allocation}
 use Rattle.mc_lowering.specs.Graphs.{Graph, local, plain, Stage, Appends, Undefines, IsMade, Uses}
 use Rattle.mc_lowering.specs.Values.{Operation, a_field, sets, struct_at, Takes, IsOfKind, Walks, walks_none, walks, Evaluates, Computes, of_field, Puts, puts_field}
 use Rattle.mc_lowering.specs.Lowering.{SetsTo, sets_operand, sets_computed, Assigns, assigns_field, assigns_allocated, Changes, changes_field}

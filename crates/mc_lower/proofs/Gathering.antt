@@ -1,5 +1,5 @@
 -- The variables of an occurrence of a function, gathered one after the other.
-use Rattle.std.proofs.Common.{◌≡◌, ◌<◌, ◌≤◌, ◌+◌, ◌++◌, ℕ, zero, suc, List, [], ◌∷◌, Some, None, refl, sym, ap, ◌∙◌, subst, length, arith, inl, inr}
+use Rattle.std.proofs.Common.{◌≡◌, ◌<◌, ◌+◌, ◌++◌, ℕ, List, [], ◌∷◌, Some, sym, ap, ◌∙◌, subst, length, arith, inl, inr}
 use Rattle.std.proofs.lemmas.Bool.{cases_lt}
 use Rattle.std.proofs.lemmas.List.Elements.{All-nil, All-push, All-weaker, Contains-append_left, Contains-push}
 use Rattle.std.proofs.lemmas.List.Quantifiers.{all_pairs_push}
@@ -8,8 +8,8 @@ use Rattle.std.specs.Prelude.{All, AllPairs, Contains, slice_get}
 use Rattle.mc_base.specs.declared.ids.VarId.{VarId}
 use Rattle.mc_lowering.specs.Graphs.{Graph, Owner, local, stage, var, IsMade, is_made, AreMade}
 use Rattle.mc_lower.specs.declared.builder.Builder.{Builder}
-use Rattle.mc_lower.specs.declared.builder.Owner.{Owner as OwnerCode}
-use Rattle.mc_lower.specs.declared.builder.Variable.{Variable}
+use Rattle.mc_lower.specs.declared.variables.Owner.{Owner as OwnerCode}
+use Rattle.mc_lower.specs.declared.variables.Variable.{Variable}
 use Rattle.mc_lower.specs.Owned.{IsLocalOf}
 use Rattle.mc_lower.specs.Worlds.{World, Agrees, owner_of, stage_of}
 
@@ -85,28 +85,28 @@ local_of w Meant i (OwnerCode.Result j) is = absurd is
 local_of w Meant i (OwnerCode.Temporary j kind) is = absurd is
 
 all_made : (w : World) (b : Builder) (Meant : ℕ → Type 0) (i x : ℕ) (vs : List VarId) (v : VarId)
-    → Gathers Meant i b.variables.items (length b.variables.items) vs → Agrees w b → Meant x → IsMade w.graph (local (w.out i) x) v (stage_of w b)
+    → Gathers Meant i b.variables.list.items (length b.variables.list.items) vs → Agrees w b → Meant x → IsMade w.graph (local (w.out i) x) v (stage_of w b)
     → Contains vs v
 all_made w b Meant i x vs v g agrees meant made =
     let is = made_of w.graph (local (w.out i) x) v _ _ _ made in
-    elim (slice_get_cases b.variables.items v.0).1 [
+    elim (slice_get_cases b.variables.list.items v.0).1 [
       | inl found ↦ g.all v.0 found.0 is.1 found.2 (meant_of w Meant i x found.0.owner (same_Some _ _ (sym (agrees.owners v.0 found.0 found.2) ∙ is.0)) meant)
       | inr past ↦ absurd (omega arith)
     ]
 
 only_made : (w : World) (b : Builder) (Meant : ℕ → Type 0) (i : ℕ) → Agrees w b → (v : VarId)
-    → (u : Variable) × (slice_get b.variables.items v.0 ≡ Some u) × IsLocalOf Meant i u.owner
+    → (u : Variable) × (slice_get b.variables.list.items v.0 ≡ Some u) × IsLocalOf Meant i u.owner
     → (x : ℕ) × Meant x × IsMade w.graph (local (w.out i) x) v (stage_of w b)
 only_made w b Meant i agrees v found =
     let is = local_of w Meant i found.0.owner found.2 in
-    (is.0, is.1, is_made (agrees.owners v.0 found.0 found.1 ∙ ap (λ o. Some o) is.2) (slice_get_within b.variables.items v.0 found.0 found.1))
+    (is.0, is.1, is_made (agrees.owners v.0 found.0 found.1 ∙ ap (λ o. Some o) is.2) (slice_get_within b.variables.list.items v.0 found.0 found.1))
 
-pub gathered : (w : World) (b : Builder) (Meant : ℕ → Type 0) (i : ℕ) (vs : List VarId) → Gathers Meant i b.variables.items (length b.variables.items) vs
+pub gathered : (w : World) (b : Builder) (Meant : ℕ → Type 0) (i : ℕ) (vs : List VarId) → Gathers Meant i b.variables.list.items (length b.variables.list.items) vs
     → Agrees w b → AreMade w.graph (w.out i) Meant (stage_of w b) vs
 gathered w b Meant i vs g agrees =
     record {
       ascending = g.ascending;
       all = λ x v meant made. all_made w b Meant i x vs v g agrees meant made;
-      only = All-weaker (λ u. (v : Variable) × (slice_get b.variables.items u.0 ≡ Some v) × IsLocalOf Meant i v.owner)
+      only = All-weaker (λ u. (v : Variable) × (slice_get b.variables.list.items u.0 ≡ Some v) × IsLocalOf Meant i v.owner)
           (λ v. (x : ℕ) × Meant x × IsMade w.graph (local (w.out i) x) v (stage_of w b)) (λ v found. only_made w b Meant i agrees v found) vs g.only;
     }

@@ -6,9 +6,12 @@ pub mod Constants
 pub mod Entering
 pub mod Firsts
 pub mod Gathering
+pub mod Having
+pub mod Lining
 pub mod Measuring
 pub mod Meeting
 pub mod Owning
+pub mod Readying
 pub mod Resting
 pub mod Seen
 pub mod Testing

@@ -1,9 +1,11 @@
 -- What the length of a program says of its flow graphs.
-use Rattle.std.proofs.Common.{◌<◌, ◌≤◌, ℕ, arith}
+use Rattle.std.proofs.Common.{◌<◌, ◌≤◌, ℕ, [], refl, length, arith}
 use Rattle.mc_defs.specs.declared.shapes.Structs.{Structs}
 use Rattle.mc_resolved.specs.declared.program.Resolved.{Resolved}
 use Rattle.mc_length.specs.Lengths.{IsLength}
-use Rattle.mc_lower.specs.Finished.{AreShort, AreTooLong}
+use Rattle.mc_resolved.specs.Views.{program_of}
+use Rattle.mc_lower.specs.declared.lowering.Lowered.{Lowered}
+use Rattle.mc_lower.specs.Finished.{AreShort, AreTooLong, IsFlowOf}
 
 pub are_too_long : (program : Resolved) (structs : Structs) (n : ℕ) → IsLength program n → 10000 < n → AreTooLong program structs
 are_too_long program structs n right more = λ g defs entry out count is same lowering. let l = right g defs entry out count is lowering in omega (arith, more, l.least)
@@ -11,3 +13,9 @@ are_too_long program structs n right more = λ g defs entry out count is same lo
 pub are_short : (program : Resolved) (structs : Structs) (n : ℕ) → IsLength program n → n ≤ 10000 → AreShort program structs
 are_short program structs n right less = λ g defs entry out count is same lowering.
     let l = right g defs entry out count is lowering in let most = l.most less in omega (arith, less, most)
+
+pub few_there : (program : Resolved) (structs : Structs) (n : ℕ) (x : Lowered) → IsLength program n → n ≤ 10000 → IsFlowOf program structs x → length x.flow.points ≤ 10000
+few_there program structs n x right less flow =
+    let f = flow [] in
+    let l = right (record { program = program_of program []; flow = x.flow; owners = f.0; roles = f.1; stops = x.stops }) [] f.2 f.3 f.4 refl f.5 in
+    let most = l.most less in omega (arith, less, most)

@@ -1,14 +1,14 @@
 -- What is left to be lowered.
-use Rattle.std.proofs.Common.{◌≡◌, ◌++◌, ℕ, List, ◌∷◌, Bor, Option, None, Some, refl, sym, ap, ◌∙◌, subst}
+use Rattle.std.proofs.Common.{◌≡◌, ◌++◌, ℕ, List, ◌∷◌, Bor, Option, None, Some, refl, ap, ◌∙◌, subst}
 use Rattle.std.specs.Prelude.{option_copied, option_map}
 use Rattle.mc_resolved.specs.Views.{function_of}
 use Rattle.mc_lowering.specs.Graphs.{Stage}
-use Rattle.mc_lowering.specs.Lowering.{Around, in_block}
+use Rattle.mc_lowering.specs.Lowering.{in_block}
 use Rattle.mc_lower.specs.declared.builder.Builder.{Builder}
 use Rattle.mc_lower.specs.declared.tasks.Context.{Context}
 use Rattle.mc_lower.specs.declared.tasks.Task.{Task}
 use Rattle.mc_lower.specs.Left.{Rest, Begins, Met, around_of, turns_in}
-use Rattle.mc_lower.specs.Worlds.{World, Agrees, Leads, blocks_in, stage_of}
+use Rattle.mc_lower.specs.Worlds.{World, Leads, blocks_in, stage_of}
 
 -- what leaves nothing more to be lowered
 pub begun : (R : World → Stage → Stage → Type 0) (old new : Builder) (before : List Task) → Leads R old new → Begins R old before new before
@@ -29,7 +29,7 @@ copied_map f (Some x) = refl
 
 -- ---- where statements stand
 pub inside_block : (w : World) (c d : Context) (i : ℕ) (xs : List ℕ)
-    → d ≡ record { function = c.function; occurrence = c.occurrence; depth = c.depth; block = Some i; turns = c.turns }
+    → d ≡ record { function = c.function; occurrence = c.occurrence; block = Some i; turns = c.turns }
     → w.blocks i ≡ xs ++ blocks_in w c.block → around_of w d ≡ in_block (around_of w c) xs
 inside_block w c d i xs is opened =
     ap (λ x. around_of w x) is

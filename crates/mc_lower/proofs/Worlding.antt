@@ -1,12 +1,11 @@
 -- The finished flow graph as a world, with the points of its labels.
-use Rattle.std.proofs.Common.{◌≡◌, ◌<◌, ◌≤◌, ◌+◌, ◌++◌, ℕ, zero, suc, List, [], ◌∷◌, Option, Some, None, refl, sym, ap, ◌∙◌, subst, length, map, get_or, option_map, arith, inl, inr}
+use Rattle.std.proofs.Common.{◌≡◌, ◌≤◌, ◌+◌, ℕ, zero, suc, List, [], ◌∷◌, Option, Some, None, refl, sym, ap, ◌∙◌, subst, length, map, option_map, arith, inl, inr, Vec, Global}
 use Rattle.std.proofs.lemmas.List.{length-map}
 use Rattle.std.proofs.lemmas.List.Elements.{All-weaker}
 use Rattle.std.proofs.lemmas.Option.{same_Some, slice_get-map, slice_get_cases}
-use Rattle.std.specs.Prelude.{All, slice_get}
+use Rattle.std.specs.Prelude.{slice_get}
 use Rattle.mc_base.specs.declared.ids.PointId.{PointId}
-use Rattle.mc_lowering.specs.Graphs.{Graph, Owner, Role, local, result, temporary}
-use Rattle.mc_defs.specs.declared.rules.Def.{Def}
+use Rattle.mc_lowering.specs.Graphs.{Graph, Owner, Role, local}
 use Rattle.mc_defs.specs.declared.shapes.Structs.{Structs}
 use Rattle.mc_resolved.specs.declared.program.Function.{Function as FunctionCode}
 use Rattle.mc_resolved.specs.declared.program.Resolved.{Resolved}
@@ -20,50 +19,19 @@ use Rattle.mc_lower.specs.declared.builder.Builder.{Builder}
 use Rattle.mc_lower.specs.declared.lowering.Lowered.{Lowered}
 use Rattle.mc_lower.specs.declared.builder.Draft.{Draft}
 use Rattle.mc_lower.specs.declared.builder.Label.{Label}
-use Rattle.mc_lower.specs.declared.builder.Opened.{Opened}
-use Rattle.mc_lower.specs.declared.builder.Owner.{Owner as OwnerCode}
-use Rattle.mc_lower.specs.declared.builder.Variable.{Variable}
-use Rattle.mc_lower.specs.Finished.{AreApart, AreOnce, AreThose, IsFinished, IsFlowOf, IsInner, IsValidFlow, point_at}
-use Rattle.mc_lower.specs.Worlds.{World, Agrees, AllAt, blocks_in, owner_of, point_in, role_of}
+use Rattle.mc_lower.specs.declared.variables.Owner.{Owner as OwnerCode}
+use Rattle.mc_lower.specs.declared.variables.Variable.{Variable}
+use Rattle.mc_lower.specs.Once.{AreOnce}
+use Rattle.mc_lower.specs.Finished.{AreApart, AreThose, IsFinished, IsFlowOf, IsValidFlow, point_at}
+use Rattle.mc_lower.specs.Worlds.{World, Agrees, AllAt, owner_of, point_in, role_of}
 
 -- ---- blocks
-abbrev pub around_in : (ℕ → List ℕ) → Option ℕ → List ℕ
-around_in rest None = []
-around_in rest (Some j) = rest j
+abbrev block_at : Option (Vec ℕ Global) → List ℕ
+block_at None = []
+block_at (Some xs) = xs.items
 
-abbrev pub block_in : (ℕ → List ℕ) → Option Opened → List ℕ
-block_in rest None = []
-block_in rest (Some o) = o.numbers.now ++ around_in rest o.around
-
--- the variables of a block and of so many around it
-abbrev pub blocks_to : List Opened → ℕ → ℕ → List ℕ
-blocks_to blocks zero i = []
-blocks_to blocks (suc n) i = block_in (λ j. blocks_to blocks n j) (slice_get blocks i)
-
-abbrev pub blocks_of : List Opened → ℕ → List ℕ
-blocks_of blocks i = blocks_to blocks (suc i) i
-
-same_around : (f g : ℕ → List ℕ) (o : Option ℕ) → ((j : ℕ) → o ≡ Some j → f j ≡ g j) → around_in f o ≡ around_in g o
-same_around f g None same = refl
-same_around f g (Some j) same = same j refl
-
-same_block : (f g : ℕ → List ℕ) (o : Option Opened) → ((x : Opened) (j : ℕ) → o ≡ Some x → x.around ≡ Some j → f j ≡ g j) → block_in f o ≡ block_in g o
-same_block f g None same = refl
-same_block f g (Some x) same = ap (λ xs. x.numbers.now ++ xs) (same_around f g x.around (λ j is. same x j refl is))
-
-same_blocks : (blocks : List Opened) → AllAt IsInner blocks → (n m i : ℕ) → i < n → i < m → blocks_to blocks n i ≡ blocks_to blocks m i
-same_blocks blocks inner zero m i ln lm = absurd (omega arith)
-same_blocks blocks inner (suc n) zero i ln lm = absurd (omega arith)
-same_blocks blocks inner (suc n) (suc m) i ln lm =
-    same_block (λ j. blocks_to blocks n j) (λ j. blocks_to blocks m j) (slice_get blocks i)
-    (λ x j there is. let lt : j < i = inner i x there j is in same_blocks blocks inner n m j (omega arith) (omega arith))
-
-pub block_there : (blocks : List Opened) → AllAt IsInner blocks
-    → AllAt (λ i o. blocks_of blocks i ≡ o.numbers.now ++ around_in (blocks_of blocks) o.around) blocks
-block_there blocks inner = λ i o there.
-    ap (block_in (λ j. blocks_to blocks i j)) there
-    ∙ ap (λ xs. o.numbers.now ++ xs) (same_around (λ j. blocks_to blocks i j) (blocks_of blocks) o.around
-    (λ j is. let lt : j < i = inner i o there j is in same_blocks blocks inner i (suc j) j lt (omega arith)))
+abbrev pub blocks_of : List (Vec ℕ Global) → ℕ → List ℕ
+blocks_of blocks i = block_at (slice_get blocks i)
 
 -- ---- where the `return` of each occurrence goes
 abbrev total : List ℕ → ℕ
@@ -155,7 +123,7 @@ graph_of program b table x =
     record {
       program = program;
       flow = x.flow;
-      owners = map (λ (v : Variable). owner_of (out_of table b.outs.items) v.owner) b.variables.items;
+      owners = map (λ (v : Variable). owner_of (out_of table b.outs.items) v.owner) b.variables.list.items;
       roles = map (λ (d : Draft). role_of d.role) b.points.items;
       stops = x.stops;
     }
@@ -170,10 +138,6 @@ world_of program b x f =
       apart = outs_apart f.table b.outs.items f.settled.apart;
     }
 
-around_blocks : (w : World) (o : Option ℕ) → around_in w.blocks o ≡ blocks_in w o
-around_blocks w None = refl
-around_blocks w (Some j) = refl
-
 pub finished_agrees : (program : Program) (b : Builder) (x : Lowered) (f : IsFinished b x) → program.functions ≡ map function_of b.program.now.functions.items
     → Agrees (world_of program b x f) b
 finished_agrees program b x f is =
@@ -182,12 +146,11 @@ finished_agrees program b x f is =
       structs = f.structs;
       points = λ i d there. ap (λ l. slice_get l i) f.points ∙ mapped_there (point_in (point_at f.table)) b.points.items i d there;
       roles = mapped_there (λ (d : Draft). role_of d.role) b.points.items;
-      owners = mapped_there (λ (v : Variable). owner_of (out_of f.table b.outs.items) v.owner) b.variables.items;
-      infos = λ i v there. ap (λ l. slice_get l i) f.vars ∙ mapped_there (λ (u : Variable). u.info) b.variables.items i v there;
+      owners = mapped_there (λ (v : Variable). owner_of (out_of f.table b.outs.items) v.owner) b.variables.list.items;
+      infos = λ i v there. ap (λ l. slice_get l i) f.vars ∙ mapped_there (λ (u : Variable). u.info) b.variables.list.items i v there;
       marks = f.settled.marks;
       outs = outs_there f.table b.outs.items;
-      blocks = λ i o there. block_there b.blocks.items f.settled.inner i o there
-          ∙ ap (λ xs. o.numbers.now ++ xs) (around_blocks (world_of program b x f) o.around);
+      blocks = λ i xs there. ap block_at there;
     }
 
 -- the finished flow graph lowers the program with which the builder began
@@ -195,7 +158,7 @@ pub flow_there : (program : Resolved) (structs : Structs) (old new : Builder) (x
     → old.program.now ≡ program → old.structs.now ≡ structs
     → ((w : World) → Agrees w old → slice_get w.graph.program.functions program.entry ≡ Some (function_of entry))
     → entry.parameters ≡ 0
-    → ((w : World) → Agrees w new → Agrees w old × (out : ℕ) × Makes w.graph (function_of entry) out (length new.variables.items) × (length new.points.items ≡ suc out))
+    → ((w : World) → Agrees w new → Agrees w old × (out : ℕ) × Makes w.graph (function_of entry) out (length new.variables.list.items) × (length new.points.items ≡ suc out))
     → IsFinished new x → IsFlowOf program structs x
 flow_there program structs old new x entry is_program is_structs found alone made f = λ defs.
     let whole : Program = record { functions = map function_of new.program.now.functions.items; entry = program.entry; defs = defs } in
@@ -203,7 +166,7 @@ flow_there program structs old new x entry is_program is_structs found alone mad
     let m = made w (finished_agrees whole new x f refl) in
     let same : map function_of new.program.now.functions.items ≡ map function_of program.functions.items =
     m.0.functions ∙ ap (λ (r : Resolved). map function_of r.functions.items) is_program in
-    let count : ℕ = length new.variables.items in
+    let count : ℕ = length new.variables.list.items in
     let lowering : IsLowering w.graph (function_of entry) m.1 count =
     record {
       there = found w m.0;
@@ -211,9 +174,9 @@ flow_there program structs old new x entry is_program is_structs found alone mad
       made = m.2;
       points = ap (λ l. length l) f.points ∙ length-map new.points.items (point_in (point_at f.table)) ∙ m.3;
       roles = length-map new.points.items (λ (d : Draft). role_of d.role) ∙ m.3;
-      variables = ap (λ l. length l) f.vars ∙ length-map new.variables.items (λ (v : Variable). v.info);
-      owners = length-map new.variables.items (λ (v : Variable). owner_of (out_of f.table new.outs.items) v.owner);
-      once = once_owned (out_of f.table new.outs.items) new.variables.items w.apart f.settled.once;
+      variables = ap (λ l. length l) f.vars ∙ length-map new.variables.list.items (λ (v : Variable). v.info);
+      owners = length-map new.variables.list.items (λ (v : Variable). owner_of (out_of f.table new.outs.items) v.owner);
+      once = once_owned (out_of f.table new.outs.items) new.variables.list.items w.apart new.variables.once;
       heads = of_roles w.graph new.points.items head x.flow.heads refl f.heads;
       merges = of_roles w.graph new.points.items merge x.flow.merges refl f.merges;
       stops = of_roles w.graph new.points.items stop x.stops refl f.stops;
@@ -227,11 +190,6 @@ flow_there program structs old new x entry is_program is_structs found alone mad
       subst (λ fs. IsLowering (graph_of (record { functions = fs; entry = program.entry; defs = defs }) new f.table x) (function_of entry) m.1 count) same lowering,
       m.0.structs ∙ is_structs,
     )
-
-pub short_there : (b : Builder) (x : Lowered) → IsFinished b x → length x.flow.points ≤ 10000
-short_there b x f =
-    let same : length x.flow.points ≡ length b.points.items = ap (λ l. length l) f.points ∙ length-map b.points.items (point_in (point_at f.table)) in
-    subst (λ n. n ≤ 10000) (sym same) f.settled.short
 
 -- ---- validity
 pub valid_there : (program : Resolved) (structs : Structs) (x : Lowered)

@@ -3,7 +3,6 @@ use Rattle.std.specs.Prelude.{◌≡◌, ℕ, suc, ℤ, List, map, Some, None, O
 use Rattle.mc_base.specs.declared.ids.PointId.{PointId}
 use Rattle.mc_defs.specs.declared.rules.Def.{Def}
 use Rattle.mc_defs.specs.declared.shapes.Structs.{Structs}
-use Rattle.mc_flow.specs.declared.graph.Point.{Point}
 use Rattle.mc_flow.specs.Valid.{IsValid}
 use Rattle.mc_resolved.specs.declared.program.Resolved.{Resolved}
 use Rattle.mc_resolved.specs.Programs.{Function}
@@ -19,10 +18,8 @@ use Rattle.mc_valid.specs.Kinds.{IsWellMade}
 use Rattle.mc_lower.specs.declared.builder.Builder.{Builder}
 use Rattle.mc_lower.specs.declared.builder.Draft.{Draft}
 use Rattle.mc_lower.specs.declared.builder.Label.{Label}
-use Rattle.mc_lower.specs.declared.builder.Opened.{Opened}
-use Rattle.mc_lower.specs.declared.builder.Variable.{Variable}
 use Rattle.mc_lower.specs.declared.lowering.Lowered.{Lowered}
-use Rattle.mc_lower.specs.Worlds.{World, AllAt, IsMarked, point_in, role_of, stage_of}
+use Rattle.mc_lower.specs.Worlds.{AllAt, IsMarked, point_in, role_of}
 
 -- the point of a label in a table
 abbrev pub point_at : List ℕ → ℕ → ℕ
@@ -32,16 +29,6 @@ point_at table l = slice_index_or table l 0
 abbrev pub AreApart : (ℕ → ℕ) → List Label → Type 0
 AreApart at outs =
     (i j : ℕ) (l m : Label) → slice_get outs i ≡ Some l → slice_get outs j ≡ Some m → at l.0 ≡ at m.0 → i ≡ j
-
--- no two variables have one owner
-abbrev pub AreOnce : List Variable → Type 0
-AreOnce variables =
-    (i j : ℕ) (v u : Variable) → slice_get variables i ≡ Some v → slice_get variables j ≡ Some u → v.owner ≡ u.owner
-    → i ≡ j
-
--- a block stands inside an earlier one, or inside none
-abbrev pub IsInner : ℕ → Opened → Type 0
-IsInner i o = (j : ℕ) → o.around ≡ Some j → j < i
 
 -- these are the points of a role, ascending
 pub record AreThose (drafts : List Draft) (role : Role) (ps : List PointId) : Type 0 where
@@ -67,20 +54,17 @@ pub record AreConstants (drafts : List Draft) (cs : List ℤ) : Type 0 where
 pub data Ends (g : Graph) (out : ℕ) : Stage → Stage → Type 0 where
   ends : {a k : ℕ} → IsPoint g out plain nowhere End → Ends g out (stage out out k) (stage a (suc out) k)
 
--- there are at most 10,000 points, and labels have points, with which all that is known of them holds
+-- labels have points, with which all that is known of them holds
 pub record AreSettled (b : Builder) (table : List ℕ) : Type 0 where
-  pub short : length b.points.items ≤ 10000
   pub marks : AllAt (λ i m. IsMarked (point_at table) m) b.marks.items
   pub apart : AreApart (point_at table) b.outs.items
-  pub once : AreOnce b.variables.items
-  pub inner : AllAt IsInner b.blocks.items
 
 -- the flow graph, with points in place of labels
 pub record IsFinished (b : Builder) (x : Lowered) : Type 0 where
   pub table : List ℕ
   pub settled : AreSettled b table
   pub points : x.flow.points ≡ map (point_in (point_at table)) b.points.items
-  pub vars : x.flow.vars ≡ map (λ v. v.info) b.variables.items
+  pub vars : x.flow.vars ≡ map (λ v. v.info) b.variables.list.items
   pub structs : x.flow.structs ≡ b.structs.now
   pub heads : AreThose b.points.items head x.flow.heads
   pub merges : AreThose b.points.items merge x.flow.merges

@@ -1,24 +1,23 @@
 -- What is still to be lowered, and what it comes to in the finished flow graph.
-use Rattle.std.specs.Prelude.{◌≡◌, ◌<◌, ℕ, suc, List, [], ◌∷◌, Option, Some, None, ⊤, map, option_map, length}
+use Rattle.std.specs.Prelude.{◌≡◌, ℕ, suc, List, [], ◌∷◌, Option, Some, ⊤, map, option_map, length}
 use Rattle.mc_base.specs.declared.ids.VarId.{VarId}
 use Rattle.mc_text.specs.declared.place.Place.{Place}
 use Rattle.mc_flow.specs.declared.instr.Operand.{Operand}
 use Rattle.mc_flow.specs.declared.instr.Operand.TheVariants.{Var}
 use Rattle.mc_flow.specs.declared.instr.Instr.{Instr}
 use Rattle.mc_flow.specs.declared.instr.Instr.TheVariants.{Skip, Copy}
-use Rattle.mc_resolved.specs.Programs.{Expr, Cond, Call, Simple, Initial, Head, Stmt, Stmts, declaration, block, empty}
+use Rattle.mc_resolved.specs.Programs.{Expr, Cond, Call, Initial, Head, Stmt, declaration, block, empty}
 use Rattle.mc_resolved.specs.Programs.{simple, free, assert, assume, assume_shape, assert_shape, assert_empty}
 use Rattle.mc_resolved.specs.Programs.{if_only, if_else, while_loop, do_loop, for_loop, break_loop, continue_loop}
 use Rattle.mc_resolved.specs.Programs.{returns}
-use Rattle.mc_resolved.specs.Views.{action_of, condition_of, function_of, head_of, initial_of, simple_of, statement_of}
+use Rattle.mc_resolved.specs.Views.{action_of, condition_of, function_of, head_of, initial_of, statement_of}
 use Rattle.mc_resolved.specs.Views.{stmts_of}
 use Rattle.mc_lowering.specs.Graphs.{Graph, Role, plain, merge, nowhere, Stage, stage, IsPoint, Appends}
-use Rattle.mc_lowering.specs.Graphs.{Undefines, IsMade, Leaves}
+use Rattle.mc_lowering.specs.Graphs.{Undefines, Leaves}
 use Rattle.mc_lowering.specs.Values.{EvaluatesAll, Tests, Puts}
 use Rattle.mc_lowering.specs.Lowering.{Around, in_body, Starts, Finishes, Calls, Performs, Declares, Lowers, LowersAll}
 use Rattle.mc_lowering.specs.Lowering.{Passes}
 use Rattle.mc_lower.specs.declared.builder.Builder.{Builder}
-use Rattle.mc_lower.specs.declared.builder.Label.{Label}
 use Rattle.mc_lower.specs.declared.calls.Entered.{Entered}
 use Rattle.mc_lower.specs.declared.tasks.Context.{Context}
 use Rattle.mc_lower.specs.declared.tasks.Task.{Task}

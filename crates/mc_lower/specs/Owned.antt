@@ -1,12 +1,12 @@
 -- Variables of a flow graph that is made, found by whose they are.
-use Rattle.std.specs.Prelude.{◌≡◌, ◌<◌, ◌≤◌, ℕ, List, Option, Some, None, Contains, length, slice_get}
+use Rattle.std.specs.Prelude.{◌≡◌, ◌<◌, ◌≤◌, ℕ, List, Option, Some, None, slice_get}
 use Rattle.mc_base.specs.declared.ids.VarId.{VarId}
 use Rattle.mc_text.specs.declared.place.Place.{Place}
 use Rattle.mc_flow.specs.declared.instr.Instr.TheVariants.{Undef}
 use Rattle.mc_resolved.specs.Programs.{Function, Local}
-use Rattle.mc_lowering.specs.Graphs.{Graph, Owner, local, plain, Stage, Appends, Creates, AreMade}
-use Rattle.mc_lower.specs.declared.builder.Owner.{Owner as OwnerCode}
-use Rattle.mc_lower.specs.declared.builder.Variable.{Variable}
+use Rattle.mc_lowering.specs.Graphs.{Graph, local, plain, Stage, Appends, Creates, AreMade}
+use Rattle.mc_lower.specs.declared.variables.Owner.{Owner as OwnerCode}
+use Rattle.mc_lower.specs.declared.variables.Variable.{Variable}
 
 -- the number of the first variable of an owner, if there is one
 abbrev pub IsFirst : List Variable → OwnerCode → Option ℕ → Type 0

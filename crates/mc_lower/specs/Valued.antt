@@ -12,7 +12,6 @@ use Rattle.mc_lowering.specs.Graphs.{Graph, plain, Stage, stage, Appends, Undefi
 use Rattle.mc_lowering.specs.Values.{Operation, an_input, a_field, a_sum, a_difference, a_product, Takes, Evaluates}
 use Rattle.mc_lowering.specs.Values.{Computes, Tests, TestsPerhaps, Puts}
 use Rattle.mc_lower.specs.declared.builder.Builder.{Builder}
-use Rattle.mc_lower.specs.declared.builder.Label.{Label}
 use Rattle.mc_lower.specs.declared.conditions.Ways.{Ways}
 use Rattle.mc_lower.specs.declared.conditions.Work.{Work as Tested}
 use Rattle.mc_lower.specs.declared.values.How.{How}
@@ -103,7 +102,7 @@ pub record PutsField (g : Graph) (out : ℕ) (place : Place) (l : Left) (o : Ope
 abbrev pub TestsTo : World → ℕ → Cond → Ways → Builder → Builder → Type 0
 TestsTo w i d ways old new =
     Tests w.graph (w.out i) d (stage_of w old) (w.at ways.yes.0) (w.at ways.no.0) (length new.points.items)
-    (length new.variables.items)
+    (length new.variables.list.items)
 
 -- what is still to be tested leads from so many points and variables to so many
 abbrev pub Testing : World → ℕ → List Tested → (points variables more_points more_variables : ℕ) → Type 0

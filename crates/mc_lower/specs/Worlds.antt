@@ -1,5 +1,5 @@
 -- A flow graph while it is made, seen from the finished one.
-use Rattle.std.specs.Prelude.{◌≡◌, ◌++◌, ℕ, suc, List, [], map, Option, Some, None, length, slice_get}
+use Rattle.std.specs.Prelude.{◌≡◌, ℕ, suc, List, [], map, Option, Some, None, length, slice_get}
 use Rattle.mc_base.specs.declared.ids.PointId.{PointId}
 use Rattle.mc_text.specs.declared.place.Place.{Place}
 use Rattle.mc_flow.specs.declared.graph.Point.{Point}
@@ -14,10 +14,8 @@ use Rattle.mc_lower.specs.declared.builder.Builder.{Builder}
 use Rattle.mc_lower.specs.declared.builder.Draft.{Draft}
 use Rattle.mc_lower.specs.declared.builder.Label.{Label}
 use Rattle.mc_lower.specs.declared.builder.Mark.{Mark}
-use Rattle.mc_lower.specs.declared.builder.Opened.{Opened}
-use Rattle.mc_lower.specs.declared.builder.Owner.{Owner as OwnerCode}
+use Rattle.mc_lower.specs.declared.variables.Owner.{Owner as OwnerCode}
 use Rattle.mc_lower.specs.declared.builder.Role.{Role as RoleCode}
-use Rattle.mc_lower.specs.declared.builder.Variable.{Variable}
 
 -- the finished flow graph, with the point of each label, the point that the `return` of each occurrence of a function
 -- goes to, and the variables of each block and of those around it in the same loop; occurrences are told apart by their
@@ -88,15 +86,15 @@ pub record Agrees (w : World) (b : Builder) : Type 0 where
   pub structs : w.graph.flow.structs ≡ b.structs.now
   pub points : AllAt (λ i d. slice_get w.graph.flow.points i ≡ Some (point_in w.at d)) b.points.items
   pub roles : AllAt (λ i d. slice_get w.graph.roles i ≡ Some (role_of d.role)) b.points.items
-  pub owners : AllAt (λ i v. slice_get w.graph.owners i ≡ Some (owner_of w.out v.owner)) b.variables.items
-  pub infos : AllAt (λ i v. slice_get w.graph.flow.vars i ≡ Some v.info) b.variables.items
+  pub owners : AllAt (λ i v. slice_get w.graph.owners i ≡ Some (owner_of w.out v.owner)) b.variables.list.items
+  pub infos : AllAt (λ i v. slice_get w.graph.flow.vars i ≡ Some v.info) b.variables.list.items
   pub marks : AllAt (λ i m. IsMarked w.at m) b.marks.items
   pub outs : AllAt (λ i l. w.at l.0 ≡ w.out i) b.outs.items
-  pub blocks : AllAt (λ i o. w.blocks i ≡ o.numbers.now ++ blocks_in w o.around) b.blocks.items
+  pub blocks : AllAt (λ i xs. w.blocks i ≡ xs.items) b.blocks.items
 
 -- how far it is made
 abbrev pub stage_of : World → Builder → Stage
-stage_of w b = stage (w.at b.goal.0) (length b.points.items) (length b.variables.items)
+stage_of w b = stage (w.at b.goal.0) (length b.points.items) (length b.variables.list.items)
 
 -- whatever finished flow graph agrees with what is there now agrees with what was there before, and this leads from
 -- the one stage to the other in it

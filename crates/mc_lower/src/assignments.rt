@@ -1,5 +1,5 @@
 // The points of assignments without calls.
-ghost use Rattle.std.specs.Prelude.{[], ℕ, ◌≡◌, OnOk};
+ghost use Rattle.std.specs.Prelude.{[], ℕ, ◌≡◌, ◌<◌, OnOk, length, map};
 ghost use Rattle.mc_flow.specs.declared.instr.Instr.TheVariants.{Free, Malloc, Store};
 ghost use Rattle.mc_flow.specs.declared.instr.Operand.TheVariants.{Var};
 ghost use Rattle.mc_lowering.specs.Graphs.{Appends, Stage, plain};
@@ -7,10 +7,13 @@ ghost use Rattle.mc_lowering.specs.Lowering.{Assigns, Changes, SetsTo};
 ghost use Rattle.mc_lowering.specs.Values.{Evaluates, Puts};
 ghost use Rattle.mc_resolved.specs.Programs.{Expr, allocation, expression as value_of};
 ghost use Rattle.mc_resolved.specs.Views.{expression_of, left_of, right_of};
+ghost use Rattle.mc_flow.specs.Steps.{field_count};
+ghost use Rattle.mc_lower.specs.Knowns.{IsThere, Keeps, known};
+ghost use Rattle.mc_lower.specs.Ready.{HaveKinds, IsNamed, IsPlainReady, IsReady};
 ghost use Rattle.mc_lower.specs.Valued.{Frees, PutsField, joined, target_of};
 ghost use Rattle.mc_lower.specs.Worlds.{Agrees, Leads, World, stage_of};
 
-use crate::builder::{ABSENT, BuildFault, Builder, Role};
+use crate::builder::{BuildFault, Builder, Role};
 use crate::values::{How, Operation, Site, Target, Value};
 use mc_base::{Kind, StructId, VarId};
 use mc_flow::{Instr, Operand};
@@ -20,7 +23,8 @@ use mc_text::Place;
 impl<'a> Builder<'a> {
     // A variable gets new memory.
     fn allocate(&mut self, place: Place, variable: VarId, shape: StructId) -> Result<(), BuildFault>
-        ensures { OnOk result (Leads (λ w s u. Appends w.graph plain place (λ q. Malloc variable shape q) s u) self.old self.new) }
+        ensures same { OnOk result (Keeps self.old self.new) }
+        ensures leads { OnOk result (Leads (λ w s u. Appends w.graph plain place (λ q. Malloc variable shape q) s u) self.old self.new) }
     {
         let next = self.label()?;
         self.append(
@@ -40,7 +44,8 @@ impl<'a> Builder<'a> {
         field: FieldAt,
         operand: Operand,
     ) -> Result<(), BuildFault>
-        ensures { OnOk result (Leads (λ w s u. Appends w.graph plain place (λ q. Store base field.shape field.field operand q) s u) self.old self.new) }
+        ensures same { OnOk result (Keeps self.old self.new) }
+        ensures leads { OnOk result (Leads (λ w s u. Appends w.graph plain place (λ q. Store base field.shape field.field operand q) s u) self.old self.new) }
     {
         let next = self.label()?;
         self.append(
@@ -65,7 +70,9 @@ impl<'a> Builder<'a> {
         variable: VarId,
         expression: &Expression,
     ) -> Result<(), BuildFault>
-        ensures { OnOk result (Leads (λ w s u. SetsTo w.graph (w.out site.occurrence) site.place variable (value_of (expression_of expression.now)) s u) self.old self.new) }
+        requires { IsReady (known self.old) site.occurrence (expression_of expression.now) }
+        ensures same { OnOk result (Keeps self.old self.new) }
+        ensures leads { OnOk result (Leads (λ w s u. SetsTo w.graph (w.out site.occurrence) site.place variable (value_of (expression_of expression.now)) s u) self.old self.new) }
     {
         let mut temporaries = Vec::new(self.alloc);
         match self.compute(site, expression, &mut temporaries)? {
@@ -89,9 +96,10 @@ impl<'a> Builder<'a> {
         shape: StructId,
         count: usize,
     ) -> Result<(), BuildFault>
-        ensures { OnOk result ((i : ℕ) → Leads (λ w s u. SetsTo w.graph (w.out i) place variable (allocation shape.0 count) s u) self.old self.new) }
+        requires { field_count (known self.old).source.structs shape ≡ count }
+        ensures same { OnOk result (Keeps self.old self.new) }
+        ensures leads { OnOk result ((i : ℕ) → Leads (λ w s u. SetsTo w.graph (w.out i) place variable (allocation shape.0 count) s u) self.old self.new) }
     {
-        self.check_count(shape, count)?;
         self.allocate(place, variable, shape)?;
         Ok(())
     }
@@ -103,7 +111,9 @@ impl<'a> Builder<'a> {
         variable: VarId,
         right: &RightSide,
     ) -> Result<(), BuildFault>
-        ensures { OnOk result (Leads (λ w s u. SetsTo w.graph (w.out site.occurrence) site.place variable (right_of right.now) s u) self.old self.new) }
+        requires { IsPlainReady (known self.old) site.occurrence (right_of right.now) }
+        ensures same { OnOk result (Keeps self.old self.new) }
+        ensures leads { OnOk result (Leads (λ w s u. SetsTo w.graph (w.out site.occurrence) site.place variable (right_of right.now) s u) self.old self.new) }
     {
         match right {
             RightSide::Expression(expression) => {
@@ -114,7 +124,7 @@ impl<'a> Builder<'a> {
                 self.set_to_new(site.place, variable, *shape, *count)?;
                 Ok(())
             }
-            RightSide::Call(_) => Err(ABSENT),
+            RightSide::Call(_) => unreachable!(),
         }
     }
 
@@ -126,9 +136,11 @@ impl<'a> Builder<'a> {
         operand: Operand,
         temporaries: &[VarId],
     ) -> Result<(), BuildFault>
-        ensures { OnOk result (Leads (λ w s u. Puts w.graph (w.out site.occurrence) site.place (record { variable = number; fields = [] }) operand temporaries.now s u) self.old self.new) }
+        requires { IsThere (known self.old) site.occurrence number }
+        ensures same { OnOk result (Keeps self.old self.new) }
+        ensures leads { OnOk result (Leads (λ w s u. Puts w.graph (w.out site.occurrence) site.place (record { variable = number; fields = [] }) operand temporaries.now s u) self.old self.new) }
     {
-        let variable = self.local(site.occurrence, number)?;
+        let variable = self.local(site.occurrence, number);
         self.copy(site.place, variable, operand)?;
         self.undefine(site.place, temporaries)?;
         Ok(())
@@ -142,9 +154,12 @@ impl<'a> Builder<'a> {
         operand: Operand,
         temporaries: &mut Vec<VarId>,
     ) -> Result<(), BuildFault>
-        ensures { OnOk result (Leads (λ w s u. PutsField w.graph (w.out site.occurrence) site.place (target_of target.entry) operand temporaries.old.items s u) self.old self.new) }
+        requires some { 0 < length target.fields.now }
+        requires named { IsNamed (known self.old) site.occurrence (target_of target) }
+        ensures same { OnOk result (Keeps self.old self.new) }
+        ensures leads { OnOk result (Leads (λ w s u. PutsField w.graph (w.out site.occurrence) site.place (target_of target.entry) operand temporaries.old.items s u) self.old self.new) }
     {
-        let variable = self.local(site.occurrence, target.variable)?;
+        let variable = self.local(site.occurrence, target.variable);
         let (base, last) = self.walk(site.place, variable, target.fields, temporaries)?;
         self.store(site.place, base, last, operand)?;
         self.undefine(site.place, temporaries.as_slice())?;
@@ -159,7 +174,9 @@ impl<'a> Builder<'a> {
         operand: Operand,
         temporaries: &mut Vec<VarId>,
     ) -> Result<(), BuildFault>
-        ensures { OnOk result (Leads (λ w s u. Puts w.graph (w.out site.occurrence) site.place (target_of target.entry) operand temporaries.old.items s u) self.old self.new) }
+        requires { IsNamed (known self.old) site.occurrence (target_of target) }
+        ensures same { OnOk result (Keeps self.old self.new) }
+        ensures leads { OnOk result (Leads (λ w s u. Puts w.graph (w.out site.occurrence) site.place (target_of target.entry) operand temporaries.old.items s u) self.old self.new) }
     {
         if target.fields.is_empty() {
             self.put_into_variable(site, target.variable, operand, temporaries.as_slice())?;
@@ -176,7 +193,11 @@ impl<'a> Builder<'a> {
         target: Target,
         expression: &Expression,
     ) -> Result<(), BuildFault>
-        ensures { OnOk result (Leads (λ w s u. Assigns w.graph (w.out site.occurrence) site.place (target_of target.entry) (value_of (expression_of expression.now)) s u) self.old self.new) }
+        requires some { 0 < length target.fields.now }
+        requires named { IsNamed (known self.old) site.occurrence (target_of target) }
+        requires ready { IsReady (known self.old) site.occurrence (expression_of expression.now) }
+        ensures same { OnOk result (Keeps self.old self.new) }
+        ensures leads { OnOk result (Leads (λ w s u. Assigns w.graph (w.out site.occurrence) site.place (target_of target.entry) (value_of (expression_of expression.now)) s u) self.old self.new) }
     {
         let mut temporaries = Vec::new(self.alloc);
         let operand = self.evaluate(site, expression, &mut temporaries)?;
@@ -192,9 +213,12 @@ impl<'a> Builder<'a> {
         shape: StructId,
         count: usize,
     ) -> Result<(), BuildFault>
-        ensures { OnOk result (Leads (λ w s u. Assigns w.graph (w.out site.occurrence) site.place (target_of target.entry) (allocation shape.0 count) s u) self.old self.new) }
+        requires some { 0 < length target.fields.now }
+        requires named { IsNamed (known self.old) site.occurrence (target_of target) }
+        requires count { field_count (known self.old).source.structs shape ≡ count }
+        ensures same { OnOk result (Keeps self.old self.new) }
+        ensures leads { OnOk result (Leads (λ w s u. Assigns w.graph (w.out site.occurrence) site.place (target_of target.entry) (allocation shape.0 count) s u) self.old self.new) }
     {
-        self.check_count(shape, count)?;
         let variable = self.temporary(0, Kind::Ptr)?;
         self.allocate(site.place, variable, shape)?;
         let mut temporaries = Vec::new(self.alloc);
@@ -210,7 +234,11 @@ impl<'a> Builder<'a> {
         target: Target,
         right: &RightSide,
     ) -> Result<(), BuildFault>
-        ensures { OnOk result (Leads (λ w s u. Assigns w.graph (w.out site.occurrence) site.place (target_of target.entry) (right_of right.now) s u) self.old self.new) }
+        requires some { 0 < length target.fields.now }
+        requires named { IsNamed (known self.old) site.occurrence (target_of target) }
+        requires right { IsPlainReady (known self.old) site.occurrence (right_of right.now) }
+        ensures same { OnOk result (Keeps self.old self.new) }
+        ensures leads { OnOk result (Leads (λ w s u. Assigns w.graph (w.out site.occurrence) site.place (target_of target.entry) (right_of right.now) s u) self.old self.new) }
     {
         match right {
             RightSide::Expression(expression) => {
@@ -221,7 +249,7 @@ impl<'a> Builder<'a> {
                 self.assign_new(site, target, *shape, *count)?;
                 Ok(())
             }
-            RightSide::Call(_) => Err(ABSENT),
+            RightSide::Call(_) => unreachable!(),
         }
     }
 
@@ -232,10 +260,13 @@ impl<'a> Builder<'a> {
         target: Target,
         right: &RightSide,
     ) -> Result<(), BuildFault>
-        ensures { OnOk result (Leads (λ w s u. Assigns w.graph (w.out site.occurrence) site.place (target_of target.entry) (right_of right.now) s u) self.old self.new) }
+        requires named { IsNamed (known self.old) site.occurrence (target_of target) }
+        requires right { IsPlainReady (known self.old) site.occurrence (right_of right.now) }
+        ensures same { OnOk result (Keeps self.old self.new) }
+        ensures leads { OnOk result (Leads (λ w s u. Assigns w.graph (w.out site.occurrence) site.place (target_of target.entry) (right_of right.now) s u) self.old self.new) }
     {
         if target.fields.is_empty() {
-            let variable = self.local(site.occurrence, target.variable)?;
+            let variable = self.local(site.occurrence, target.variable);
             self.set_to(site, variable, right)?;
             return Ok(());
         }
@@ -252,9 +283,11 @@ impl<'a> Builder<'a> {
         operand: Operand,
         temporaries: &[VarId],
     ) -> Result<(), BuildFault>
-        ensures { OnOk result (Leads (λ w s u. (e : Expr) (r : Stage) → Evaluates w.graph (w.out site.occurrence) site.place e [] r operand temporaries.now s → Changes w.graph (w.out site.occurrence) site.place (joined how) (record { variable = number; fields = [] }) e r u) self.old self.new) }
+        requires { IsThere (known self.old) site.occurrence number }
+        ensures same { OnOk result (Keeps self.old self.new) }
+        ensures leads { OnOk result (Leads (λ w s u. (e : Expr) (r : Stage) → Evaluates w.graph (w.out site.occurrence) site.place e [] r operand temporaries.now s → Changes w.graph (w.out site.occurrence) site.place (joined how) (record { variable = number; fields = [] }) e r u) self.old self.new) }
     {
-        let variable = self.local(site.occurrence, number)?;
+        let variable = self.local(site.occurrence, number);
         self.set(
             site.place,
             variable,
@@ -273,11 +306,14 @@ impl<'a> Builder<'a> {
         operand: Operand,
         temporaries: &mut Vec<VarId>,
     ) -> Result<(), BuildFault>
-        ensures { OnOk result (Leads (λ w s u. (e : Expr) (r : Stage) → Evaluates w.graph (w.out site.occurrence) site.place e [] r operand temporaries.old.items s → Changes w.graph (w.out site.occurrence) site.place (joined how) (left_of left.now) e r u) self.old self.new) }
+        requires some { 0 < length left.now.fields.items }
+        requires named { IsNamed (known self.old) site.occurrence (left_of left.now) }
+        ensures same { OnOk result (Keeps self.old self.new) }
+        ensures leads { OnOk result (Leads (λ w s u. (e : Expr) (r : Stage) → Evaluates w.graph (w.out site.occurrence) site.place e [] r operand temporaries.old.items s → Changes w.graph (w.out site.occurrence) site.place (joined how) (left_of left.now) e r u) self.old self.new) }
     {
-        let variable = self.local(site.occurrence, left.variable)?;
+        let variable = self.local(site.occurrence, left.variable);
         let (base, last) = self.walk(site.place, variable, left.fields.as_slice(), temporaries)?;
-        let kind = self.field_kind(last)?;
+        let kind = self.field_kind(last);
         let loaded = Operation::Field(base, last);
         let old = self.take(site.place, kind, loaded, temporaries)?;
         let changed = how.of(Operand::Var(old), operand);
@@ -295,7 +331,10 @@ impl<'a> Builder<'a> {
         left: &LeftValue,
         expression: &Expression,
     ) -> Result<(), BuildFault>
-        ensures { OnOk result (Leads (λ w s u. Changes w.graph (w.out site.occurrence) site.place (joined how) (left_of left.now) (expression_of expression.now) s u) self.old self.new) }
+        requires named { IsNamed (known self.old) site.occurrence (left_of left.now) }
+        requires ready { IsReady (known self.old) site.occurrence (expression_of expression.now) }
+        ensures same { OnOk result (Keeps self.old self.new) }
+        ensures leads { OnOk result (Leads (λ w s u. Changes w.graph (w.out site.occurrence) site.place (joined how) (left_of left.now) (expression_of expression.now) s u) self.old self.new) }
     {
         let mut temporaries = Vec::new(self.alloc);
         let operand = self.evaluate(site, expression, &mut temporaries)?;
@@ -309,7 +348,8 @@ impl<'a> Builder<'a> {
 
     // A block is freed.
     fn release(&mut self, place: Place, operand: Operand) -> Result<(), BuildFault>
-        ensures { OnOk result (Leads (λ w s u. Appends w.graph plain place (λ q. Free operand q) s u) self.old self.new) }
+        ensures same { OnOk result (Keeps self.old self.new) }
+        ensures leads { OnOk result (Leads (λ w s u. Appends w.graph plain place (λ q. Free operand q) s u) self.old self.new) }
     {
         let next = self.label()?;
         self.append(
@@ -323,7 +363,9 @@ impl<'a> Builder<'a> {
 
     /// `free`.
     pub fn free(&mut self, site: Site, pointer: &Expression) -> Result<(), BuildFault>
-        ensures { OnOk result (Leads (λ w s u. Frees w.graph (w.out site.occurrence) site.place (expression_of pointer.now) s u) self.old self.new) }
+        requires { IsReady (known self.old) site.occurrence (expression_of pointer.now) }
+        ensures same { OnOk result (Keeps self.old self.new) }
+        ensures leads { OnOk result (Leads (λ w s u. Frees w.graph (w.out site.occurrence) site.place (expression_of pointer.now) s u) self.old self.new) }
     {
         let mut temporaries = Vec::new(self.alloc);
         let operand = self.evaluate(site, pointer, &mut temporaries)?;

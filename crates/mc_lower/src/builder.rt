@@ -1,10 +1,12 @@
 // A flow graph while it is made: its points go on to labels, which become points at the end.
-ghost use Rattle.std.specs.Prelude.{[], ◌≡◌, ◌++◌, OnOk, IfOk, suc, length};
+ghost use Rattle.std.specs.Prelude.{[], ◌≡◌, ◌<◌, ◌++◌, OnOk, IfOk, suc, length};
 ghost use Rattle.mc_lowering.specs.Graphs.{Appends, Undefines, plain, point, stage};
 ghost use Rattle.mc_flow.specs.declared.instr.Instr.TheVariants.{Skip, Copy, Undef};
+ghost use Rattle.mc_lower.specs.Knowns.{IsOpen, Keeps, known, nothing_known, with_block, with_occurrence};
 ghost use Rattle.mc_lower.specs.Worlds.{GoesTo, World, Agrees, IsPut, Lays, Leads, blocks_in, role_of, stage_of};
 
-use mc_base::{Items, Kind, PointId, VarId, VarInfo};
+use crate::variables::Variables;
+use mc_base::{Items, PointId, VarId};
 use mc_defs::Structs;
 use mc_flow::{Instr, Operand};
 use mc_resolved::Resolved;
@@ -20,7 +22,7 @@ pub const NOWHERE: Place = Place { line: 1, column: 1 };
 /// Why no flow graph is made.
 #[derive(Clone, Copy, Debug, PartialEq, Eq)]
 pub enum BuildFault {
-    /// The program names what is not there.
+    /// What is known of labels does not hold together, or two occurrences of functions have one point.
     Absent,
     NoMemory,
 }
@@ -37,7 +39,7 @@ impl<T: Drop> From<AllocFailed<T>> for BuildFault {
     }
 }
 
-/// A program that names what is not there has no flow graph, of any length.
+/// What is made is no flow graph.
 pub const ABSENT: BuildFault = BuildFault::Absent;
 
 /// A point that may not be known yet.
@@ -77,29 +79,6 @@ pub struct Draft {
     pub place: Place,
 }
 
-/// Whose a variable is: that of a number in an occurrence of a function, the result of an occurrence, or a temporary by its number
-/// and kind.
-#[derive(Clone, Copy, PartialEq, Eq)]
-pub enum Owner {
-    Local(usize, usize),
-    Result(usize),
-    Temporary(usize, Kind),
-}
-
-/// A variable of the flow graph.
-#[derive(Drop)]
-pub struct Variable {
-    pub owner: Owner,
-    pub info: VarInfo,
-}
-
-/// The variables of a block, and the block around it in the same loop, by its number.
-#[derive(Clone, Copy)]
-pub struct Opened<'a> {
-    pub numbers: &'a [usize],
-    pub around: Option<usize>,
-}
-
 /// A flow graph so far.
 #[derive(Drop)]
 pub struct Builder<'a> {
@@ -107,11 +86,12 @@ pub struct Builder<'a> {
     pub program: &'a Resolved,
     pub structs: &'a Structs,
     pub points: Vec<Draft>,
-    pub variables: Vec<Variable>,
+    pub variables: Variables,
     pub marks: Vec<Mark>,
     /// Where the `return` of each occurrence of a function goes.
     pub outs: Vec<Label>,
-    pub blocks: Vec<Opened<'a>>,
+    /// The variables of each block and of those around it in the same loop.
+    pub blocks: Vec<Vec<usize>>,
     /// How many labels there are.
     pub labels: u64,
     /// What was made goes on to this label.
@@ -122,7 +102,8 @@ impl<'a> Builder<'a> {
     /// The empty flow graph, whose goal is its first point.
     pub fn new(alloc: Global, program: &'a Resolved, structs: &'a Structs) -> Builder<'a>
         ensures points { result.points.items ≡ [] }
-        ensures variables { result.variables.items ≡ [] }
+        ensures variables { result.variables.list.items ≡ [] }
+        ensures known { known result ≡ nothing_known program.now structs.now }
         ensures program { result.program.now ≡ program.now }
         ensures structs { result.structs.now ≡ structs.now }
     {
@@ -131,7 +112,7 @@ impl<'a> Builder<'a> {
             program,
             structs,
             points: Vec::new(alloc),
-            variables: Vec::new(alloc),
+            variables: Variables::new(alloc),
             marks: Vec::new(alloc),
             outs: Vec::new(alloc),
             blocks: Vec::new(alloc),
@@ -142,6 +123,7 @@ impl<'a> Builder<'a> {
 
     /// A new label.
     pub fn label(&mut self) -> Result<Label, BuildFault>
+        ensures same { OnOk result (Keeps self.old self.new) }
         ensures kept { OnOk result (Leads (λ w s u. s ≡ u) self.old self.new) }
         ensures goal { OnOk result (self.new.goal ≡ self.old.goal) }
     {
@@ -155,7 +137,9 @@ impl<'a> Builder<'a> {
 
     /// A new occurrence of a function.
     pub fn occur(&mut self) -> Result<usize, BuildFault>
-        ensures { OnOk result (Leads (λ w s u. s ≡ u) self.old self.new) }
+        ensures leads { OnOk result (Leads (λ w s u. s ≡ u) self.old self.new) }
+        ensures last { IfOk result (λ i. i ≡ (known self.old).state.occurrences) }
+        ensures same { OnOk result (known self.new ≡ with_occurrence (known self.old)) }
     {
         let label = self.label()?;
         let occurrence = self.outs.len();
@@ -164,27 +148,74 @@ impl<'a> Builder<'a> {
     }
 
     /// Where the `return` of an occurrence goes.
-    pub fn out(&self, occurrence: usize) -> Result<Label, BuildFault>
-        ensures { IfOk result (λ l. (w : World) → Agrees w self.now → w.at l.0 ≡ w.out occurrence) }
+    pub fn out(&self, occurrence: usize) -> Label
+        requires { occurrence < (known self.now).state.occurrences }
+        ensures { (w : World) → Agrees w self.now → w.at result.0 ≡ w.out occurrence }
     {
         match self.outs.get(occurrence) {
-            Some(label) => Ok(*label),
-            None => Err(ABSENT),
+            Some(label) => *label,
+            None => unreachable!(),
         }
     }
 
-    /// A block with these variables, inside another one.
-    pub fn open(&mut self, numbers: &'a [usize], around: Option<usize>) -> Result<usize, BuildFault>
+    // The variables of a block and of those around it in the same loop.
+    fn numbers_of(&self, block: usize) -> Result<Vec<usize>, BuildFault>
+        requires { block < (known self.now).state.blocks }
+        ensures { IfOk result (λ xs. (w : World) → Agrees w self.now → xs.items ≡ w.blocks block) }
+    {
+        match self.blocks.get(block) {
+            Some(numbers) => {
+                let again = Vec::from_slice(self.alloc, numbers.as_slice())?;
+                Ok(again)
+            }
+            None => unreachable!(),
+        }
+    }
+
+    /// The variables of a block, if any, and of those around it in the same loop.
+    pub fn numbers_in(&self, block: Option<usize>) -> Result<Vec<usize>, BuildFault>
+        requires { IsOpen (known self.now) block }
+        ensures { IfOk result (λ xs. (w : World) → Agrees w self.now → xs.items ≡ blocks_in w block) }
+    {
+        match block {
+            Some(number) => {
+                let numbers = self.numbers_of(number)?;
+                Ok(numbers)
+            }
+            None => Ok(Vec::new(self.alloc)),
+        }
+    }
+
+    // A block with these variables, those around it among them.
+    fn open_all(&mut self, numbers: Vec<usize>) -> Result<usize, BuildFault>
         ensures kept { OnOk result (Leads (λ w s u. s ≡ u) self.old self.new) }
-        ensures opened { IfOk result (λ i. (w : World) → Agrees w self.new → w.blocks i ≡ numbers.now ++ blocks_in w around) }
+        ensures opened { IfOk result (λ i. (w : World) → Agrees w self.new → w.blocks i ≡ numbers.items) }
+        ensures last { IfOk result (λ i. i ≡ (known self.old).state.blocks) }
+        ensures same { OnOk result (known self.new ≡ with_block (known self.old)) }
     {
         let block = self.blocks.len();
-        self.blocks.push(Opened { numbers, around })?;
+        self.blocks.push(numbers)?;
+        Ok(block)
+    }
+
+    /// A block with these variables, inside another one.
+    pub fn open(&mut self, numbers: &[usize], around: Option<usize>) -> Result<usize, BuildFault>
+        requires { IsOpen (known self.old) around }
+        ensures kept { OnOk result (Leads (λ w s u. s ≡ u) self.old self.new) }
+        ensures opened { IfOk result (λ i. (w : World) → Agrees w self.new → w.blocks i ≡ numbers.now ++ blocks_in w around) }
+        ensures last { IfOk result (λ i. i ≡ (known self.old).state.blocks) }
+        ensures same { OnOk result (known self.new ≡ with_block (known self.old)) }
+    {
+        let outer = self.numbers_in(around)?;
+        let mut all = Vec::from_slice(self.alloc, numbers)?;
+        all.extend_from_slice(outer.as_slice())?;
+        let block = self.open_all(all)?;
         Ok(block)
     }
 
     // What was made goes on to this label.
     fn join(&mut self, label: Label) -> Result<(), BuildFault>
+        ensures same { OnOk result (Keeps self.old self.new) }
         ensures joined { OnOk result (Leads (λ w s u. (w.at self.old.goal.0 ≡ w.at label.0) × (s ≡ u)) self.old self.new) }
         ensures goal { OnOk result (self.new.goal ≡ self.old.goal) }
     {
@@ -194,6 +225,7 @@ impl<'a> Builder<'a> {
 
     /// What was made goes on to this label, and so does what is made next.
     pub fn meet(&mut self, label: Label) -> Result<(), BuildFault>
+        ensures same { OnOk result (Keeps self.old self.new) }
         ensures kept { OnOk result (Leads (λ w s u. s ≡ u) self.old self.new) }
         ensures goal { OnOk result (self.new.goal ≡ label) }
     {
@@ -204,7 +236,8 @@ impl<'a> Builder<'a> {
 
     /// What was made goes on to this label, and what is made next is reached from elsewhere alone.
     pub fn go(&mut self, label: Label) -> Result<(), BuildFault>
-        ensures { OnOk result (Leads (λ w s u. GoesTo (w.at label.0) s u) self.old self.new) }
+        ensures same { OnOk result (Keeps self.old self.new) }
+        ensures leads { OnOk result (Leads (λ w s u. GoesTo (w.at label.0) s u) self.old self.new) }
     {
         self.join(label)?;
         let next = self.label()?;
@@ -212,14 +245,12 @@ impl<'a> Builder<'a> {
         Ok(())
     }
 
-    /// A point at the goal. There is no 10,001st: the points of a program are counted before.
+    /// A point at the goal. The points of a program are counted before, so they are few.
     pub fn put(&mut self, role: Role, place: Place, code: Instr) -> Result<(), BuildFault>
-        ensures { OnOk result ((w : World) → Agrees w self.new → Agrees w self.old × IsPut w role place code self.old self.new) }
+        ensures same { OnOk result (Keeps self.old self.new) }
+        ensures leads { OnOk result ((w : World) → Agrees w self.new → Agrees w self.old × IsPut w role place code self.old self.new) }
     {
         let at = self.points.len();
-        if at >= MAX_POINTS {
-            return Err(ABSENT);
-        }
         self.marks.push(Mark::At(self.goal, at))?;
         self.points.push(Draft { role, code, place })?;
         Ok(())
@@ -233,7 +264,8 @@ impl<'a> Builder<'a> {
         code: Instr,
         next: Label,
     ) -> Result<(), BuildFault>
-        ensures { OnOk result (Leads (λ w s u. Lays w role place code next s u) self.old self.new) }
+        ensures same { OnOk result (Keeps self.old self.new) }
+        ensures leads { OnOk result (Leads (λ w s u. Lays w role place code next s u) self.old self.new) }
     {
         self.put(role, place, code)?;
         self.goal = next;
@@ -242,7 +274,8 @@ impl<'a> Builder<'a> {
 
     /// A Skip.
     pub fn skip(&mut self, role: Role, place: Place) -> Result<(), BuildFault>
-        ensures { OnOk result (Leads (λ w s u. Appends w.graph (role_of role) place (λ q. Skip q) s u) self.old self.new) }
+        ensures same { OnOk result (Keeps self.old self.new) }
+        ensures leads { OnOk result (Leads (λ w s u. Appends w.graph (role_of role) place (λ q. Skip q) s u) self.old self.new) }
     {
         let next = self.label()?;
         self.append(role, place, Instr::Skip(next.target()), next)?;
@@ -256,7 +289,8 @@ impl<'a> Builder<'a> {
         variable: VarId,
         operand: Operand,
     ) -> Result<(), BuildFault>
-        ensures { OnOk result (Leads (λ w s u. Appends w.graph plain place (λ q. Copy variable operand q) s u) self.old self.new) }
+        ensures same { OnOk result (Keeps self.old self.new) }
+        ensures leads { OnOk result (Leads (λ w s u. Appends w.graph plain place (λ q. Copy variable operand q) s u) self.old self.new) }
     {
         let next = self.label()?;
         self.append(
@@ -270,7 +304,8 @@ impl<'a> Builder<'a> {
 
     /// Variables become undefined by one point, though there may be none.
     pub fn undefine_all(&mut self, place: Place, variables: &[VarId]) -> Result<(), BuildFault>
-        ensures { OnOk result (Leads (λ w s u. Appends w.graph plain place (λ q. Undef variables.now q) s u) self.old self.new) }
+        ensures same { OnOk result (Keeps self.old self.new) }
+        ensures leads { OnOk result (Leads (λ w s u. Appends w.graph plain place (λ q. Undef variables.now q) s u) self.old self.new) }
     {
         let next = self.label()?;
         let list = Items::of(Vec::from_slice(self.alloc, variables)?);
@@ -280,7 +315,8 @@ impl<'a> Builder<'a> {
 
     /// Variables become undefined by one point, where there are any.
     pub fn undefine(&mut self, place: Place, variables: &[VarId]) -> Result<(), BuildFault>
-        ensures { OnOk result (Leads (λ w s u. Undefines w.graph place variables.now s u) self.old self.new) }
+        ensures same { OnOk result (Keeps self.old self.new) }
+        ensures leads { OnOk result (Leads (λ w s u. Undefines w.graph place variables.now s u) self.old self.new) }
     {
         if variables.is_empty() {
             return Ok(());

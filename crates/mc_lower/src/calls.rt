@@ -1,14 +1,19 @@
 // Calls, simple statements and declarations are lowered, or what they are made of is next.
-ghost use Rattle.std.specs.Prelude.{Some, ◌≡◌, ◌∷◌, IfOk, OnOk, length, map, slice_get};
+ghost use Rattle.std.specs.Prelude.{ℕ, Some, ◌≡◌, ◌<◌, ◌≤◌, [], ◌∷◌, Option, IfOk, IsSome, OnOk, length, map, slice_get};
+ghost use Rattle.mc_base.specs.declared.plain.Kind.{Kind};
+ghost use Rattle.mc_length.specs.Lengths.{all_declared, items_declared};
 ghost use Rattle.mc_lowering.specs.Graphs.{Stage};
 ghost use Rattle.mc_lowering.specs.Lowering.{Awaits, Declares, LowersAll, Lowers, Passes, Performs, Receives};
 ghost use Rattle.mc_resolved.specs.Programs.{assign, call as performs_call, result_of, returns};
 ghost use Rattle.mc_resolved.specs.Views.{action_of, call_of, expression_of, function_of, initial_of, right_of};
 ghost use Rattle.mc_lower.specs.Left.{AnswersResult, Begins, DeclaresFirst, EndsCall, IsEntered, PassesAll, Rest, TakesResult, around_of};
+ghost use Rattle.mc_lower.specs.Knowns.{IsAnswered, IsThere, Keeps, Known, known, with_owners};
+ghost use Rattle.mc_lower.specs.Ready.{AreReady, FitsAll, FitsItems, IsActionReady, IsBegun, IsCallReady, IsNamed, IsRightReady, Later, Needs, Ready, functions_in, locals_to, with_awaited};
 ghost use Rattle.mc_lower.specs.Valued.{target_of};
+ghost use Rattle.mc_lower.specs.declared.tasks.Task.TheVariants.{EndCall};
 ghost use Rattle.mc_lower.specs.Worlds.{Agrees, GoesTo, Leads, World, stage_of};
 
-use crate::builder::{ABSENT, BuildFault, Builder, Owner};
+use crate::builder::{BuildFault, Builder};
 use crate::tasks::{Context, Task, push};
 use crate::values::{How, Site, Target};
 use mc_base::VarId;
@@ -26,18 +31,24 @@ pub struct Entered<'a> {
 
 impl<'a> Builder<'a> {
     /// A function by its number.
-    pub fn function(&self, number: usize) -> Result<&'a Function, BuildFault>
-        ensures { IfOk result (λ f. (w : World) → Agrees w self.now → slice_get w.graph.program.functions number ≡ Some (function_of f.now)) }
+    pub fn function(&self, number: usize) -> &'a Function
+        requires { number < length (functions_in (known self.now).source) }
+        ensures there { slice_get (functions_in (known self.now).source) number ≡ Some (function_of result.now) }
+        ensures seen { (w : World) → Agrees w self.now → slice_get w.graph.program.functions number ≡ Some (function_of result.now) }
     {
-        match self.program.functions.get(number) {
-            Some(function) => Ok(function),
-            None => Err(ABSENT),
-        }
+        let Some(function) = self.program.functions.get(number) else {
+            unreachable!();
+        };
+        function
     }
 
     // A variable is made for each parameter of an occurrence of a function.
     fn receive(&mut self, function: &Function, occurrence: usize) -> Result<Vec<VarId>, BuildFault>
-        ensures { IfOk result (λ vs. (w : World) → Agrees w self.new → Agrees w self.old × Receives w.graph (function_of function.now) (w.out occurrence) 0 function.now.parameters (stage_of w self.old) vs.items (stage_of w self.new)) }
+        requires low { function.now.parameters ≤ length function.now.locals.items }
+        requires new { (x : ℕ) → IsThere (known self.old) occurrence x → ⊥ }
+        ensures count { IfOk result (λ vs. length vs.items ≡ function.now.parameters) }
+        ensures same { OnOk result (known self.new ≡ with_owners (locals_to occurrence function.now.parameters) (known self.old)) }
+        ensures leads { IfOk result (λ vs. (w : World) → Agrees w self.new → Agrees w self.old × Receives w.graph (function_of function.now) (w.out occurrence) 0 function.now.parameters (stage_of w self.old) vs.items (stage_of w self.new)) }
     {
         let mut parameters = Vec::new(self.alloc);
         for number in 0..function.parameters {
@@ -54,11 +65,10 @@ impl<'a> Builder<'a> {
         parameters: &[VarId],
         operands: &[Operand],
     ) -> Result<(), BuildFault>
-        ensures { OnOk result (Leads (λ w s u. Passes w.graph place parameters.now operands.now s u) self.old self.new) }
+        requires { length parameters.now ≡ length operands.now }
+        ensures same { OnOk result (Keeps self.old self.new) }
+        ensures leads { OnOk result (Leads (λ w s u. Passes w.graph place parameters.now operands.now s u) self.old self.new) }
     {
-        if parameters.len() != operands.len() {
-            return Err(ABSENT);
-        }
         for at in 0..parameters.len() {
             self.copy(place, parameters[at], operands[at])?;
         }
@@ -67,7 +77,10 @@ impl<'a> Builder<'a> {
 
     // The arguments are evaluated, and copied to the parameters.
     fn give(&mut self, site: Site, call: &Call, parameters: &[VarId]) -> Result<(), BuildFault>
-        ensures { OnOk result (Leads (λ w s u. PassesAll w.graph (w.out site.occurrence) site.place (map expression_of call.now.arguments.items) parameters.now s u) self.old self.new) }
+        requires many { length call.now.arguments.items ≡ length parameters.now }
+        requires ready { AreReady (known self.old) site.occurrence (map expression_of call.now.arguments.items) }
+        ensures same { OnOk result (Keeps self.old self.new) }
+        ensures leads { OnOk result (Leads (λ w s u. PassesAll w.graph (w.out site.occurrence) site.place (map expression_of call.now.arguments.items) parameters.now s u) self.old self.new) }
     {
         let mut temporaries = Vec::new(self.alloc);
         let operands = self.evaluate_all(site, call.arguments.as_slice(), &mut temporaries)?;
@@ -83,7 +96,10 @@ impl<'a> Builder<'a> {
         function: &Function,
         occurrence: usize,
     ) -> Result<Option<VarId>, BuildFault>
-        ensures { IfOk result (λ r. (w : World) → Agrees w self.new → Agrees w self.old × Awaits w.graph (w.out occurrence) place function.now.result (stage_of w self.old) r (stage_of w self.new)) }
+        requires { IsAnswered (known self.old) occurrence → ⊥ }
+        ensures answered { IfOk result (λ r. IsSome function.now.result → IsSome r) }
+        ensures same { OnOk result (known self.new ≡ with_awaited occurrence function.now.result (known self.old)) }
+        ensures leads { IfOk result (λ r. (w : World) → Agrees w self.new → Agrees w self.old × Awaits w.graph (w.out occurrence) place function.now.result (stage_of w self.old) r (stage_of w self.new)) }
     {
         match function.result {
             Some(kind) => {
@@ -95,20 +111,18 @@ impl<'a> Builder<'a> {
         }
     }
 
-    // The parameters and arguments of a call, whose body is next. As many calls as there are functions are not inside one another
-    // without recursion, which no flow graph has.
+    // The parameters and arguments of a call, whose body is next.
     fn enter_call(
         &mut self,
         place: Place,
         call: &Call,
         context: Context<'a>,
     ) -> Result<Entered<'a>, BuildFault>
-        ensures { IfOk result (λ e. (w : World) → Agrees w self.new → Agrees w self.old × IsEntered w place (call_of call.now) context.entry e (stage_of w self.old) (stage_of w self.new)) }
+        requires { (r : Option Kind) × IsCallReady (known self.old) context.occurrence r (call_of call.now) }
+        ensures begun { IfOk result (λ e. IsBegun (known self.old) (call_of call.now) e (known self.new)) }
+        ensures leads { IfOk result (λ e. (w : World) → Agrees w self.new → Agrees w self.old × IsEntered w place (call_of call.now) context.entry e (stage_of w self.old) (stage_of w self.new)) }
     {
-        if context.depth >= self.program.functions.len() {
-            return Err(ABSENT);
-        }
-        let function = self.function(call.function)?;
+        let function = self.function(call.function);
         let occurrence = self.occur()?;
         let parameters = self.receive(function, occurrence)?;
         let site = Site {
@@ -120,7 +134,6 @@ impl<'a> Builder<'a> {
         let callee = Context {
             function,
             occurrence,
-            depth: context.depth + 1,
             block: None,
             turns: None,
         };
@@ -129,10 +142,12 @@ impl<'a> Builder<'a> {
 
     /// The body of a call is behind: its variables become undefined.
     pub fn end_call(&mut self, place: Place, callee: Context<'a>) -> Result<(), BuildFault>
-        ensures { OnOk result (Leads (λ w s u. EndsCall w.graph (w.out callee.entry.occurrence) place (length (function_of callee.entry.function.now).locals) s u) self.old self.new) }
+        requires { callee.occurrence < (known self.old).state.occurrences }
+        ensures same { OnOk result (Keeps self.old self.new) }
+        ensures leads { OnOk result (Leads (λ w s u. EndsCall w.graph (w.out callee.entry.occurrence) place (length (function_of callee.entry.function.now).locals) s u) self.old self.new) }
     {
-        let out = self.out(callee.occurrence)?;
-        self.meet(out)?;
+        let last = self.out(callee.occurrence);
+        self.meet(last)?;
         self.forget(place, callee.occurrence, callee.function.locals.len())?;
         Ok(())
     }
@@ -144,10 +159,13 @@ impl<'a> Builder<'a> {
         target: Target,
         answer: Option<VarId>,
     ) -> Result<(), BuildFault>
-        ensures { OnOk result (Leads (λ w s u. TakesResult w.graph (w.out site.occurrence) site.place target.entry answer s u) self.old self.new) }
+        requires named { IsNamed (known self.old) site.occurrence (target_of target) }
+        requires some { IsSome answer }
+        ensures same { OnOk result (Keeps self.old self.new) }
+        ensures leads { OnOk result (Leads (λ w s u. TakesResult w.graph (w.out site.occurrence) site.place target.entry answer s u) self.old self.new) }
     {
         let Some(returned) = answer else {
-            return Err(ABSENT);
+            unreachable!();
         };
         let mut temporaries = Vec::new(self.alloc);
         self.put_into(site, target, Operand::Var(returned), &mut temporaries)?;
@@ -162,10 +180,13 @@ impl<'a> Builder<'a> {
         own: VarId,
         answer: Option<VarId>,
     ) -> Result<(), BuildFault>
-        ensures { OnOk result (Leads (λ w s u. AnswersResult w.graph (w.out site.occurrence) site.place own answer s u) self.old self.new) }
+        requires occurs { site.occurrence < (known self.old).state.occurrences }
+        requires some { IsSome answer }
+        ensures same { OnOk result (Keeps self.old self.new) }
+        ensures leads { OnOk result (Leads (λ w s u. AnswersResult w.graph (w.out site.occurrence) site.place own answer s u) self.old self.new) }
     {
         let Some(returned) = answer else {
-            return Err(ABSENT);
+            unreachable!();
         };
         self.copy(site.place, own, Operand::Var(returned))?;
         self.undefine(site.place, &[returned])?;
@@ -175,10 +196,12 @@ impl<'a> Builder<'a> {
 
     /// What was made goes on where `return` goes.
     pub fn go_out(&mut self, occurrence: usize) -> Result<(), BuildFault>
-        ensures { OnOk result (Leads (λ w s u. GoesTo (w.out occurrence) s u) self.old self.new) }
+        requires { occurrence < (known self.old).state.occurrences }
+        ensures same { OnOk result (Keeps self.old self.new) }
+        ensures leads { OnOk result (Leads (λ w s u. GoesTo (w.out occurrence) s u) self.old self.new) }
     {
-        let out = self.out(occurrence)?;
-        self.go(out)?;
+        let last = self.out(occurrence);
+        self.go(last)?;
         Ok(())
     }
 }
@@ -189,7 +212,8 @@ fn push_body<'a>(
     place: Place,
     callee: Context<'a>,
 ) -> Result<(), BuildFault>
-    ensures { OnOk result ((w : World) (s u : Stage) → Rest w tasks.new s u → (m : Stage) × LowersAll w.graph (around_of w callee.entry) (function_of callee.entry.function.now).body s m × ((n : Stage) × EndsCall w.graph (w.out callee.entry.occurrence) place (length (function_of callee.entry.function.now).locals) m n × Rest w tasks.old n u)) }
+    ensures ready { OnOk result ((k : Known) → FitsAll k callee.entry (function_of callee.entry.function.now).body → Needs k (EndCall place callee.entry) → Later k callee.entry.occurrence (all_declared (function_of callee.entry.function.now).body) tasks.old → Ready k tasks.new) }
+    ensures leads { OnOk result ((w : World) (s u : Stage) → Rest w tasks.new s u → (m : Stage) × LowersAll w.graph (around_of w callee.entry) (function_of callee.entry.function.now).body s m × ((n : Stage) × EndsCall w.graph (w.out callee.entry.occurrence) place (length (function_of callee.entry.function.now).locals) m n × Rest w tasks.old n u)) }
 {
     push(tasks, Task::EndCall(place, callee))?;
     push(
@@ -208,7 +232,10 @@ impl<'a> Builder<'a> {
         call: &Call,
         context: Context<'a>,
     ) -> Result<(), BuildFault>
-        ensures { OnOk result (Begins (λ w s m. Performs w.graph (w.out context.entry.occurrence) place (performs_call (call_of call.now)) s m) self.old tasks.old self.new tasks.new) }
+        requires { (r : Option Kind) × IsCallReady (known self.old) context.occurrence r (call_of call.now) }
+        ensures source { OnOk result ((known self.new).source ≡ (known self.old).source) }
+        ensures ready { OnOk result (Later (known self.old) context.entry.occurrence [] tasks.old → Ready (known self.new) tasks.new) }
+        ensures leads { OnOk result (Begins (λ w s m. Performs w.graph (w.out context.entry.occurrence) place (performs_call (call_of call.now)) s m) self.old tasks.old self.new tasks.new) }
     {
         let entered = self.enter_call(place, call, context)?;
         push_body(tasks, place, entered.callee)?;
@@ -224,7 +251,11 @@ impl<'a> Builder<'a> {
         call: &Call,
         context: Context<'a>,
     ) -> Result<(), BuildFault>
-        ensures { OnOk result (Begins (λ w s m. Performs w.graph (w.out context.entry.occurrence) place (assign (target_of target.entry) (result_of (call_of call.now))) s m) self.old tasks.old self.new tasks.new) }
+        requires call { (kind : Kind) × IsCallReady (known self.old) context.occurrence (Some kind) (call_of call.now) }
+        requires named { IsNamed (known self.old) context.occurrence (target_of target) }
+        ensures source { OnOk result ((known self.new).source ≡ (known self.old).source) }
+        ensures ready { OnOk result (Later (known self.old) context.entry.occurrence [] tasks.old → Ready (known self.new) tasks.new) }
+        ensures leads { OnOk result (Begins (λ w s m. Performs w.graph (w.out context.entry.occurrence) place (assign (target_of target.entry) (result_of (call_of call.now))) s m) self.old tasks.old self.new tasks.new) }
     {
         let entered = self.enter_call(place, call, context)?;
         push(
@@ -243,9 +274,14 @@ impl<'a> Builder<'a> {
         call: &Call,
         context: Context<'a>,
     ) -> Result<(), BuildFault>
-        ensures { OnOk result (Begins (λ w s m. Lowers w.graph (around_of w context.entry) (returns place (Some (result_of (call_of call.now)))) s m) self.old tasks.old self.new tasks.new) }
+        requires answered { IsAnswered (known self.old) context.occurrence }
+        requires call { (kind : Kind) × IsCallReady (known self.old) context.occurrence (Some kind) (call_of call.now) }
+        requires occurs { context.occurrence < (known self.old).state.occurrences }
+        ensures source { OnOk result ((known self.new).source ≡ (known self.old).source) }
+        ensures ready { OnOk result (Later (known self.old) context.entry.occurrence [] tasks.old → Ready (known self.new) tasks.new) }
+        ensures leads { OnOk result (Begins (λ w s m. Lowers w.graph (around_of w context.entry) (returns place (Some (result_of (call_of call.now)))) s m) self.old tasks.old self.new tasks.new) }
     {
-        let own = self.own_result(context.occurrence)?;
+        let own = self.own_result(context.occurrence);
         let entered = self.enter_call(place, call, context)?;
         push(
             tasks,
@@ -264,7 +300,11 @@ impl<'a> Builder<'a> {
         right: &'a RightSide,
         context: Context<'a>,
     ) -> Result<(), BuildFault>
-        ensures { OnOk result (Begins (λ w s m. Performs w.graph (w.out context.entry.occurrence) place (assign (target_of target.entry) (right_of right.now)) s m) self.old tasks.old self.new tasks.new) }
+        requires named { IsNamed (known self.old) context.occurrence (target_of target) }
+        requires right { IsRightReady (known self.old) context.occurrence (right_of right.now) }
+        ensures source { OnOk result ((known self.new).source ≡ (known self.old).source) }
+        ensures ready { OnOk result (Later (known self.old) context.entry.occurrence [] tasks.old → Ready (known self.new) tasks.new) }
+        ensures leads { OnOk result (Begins (λ w s m. Performs w.graph (w.out context.entry.occurrence) place (assign (target_of target.entry) (right_of right.now)) s m) self.old tasks.old self.new tasks.new) }
     {
         let site = Site {
             occurrence: context.occurrence,
@@ -293,7 +333,10 @@ impl<'a> Builder<'a> {
         simple: &'a Simple,
         context: Context<'a>,
     ) -> Result<(), BuildFault>
-        ensures { OnOk result (Begins (λ w s m. Performs w.graph (w.out context.entry.occurrence) simple.now.place (action_of simple.now.action) s m) self.old tasks.old self.new tasks.new) }
+        requires { IsActionReady (known self.old) context.occurrence (action_of simple.now.action) }
+        ensures source { OnOk result ((known self.new).source ≡ (known self.old).source) }
+        ensures ready { OnOk result (Later (known self.old) context.entry.occurrence [] tasks.old → Ready (known self.new) tasks.new) }
+        ensures leads { OnOk result (Begins (λ w s m. Performs w.graph (w.out context.entry.occurrence) simple.now.place (action_of simple.now.action) s m) self.old tasks.old self.new tasks.new) }
     {
         let place = simple.place;
         let site = Site {
@@ -328,7 +371,10 @@ impl<'a> Builder<'a> {
         item: &'a Initial,
         context: Context<'a>,
     ) -> Result<(), BuildFault>
-        ensures { OnOk result (Begins (λ w s m. DeclaresFirst w context.entry place (initial_of item.now) s m) self.old tasks.old self.new tasks.new) }
+        requires { FitsItems (known self.old) context (initial_of item.now ∷ []) }
+        ensures source { OnOk result ((known self.new).source ≡ (known self.old).source) }
+        ensures ready { OnOk result (Later (known self.old) context.entry.occurrence (item.now.variable ∷ []) tasks.old → Ready (known self.new) tasks.new) }
+        ensures leads { OnOk result (Begins (λ w s m. DeclaresFirst w context.entry place (initial_of item.now) s m) self.old tasks.old self.new tasks.new) }
     {
         let variable = self.create_local(context.function, context.occurrence, item.variable)?;
         match &item.value {
@@ -355,7 +401,10 @@ impl<'a> Builder<'a> {
         items: &'a [Initial],
         context: Context<'a>,
     ) -> Result<(), BuildFault>
-        ensures { OnOk result (Begins (λ w s m. Declares w.graph (function_of context.entry.function.now) (w.out context.entry.occurrence) place (map initial_of items.now) s m) self.old tasks.old self.new tasks.new) }
+        requires { FitsItems (known self.old) context (map initial_of items.now) }
+        ensures source { OnOk result ((known self.new).source ≡ (known self.old).source) }
+        ensures ready { OnOk result (Later (known self.old) context.entry.occurrence (items_declared (map initial_of items.now)) tasks.old → Ready (known self.new) tasks.new) }
+        ensures leads { OnOk result (Begins (λ w s m. Declares w.graph (function_of context.entry.function.now) (w.out context.entry.occurrence) place (map initial_of items.now) s m) self.old tasks.old self.new tasks.new) }
     {
         let [first, more @ ..] = items else {
             return Ok(());

@@ -4,6 +4,8 @@ ghost use Rattle.mc_lowering.specs.Graphs.{Undefines, plain, point, stage};
 ghost use Rattle.mc_lowering.specs.Values.{Compares, decides};
 ghost use Rattle.mc_resolved.specs.Programs.{compare, plain as plain_condition};
 ghost use Rattle.mc_resolved.specs.Views.{condition_of, expression_of};
+ghost use Rattle.mc_lower.specs.Knowns.{Keeps, known};
+ghost use Rattle.mc_lower.specs.Ready.{AreTestsReady, IsReady, IsTestReady, IsTestReadyPerhaps};
 ghost use Rattle.mc_lower.specs.Valued.{Testing, TestsOn, TestsPerhapsOn, TestsTo};
 ghost use Rattle.mc_lower.specs.Worlds.{Agrees, Leads, World, stage_of};
 
@@ -73,7 +75,8 @@ impl<'a> Builder<'a> {
         from: Label,
         to: Label,
     ) -> Result<(), BuildFault>
-        ensures { OnOk result ((w : World) → Agrees w self.new → Agrees w self.old × Undefines w.graph place temporaries.now (stage (w.at from.0) (length self.old.points.items) (length self.old.variables.items)) (stage (w.at to.0) (length self.new.points.items) (length self.new.variables.items))) }
+        ensures same { OnOk result (Keeps self.old self.new) }
+        ensures leads { OnOk result ((w : World) → Agrees w self.new → Agrees w self.old × Undefines w.graph place temporaries.now (stage (w.at from.0) (length self.old.points.items) (length self.old.variables.list.items)) (stage (w.at to.0) (length self.new.points.items) (length self.new.variables.list.items))) }
     {
         self.goal = from;
         self.undefine(place, temporaries)?;
@@ -91,7 +94,8 @@ impl<'a> Builder<'a> {
         temporaries: &[VarId],
         ways: Ways,
     ) -> Result<(), BuildFault>
-        ensures { OnOk result ((w : World) → Agrees w self.new → Agrees w self.old × Compares w.graph place comparison left right temporaries.now (stage_of w self.old) (w.at ways.yes.0) (w.at ways.no.0) (length self.new.points.items) (length self.new.variables.items)) }
+        ensures same { OnOk result (Keeps self.old self.new) }
+        ensures leads { OnOk result ((w : World) → Agrees w self.new → Agrees w self.old × Compares w.graph place comparison left right temporaries.now (stage_of w self.old) (w.at ways.yes.0) (w.at ways.no.0) (length self.new.points.items) (length self.new.variables.list.items)) }
     {
         let yes = self.label()?;
         let no = self.label()?;
@@ -109,7 +113,9 @@ impl<'a> Builder<'a> {
         expression: &Expression,
         ways: Ways,
     ) -> Result<(), BuildFault>
-        ensures { OnOk result ((w : World) → Agrees w self.new → Agrees w self.old × TestsTo w site.occurrence (plain_condition site.place (expression_of expression.now)) ways self.old self.new) }
+        requires { IsReady (known self.old) site.occurrence (expression_of expression.now) }
+        ensures same { OnOk result (Keeps self.old self.new) }
+        ensures leads { OnOk result ((w : World) → Agrees w self.new → Agrees w self.old × TestsTo w site.occurrence (plain_condition site.place (expression_of expression.now)) ways self.old self.new) }
     {
         let mut temporaries = Vec::new(self.alloc);
         let operand = self.evaluate(site, expression, &mut temporaries)?;
@@ -133,7 +139,10 @@ impl<'a> Builder<'a> {
         right: &Expression,
         ways: Ways,
     ) -> Result<(), BuildFault>
-        ensures { OnOk result ((w : World) → Agrees w self.new → Agrees w self.old × TestsTo w site.occurrence (compare site.place comparison (expression_of left.now) (expression_of right.now)) ways self.old self.new) }
+        requires left { IsReady (known self.old) site.occurrence (expression_of left.now) }
+        requires right { IsReady (known self.old) site.occurrence (expression_of right.now) }
+        ensures same { OnOk result (Keeps self.old self.new) }
+        ensures leads { OnOk result ((w : World) → Agrees w self.new → Agrees w self.old × TestsTo w site.occurrence (compare site.place comparison (expression_of left.now) (expression_of right.now)) ways self.old self.new) }
     {
         let mut temporaries = Vec::new(self.alloc);
         let left = self.evaluate(site, left, &mut temporaries)?;
@@ -157,7 +166,11 @@ impl<'a> Builder<'a> {
         ways: Ways,
         work: &mut Stack<Work<'c>>,
     ) -> Result<(), BuildFault>
-        ensures { OnOk result ((w : World) (n k : ℕ) → Agrees w self.new → Testing w occurrence work.new (length self.new.points.items) (length self.new.variables.items) n k → Agrees w self.old × Testing w occurrence (record { from = self.old.goal; condition = condition.entry; ways = ways } ∷ work.old) (length self.old.points.items) (length self.old.variables.items) n k) }
+        requires ready { IsTestReady (known self.old) occurrence (condition_of condition.now) }
+        requires others { AreTestsReady (known self.old) occurrence work.old }
+        ensures same { OnOk result (Keeps self.old self.new) }
+        ensures ready { OnOk result (AreTestsReady (known self.new) occurrence work.new) }
+        ensures leads { OnOk result ((w : World) (n k : ℕ) → Agrees w self.new → Testing w occurrence work.new (length self.new.points.items) (length self.new.variables.list.items) n k → Agrees w self.old × Testing w occurrence (record { from = self.old.goal; condition = condition.entry; ways = ways } ∷ work.old) (length self.old.points.items) (length self.old.variables.list.items) n k) }
     {
         let from = self.goal;
         match condition {
@@ -215,7 +228,11 @@ impl<'a> Builder<'a> {
         next: Work<'c>,
         work: &mut Stack<Work<'c>>,
     ) -> Result<(), BuildFault>
-        ensures { OnOk result ((w : World) (n k : ℕ) → Agrees w self.new → Testing w occurrence work.new (length self.new.points.items) (length self.new.variables.items) n k → Agrees w self.old × Testing w occurrence (next.entry ∷ work.old) (length self.old.points.items) (length self.old.variables.items) n k) }
+        requires ready { IsTestReady (known self.old) occurrence (condition_of next.condition.now) }
+        requires others { AreTestsReady (known self.old) occurrence work.old }
+        ensures same { OnOk result (Keeps self.old self.new) }
+        ensures ready { OnOk result (AreTestsReady (known self.new) occurrence work.new) }
+        ensures leads { OnOk result ((w : World) (n k : ℕ) → Agrees w self.new → Testing w occurrence work.new (length self.new.points.items) (length self.new.variables.list.items) n k → Agrees w self.old × Testing w occurrence (next.entry ∷ work.old) (length self.old.points.items) (length self.old.variables.list.items) n k) }
     {
         self.goal = next.from;
         self.enter_condition(occurrence, next.condition, next.ways, work)?;
@@ -230,7 +247,9 @@ impl<'a> Builder<'a> {
         condition: &Condition,
         ways: Ways,
     ) -> Result<(), BuildFault>
-        ensures { OnOk result ((w : World) → Agrees w self.new → Agrees w self.old × TestsTo w occurrence (condition_of condition.now) ways self.old self.new) }
+        requires { IsTestReady (known self.old) occurrence (condition_of condition.now) }
+        ensures same { OnOk result (Keeps self.old self.new) }
+        ensures leads { OnOk result ((w : World) → Agrees w self.new → Agrees w self.old × TestsTo w occurrence (condition_of condition.now) ways self.old self.new) }
     {
         let mut work = Stack::new(self.alloc);
         push(&mut work, self.goal, condition, ways)?;
@@ -250,7 +269,9 @@ impl<'a> Builder<'a> {
         condition: &Condition,
         no: Label,
     ) -> Result<(), BuildFault>
-        ensures { OnOk result (Leads (λ w s u. TestsOn w.graph (w.out occurrence) (condition_of condition.now) (w.at no.0) s u) self.old self.new) }
+        requires { IsTestReady (known self.old) occurrence (condition_of condition.now) }
+        ensures same { OnOk result (Keeps self.old self.new) }
+        ensures leads { OnOk result (Leads (λ w s u. TestsOn w.graph (w.out occurrence) (condition_of condition.now) (w.at no.0) s u) self.old self.new) }
     {
         let yes = self.label()?;
         self.test(occurrence, condition, Ways { yes, no })?;
@@ -265,7 +286,9 @@ impl<'a> Builder<'a> {
         condition: Option<&Condition>,
         no: Label,
     ) -> Result<(), BuildFault>
-        ensures { OnOk result (Leads (λ w s u. TestsPerhapsOn w.graph (w.out occurrence) (option_map (λ c. condition_of c.now) condition.entry) (w.at no.0) s u) self.old self.new) }
+        requires { IsTestReadyPerhaps (known self.old) occurrence (option_map (λ c. condition_of c.now) condition) }
+        ensures same { OnOk result (Keeps self.old self.new) }
+        ensures leads { OnOk result (Leads (λ w s u. TestsPerhapsOn w.graph (w.out occurrence) (option_map (λ c. condition_of c.now) condition.entry) (w.at no.0) s u) self.old self.new) }
     {
         match condition {
             Some(condition) => {

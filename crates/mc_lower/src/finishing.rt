@@ -1,15 +1,14 @@
 // Labels become points, and the lists of a flow graph are made.
-ghost use Rattle.std.specs.Prelude.{ℕ, ◌≡◌, ◌↔◌, ◌++◌, ◌∷◌, [], IfOk, OnOk, IsTrue, map};
+ghost use Rattle.std.specs.Prelude.{ℕ, ◌≡◌, ◌↔◌, ◌++◌, ◌∷◌, [], IfOk, OnOk, IsTrue, length, map, slice_set};
 ghost use Rattle.mc_flow.specs.declared.graph.Point.{Point};
 ghost use Rattle.mc_lowering.specs.Lowering.{AreThresholds, operands};
-ghost use Rattle.mc_lower.specs.Finished.{AreApart, AreConstants, AreOnce, AreSettled, AreThose, IsFinished, IsInner, constants, point_at};
+ghost use Rattle.mc_lower.specs.Finished.{AreApart, AreConstants, AreSettled, AreThose, IsFinished, constants, point_at};
+ghost use Rattle.mc_lower.specs.Lines.{AreOrdered, with_known, with_same};
 ghost use Rattle.mc_lower.specs.Worlds.{AllAt, IsMarked, point_in, role_of, settled, target as point_of_target};
 
-use crate::builder::{
-    ABSENT, BuildFault, Builder, Draft, Label, MAX_POINTS, Mark, Opened, Role, Variable,
-};
+use crate::builder::{ABSENT, BuildFault, Builder, Draft, Label, Mark, Role};
 use crate::lowering::Lowered;
-use crate::owners::find;
+use crate::variables::Variable;
 use mc_base::{Items, PointId, VarInfo};
 use mc_defs::{FieldInfo, StructInfo, Structs};
 use mc_flow::{Flow, Instr, Operand, Point};
@@ -26,29 +25,59 @@ fn point_of(table: &[usize], label: Label) -> usize
 }
 
 // The point of a label is put into the table.
-fn set_point(table: &mut Vec<usize>, label: Label, point: usize) {
-    if let Some(slot) = table.get_mut(label.0 as usize) {
-        *slot = point;
+fn set_point(table: &mut Vec<usize>, label: Label, point: usize)
+    ensures { table.new.items ≡ slice_set table.old.items label.0 point }
+{
+    if (label.0 as usize) < table.len() {
+        table[label.0 as usize] = point;
     }
+}
+
+// A point that is known is put into the table.
+fn set_known(table: &mut Vec<usize>, mark: Mark)
+    ensures { table.new.items ≡ with_known mark table.old.items }
+{
+    match mark {
+        Mark::At(label, point) => set_point(table, label, point),
+        Mark::Same(_, _) => {}
+    }
+}
+
+// The point of another label is put into the table.
+fn set_same(table: &mut Vec<usize>, mark: Mark)
+    ensures { table.new.items ≡ with_same mark table.old.items }
+{
+    match mark {
+        Mark::At(_, _) => {}
+        Mark::Same(label, other) => {
+            let point = point_of(table.as_slice(), other);
+            set_point(table, label, point);
+        }
+    }
+}
+
+// A table for so many labels.
+fn blank(alloc: Global, labels: u64) -> Result<Vec<usize>, BuildFault>
+    ensures { IfOk result (λ table. length table.items ≡ labels) }
+{
+    let mut table = Vec::new(alloc);
+    for at in 0..labels {
+        table.push(0)?;
+    }
+    Ok(table)
 }
 
 // A table of the points of labels: of those that are known first, and then of those that are the points of others. A label that is
 // the point of another is that before the other is known, so the last of these come first.
-fn points_of(alloc: Global, labels: u64, marks: &[Mark]) -> Result<Vec<usize>, BuildFault> {
-    let mut table = Vec::new(alloc);
-    for _ in 0..labels {
-        table.push(0)?;
+fn points_of(alloc: Global, labels: u64, marks: &[Mark]) -> Result<Vec<usize>, BuildFault>
+    ensures { IfOk result (λ table. AreOrdered marks.now labels → AllAt (λ i m. IsMarked (point_at table.items) m) marks.now) }
+{
+    let mut table = blank(alloc, labels)?;
+    for at in 0..marks.len() {
+        set_known(&mut table, marks[at]);
     }
-    for mark in marks {
-        if let Mark::At(label, point) = mark {
-            set_point(&mut table, *label, *point);
-        }
-    }
-    for mark in marks.iter().rev() {
-        if let Mark::Same(label, other) = mark {
-            let point = point_of(table.as_slice(), *other);
-            set_point(&mut table, *label, point);
-        }
+    for left in 0..marks.len() {
+        set_same(&mut table, marks[marks.len() - 1 - left]);
     }
     Ok(table)
 }
@@ -101,32 +130,6 @@ fn are_apart(table: &[usize], outs: &[Label], lasts: &[usize]) -> bool
     for at in 0..outs.len() {
         if lasts.get(point_of(table, outs[at])).copied() != Some(at) {
             return false;
-        }
-    }
-    true
-}
-
-// Whether no two variables have one owner.
-fn are_once(variables: &[Variable]) -> bool
-    ensures { IsTrue result → AreOnce variables.now }
-{
-    for at in 0..variables.len() {
-        if find(variables, variables[at].owner) != Some(at) {
-            return false;
-        }
-    }
-    true
-}
-
-// Whether each block stands inside an earlier one, or inside none.
-fn are_inner(blocks: &[Opened]) -> bool
-    ensures { IsTrue result → AllAt IsInner blocks.now }
-{
-    for at in 0..blocks.len() {
-        if let Some(around) = blocks[at].around {
-            if around >= at {
-                return false;
-            }
         }
     }
     true
@@ -355,11 +358,8 @@ fn checked_points(builder: &Builder) -> Result<Vec<usize>, BuildFault>
     let outs = builder.outs.as_slice();
     let table = points_of(builder.alloc, builder.labels, marks)?;
     let lasts = last_labels(builder.alloc, table.as_slice(), outs, builder.points.len())?;
-    let fits = builder.points.len() <= MAX_POINTS
-        && all_hold(table.as_slice(), marks)
-        && are_apart(table.as_slice(), outs, lasts.as_slice())
-        && are_once(builder.variables.as_slice())
-        && are_inner(builder.blocks.as_slice());
+    let fits = all_hold(table.as_slice(), marks)
+        && are_apart(table.as_slice(), outs, lasts.as_slice());
     if fits { Ok(table) } else { Err(ABSENT) }
 }
 
@@ -375,7 +375,7 @@ pub fn finish(builder: Builder) -> Result<Lowered, BuildFault>
     let stops = of_role(alloc, builder.points.as_slice(), Role::Stop)?;
     let thresholds = thresholds(alloc, builder.points.as_slice())?;
     let points = settle(alloc, table.as_slice(), builder.points)?;
-    let vars = infos(alloc, builder.variables)?;
+    let vars = infos(alloc, builder.variables.list)?;
     Ok(Lowered {
         flow: Flow {
             points,

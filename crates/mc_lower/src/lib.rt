@@ -11,5 +11,6 @@ mod owners;
 mod statements;
 mod tasks;
 mod values;
+mod variables;
 
 pub use lowering::{LowerFault, Lowered, lower};

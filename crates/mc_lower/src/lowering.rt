@@ -1,13 +1,15 @@
 // A program is lowered: a loop over what is left, with a stack of its own.
-ghost use Rattle.std.specs.Prelude.{[], ℕ, ◌≡◌, ◌≤◌, ◌↔◌, IfErr, IfOk, OnOk, IsTrue, length, suc};
+ghost use Rattle.std.specs.Prelude.{[], ℕ, ◌≡◌, ◌<◌, ◌≤◌, ◌↔◌, IfErr, IfOk, OnOk, IsTrue, length, slice_get, suc};
 ghost use Rattle.mc_lowering.specs.Lowering.{Answers, Falls, IsMain, LowersAll, Makes, in_body};
 ghost use Rattle.mc_resolved.specs.Views.{function_of};
 ghost use Rattle.mc_lower.specs.Finished.{AreShort, AreTooLong, Ends, IsFlowOf, IsValidFlow};
 ghost use Rattle.mc_lower.specs.declared.lowering.LowerFault.TheVariants.{Absent, TooLong};
+ghost use Rattle.mc_lower.specs.Knowns.{IsAnswered, Keeps, known};
+ghost use Rattle.mc_lower.specs.Ready.{FitsAll, IsEntered, IsSound, Ready, functions_in, with_awaited};
 ghost use Rattle.mc_lower.specs.Left.{Rest};
 ghost use Rattle.mc_lower.specs.Worlds.{Agrees, Leads, World, stage_of};
 
-use crate::builder::{ABSENT, BuildFault, Builder, MAX_POINTS, NOWHERE, Role};
+use crate::builder::{BuildFault, Builder, MAX_POINTS, NOWHERE, Role};
 use crate::finishing::finish;
 use crate::tasks::{Context, Task, push};
 use crate::values::nothing;
@@ -37,7 +39,10 @@ fn is_main(function: &Function) -> bool
 impl<'a> Builder<'a> {
     // All that is left is lowered.
     fn run(&mut self, tasks: &mut Stack<Task<'a>>) -> Result<(), BuildFault>
-        ensures { OnOk result ((w : World) → Agrees w self.new → Agrees w self.old × Rest w tasks.old (stage_of w self.old) (stage_of w self.new)) }
+        requires { Ready (known self.old) tasks.old }
+        ensures entered { OnOk result (IsEntered (known self.new)) }
+        ensures source { OnOk result ((known self.new).source ≡ (known self.old).source) }
+        ensures leads { OnOk result ((w : World) → Agrees w self.new → Agrees w self.old × Rest w tasks.old (stage_of w self.old) (stage_of w self.new)) }
     {
         'tasks: for _ in 0..u64::MAX {
             match tasks.pop() {
@@ -50,7 +55,9 @@ impl<'a> Builder<'a> {
 
     // The result of the entry, where it has one.
     fn begin(&mut self, entry: &Function, occurrence: usize) -> Result<(), BuildFault>
-        ensures { OnOk result (Leads (λ w s u. Answers w.graph (w.out occurrence) (function_of entry.now).result s u) self.old self.new) }
+        requires { IsAnswered (known self.old) occurrence → ⊥ }
+        ensures same { OnOk result (known self.new ≡ with_awaited occurrence entry.now.result (known self.old)) }
+        ensures leads { OnOk result (Leads (λ w s u. Answers w.graph (w.out occurrence) (function_of entry.now).result s u) self.old self.new) }
     {
         match entry.result {
             Some(kind) => {
@@ -63,12 +70,15 @@ impl<'a> Builder<'a> {
 
     // The body of the entry.
     fn body(&mut self, entry: &'a Function, occurrence: usize) -> Result<(), BuildFault>
-        ensures { OnOk result (Leads (λ w s u. LowersAll w.graph (in_body (function_of entry.now) (w.out occurrence)) (function_of entry.now).body s u) self.old self.new) }
+        requires fits { FitsAll (known self.old) (record { function = entry; occurrence = occurrence; block = None; turns = None }) (function_of entry.now).body }
+        requires entered { IsEntered (known self.old) }
+        ensures entered { OnOk result (IsEntered (known self.new)) }
+        ensures source { OnOk result ((known self.new).source ≡ (known self.old).source) }
+        ensures leads { OnOk result (Leads (λ w s u. LowersAll w.graph (in_body (function_of entry.now) (w.out occurrence)) (function_of entry.now).body s u) self.old self.new) }
     {
         let context = Context {
             function: entry,
             occurrence,
-            depth: 1,
             block: None,
             turns: None,
         };
@@ -80,22 +90,26 @@ impl<'a> Builder<'a> {
 
     // Behind the body of `main` its result is 0.
     fn fall(&mut self, entry: &Function, occurrence: usize) -> Result<(), BuildFault>
-        ensures { OnOk result (Leads (λ w s u. Falls w.graph (function_of entry.now) (w.out occurrence) s u) self.old self.new) }
+        requires { IsMain (function_of entry.now) → IsAnswered (known self.old) occurrence }
+        ensures same { OnOk result (Keeps self.old self.new) }
+        ensures leads { OnOk result (Leads (λ w s u. Falls w.graph (function_of entry.now) (w.out occurrence) s u) self.old self.new) }
     {
         if !is_main(entry) {
             return Ok(());
         }
-        let own = self.own_result(occurrence)?;
+        let own = self.own_result(occurrence);
         self.copy(NOWHERE, own, nothing())?;
         Ok(())
     }
 
     // An End, where the `return` of the entry goes.
     fn end(&mut self, occurrence: usize) -> Result<(), BuildFault>
-        ensures { OnOk result (Leads (λ w s u. Ends w.graph (w.out occurrence) s u) self.old self.new) }
+        requires { occurrence < (known self.old).state.occurrences }
+        ensures same { OnOk result (Keeps self.old self.new) }
+        ensures leads { OnOk result (Leads (λ w s u. Ends w.graph (w.out occurrence) s u) self.old self.new) }
     {
-        let out = self.out(occurrence)?;
-        self.meet(out)?;
+        let last = self.out(occurrence);
+        self.meet(last)?;
         self.put(Role::Plain, NOWHERE, Instr::End)?;
         Ok(())
     }
@@ -103,8 +117,12 @@ impl<'a> Builder<'a> {
     // A Skip, the entry, and an End.
     fn make_entry(&mut self, entry: &'a Function) -> Result<(), BuildFault>
         requires no_points { self.old.points.items ≡ [] }
-        requires no_variables { self.old.variables.items ≡ [] }
-        ensures { OnOk result ((w : World) → Agrees w self.new → Agrees w self.old × (out : ℕ) × Makes w.graph (function_of entry.now) out (length self.new.variables.items) × (length self.new.points.items ≡ suc out)) }
+        requires no_variables { self.old.variables.list.items ≡ [] }
+        requires no_owners { (known self.old).state.owners ≡ [] }
+        requires no_occurrences { (known self.old).state.occurrences ≡ 0 }
+        requires sound { IsSound (known self.old).source }
+        requires there { slice_get (functions_in (known self.old).source) (known self.old).source.program.entry ≡ Some (function_of entry.now) }
+        ensures { OnOk result ((w : World) → Agrees w self.new → Agrees w self.old × (out : ℕ) × Makes w.graph (function_of entry.now) out (length self.new.variables.list.items) × (length self.new.points.items ≡ suc out)) }
     {
         self.skip(Role::Plain, NOWHERE)?;
         let occurrence = self.occur()?;
@@ -118,15 +136,12 @@ impl<'a> Builder<'a> {
 
 // The flow graph of a program with these structs.
 fn build(alloc: Global, program: &Resolved, structs: &Structs) -> Result<Lowered, BuildFault>
+    requires { IsSound (record { program = program.now; structs = structs.now }) }
     ensures flow { IfOk result (λ x. IsFlowOf program.now structs.now x) }
     ensures valid { IfOk result (λ x. IsValidFlow program.now structs.now x) }
-    ensures short { IfOk result (λ x. length x.flow.points ≤ 10000) }
 {
     let mut builder = Builder::new(alloc, program, structs);
-    let entry = builder.function(program.entry)?;
-    if entry.parameters != 0 {
-        return Err(ABSENT);
-    }
+    let entry = builder.function(program.entry);
     builder.make_entry(entry)?;
     let lowered = finish(builder)?;
     // This law is called for the proof alone.
@@ -139,13 +154,14 @@ fn build(alloc: Global, program: &Resolved, structs: &Structs) -> Result<Lowered
 pub enum LowerFault {
     /// Each has more than 10,000 points.
     TooLong,
-    /// The program names what is not there. Each flow graph of it has at most 10,000 points.
+    /// What was made is no flow graph. Each flow graph of the program has at most 10,000 points.
     Absent,
     NoMemory,
 }
 
 /// The flow graph of a program with these structs, calls inlined. How long it is is found before it is made.
 pub fn lower(alloc: Global, program: &Resolved, structs: &Structs) -> Result<Lowered, LowerFault>
+    requires { IsSound (record { program = program.now; structs = structs.now }) }
     ensures flow { IfOk result (λ x. IsFlowOf program.now structs.now x) }
     ensures valid { IfOk result (λ x. IsValidFlow program.now structs.now x) }
     ensures short { IfOk result (λ x. length x.flow.points ≤ 10000) }

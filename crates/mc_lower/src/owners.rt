@@ -1,12 +1,15 @@
 // The variables of a flow graph, found by whose they are.
-ghost use Rattle.std.specs.Prelude.{◌≡◌, ◌<◌, ◌↔◌, ◌++◌, IfOk, IfSome, OnOk, IsTrue, Contains};
+ghost use Rattle.std.specs.Prelude.{◌≡◌, ◌<◌, ◌↔◌, IfOk, IfSome, OnOk, IsTrue, Contains, length};
 ghost use Rattle.mc_lowering.specs.Graphs.{Creates, IsMade, AreMade, Leaves, Uses, local, result as result_of};
 ghost use Rattle.mc_lowering.specs.Lowering.{result_info};
 ghost use Rattle.mc_resolved.specs.Views.{function_of};
+ghost use Rattle.mc_lower.specs.Knowns.{IsAnswered, IsOpen, IsThere, Keeps, known, lasting, owners_of, with_local, with_owners, with_result};
+ghost use Rattle.mc_lower.specs.Once.{IsNew};
 ghost use Rattle.mc_lower.specs.Owned.{CreatesLocal, Forgets, IsFirst, IsLocalOf};
 ghost use Rattle.mc_lower.specs.Worlds.{Agrees, Leads, World, blocks_in, owner_of, stage_of};
 
-use crate::builder::{ABSENT, BuildFault, Builder, Owner, Variable};
+use crate::builder::{BuildFault, Builder};
+use crate::variables::{Owner, Variable};
 use mc_base::{Items, Kind, VarId, VarInfo};
 use mc_resolved::{Function, Local};
 use mc_text::Place;
@@ -58,9 +61,11 @@ fn is_below(owner: Owner, occurrence: usize, count: usize) -> bool
 impl<'a> Builder<'a> {
     // The variable of this owner.
     fn owned(&self, owner: Owner) -> Option<VarId>
-        ensures { IfSome result (λ v. (w : World) → Agrees w self.now → IsMade w.graph (owner_of w.out owner) v (stage_of w self.now)) }
+        ensures none { result ≡ None → Contains (owners_of self.now.variables.list.items) owner → ⊥ }
+        ensures new { result ≡ None → IsNew self.now.variables.list.items owner }
+        ensures made { IfSome result (λ v. (w : World) → Agrees w self.now → IsMade w.graph (owner_of w.out owner) v (stage_of w self.now)) }
     {
-        match find(self.variables.as_slice(), owner) {
+        match find(self.variables.list.as_slice(), owner) {
             Some(number) => Some(VarId(number as u64)),
             None => None,
         }
@@ -68,33 +73,34 @@ impl<'a> Builder<'a> {
 
     // The next variable, for an owner who has none.
     fn create(&mut self, owner: Owner, info: VarInfo) -> Result<VarId, BuildFault>
-        ensures { IfOk result (λ v. (w : World) → Agrees w self.new → Agrees w self.old × Creates w.graph (owner_of w.out owner) info (stage_of w self.old) v (stage_of w self.new)) }
+        requires { IsNew self.old.variables.list.items owner }
+        ensures same { OnOk result (known self.new ≡ with_owners (lasting owner) (known self.old)) }
+        ensures leads { IfOk result (λ v. (w : World) → Agrees w self.new → Agrees w self.old × Creates w.graph (owner_of w.out owner) info (stage_of w self.old) v (stage_of w self.new)) }
     {
-        if self.owned(owner).is_some() {
-            return Err(ABSENT);
-        }
-        let variable = VarId(self.variables.len() as u64);
-        self.variables.push(Variable { owner, info })?;
+        let variable = VarId(self.variables.list.len() as u64);
+        self.variables.add(Variable { owner, info })?;
         Ok(variable)
     }
 
     /// A variable of an occurrence, which is made.
-    pub fn local(&self, occurrence: usize, number: usize) -> Result<VarId, BuildFault>
-        ensures { IfOk result (λ v. (w : World) → Agrees w self.now → IsMade w.graph (local (w.out occurrence) number) v (stage_of w self.now)) }
+    pub fn local(&self, occurrence: usize, number: usize) -> VarId
+        requires { IsThere (known self.now) occurrence number }
+        ensures { (w : World) → Agrees w self.now → IsMade w.graph (local (w.out occurrence) number) result (stage_of w self.now) }
     {
         match self.owned(Owner::Local(occurrence, number)) {
-            Some(variable) => Ok(variable),
-            None => Err(ABSENT),
+            Some(variable) => variable,
+            None => unreachable!(),
         }
     }
 
     /// The result of an occurrence.
-    pub fn own_result(&self, occurrence: usize) -> Result<VarId, BuildFault>
-        ensures { IfOk result (λ v. (w : World) → Agrees w self.now → IsMade w.graph (result_of (w.out occurrence)) v (stage_of w self.now)) }
+    pub fn own_result(&self, occurrence: usize) -> VarId
+        requires { IsAnswered (known self.now) occurrence }
+        ensures { (w : World) → Agrees w self.now → IsMade w.graph (result_of (w.out occurrence)) result (stage_of w self.now) }
     {
         match self.owned(Owner::Result(occurrence)) {
-            Some(variable) => Ok(variable),
-            None => Err(ABSENT),
+            Some(variable) => variable,
+            None => unreachable!(),
         }
     }
 
@@ -105,10 +111,13 @@ impl<'a> Builder<'a> {
         occurrence: usize,
         number: usize,
     ) -> Result<VarId, BuildFault>
-        ensures { IfOk result (λ v. (w : World) → Agrees w self.new → Agrees w self.old × CreatesLocal w.graph (function_of function.now) (w.out occurrence) number (stage_of w self.old) v (stage_of w self.new)) }
+        requires low { number < length function.now.locals.items }
+        requires new { IsThere (known self.old) occurrence number → ⊥ }
+        ensures same { OnOk result (known self.new ≡ with_local occurrence number (known self.old)) }
+        ensures leads { IfOk result (λ v. (w : World) → Agrees w self.new → Agrees w self.old × CreatesLocal w.graph (function_of function.now) (w.out occurrence) number (stage_of w self.old) v (stage_of w self.new)) }
     {
         let Some(local) = function.locals.get(number) else {
-            return Err(ABSENT);
+            unreachable!();
         };
         let info = info_of(self.alloc, local)?;
         let variable = self.create(Owner::Local(occurrence, number), info)?;
@@ -117,7 +126,9 @@ impl<'a> Builder<'a> {
 
     /// Makes the result of an occurrence.
     pub fn create_result(&mut self, occurrence: usize, kind: Kind) -> Result<VarId, BuildFault>
-        ensures { IfOk result (λ v. (w : World) → Agrees w self.new → Agrees w self.old × Creates w.graph (result_of (w.out occurrence)) (result_info kind) (stage_of w self.old) v (stage_of w self.new)) }
+        requires { IsAnswered (known self.old) occurrence → ⊥ }
+        ensures same { OnOk result (known self.new ≡ with_result occurrence (known self.old)) }
+        ensures leads { IfOk result (λ v. (w : World) → Agrees w self.new → Agrees w self.old × Creates w.graph (result_of (w.out occurrence)) (result_info kind) (stage_of w self.old) v (stage_of w self.new)) }
     {
         let name = Items::of(Vec::from_slice(self.alloc, b"$ret")?);
         let variable = self.create(Owner::Result(occurrence), VarInfo { name, kind })?;
@@ -126,7 +137,8 @@ impl<'a> Builder<'a> {
 
     /// The temporary of this number and kind, made at its first use.
     pub fn temporary(&mut self, number: usize, kind: Kind) -> Result<VarId, BuildFault>
-        ensures { IfOk result (λ v. (w : World) → Agrees w self.new → Agrees w self.old × Uses w.graph number kind (stage_of w self.old) v (stage_of w self.new)) }
+        ensures same { OnOk result (Keeps self.old self.new) }
+        ensures leads { IfOk result (λ v. (w : World) → Agrees w self.new → Agrees w self.old × Uses w.graph number kind (stage_of w self.old) v (stage_of w self.new)) }
     {
         if let Some(variable) = self.owned(Owner::Temporary(number, kind)) {
             return Ok(variable);
@@ -141,8 +153,8 @@ impl<'a> Builder<'a> {
         ensures { IfOk result (λ vs. (w : World) → Agrees w self.now → AreMade w.graph (w.out occurrence) (λ x. Contains numbers.now x) (stage_of w self.now) vs.items) }
     {
         let mut made = Vec::new(self.alloc);
-        for number in 0..self.variables.len() {
-            if is_among(self.variables[number].owner, occurrence, numbers) {
+        for number in 0..self.variables.list.len() {
+            if is_among(self.variables.list[number].owner, occurrence, numbers) {
                 made.push(VarId(number as u64))?;
             }
         }
@@ -154,8 +166,8 @@ impl<'a> Builder<'a> {
         ensures { IfOk result (λ vs. (w : World) → Agrees w self.now → AreMade w.graph (w.out occurrence) (λ x. x < count) (stage_of w self.now) vs.items) }
     {
         let mut made = Vec::new(self.alloc);
-        for number in 0..self.variables.len() {
-            if is_below(self.variables[number].owner, occurrence, count) {
+        for number in 0..self.variables.list.len() {
+            if is_below(self.variables.list[number].owner, occurrence, count) {
                 made.push(VarId(number as u64))?;
             }
         }
@@ -169,7 +181,8 @@ impl<'a> Builder<'a> {
         occurrence: usize,
         numbers: &[usize],
     ) -> Result<(), BuildFault>
-        ensures { OnOk result (Leads (λ w s u. Leaves w.graph (w.out occurrence) place numbers.now s u) self.old self.new) }
+        ensures same { OnOk result (Keeps self.old self.new) }
+        ensures leads { OnOk result (Leads (λ w s u. Leaves w.graph (w.out occurrence) place numbers.now s u) self.old self.new) }
     {
         let made = self.made_among(occurrence, numbers)?;
         self.undefine(place, made.as_slice())?;
@@ -183,41 +196,12 @@ impl<'a> Builder<'a> {
         occurrence: usize,
         count: usize,
     ) -> Result<(), BuildFault>
-        ensures { OnOk result (Leads (λ w s u. Forgets w.graph (w.out occurrence) place count s u) self.old self.new) }
+        ensures same { OnOk result (Keeps self.old self.new) }
+        ensures leads { OnOk result (Leads (λ w s u. Forgets w.graph (w.out occurrence) place count s u) self.old self.new) }
     {
         let made = self.made_below(occurrence, count)?;
         self.undefine_all(place, made.as_slice())?;
         Ok(())
-    }
-
-    // The variables of a block come behind these, and the block around it is next.
-    fn number_block(
-        &self,
-        number: usize,
-        numbers: &mut Vec<usize>,
-    ) -> Result<Option<usize>, BuildFault>
-        ensures { IfOk result (λ around. (w : World) → Agrees w self.now → numbers.old.items ++ w.blocks number ≡ numbers.new.items ++ blocks_in w around) }
-    {
-        let Some(opened) = self.blocks.get(number) else {
-            return Err(ABSENT);
-        };
-        numbers.extend_from_slice(opened.numbers)?;
-        Ok(opened.around)
-    }
-
-    // The variables of a block and of those around it in the same loop.
-    fn numbers_in(&self, block: Option<usize>) -> Result<Vec<usize>, BuildFault>
-        ensures { IfOk result (λ xs. (w : World) → Agrees w self.now → xs.items ≡ blocks_in w block) }
-    {
-        let mut numbers = Vec::new(self.alloc);
-        let mut inner = block;
-        'around: for _ in 0..u64::MAX {
-            match inner {
-                Some(number) => { inner = self.number_block(number, &mut numbers)? }
-                None => return Ok(numbers),
-            }
-        }
-        Err(BuildFault::NoMemory)
     }
 
     /// Of the variables of a block and of those around it in the same loop, those that are made by now become undefined.
@@ -227,7 +211,9 @@ impl<'a> Builder<'a> {
         occurrence: usize,
         block: Option<usize>,
     ) -> Result<(), BuildFault>
-        ensures { OnOk result (Leads (λ w s u. Leaves w.graph (w.out occurrence) place (blocks_in w block) s u) self.old self.new) }
+        requires { IsOpen (known self.old) block }
+        ensures same { OnOk result (Keeps self.old self.new) }
+        ensures leads { OnOk result (Leads (λ w s u. Leaves w.graph (w.out occurrence) place (blocks_in w block) s u) self.old self.new) }
     {
         let numbers = self.numbers_in(block)?;
         self.leave(place, occurrence, numbers.as_slice())?;

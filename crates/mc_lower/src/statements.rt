@@ -1,14 +1,17 @@
 // Statements are lowered, or what they are made of is next.
-ghost use Rattle.std.specs.Prelude.{Some, ◌≡◌, ◌∷◌, IfOk, OnOk, map, option_map};
+ghost use Rattle.std.specs.Prelude.{Some, ◌≡◌, ◌<◌, [], ◌∷◌, IfOk, IsSome, OnOk, map, option_map};
+ghost use Rattle.mc_length.specs.Lengths.{all_declared, declared};
 ghost use Rattle.mc_flow.specs.declared.instr.Instr.TheVariants.{AssertEmpty as EmptinessAsserted};
 ghost use Rattle.mc_lowering.specs.Graphs.{Appends, Leaves, plain};
 ghost use Rattle.mc_lowering.specs.Lowering.{AreArguments, Lowers, LowersAll};
 ghost use Rattle.mc_resolved.specs.Programs.{assert_shape, assume_shape, block, break_loop, continue_loop, do_loop, for_loop, if_else, if_only, returns, while_loop};
 ghost use Rattle.mc_resolved.specs.Views.{argument_of, condition_of, function_of, head_of, right_of, statement_of, stmts_of};
 ghost use Rattle.mc_lower.specs.Left.{Begins, Checks, EndsDo, EndsFor, EntersFor, ExitsTo, HasParts, IsBehind, IsCommand, Merges, Met, Otherwise, TurnsFor, around_of};
+ghost use Rattle.mc_lower.specs.Knowns.{IsAnswered, IsOpen, IsThere, Keeps, known};
+ghost use Rattle.mc_lower.specs.Ready.{AreArgumentsReady, FitsAll, FitsFor, FitsStatement, IsArgumentReady, IsLastReady, IsPlainReady, IsReturnReady, IsRightReady, IsTestReady, Later, Needs, Ready, makes};
 ghost use Rattle.mc_lower.specs.Worlds.{Agrees, Leads, World, role_of, settled, stage_of};
 
-use crate::builder::{ABSENT, BuildFault, Builder, Label, NOWHERE, Role};
+use crate::builder::{BuildFault, Builder, Label, NOWHERE, Role};
 use crate::conditions::Ways;
 use crate::tasks::{Context, Task, Turns, push};
 use crate::values::Site;
@@ -31,7 +34,9 @@ impl<'a> Builder<'a> {
         otherwise: Instr,
         occurrence: usize,
     ) -> Result<(), BuildFault>
-        ensures { OnOk result (Leads (λ w s u. Checks w.graph (w.out occurrence) (role_of role) place (settled w.at otherwise) (condition_of condition.now) s u) self.old self.new) }
+        requires { IsTestReady (known self.old) occurrence (condition_of condition.now) }
+        ensures same { OnOk result (Keeps self.old self.new) }
+        ensures leads { OnOk result (Leads (λ w s u. Checks w.graph (w.out occurrence) (role_of role) place (settled w.at otherwise) (condition_of condition.now) s u) self.old self.new) }
     {
         let yes = self.label()?;
         let no = self.label()?;
@@ -48,11 +53,12 @@ impl<'a> Builder<'a> {
         occurrence: usize,
         arguments: &[Argument],
     ) -> Result<Items<Operand>, BuildFault>
+        requires { AreArgumentsReady (known self.now) occurrence (map argument_of arguments.now) }
         ensures { IfOk result (λ os. (w : World) → Agrees w self.now → AreArguments w.graph (w.out occurrence) (stage_of w self.now) (map argument_of arguments.now) os) }
     {
         let mut operands = Vec::new(self.alloc);
         for at in 0..arguments.len() {
-            let operand = self.argument(occurrence, arguments[at])?;
+            let operand = self.argument(occurrence, arguments[at]);
             operands.push(operand)?;
         }
         Ok(Items::of(operands))
@@ -60,10 +66,13 @@ impl<'a> Builder<'a> {
 
     // `assume_shape`.
     fn assume_shape(&mut self, shape: &AssumeShape, context: Context<'a>) -> Result<(), BuildFault>
-        ensures { OnOk result (Leads (λ w s u. Lowers w.graph (around_of w context.entry) (assume_shape shape.now.place shape.now.predicate shape.now.variable (map argument_of shape.now.arguments.items)) s u) self.old self.new) }
+        requires there { IsThere (known self.old) context.occurrence shape.now.variable }
+        requires arguments { AreArgumentsReady (known self.old) context.occurrence (map argument_of shape.now.arguments.items) }
+        ensures same { OnOk result (Keeps self.old self.new) }
+        ensures leads { OnOk result (Leads (λ w s u. Lowers w.graph (around_of w context.entry) (assume_shape shape.now.place shape.now.predicate shape.now.variable (map argument_of shape.now.arguments.items)) s u) self.old self.new) }
     {
         let occurrence = context.occurrence;
-        let variable = self.local(occurrence, shape.variable)?;
+        let variable = self.local(occurrence, shape.variable);
         let operands = self.arguments(occurrence, shape.arguments.as_slice())?;
         let next = self.label()?;
         let code = Instr::AssumeShape(shape.predicate, variable, operands, next.target());
@@ -73,10 +82,13 @@ impl<'a> Builder<'a> {
 
     // `assert_shape`.
     fn assert_shape(&mut self, shape: &AssertShape, context: Context<'a>) -> Result<(), BuildFault>
-        ensures { OnOk result (Leads (λ w s u. Lowers w.graph (around_of w context.entry) (assert_shape shape.now.place shape.now.predicate (argument_of shape.now.start) (map argument_of shape.now.arguments.items)) s u) self.old self.new) }
+        requires start { IsArgumentReady (known self.old) context.occurrence (argument_of shape.now.start) }
+        requires arguments { AreArgumentsReady (known self.old) context.occurrence (map argument_of shape.now.arguments.items) }
+        ensures same { OnOk result (Keeps self.old self.new) }
+        ensures leads { OnOk result (Leads (λ w s u. Lowers w.graph (around_of w context.entry) (assert_shape shape.now.place shape.now.predicate (argument_of shape.now.start) (map argument_of shape.now.arguments.items)) s u) self.old self.new) }
     {
         let occurrence = context.occurrence;
-        let start = self.argument(occurrence, shape.start)?;
+        let start = self.argument(occurrence, shape.start);
         let operands = self.arguments(occurrence, shape.arguments.as_slice())?;
         let next = self.label()?;
         let code = Instr::AssertShape(shape.predicate, start, operands, next.target());
@@ -86,7 +98,8 @@ impl<'a> Builder<'a> {
 
     // `assert_empty`.
     fn assert_empty(&mut self, place: Place) -> Result<(), BuildFault>
-        ensures { OnOk result (Leads (λ w s u. Appends w.graph plain place (λ q. EmptinessAsserted q) s u) self.old self.new) }
+        ensures same { OnOk result (Keeps self.old self.new) }
+        ensures leads { OnOk result (Leads (λ w s u. Appends w.graph plain place (λ q. EmptinessAsserted q) s u) self.old self.new) }
     {
         let next = self.label()?;
         self.append(Role::Plain, place, Instr::AssertEmpty(next.target()), next)?;
@@ -102,7 +115,10 @@ impl<'a> Builder<'a> {
         statements: &'a [Statement],
         context: Context<'a>,
     ) -> Result<(), BuildFault>
-        ensures { OnOk result (Begins (λ w s m. Lowers w.graph (around_of w context.entry) (block numbers.now (stmts_of (map statement_of statements.now))) s m) self.old tasks.old self.new tasks.new) }
+        requires { FitsStatement (known self.old) context (block numbers.now (stmts_of (map statement_of statements.now))) }
+        ensures source { OnOk result ((known self.new).source ≡ (known self.old).source) }
+        ensures ready { OnOk result (Later (known self.old) context.entry.occurrence (declared (block numbers.now (stmts_of (map statement_of statements.now)))) tasks.old → Ready (known self.new) tasks.new) }
+        ensures leads { OnOk result (Begins (λ w s m. Lowers w.graph (around_of w context.entry) (block numbers.now (stmts_of (map statement_of statements.now))) s m) self.old tasks.old self.new tasks.new) }
     {
         let block = self.open(numbers, context.block)?;
         push(tasks, Task::EndBlock(numbers, context.occurrence))?;
@@ -119,7 +135,10 @@ impl<'a> Builder<'a> {
         part: &'a Statement,
         context: Context<'a>,
     ) -> Result<(), BuildFault>
-        ensures { OnOk result (Begins (λ w s m. Lowers w.graph (around_of w context.entry) (if_only place (condition_of condition.now) (statement_of part.now)) s m) self.old tasks.old self.new tasks.new) }
+        requires { FitsStatement (known self.old) context (if_only place (condition_of condition.now) (statement_of part.now)) }
+        ensures source { OnOk result ((known self.new).source ≡ (known self.old).source) }
+        ensures ready { OnOk result (Later (known self.old) context.entry.occurrence (declared (if_only place (condition_of condition.now) (statement_of part.now))) tasks.old → Ready (known self.new) tasks.new) }
+        ensures leads { OnOk result (Begins (λ w s m. Lowers w.graph (around_of w context.entry) (if_only place (condition_of condition.now) (statement_of part.now)) s m) self.old tasks.old self.new tasks.new) }
     {
         let merge = self.label()?;
         self.test_or(context.occurrence, condition, merge)?;
@@ -138,7 +157,10 @@ impl<'a> Builder<'a> {
         second: &'a Statement,
         context: Context<'a>,
     ) -> Result<(), BuildFault>
-        ensures { OnOk result (Begins (λ w s m. Lowers w.graph (around_of w context.entry) (if_else place (condition_of condition.now) (statement_of first.now) (statement_of second.now)) s m) self.old tasks.old self.new tasks.new) }
+        requires { FitsStatement (known self.old) context (if_else place (condition_of condition.now) (statement_of first.now) (statement_of second.now)) }
+        ensures source { OnOk result ((known self.new).source ≡ (known self.old).source) }
+        ensures ready { OnOk result (Later (known self.old) context.entry.occurrence (declared (if_else place (condition_of condition.now) (statement_of first.now) (statement_of second.now))) tasks.old → Ready (known self.new) tasks.new) }
+        ensures leads { OnOk result (Begins (λ w s m. Lowers w.graph (around_of w context.entry) (if_else place (condition_of condition.now) (statement_of first.now) (statement_of second.now)) s m) self.old tasks.old self.new tasks.new) }
     {
         let no = self.label()?;
         let merge = self.label()?;
@@ -152,7 +174,8 @@ impl<'a> Builder<'a> {
 
     // The second part of an `if` begins.
     fn otherwise(&mut self, no: Label, merge: Label) -> Result<(), BuildFault>
-        ensures { OnOk result (Leads (λ w s u. Otherwise (w.at no.0) (w.at merge.0) s u) self.old self.new) }
+        ensures same { OnOk result (Keeps self.old self.new) }
+        ensures leads { OnOk result (Leads (λ w s u. Otherwise (w.at no.0) (w.at merge.0) s u) self.old self.new) }
     {
         self.meet(merge)?;
         self.goal = no;
@@ -161,7 +184,8 @@ impl<'a> Builder<'a> {
 
     // The ways of an `if` meet at a Skip.
     fn merge(&mut self, place: Place, merge: Label) -> Result<(), BuildFault>
-        ensures { OnOk result (Leads (λ w s u. Merges w.graph place (w.at merge.0) s u) self.old self.new) }
+        ensures same { OnOk result (Keeps self.old self.new) }
+        ensures leads { OnOk result (Leads (λ w s u. Merges w.graph place (w.at merge.0) s u) self.old self.new) }
     {
         self.meet(merge)?;
         self.skip(Role::Merge, place)?;
@@ -177,7 +201,10 @@ impl<'a> Builder<'a> {
         body: &'a Statement,
         context: Context<'a>,
     ) -> Result<(), BuildFault>
-        ensures { OnOk result (Begins (λ w s m. Lowers w.graph (around_of w context.entry) (while_loop place (condition_of condition.now) (statement_of body.now)) s m) self.old tasks.old self.new tasks.new) }
+        requires { FitsStatement (known self.old) context (while_loop place (condition_of condition.now) (statement_of body.now)) }
+        ensures source { OnOk result ((known self.new).source ≡ (known self.old).source) }
+        ensures ready { OnOk result (Later (known self.old) context.entry.occurrence (declared (while_loop place (condition_of condition.now) (statement_of body.now))) tasks.old → Ready (known self.new) tasks.new) }
+        ensures leads { OnOk result (Begins (λ w s m. Lowers w.graph (around_of w context.entry) (while_loop place (condition_of condition.now) (statement_of body.now)) s m) self.old tasks.old self.new tasks.new) }
     {
         let head = self.goal;
         self.skip(Role::Head, place)?;
@@ -190,7 +217,8 @@ impl<'a> Builder<'a> {
 
     // The body of a `while` goes to the head.
     fn end_while(&mut self, place: Place, head: Label, exit: Label) -> Result<(), BuildFault>
-        ensures { OnOk result (Leads (λ w s u. ExitsTo w.graph place (w.at head.0) (w.at exit.0) s u) self.old self.new) }
+        ensures same { OnOk result (Keeps self.old self.new) }
+        ensures leads { OnOk result (Leads (λ w s u. ExitsTo w.graph place (w.at head.0) (w.at exit.0) s u) self.old self.new) }
     {
         self.meet(head)?;
         self.goal = exit;
@@ -207,7 +235,10 @@ impl<'a> Builder<'a> {
         condition: &'a Condition,
         context: Context<'a>,
     ) -> Result<(), BuildFault>
-        ensures { OnOk result (Begins (λ w s m. Lowers w.graph (around_of w context.entry) (do_loop place (statement_of body.now) (condition_of condition.now)) s m) self.old tasks.old self.new tasks.new) }
+        requires { FitsStatement (known self.old) context (do_loop place (statement_of body.now) (condition_of condition.now)) }
+        ensures source { OnOk result ((known self.new).source ≡ (known self.old).source) }
+        ensures ready { OnOk result (Later (known self.old) context.entry.occurrence (declared (do_loop place (statement_of body.now) (condition_of condition.now))) tasks.old → Ready (known self.new) tasks.new) }
+        ensures leads { OnOk result (Begins (λ w s m. Lowers w.graph (around_of w context.entry) (do_loop place (statement_of body.now) (condition_of condition.now)) s m) self.old tasks.old self.new tasks.new) }
     {
         let head = self.goal;
         self.skip(Role::Head, place)?;
@@ -236,7 +267,9 @@ impl<'a> Builder<'a> {
         turns: Turns,
         occurrence: usize,
     ) -> Result<(), BuildFault>
-        ensures { OnOk result (Leads (λ w s u. EndsDo w.graph (w.out occurrence) place (condition_of condition.now) (w.at head.0) (w.at turns.turn.0) (w.at turns.exit.0) s u) self.old self.new) }
+        requires { IsTestReady (known self.old) occurrence (condition_of condition.now) }
+        ensures same { OnOk result (Keeps self.old self.new) }
+        ensures leads { OnOk result (Leads (λ w s u. EndsDo w.graph (w.out occurrence) place (condition_of condition.now) (w.at head.0) (w.at turns.turn.0) (w.at turns.exit.0) s u) self.old self.new) }
     {
         self.meet(turns.turn)?;
         self.skip(Role::Plain, place)?;
@@ -258,7 +291,10 @@ impl<'a> Builder<'a> {
         body: &'a Statement,
         context: Context<'a>,
     ) -> Result<(), BuildFault>
-        ensures { OnOk result (Begins (λ w s m. Lowers w.graph (around_of w context.entry) (for_loop (head_of head.now) (statement_of body.now)) s m) self.old tasks.old self.new tasks.new) }
+        requires { FitsStatement (known self.old) context (for_loop (head_of head.now) (statement_of body.now)) }
+        ensures source { OnOk result ((known self.new).source ≡ (known self.old).source) }
+        ensures ready { OnOk result (Later (known self.old) context.entry.occurrence (declared (for_loop (head_of head.now) (statement_of body.now))) tasks.old → Ready (known self.new) tasks.new) }
+        ensures leads { OnOk result (Begins (λ w s m. Lowers w.graph (around_of w context.entry) (for_loop (head_of head.now) (statement_of body.now)) s m) self.old tasks.old self.new tasks.new) }
     {
         push(tasks, Task::For(head, body, context))?;
         match &head.start {
@@ -282,7 +318,10 @@ impl<'a> Builder<'a> {
         body: &'a Statement,
         context: Context<'a>,
     ) -> Result<(), BuildFault>
-        ensures { OnOk result (Begins (λ w s m. EntersFor w.graph (around_of w context.entry) (head_of head.now) (statement_of body.now) s m) self.old tasks.old self.new tasks.new) }
+        requires { FitsFor (known self.old) context (head_of head.now) (statement_of body.now) }
+        ensures source { OnOk result ((known self.new).source ≡ (known self.old).source) }
+        ensures ready { OnOk result (Later (known self.old) context.entry.occurrence (declared (statement_of body.now)) tasks.old → Ready (known self.new) tasks.new) }
+        ensures leads { OnOk result (Begins (λ w s m. EntersFor w.graph (around_of w context.entry) (head_of head.now) (statement_of body.now) s m) self.old tasks.old self.new tasks.new) }
     {
         let begin = self.goal;
         self.skip(Role::Head, head.place)?;
@@ -306,7 +345,10 @@ impl<'a> Builder<'a> {
         turns: Turns,
         context: Context<'a>,
     ) -> Result<(), BuildFault>
-        ensures { OnOk result (Begins (λ w s m. TurnsFor w.graph (w.out context.entry.occurrence) (head_of head.now) (w.at begin.0) (w.at turns.turn.0) (w.at turns.exit.0) s m) self.old tasks.old self.new tasks.new) }
+        requires { IsLastReady (known self.old) context.occurrence (head_of head.now).last }
+        ensures source { OnOk result ((known self.new).source ≡ (known self.old).source) }
+        ensures ready { OnOk result (Later (known self.old) context.entry.occurrence [] tasks.old → Ready (known self.new) tasks.new) }
+        ensures leads { OnOk result (Begins (λ w s m. TurnsFor w.graph (w.out context.entry.occurrence) (head_of head.now) (w.at begin.0) (w.at turns.turn.0) (w.at turns.exit.0) s m) self.old tasks.old self.new tasks.new) }
     {
         self.meet(turns.turn)?;
         self.skip(Role::Plain, head.place)?;
@@ -331,7 +373,8 @@ impl<'a> Builder<'a> {
         exit: Label,
         occurrence: usize,
     ) -> Result<(), BuildFault>
-        ensures { OnOk result (Leads (λ w s u. EndsFor w.graph (w.out occurrence) (head_of head.now) (w.at begin.0) (w.at exit.0) s u) self.old self.new) }
+        ensures same { OnOk result (Keeps self.old self.new) }
+        ensures leads { OnOk result (Leads (λ w s u. EndsFor w.graph (w.out occurrence) (head_of head.now) (w.at begin.0) (w.at exit.0) s u) self.old self.new) }
     {
         self.meet(begin)?;
         self.goal = exit;
@@ -343,10 +386,13 @@ impl<'a> Builder<'a> {
     // ---- jumps
     // `break` and `continue`: the variables of the blocks that are left become undefined.
     fn break_loop(&mut self, place: Place, context: Context<'a>) -> Result<(), BuildFault>
-        ensures { OnOk result (Leads (λ w s u. Lowers w.graph (around_of w context.entry) (break_loop place) s u) self.old self.new) }
+        requires turns { IsSome context.turns }
+        requires open { IsOpen (known self.old) context.block }
+        ensures same { OnOk result (Keeps self.old self.new) }
+        ensures leads { OnOk result (Leads (λ w s u. Lowers w.graph (around_of w context.entry) (break_loop place) s u) self.old self.new) }
     {
         let Some(turns) = context.turns else {
-            return Err(ABSENT);
+            unreachable!();
         };
         self.leave_blocks(place, context.occurrence, context.block)?;
         self.go(turns.exit)?;
@@ -354,10 +400,13 @@ impl<'a> Builder<'a> {
     }
 
     fn continue_loop(&mut self, place: Place, context: Context<'a>) -> Result<(), BuildFault>
-        ensures { OnOk result (Leads (λ w s u. Lowers w.graph (around_of w context.entry) (continue_loop place) s u) self.old self.new) }
+        requires turns { IsSome context.turns }
+        requires open { IsOpen (known self.old) context.block }
+        ensures same { OnOk result (Keeps self.old self.new) }
+        ensures leads { OnOk result (Leads (λ w s u. Lowers w.graph (around_of w context.entry) (continue_loop place) s u) self.old self.new) }
     {
         let Some(turns) = context.turns else {
-            return Err(ABSENT);
+            unreachable!();
         };
         self.leave_blocks(place, context.occurrence, context.block)?;
         self.go(turns.turn)?;
@@ -371,13 +420,17 @@ impl<'a> Builder<'a> {
         right: &RightSide,
         context: Context<'a>,
     ) -> Result<(), BuildFault>
-        ensures { OnOk result (Leads (λ w s u. Lowers w.graph (around_of w context.entry) (returns place (Some (right_of right.now))) s u) self.old self.new) }
+        requires answered { IsAnswered (known self.old) context.occurrence }
+        requires occurs { context.occurrence < (known self.old).state.occurrences }
+        requires right { IsPlainReady (known self.old) context.occurrence (right_of right.now) }
+        ensures same { OnOk result (Keeps self.old self.new) }
+        ensures leads { OnOk result (Leads (λ w s u. Lowers w.graph (around_of w context.entry) (returns place (Some (right_of right.now))) s u) self.old self.new) }
     {
         let site = Site {
             occurrence: context.occurrence,
             place,
         };
-        let variable = self.own_result(site.occurrence)?;
+        let variable = self.own_result(site.occurrence);
         self.set_to(site, variable, right)?;
         self.go_out(site.occurrence)?;
         Ok(())
@@ -391,7 +444,12 @@ impl<'a> Builder<'a> {
         right: &'a RightSide,
         context: Context<'a>,
     ) -> Result<(), BuildFault>
-        ensures { OnOk result (Begins (λ w s m. Lowers w.graph (around_of w context.entry) (returns place (Some (right_of right.now))) s m) self.old tasks.old self.new tasks.new) }
+        requires answered { IsAnswered (known self.old) context.occurrence }
+        requires occurs { context.occurrence < (known self.old).state.occurrences }
+        requires right { IsRightReady (known self.old) context.occurrence (right_of right.now) }
+        ensures source { OnOk result ((known self.new).source ≡ (known self.old).source) }
+        ensures ready { OnOk result (Later (known self.old) context.entry.occurrence [] tasks.old → Ready (known self.new) tasks.new) }
+        ensures leads { OnOk result (Begins (λ w s m. Lowers w.graph (around_of w context.entry) (returns place (Some (right_of right.now))) s m) self.old tasks.old self.new tasks.new) }
     {
         match right {
             RightSide::Call(call) => {
@@ -417,7 +475,11 @@ impl<'a> Builder<'a> {
         value: Option<&'a RightSide>,
         context: Context<'a>,
     ) -> Result<(), BuildFault>
-        ensures { OnOk result (Begins (λ w s m. Lowers w.graph (around_of w context.entry) (returns place (option_map (λ r. right_of r.now) value.entry)) s m) self.old tasks.old self.new tasks.new) }
+        requires occurs { context.occurrence < (known self.old).state.occurrences }
+        requires value { IsReturnReady (known self.old) context.occurrence (option_map (λ r. right_of r.now) value) }
+        ensures source { OnOk result ((known self.new).source ≡ (known self.old).source) }
+        ensures ready { OnOk result (Later (known self.old) context.entry.occurrence [] tasks.old → Ready (known self.new) tasks.new) }
+        ensures leads { OnOk result (Begins (λ w s m. Lowers w.graph (around_of w context.entry) (returns place (option_map (λ r. right_of r.now) value.entry)) s m) self.old tasks.old self.new tasks.new) }
     {
         match value {
             None => {
@@ -433,8 +495,11 @@ impl<'a> Builder<'a> {
 
     // A statement that needs nothing else is lowered.
     fn command(&mut self, statement: &Statement, context: Context<'a>) -> Result<(), BuildFault>
-        requires { IsCommand (statement_of statement.now) }
-        ensures { OnOk result (Leads (λ w s u. Lowers w.graph (around_of w context.entry) (statement_of statement.now) s u) self.old self.new) }
+        requires is_command { IsCommand (statement_of statement.now) }
+        requires fits { FitsStatement (known self.old) context (statement_of statement.now) }
+        ensures none { OnOk result (declared (statement_of statement.now) ≡ []) }
+        ensures same { OnOk result (Keeps self.old self.new) }
+        ensures leads { OnOk result (Leads (λ w s u. Lowers w.graph (around_of w context.entry) (statement_of statement.now) s u) self.old self.new) }
     {
         let occurrence = context.occurrence;
         match statement {
@@ -485,8 +550,11 @@ impl<'a> Builder<'a> {
         statement: &'a Statement,
         context: Context<'a>,
     ) -> Result<(), BuildFault>
-        requires { HasParts (statement_of statement.now) }
-        ensures { OnOk result (Begins (λ w s m. Lowers w.graph (around_of w context.entry) (statement_of statement.now) s m) self.old tasks.old self.new tasks.new) }
+        requires has_parts { HasParts (statement_of statement.now) }
+        requires fits { FitsStatement (known self.old) context (statement_of statement.now) }
+        ensures source { OnOk result ((known self.new).source ≡ (known self.old).source) }
+        ensures ready { OnOk result (Later (known self.old) context.entry.occurrence (declared (statement_of statement.now)) tasks.old → Ready (known self.new) tasks.new) }
+        ensures leads { OnOk result (Begins (λ w s m. Lowers w.graph (around_of w context.entry) (statement_of statement.now) s m) self.old tasks.old self.new tasks.new) }
     {
         match statement {
             Statement::Block(numbers, inner) => {
@@ -535,7 +603,10 @@ impl<'a> Builder<'a> {
         statement: &'a Statement,
         context: Context<'a>,
     ) -> Result<(), BuildFault>
-        ensures { OnOk result (Begins (λ w s m. Lowers w.graph (around_of w context.entry) (statement_of statement.now) s m) self.old tasks.old self.new tasks.new) }
+        requires { FitsStatement (known self.old) context (statement_of statement.now) }
+        ensures source { OnOk result ((known self.new).source ≡ (known self.old).source) }
+        ensures ready { OnOk result (Later (known self.old) context.entry.occurrence (declared (statement_of statement.now)) tasks.old → Ready (known self.new) tasks.new) }
+        ensures leads { OnOk result (Begins (λ w s m. Lowers w.graph (around_of w context.entry) (statement_of statement.now) s m) self.old tasks.old self.new tasks.new) }
     {
         match statement {
             Statement::Declaration(place, items) => {
@@ -581,7 +652,10 @@ impl<'a> Builder<'a> {
         statements: &'a [Statement],
         context: Context<'a>,
     ) -> Result<(), BuildFault>
-        ensures { OnOk result (Begins (λ w s m. LowersAll w.graph (around_of w context.entry) (stmts_of (map statement_of statements.now)) s m) self.old tasks.old self.new tasks.new) }
+        requires { FitsAll (known self.old) context (stmts_of (map statement_of statements.now)) }
+        ensures source { OnOk result ((known self.new).source ≡ (known self.old).source) }
+        ensures ready { OnOk result (Later (known self.old) context.entry.occurrence (all_declared (stmts_of (map statement_of statements.now))) tasks.old → Ready (known self.new) tasks.new) }
+        ensures leads { OnOk result (Begins (λ w s m. LowersAll w.graph (around_of w context.entry) (stmts_of (map statement_of statements.now)) s m) self.old tasks.old self.new tasks.new) }
     {
         let [first, more @ ..] = statements else {
             return Ok(());
@@ -593,8 +667,11 @@ impl<'a> Builder<'a> {
 
     // What stands behind the parts of a statement or of a call is lowered.
     fn behind(&mut self, task: Task<'a>) -> Result<(), BuildFault>
-        requires { IsBehind task }
-        ensures { OnOk result (Leads (λ w s u. Met w task.entry s u) self.old self.new) }
+        requires is_behind { IsBehind task }
+        requires needs { Needs (known self.old) task }
+        ensures none { OnOk result (makes task.entry ≡ []) }
+        ensures same { OnOk result (Keeps self.old self.new) }
+        ensures leads { OnOk result (Leads (λ w s u. Met w task.entry s u) self.old self.new) }
     {
         match task {
             Task::EndBlock(numbers, occurrence) => {
@@ -639,7 +716,10 @@ impl<'a> Builder<'a> {
 
     /// What is next is lowered, or what it is made of is next.
     pub fn step(&mut self, tasks: &mut Stack<Task<'a>>, task: Task<'a>) -> Result<(), BuildFault>
-        ensures { OnOk result (Begins (λ w s m. Met w task.entry s m) self.old tasks.old self.new tasks.new) }
+        requires { Ready (known self.old) (task ∷ tasks.old) }
+        ensures source { OnOk result ((known self.new).source ≡ (known self.old).source) }
+        ensures ready { OnOk result (Ready (known self.new) tasks.new) }
+        ensures leads { OnOk result (Begins (λ w s m. Met w task.entry s m) self.old tasks.old self.new tasks.new) }
     {
         match task {
             Task::Statements(statements, context) => {

@@ -15,13 +15,11 @@ pub struct Turns {
     pub turn: Label,
 }
 
-/// Where a statement stands: in an occurrence of a function, which has so many occurrences around it, inside a block, by its number,
-/// and inside a loop.
+/// Where a statement stands: in an occurrence of a function, inside a block, by its number, and inside a loop.
 #[derive(Clone, Copy)]
 pub struct Context<'a> {
     pub function: &'a Function,
     pub occurrence: usize,
-    pub depth: usize,
     pub block: Option<usize>,
     pub turns: Option<Turns>,
 }
@@ -29,12 +27,11 @@ pub struct Context<'a> {
 impl<'a> Context<'a> {
     /// Inside a block.
     pub fn in_block(self, block: usize) -> Context<'a>
-        ensures { result ≡ record { function = self.entry.function; occurrence = self.entry.occurrence; depth = self.entry.depth; block = Some block; turns = self.entry.turns } }
+        ensures { result ≡ record { function = self.entry.function; occurrence = self.entry.occurrence; block = Some block; turns = self.entry.turns } }
     {
         Context {
             function: self.function,
             occurrence: self.occurrence,
-            depth: self.depth,
             block: Some(block),
             turns: self.turns,
         }
@@ -42,12 +39,11 @@ impl<'a> Context<'a> {
 
     /// Inside a loop.
     pub fn in_loop(self, exit: Label, turn: Label) -> Context<'a>
-        ensures { result ≡ record { function = self.entry.function; occurrence = self.entry.occurrence; depth = self.entry.depth; block = None; turns = Some (record { exit = exit; turn = turn }) } }
+        ensures { result ≡ record { function = self.entry.function; occurrence = self.entry.occurrence; block = None; turns = Some (record { exit = exit; turn = turn }) } }
     {
         Context {
             function: self.function,
             occurrence: self.occurrence,
-            depth: self.depth,
             block: None,
             turns: Some(Turns { exit, turn }),
         }

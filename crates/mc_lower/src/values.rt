@@ -1,7 +1,8 @@
 // The points that compute the values of expressions.
-ghost use Rattle.std.specs.Prelude.{List, ◌≡◌, ◌∷◌, IfOk, OnOk, map, pos};
-ghost use Rattle.mc_flow.specs.Steps.{field_count};
+ghost use Rattle.std.specs.Prelude.{List, ◌≡◌, ◌<◌, ◌∷◌, IfOk, OnOk, length, map, pos, suc};
 ghost use Rattle.mc_flow.specs.Valid.{field_kind};
+ghost use Rattle.mc_lower.specs.Knowns.{Keeps, known};
+ghost use Rattle.mc_lower.specs.Ready.{AreReady, HasKind, HaveKinds, IsArgumentReady, IsNamed, IsReady, IsWorkReady};
 ghost use Rattle.mc_flow.specs.declared.instr.Operand.TheVariants.{Const};
 ghost use Rattle.mc_base.specs.declared.ids.VarId.{VarId};
 ghost use Rattle.mc_flow.specs.declared.instr.Operand.{Operand};
@@ -14,8 +15,8 @@ ghost use Rattle.mc_lower.specs.Valued.{Finishes, IsOperand, IsValue, JoinsParts
 ghost use Rattle.mc_lower.specs.Worlds.{Agrees, Leads, World, stage_of};
 ghost use Rattle.mc_lower.specs.declared.values.Work.TheVariants.{Join, Whole};
 
-use crate::builder::{ABSENT, BuildFault, Builder, Role};
-use mc_base::{Kind, PointId, StructId, VarId};
+use crate::builder::{BuildFault, Builder, Role};
+use mc_base::{Kind, PointId, VarId};
 use mc_defs::Structs;
 use mc_flow::{Instr, Operand};
 use mc_resolved::{Argument, Expression, FieldAt, LeftValue};
@@ -127,12 +128,13 @@ fn enter_join<'e>(
 }
 
 // The operand that was made last.
-fn last_made(made: &mut Stack<Operand>) -> Result<Operand, BuildFault>
-    ensures { IfOk result (λ o. made.old ≡ o ∷ made.new) }
+fn last_made(made: &mut Stack<Operand>) -> Operand
+    requires { 0 < length made.old }
+    ensures { made.old ≡ result ∷ made.new }
 {
     match made.pop() {
-        Some(operand) => Ok(operand),
-        None => Err(ABSENT),
+        Some(operand) => operand,
+        None => unreachable!(),
     }
 }
 
@@ -165,16 +167,6 @@ fn kind_of(structs: &Structs, field: FieldAt) -> Option<Kind>
     info.fields.get(field.field).map(|field| field.kind)
 }
 
-// How many fields a struct has.
-fn count_of(structs: &Structs, shape: StructId) -> usize
-    ensures { result ≡ field_count structs.now shape }
-{
-    match structs.list.get(shape.0 as usize) {
-        Some(info) => info.fields.len(),
-        None => 0,
-    }
-}
-
 impl<'a> Builder<'a> {
     // A variable is set to what an operation comes to.
     pub fn set(
@@ -183,7 +175,8 @@ impl<'a> Builder<'a> {
         variable: VarId,
         operation: Operation,
     ) -> Result<(), BuildFault>
-        ensures { OnOk result (Leads (λ w s u. Appends w.graph plain place (λ q. sets (operation_of operation) variable q) s u) self.old self.new) }
+        ensures same { OnOk result (Keeps self.old self.new) }
+        ensures leads { OnOk result (Leads (λ w s u. Appends w.graph plain place (λ q. sets (operation_of operation) variable q) s u) self.old self.new) }
     {
         let next = self.label()?;
         self.append(
@@ -203,7 +196,8 @@ impl<'a> Builder<'a> {
         operation: Operation,
         temporaries: &mut Vec<VarId>,
     ) -> Result<VarId, BuildFault>
-        ensures { IfOk result (λ t. (w : World) → Agrees w self.new → Agrees w self.old × Takes w.graph place kind (operation_of operation) temporaries.old.items (stage_of w self.old) t temporaries.new.items (stage_of w self.new)) }
+        ensures same { OnOk result (Keeps self.old self.new) }
+        ensures leads { IfOk result (λ t. (w : World) → Agrees w self.new → Agrees w self.old × Takes w.graph place kind (operation_of operation) temporaries.old.items (stage_of w self.old) t temporaries.new.items (stage_of w self.new)) }
     {
         let variable = self.temporary(temporaries.len(), kind)?;
         self.set(place, variable, operation)?;
@@ -212,23 +206,14 @@ impl<'a> Builder<'a> {
     }
 
     /// The kind of a field, which is there.
-    pub fn field_kind(&self, field: FieldAt) -> Result<Kind, BuildFault>
-        ensures { IfOk result (λ kind. (w : World) → Agrees w self.now → IsOfKind w.graph (field_of field) kind) }
+    pub fn field_kind(&self, field: FieldAt) -> Kind
+        requires { HasKind (known self.now).source.structs (field_of field) }
+        ensures { (w : World) → Agrees w self.now → IsOfKind w.graph (field_of field) result }
     {
         match kind_of(self.structs, field) {
-            Some(kind) => Ok(kind),
-            None => Err(ABSENT),
+            Some(kind) => kind,
+            None => unreachable!(),
         }
-    }
-
-    /// A struct has so many fields.
-    pub fn check_count(&self, shape: StructId, count: usize) -> Result<(), BuildFault>
-        ensures { OnOk result ((w : World) → Agrees w self.now → field_count w.graph.flow.structs shape ≡ count) }
-    {
-        if count_of(self.structs, shape) == count {} else {
-            return Err(ABSENT);
-        }
-        Ok(())
     }
 
     /// From a variable the fields but the last one are loaded: the variable that has the last one, and that field.
@@ -239,17 +224,21 @@ impl<'a> Builder<'a> {
         fields: &[FieldAt],
         temporaries: &mut Vec<VarId>,
     ) -> Result<(VarId, FieldAt), BuildFault>
-        ensures { IfOk result (λ r. (w : World) → Agrees w self.new → Agrees w self.old × Walks w.graph place start (map field_of fields.now) temporaries.old.items (stage_of w self.old) r.0 (field_of r.1) temporaries.new.items (stage_of w self.new)) }
+        requires some { 0 < length fields.now }
+        requires kinds { HaveKinds (known self.old).source.structs (map field_of fields.now) }
+        ensures same { OnOk result (Keeps self.old self.new) }
+        ensures kind { IfOk result (λ r. HasKind (known self.old).source.structs (field_of r.1)) }
+        ensures leads { IfOk result (λ r. (w : World) → Agrees w self.new → Agrees w self.old × Walks w.graph place start (map field_of fields.now) temporaries.old.items (stage_of w self.old) r.0 (field_of r.1) temporaries.new.items (stage_of w self.new)) }
     {
         let mut base = start;
         for at in 0..fields.len() {
             if at + 1 == fields.len() {
                 return Ok((base, fields[at]));
             }
-            let kind = self.field_kind(fields[at])?;
+            let kind = self.field_kind(fields[at]);
             base = self.take(place, kind, Operation::Field(base, fields[at]), temporaries)?;
         }
-        Err(ABSENT)
+        unreachable!()
     }
 
     // The value of a variable, or of fields behind it.
@@ -259,14 +248,16 @@ impl<'a> Builder<'a> {
         left: &LeftValue,
         temporaries: &mut Vec<VarId>,
     ) -> Result<Value, BuildFault>
-        ensures { IfOk result (λ v. (w : World) → Agrees w self.new → Agrees w self.old × IsValue w.graph (w.out site.occurrence) site.place (value (left_of left.now)) temporaries.old.items (stage_of w self.old) v temporaries.new.items (stage_of w self.new)) }
+        requires { IsNamed (known self.old) site.occurrence (left_of left.now) }
+        ensures same { OnOk result (Keeps self.old self.new) }
+        ensures leads { IfOk result (λ v. (w : World) → Agrees w self.new → Agrees w self.old × IsValue w.graph (w.out site.occurrence) site.place (value (left_of left.now)) temporaries.old.items (stage_of w self.old) v temporaries.new.items (stage_of w self.new)) }
     {
-        let variable = self.local(site.occurrence, left.variable)?;
+        let variable = self.local(site.occurrence, left.variable);
         if left.fields.is_empty() {
             return Ok(Value::Ready(Operand::Var(variable)));
         }
         let (base, last) = self.walk(site.place, variable, left.fields.as_slice(), temporaries)?;
-        let kind = self.field_kind(last)?;
+        let kind = self.field_kind(last);
         Ok(Value::Computed(kind, Operation::Field(base, last)))
     }
 
@@ -277,7 +268,8 @@ impl<'a> Builder<'a> {
         known: Value,
         temporaries: &mut Vec<VarId>,
     ) -> Result<Operand, BuildFault>
-        ensures { IfOk result (λ o. (w : World) → Agrees w self.new → Agrees w self.old × IsOperand w.graph place known temporaries.old.items (stage_of w self.old) o temporaries.new.items (stage_of w self.new)) }
+        ensures same { OnOk result (Keeps self.old self.new) }
+        ensures leads { IfOk result (λ o. (w : World) → Agrees w self.new → Agrees w self.old × IsOperand w.graph place known temporaries.old.items (stage_of w self.old) o temporaries.new.items (stage_of w self.new)) }
     {
         match known {
             Value::Ready(operand) => Ok(operand),
@@ -296,7 +288,9 @@ impl<'a> Builder<'a> {
         made: &mut Stack<Operand>,
         temporaries: &mut Vec<VarId>,
     ) -> Result<(), BuildFault>
-        ensures { OnOk result ((w : World) → Agrees w self.new → Agrees w self.old × Made w.graph place (operation_of operation) temporaries.old.items (stage_of w self.old) made.old temporaries.new.items (stage_of w self.new) made.new) }
+        ensures same { OnOk result (Keeps self.old self.new) }
+        ensures more { OnOk result (length made.new ≡ suc (length made.old)) }
+        ensures leads { OnOk result ((w : World) → Agrees w self.new → Agrees w self.old × Made w.graph place (operation_of operation) temporaries.old.items (stage_of w self.old) made.old temporaries.new.items (stage_of w self.new) made.new) }
     {
         let variable = self.take(place, Kind::Int, operation, temporaries)?;
         made.push(Operand::Var(variable))?;
@@ -312,7 +306,11 @@ impl<'a> Builder<'a> {
         made: &mut Stack<Operand>,
         temporaries: &mut Vec<VarId>,
     ) -> Result<(), BuildFault>
-        ensures { OnOk result ((w : World) (o : Operand) (ts : List VarId) (u : Stage) → Agrees w self.new → Finishes w.graph (w.out site.occurrence) site.place work.new made.new temporaries.new.items (stage_of w self.new) o ts u → Agrees w self.old × Finishes w.graph (w.out site.occurrence) site.place (Whole expression.entry ∷ work.old) made.old temporaries.old.items (stage_of w self.old) o ts u) }
+        requires ready { IsReady (known self.old) site.occurrence (expression_of expression.now) }
+        requires others { IsWorkReady (known self.old) site.occurrence work.old (suc (length made.old)) }
+        ensures same { OnOk result (Keeps self.old self.new) }
+        ensures ready { OnOk result (IsWorkReady (known self.new) site.occurrence work.new (length made.new)) }
+        ensures leads { OnOk result ((w : World) (o : Operand) (ts : List VarId) (u : Stage) → Agrees w self.new → Finishes w.graph (w.out site.occurrence) site.place work.new made.new temporaries.new.items (stage_of w self.new) o ts u → Agrees w self.old × Finishes w.graph (w.out site.occurrence) site.place (Whole expression.entry ∷ work.old) made.old temporaries.old.items (stage_of w self.old) o ts u) }
     {
         match expression {
             Expression::Number(number) => {
@@ -358,7 +356,10 @@ impl<'a> Builder<'a> {
         made: &mut Stack<Operand>,
         temporaries: &mut Vec<VarId>,
     ) -> Result<(), BuildFault>
-        ensures { OnOk result ((w : World) (o : Operand) (ts : List VarId) (u : Stage) → Agrees w self.new → Finishes w.graph (w.out site.occurrence) site.place work.new made.new temporaries.new.items (stage_of w self.new) o ts u → Agrees w self.old × Finishes w.graph (w.out site.occurrence) site.place (next.entry ∷ work.old) made.old temporaries.old.items (stage_of w self.old) o ts u) }
+        requires { IsWorkReady (known self.old) site.occurrence (next ∷ work.old) (length made.old) }
+        ensures same { OnOk result (Keeps self.old self.new) }
+        ensures ready { OnOk result (IsWorkReady (known self.new) site.occurrence work.new (length made.new)) }
+        ensures leads { OnOk result ((w : World) (o : Operand) (ts : List VarId) (u : Stage) → Agrees w self.new → Finishes w.graph (w.out site.occurrence) site.place work.new made.new temporaries.new.items (stage_of w self.new) o ts u → Agrees w self.old × Finishes w.graph (w.out site.occurrence) site.place (next.entry ∷ work.old) made.old temporaries.old.items (stage_of w self.old) o ts u) }
     {
         match next {
             Work::Whole(expression) => {
@@ -366,14 +367,14 @@ impl<'a> Builder<'a> {
                 Ok(())
             }
             Work::Minus => {
-                let operand = last_made(made)?;
+                let operand = last_made(made);
                 let operation = Operation::Difference(nothing(), operand);
                 self.make(site.place, operation, made, temporaries)?;
                 Ok(())
             }
             Work::Join(how) => {
-                let right = last_made(made)?;
-                let left = last_made(made)?;
+                let right = last_made(made);
+                let left = last_made(made);
                 self.make(site.place, how.of(left, right), made, temporaries)?;
                 Ok(())
             }
@@ -387,7 +388,9 @@ impl<'a> Builder<'a> {
         expression: &Expression,
         temporaries: &mut Vec<VarId>,
     ) -> Result<Operand, BuildFault>
-        ensures { IfOk result (λ o. (w : World) → Agrees w self.new → Agrees w self.old × Evaluates w.graph (w.out site.occurrence) site.place (expression_of expression.now) temporaries.old.items (stage_of w self.old) o temporaries.new.items (stage_of w self.new)) }
+        requires { IsReady (known self.old) site.occurrence (expression_of expression.now) }
+        ensures same { OnOk result (Keeps self.old self.new) }
+        ensures leads { IfOk result (λ o. (w : World) → Agrees w self.new → Agrees w self.old × Evaluates w.graph (w.out site.occurrence) site.place (expression_of expression.now) temporaries.old.items (stage_of w self.old) o temporaries.new.items (stage_of w self.new)) }
     {
         let mut work = Stack::new(self.alloc);
         let mut made = Stack::new(self.alloc);
@@ -396,7 +399,7 @@ impl<'a> Builder<'a> {
             match work.pop() {
                 Some(next) => { self.evaluate_next(site, next, &mut work, &mut made, temporaries)? }
                 None => {
-                    let operand = last_made(&mut made)?;
+                    let operand = last_made(&mut made);
                     return Ok(operand);
                 }
             }
@@ -413,7 +416,10 @@ impl<'a> Builder<'a> {
         right: &Expression,
         temporaries: &mut Vec<VarId>,
     ) -> Result<Value, BuildFault>
-        ensures { IfOk result (λ v. (w : World) → Agrees w self.new → Agrees w self.old × JoinsParts w.graph (w.out site.occurrence) site.place how (expression_of left.now) (expression_of right.now) temporaries.old.items (stage_of w self.old) v temporaries.new.items (stage_of w self.new)) }
+        requires left { IsReady (known self.old) site.occurrence (expression_of left.now) }
+        requires right { IsReady (known self.old) site.occurrence (expression_of right.now) }
+        ensures same { OnOk result (Keeps self.old self.new) }
+        ensures leads { IfOk result (λ v. (w : World) → Agrees w self.new → Agrees w self.old × JoinsParts w.graph (w.out site.occurrence) site.place how (expression_of left.now) (expression_of right.now) temporaries.old.items (stage_of w self.old) v temporaries.new.items (stage_of w self.new)) }
     {
         let left = self.evaluate(site, left, temporaries)?;
         let right = self.evaluate(site, right, temporaries)?;
@@ -427,7 +433,9 @@ impl<'a> Builder<'a> {
         expression: &Expression,
         temporaries: &mut Vec<VarId>,
     ) -> Result<Value, BuildFault>
-        ensures { IfOk result (λ v. (w : World) → Agrees w self.new → Agrees w self.old × IsValue w.graph (w.out site.occurrence) site.place (expression_of expression.now) temporaries.old.items (stage_of w self.old) v temporaries.new.items (stage_of w self.new)) }
+        requires { IsReady (known self.old) site.occurrence (expression_of expression.now) }
+        ensures same { OnOk result (Keeps self.old self.new) }
+        ensures leads { IfOk result (λ v. (w : World) → Agrees w self.new → Agrees w self.old × IsValue w.graph (w.out site.occurrence) site.place (expression_of expression.now) temporaries.old.items (stage_of w self.old) v temporaries.new.items (stage_of w self.new)) }
     {
         match expression {
             Expression::Number(number) => Ok(Value::Ready(number_of(*number))),
@@ -463,7 +471,10 @@ impl<'a> Builder<'a> {
         expressions: &[Expression],
         temporaries: &mut Vec<VarId>,
     ) -> Result<Vec<Operand>, BuildFault>
-        ensures { IfOk result (λ os. (w : World) → Agrees w self.new → Agrees w self.old × EvaluatesAll w.graph (w.out site.occurrence) site.place (map expression_of expressions.now) temporaries.old.items (stage_of w self.old) os.items temporaries.new.items (stage_of w self.new)) }
+        requires { AreReady (known self.old) site.occurrence (map expression_of expressions.now) }
+        ensures same { OnOk result (Keeps self.old self.new) }
+        ensures count { IfOk result (λ os. length os.items ≡ length expressions.now) }
+        ensures leads { IfOk result (λ os. (w : World) → Agrees w self.new → Agrees w self.old × EvaluatesAll w.graph (w.out site.occurrence) site.place (map expression_of expressions.now) temporaries.old.items (stage_of w self.old) os.items temporaries.new.items (stage_of w self.new)) }
     {
         let mut operands = Vec::new(self.alloc);
         for at in 0..expressions.len() {
@@ -474,15 +485,16 @@ impl<'a> Builder<'a> {
     }
 
     // The operand of a shape's argument.
-    pub fn argument(&self, occurrence: usize, argument: Argument) -> Result<Operand, BuildFault>
-        ensures { IfOk result (λ o. (w : World) → Agrees w self.now → IsArgument w.graph (w.out occurrence) (stage_of w self.now) (argument_of argument) o) }
+    pub fn argument(&self, occurrence: usize, argument: Argument) -> Operand
+        requires { IsArgumentReady (known self.now) occurrence (argument_of argument) }
+        ensures { (w : World) → Agrees w self.now → IsArgument w.graph (w.out occurrence) (stage_of w self.now) (argument_of argument) result }
     {
         match argument {
             Argument::Variable(number) => {
-                let variable = self.local(occurrence, number)?;
-                Ok(Operand::Var(variable))
+                let variable = self.local(occurrence, number);
+                Operand::Var(variable)
             }
-            Argument::Constant(value) => Ok(constant(value)),
+            Argument::Constant(value) => constant(value),
         }
     }
 }

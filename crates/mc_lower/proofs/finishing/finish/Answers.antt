@@ -1,6 +1,6 @@
 use Rattle.std.proofs.Common.{◌≡◌, List, sym, subst, map}
 use Rattle.mc_flow.specs.declared.graph.Point.{Point}
-use Rattle.mc_lowering.specs.Graphs.{Role, head, merge, stop}
+use Rattle.mc_lowering.specs.Graphs.{head, merge, stop}
 use Rattle.mc_lowering.specs.Lowering.{AreThresholds}
 use Rattle.mc_lower.specs.declared.builder.Draft.{Draft}
 use Rattle.mc_lower.specs.Finished.{AreThose, point_at}

@@ -1,5 +1,5 @@
 use Rattle.std.proofs.Common.{◌≡◌, ◌++◌, map}
-use Rattle.mc_lower.specs.declared.builder.Variable.{Variable}
+use Rattle.mc_lower.specs.declared.variables.Variable.{Variable}
 use Rattle.mc_lower.proofs.finishing.infos.Given as goal
 
 abbrev pub invariant-loop-variable : goal.invariant-loop-variable

@@ -1,4 +1,4 @@
-use Rattle.std.proofs.Common.{◌≡◌, ◌<◌, ◌≤◌, ◌+◌, Some, refl, sym, ap, subst, ◌∙◌, true, false, length, Vec, Global, arith}
+use Rattle.std.proofs.Common.{◌≡◌, ◌<◌, ◌≤◌, ◌+◌, Some, sym, ap, subst, ◌∙◌, true, false, length, Vec, Global, arith}
 use Rattle.std.proofs.lemmas.Option.{slice_get-get_or}
 use Rattle.mc_base.specs.declared.ids.PointId.{PointId}
 use Rattle.mc_lower.specs.Finished.{AreThose}

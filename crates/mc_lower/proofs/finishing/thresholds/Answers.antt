@@ -1,4 +1,4 @@
-use Rattle.std.proofs.Common.{◌≡◌, sym, subst, map}
+use Rattle.std.proofs.Common.{sym, subst, map}
 use Rattle.std.proofs.lemmas.List.Filters.{dedup_is}
 use Rattle.mc_lowering.specs.Lowering.{AreThresholds}
 use Rattle.mc_lower.specs.Worlds.{point_in}

@@ -1,5 +1,5 @@
-use Rattle.std.proofs.Common.{◌<◌, ◌≤◌, arith}
-use Rattle.mc_lower.proofs.Measuring.{are_too_long, are_short}
+use Rattle.std.proofs.Common.{arith}
+use Rattle.mc_lower.proofs.Measuring.{are_too_long, are_short, few_there}
 use Rattle.mc_lower.proofs.lowering.lower.Goals as goal
 
 pub returns-then-points-gt-MAX_POINTS-clause-long : goal.returns-then-points-gt-MAX_POINTS-clause-long
@@ -11,3 +11,8 @@ pub returns-in-Err-Absent-clause-absent : goal.returns-in-Err-Absent-clause-abse
 returns-in-Err-Absent-clause-absent c =
     let few = c.if-points-gt-MAX_POINTS.false in
     λ same. are_short c.args.program.now c.args.structs.now c.in-Ok.points c.in-Ok.ensures (omega arith)
+
+pub returns-in-Ok-build-clause-short : goal.returns-in-Ok-build-clause-short
+returns-in-Ok-build-clause-short c =
+    let few = c.if-points-gt-MAX_POINTS.false in
+    few_there c.args.program.now c.args.structs.now c.in-Ok.points c.in-Ok-build.lowered c.in-Ok.ensures (omega arith) c.in-Ok-build.ensures.flow

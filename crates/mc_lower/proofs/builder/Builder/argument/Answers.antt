@@ -8,10 +8,10 @@ use Rattle.mc_lowering.specs.Lowering.{IsArgument, is_variable, is_constant}
 use Rattle.mc_lower.specs.Worlds.{stage_of}
 use Rattle.mc_lower.proofs.builder.Builder.argument.Goals as goal
 
-pub returns-in_ok-variable-in-Variable : goal.returns-in_ok-variable-in-Variable
-returns-in_ok-variable-in-Variable c = λ w agrees.
-    subst (λ a. IsArgument w.graph (w.out c.args.occurrence) (stage_of w c.args.self.now) (argument_of a) (Var c.in_ok-variable-in-Variable.variable)) (sym c.in-Variable.is)
-    (is_variable (c.in_ok-variable-in-Variable.ensures w agrees))
+pub returns-in-Variable : goal.returns-in-Variable
+returns-in-Variable c = λ w agrees.
+    subst (λ a. IsArgument w.graph (w.out c.args.occurrence) (stage_of w c.args.self.now) (argument_of a) (Var c.local-variable.result)) (sym c.in-Variable.is)
+    (is_variable (c.local-variable.ensures w agrees))
 
 pub returns-in-Constant : goal.returns-in-Constant
 returns-in-Constant c = λ w agrees.

@@ -1,49 +1,112 @@
-use Rattle.std.proofs.Common.{map, sym, subst}
+use Rattle.mc_lower.proofs.Readying.{nothing_made}
+use Rattle.mc_lower.specs.Knowns.{known}
+use Rattle.mc_lower.specs.Ready.{Needs}
+use Rattle.std.proofs.Common.{sym, subst}
 use Rattle.mc_lower.specs.Left.{Met}
 use Rattle.mc_lower.specs.Worlds.{stage_of}
 use Rattle.mc_lower.proofs.builder.Builder.behind.Goals as goal
 
-pub returns-in_ok-leave-in-EndBlock : goal.returns-in_ok-leave-in-EndBlock
-returns-in_ok-leave-in-EndBlock c = λ w agrees.
-    let e = c.in_ok-leave-in-EndBlock.ensures w agrees in
+pub returns-in_ok-leave-in-EndBlock-clause-leads : goal.returns-in_ok-leave-in-EndBlock-clause-leads
+returns-in_ok-leave-in-EndBlock-clause-leads c = λ w agrees.
+    let e = c.in_ok-leave-in-EndBlock.ensures.leads w agrees in
     (e.0, subst (λ t. Met w t (stage_of w c.args.self.now) (stage_of w c.leave.new.self)) (sym c.in-EndBlock.is) e.1)
 
-pub returns-in_ok-otherwise-in-Otherwise : goal.returns-in_ok-otherwise-in-Otherwise
-returns-in_ok-otherwise-in-Otherwise c = λ w agrees.
-    let e = c.in_ok-otherwise-in-Otherwise.ensures w agrees in
+pub returns-in_ok-otherwise-in-Otherwise-clause-leads : goal.returns-in_ok-otherwise-in-Otherwise-clause-leads
+returns-in_ok-otherwise-in-Otherwise-clause-leads c = λ w agrees.
+    let e = c.in_ok-otherwise-in-Otherwise.ensures.leads w agrees in
     (e.0, subst (λ t. Met w t (stage_of w c.args.self.now) (stage_of w c.otherwise.new.self)) (sym c.in-Otherwise.is) e.1)
 
-pub returns-in_ok-merge-in-Merge : goal.returns-in_ok-merge-in-Merge
-returns-in_ok-merge-in-Merge c = λ w agrees.
-    let e = c.in_ok-merge-in-Merge.ensures w agrees in
+pub returns-in_ok-merge-in-Merge-clause-leads : goal.returns-in_ok-merge-in-Merge-clause-leads
+returns-in_ok-merge-in-Merge-clause-leads c = λ w agrees.
+    let e = c.in_ok-merge-in-Merge.ensures.leads w agrees in
     (e.0, subst (λ t. Met w t (stage_of w c.args.self.now) (stage_of w c.merge.new.self)) (sym c.in-Merge.is) e.1)
 
-pub returns-in_ok-end_while-in-EndWhile : goal.returns-in_ok-end_while-in-EndWhile
-returns-in_ok-end_while-in-EndWhile c = λ w agrees.
-    let e = c.in_ok-end_while-in-EndWhile.ensures w agrees in
+pub returns-in_ok-end_while-in-EndWhile-clause-leads : goal.returns-in_ok-end_while-in-EndWhile-clause-leads
+returns-in_ok-end_while-in-EndWhile-clause-leads c = λ w agrees.
+    let e = c.in_ok-end_while-in-EndWhile.ensures.leads w agrees in
     (e.0, subst (λ t. Met w t (stage_of w c.args.self.now) (stage_of w c.end_while.new.self)) (sym c.in-EndWhile.is) e.1)
 
-pub returns-in_ok-end_do-in-EndDo : goal.returns-in_ok-end_do-in-EndDo
-returns-in_ok-end_do-in-EndDo c = λ w agrees.
-    let e = c.in_ok-end_do-in-EndDo.ensures w agrees in
+pub returns-in_ok-end_do-in-EndDo-clause-leads : goal.returns-in_ok-end_do-in-EndDo-clause-leads
+returns-in_ok-end_do-in-EndDo-clause-leads c = λ w agrees.
+    let e = c.in_ok-end_do-in-EndDo.ensures.leads w agrees in
     (e.0, subst (λ t. Met w t (stage_of w c.args.self.now) (stage_of w c.end_do.new.self)) (sym c.in-EndDo.is) e.1)
 
-pub returns-in_ok-end_for-in-EndFor : goal.returns-in_ok-end_for-in-EndFor
-returns-in_ok-end_for-in-EndFor c = λ w agrees.
-    let e = c.in_ok-end_for-in-EndFor.ensures w agrees in
+pub returns-in_ok-end_for-in-EndFor-clause-leads : goal.returns-in_ok-end_for-in-EndFor-clause-leads
+returns-in_ok-end_for-in-EndFor-clause-leads c = λ w agrees.
+    let e = c.in_ok-end_for-in-EndFor.ensures.leads w agrees in
     (e.0, subst (λ t. Met w t (stage_of w c.args.self.now) (stage_of w c.end_for.new.self)) (sym c.in-EndFor.is) e.1)
 
-pub returns-in_ok-end_call-in-EndCall : goal.returns-in_ok-end_call-in-EndCall
-returns-in_ok-end_call-in-EndCall c = λ w agrees.
-    let e = c.in_ok-end_call-in-EndCall.ensures w agrees in
+pub returns-in_ok-end_call-in-EndCall-clause-leads : goal.returns-in_ok-end_call-in-EndCall-clause-leads
+returns-in_ok-end_call-in-EndCall-clause-leads c = λ w agrees.
+    let e = c.in_ok-end_call-in-EndCall.ensures.leads w agrees in
     (e.0, subst (λ t. Met w t (stage_of w c.args.self.now) (stage_of w c.end_call.new.self)) (sym c.in-EndCall.is) e.1)
 
-pub returns-in_ok-take_result-in-Take : goal.returns-in_ok-take_result-in-Take
-returns-in_ok-take_result-in-Take c = λ w agrees.
-    let e = c.in_ok-take_result-in-Take.ensures w agrees in
+pub returns-in_ok-take_result-in-Take-clause-leads : goal.returns-in_ok-take_result-in-Take-clause-leads
+returns-in_ok-take_result-in-Take-clause-leads c = λ w agrees.
+    let e = c.in_ok-take_result-in-Take.ensures.leads w agrees in
     (e.0, subst (λ t. Met w t (stage_of w c.args.self.now) (stage_of w c.take_result.new.self)) (sym c.in-Take.is) e.1)
 
-pub returns-in_ok-answer_result-in-Answer : goal.returns-in_ok-answer_result-in-Answer
-returns-in_ok-answer_result-in-Answer c = λ w agrees.
-    let e = c.in_ok-answer_result-in-Answer.ensures w agrees in
+pub returns-in_ok-answer_result-in-Answer-clause-leads : goal.returns-in_ok-answer_result-in-Answer-clause-leads
+returns-in_ok-answer_result-in-Answer-clause-leads c = λ w agrees.
+    let e = c.in_ok-answer_result-in-Answer.ensures.leads w agrees in
     (e.0, subst (λ t. Met w t (stage_of w c.args.self.now) (stage_of w c.answer_result.new.self)) (sym c.in-Answer.is) e.1)
+
+pub returns-in_ok-leave-in-EndBlock-clause-none : goal.returns-in_ok-leave-in-EndBlock-clause-none
+returns-in_ok-leave-in-EndBlock-clause-none c =
+    nothing_made c.args.task c.requires.is_behind
+
+pub returns-in_ok-otherwise-in-Otherwise-clause-none : goal.returns-in_ok-otherwise-in-Otherwise-clause-none
+returns-in_ok-otherwise-in-Otherwise-clause-none c =
+    nothing_made c.args.task c.requires.is_behind
+
+pub returns-in_ok-merge-in-Merge-clause-none : goal.returns-in_ok-merge-in-Merge-clause-none
+returns-in_ok-merge-in-Merge-clause-none c =
+    nothing_made c.args.task c.requires.is_behind
+
+pub returns-in_ok-end_while-in-EndWhile-clause-none : goal.returns-in_ok-end_while-in-EndWhile-clause-none
+returns-in_ok-end_while-in-EndWhile-clause-none c =
+    nothing_made c.args.task c.requires.is_behind
+
+pub returns-in_ok-end_do-in-EndDo-clause-none : goal.returns-in_ok-end_do-in-EndDo-clause-none
+returns-in_ok-end_do-in-EndDo-clause-none c =
+    nothing_made c.args.task c.requires.is_behind
+
+pub returns-in_ok-end_for-in-EndFor-clause-none : goal.returns-in_ok-end_for-in-EndFor-clause-none
+returns-in_ok-end_for-in-EndFor-clause-none c =
+    nothing_made c.args.task c.requires.is_behind
+
+pub returns-in_ok-end_call-in-EndCall-clause-none : goal.returns-in_ok-end_call-in-EndCall-clause-none
+returns-in_ok-end_call-in-EndCall-clause-none c =
+    nothing_made c.args.task c.requires.is_behind
+
+pub returns-in_ok-take_result-in-Take-clause-none : goal.returns-in_ok-take_result-in-Take-clause-none
+returns-in_ok-take_result-in-Take-clause-none c =
+    nothing_made c.args.task c.requires.is_behind
+
+pub returns-in_ok-answer_result-in-Answer-clause-none : goal.returns-in_ok-answer_result-in-Answer-clause-none
+returns-in_ok-answer_result-in-Answer-clause-none c =
+    nothing_made c.args.task c.requires.is_behind
+
+pub end_do-requires : goal.end_do-requires
+end_do-requires c =
+    subst (λ t. Needs (known c.args.self.now) t) c.in-EndDo.is c.requires.needs
+
+pub end_call-requires : goal.end_call-requires
+end_call-requires c =
+    subst (λ t. Needs (known c.args.self.now) t) c.in-EndCall.is c.requires.needs
+
+pub take_result-requires-clause-named : goal.take_result-requires-clause-named
+take_result-requires-clause-named c =
+    let both = subst (λ t. Needs (known c.args.self.now) t) c.in-Take.is c.requires.needs in both.0
+
+pub take_result-requires-clause-some : goal.take_result-requires-clause-some
+take_result-requires-clause-some c =
+    let both = subst (λ t. Needs (known c.args.self.now) t) c.in-Take.is c.requires.needs in both.1
+
+pub answer_result-requires-clause-occurs : goal.answer_result-requires-clause-occurs
+answer_result-requires-clause-occurs c =
+    let both = subst (λ t. Needs (known c.args.self.now) t) c.in-Answer.is c.requires.needs in both.0
+
+pub answer_result-requires-clause-some : goal.answer_result-requires-clause-some
+answer_result-requires-clause-some c =
+    let both = subst (λ t. Needs (known c.args.self.now) t) c.in-Answer.is c.requires.needs in both.1

@@ -8,13 +8,13 @@ use Rattle.mc_lower.specs.Worlds.{stage_of}
 use Rattle.mc_lower.proofs.Agreeing.{is_none}
 use Rattle.mc_lower.proofs.builder.Builder.change.Goals as goal
 
-pub returns-then-is_empty : goal.returns-then-is_empty
-returns-then-is_empty c = λ w agrees.
+pub returns-then-is_empty-clause-leads : goal.returns-then-is_empty-clause-leads
+returns-then-is_empty-clause-leads c = λ w agrees.
     let f = c.is_empty.ensures in
     let o = c.args.left.now.fields.ok.0 in
     let none : length c.args.left.now.fields.items ≡ 0 = grind (arith, nat_tests, c.if-is_empty.true) in
-    let changed = c.in_ok-change_variable.ensures w agrees in
-    let value = c.in_ok-operand.ensures w changed.0 in
+    let changed = c.in_ok-change_variable.ensures.leads w agrees in
+    let value = c.in_ok-operand.ensures.leads w changed.0 in
     let e = expression_of c.args.expression.now in
     let s = stage_of w c.args.self.now in
     let m = stage_of w c.evaluate.new.self in
@@ -26,10 +26,10 @@ returns-then-is_empty c = λ w agrees.
           (sym (is_none c.args.left.now.fields.items none)) (changed.1 e s as_slice),
     )
 
-pub returns : goal.returns
-returns c = λ w agrees.
-    let changed = c.in_ok-change_field.ensures w agrees in
-    let value = c.in_ok-operand.ensures w changed.0 in
+pub returns-clause-leads : goal.returns-clause-leads
+returns-clause-leads c = λ w agrees.
+    let changed = c.in_ok-change_field.ensures.leads w agrees in
+    let value = c.in_ok-operand.ensures.leads w changed.0 in
     let e = expression_of c.args.expression.now in
     let s = stage_of w c.args.self.now in
     (value.0, changed.1 e s (subst (λ l. Evaluates w.graph (w.out c.args.site.occurrence) c.args.site.place e l s c.in_ok-operand.operand c.evaluate.new.temporaries.items (stage_of w c.evaluate.new.self)) c.new-temporaries.ensures.items value.1))

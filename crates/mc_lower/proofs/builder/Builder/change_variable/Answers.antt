@@ -5,9 +5,9 @@ use Rattle.mc_lowering.specs.Lowering.{changes_variable}
 use Rattle.mc_lower.specs.Worlds.{stage_of}
 use Rattle.mc_lower.proofs.builder.Builder.change_variable.Goals as goal
 
-pub returns : goal.returns
-returns c = λ w agrees.
-    let undefined = c.in_ok-undefine.ensures w agrees in
-    let put = c.in_ok-set.ensures w undefined.0 in
-    let appended = subst (λ op. Appends w.graph plain c.args.site.place (λ q. sets op c.in_ok-variable.variable q) (stage_of w c.args.self.now) (stage_of w c.set.new.self)) c.of.ensures put.1 in
-    (put.0, λ e r value. changes_variable value (c.in_ok-variable.ensures w put.0) appended undefined.1)
+pub returns-clause-leads : goal.returns-clause-leads
+returns-clause-leads c = λ w agrees.
+    let undefined = c.in_ok-undefine.ensures.leads w agrees in
+    let put = c.in_ok-set.ensures.leads w undefined.0 in
+    let appended = subst (λ op. Appends w.graph plain c.args.site.place (λ q. sets op c.local-variable.result q) (stage_of w c.args.self.now) (stage_of w c.set.new.self)) c.of.ensures put.1 in
+    (put.0, λ e r value. changes_variable value (c.local-variable.ensures w put.0) appended undefined.1)

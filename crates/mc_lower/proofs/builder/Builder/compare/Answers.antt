@@ -2,11 +2,11 @@ use Rattle.std.proofs.Common.{◌∙◌}
 use Rattle.mc_lower.proofs.Testing.{compared}
 use Rattle.mc_lower.proofs.builder.Builder.compare.Goals as goal
 
-pub returns : goal.returns
-returns c = λ w agrees.
-    let second = c.in_ok-clear-2.ensures w agrees in
-    let first = c.in_ok-clear.ensures w second.0 in
-    let put = c.in_ok-put.ensures w first.0 in
+pub returns-clause-leads : goal.returns-clause-leads
+returns-clause-leads c = λ w agrees.
+    let second = c.in_ok-clear-2.ensures.leads w agrees in
+    let first = c.in_ok-clear.ensures.leads w second.0 in
+    let put = c.in_ok-put.ensures.leads w first.0 in
     let second_label = c.in_ok-no.ensures.kept w put.0 in
     let first_label = c.in_ok-yes.ensures.kept w second_label.0 in (
       first_label.0,

@@ -4,9 +4,9 @@ use Rattle.mc_lower.specs.Left.{around_of, turns_in}
 use Rattle.mc_lower.proofs.Meeting.{continued}
 use Rattle.mc_lower.proofs.builder.Builder.continue_loop.Goals as goal
 
-pub returns : goal.returns
-returns c = λ w agrees.
-    let gone = c.in_ok-go.ensures w agrees in
-    let left = c.in_ok-leave_blocks.ensures w gone.0 in
+pub returns-clause-leads : goal.returns-clause-leads
+returns-clause-leads c = λ w agrees.
+    let gone = c.in_ok-go.ensures.leads w agrees in
+    let left = c.in_ok-leave_blocks.ensures.leads w gone.0 in
     let turns = c.in-Some.turns in
     (left.0, continued w.graph (around_of w c.args.context) c.args.place (turns_in w turns) _ _ _ (ap (λ o. option_map (λ t. turns_in w t) o) c.in-Some.is) left.1 gone.1)

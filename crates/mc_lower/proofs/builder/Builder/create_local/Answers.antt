@@ -1,16 +1,17 @@
+use Rattle.mc_lower.specs.declared.variables.Owner.{Owner}
+use Rattle.mc_lower.proofs.Having.{new_if}
 use Rattle.std.proofs.Common.{subst, sym, ap, refl, ◌∙◌, length}
 use Rattle.std.proofs.lemmas.Option.{slice_get-map, slice_get_read}
 use Rattle.std.specs.Prelude.{option_map, slice_get}
-use Rattle.mc_base.specs.declared.plain.VarInfo.{VarInfo}
 use Rattle.mc_resolved.specs.Views.{local_of}
 use Rattle.mc_lowering.specs.Graphs.{local, Creates}
 use Rattle.mc_lower.specs.Worlds.{stage_of}
 use Rattle.mc_lower.proofs.Owning.{info_same}
 use Rattle.mc_lower.proofs.builder.Builder.create_local.Goals as goal
 
-pub returns : goal.returns
-returns c = λ w agrees.
-    let made = c.in_ok-variable.ensures w agrees in
+pub returns-clause-leads : goal.returns-clause-leads
+returns-clause-leads c = λ w agrees.
+    let made = c.in_ok-variable.ensures.leads w agrees in
     let l = c.in-Some.local.now in (
       made.0,
       record {
@@ -22,3 +23,6 @@ returns c = λ w agrees.
             (info_same c.in_ok-info.info l.name l.kind c.in_ok-info.ensures.name c.in_ok-info.ensures.kind) made.1;
       },
     )
+
+pub create-requires : goal.create-requires
+create-requires c = new_if c.args.self.now.variables.list.items (Owner.Local c.args.occurrence c.args.number) refl c.requires.new

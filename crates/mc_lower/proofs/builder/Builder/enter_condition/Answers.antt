@@ -8,15 +8,15 @@ use Rattle.mc_lower.proofs.Seen.{plain_condition_seen, compare_condition_seen, n
 use Rattle.mc_lower.proofs.Testing.{one_tested, not_tested, both_tested, either_tested}
 use Rattle.mc_lower.proofs.builder.Builder.enter_condition.Goals as goal
 
-pub returns-in_ok-test_plain-in-Plain : goal.returns-in_ok-test_plain-in-Plain
-returns-in_ok-test_plain-in-Plain c = λ w n k agrees rest.
-    let tested = c.in_ok-test_plain-in-Plain.ensures w agrees in
+pub returns-in_ok-test_plain-in-Plain-clause-leads : goal.returns-in_ok-test_plain-in-Plain-clause-leads
+returns-in_ok-test_plain-in-Plain-clause-leads c = λ w n k agrees rest.
+    let tested = c.in_ok-test_plain-in-Plain.ensures.leads w agrees in
     let seen = ap condition_of c.in-Plain.is ∙ plain_condition_seen c.in-Plain.place c.in-Plain.expression in
     (tested.0, one_tested w c.args.occurrence (plain c.in-Plain.place (expression_of c.in-Plain.expression)) (condition_of c.args.condition.now) c.args.self.now.goal c.args.ways.yes c.args.ways.no c.args.work.now _ _ _ _ n k seen tested.1 rest)
 
-pub returns-in_ok-test_comparison-in-Compare : goal.returns-in_ok-test_comparison-in-Compare
-returns-in_ok-test_comparison-in-Compare c = λ w n k agrees rest.
-    let tested = c.in_ok-test_comparison-in-Compare.ensures w agrees in
+pub returns-in_ok-test_comparison-in-Compare-clause-leads : goal.returns-in_ok-test_comparison-in-Compare-clause-leads
+returns-in_ok-test_comparison-in-Compare-clause-leads c = λ w n k agrees rest.
+    let tested = c.in_ok-test_comparison-in-Compare.ensures.leads w agrees in
     let p = c.in-Compare.place in
     let m = c.in-Compare.comparison in
     let first = c.deref in
@@ -26,16 +26,16 @@ returns-in_ok-test_comparison-in-Compare c = λ w n k agrees rest.
     ∙ ap (λ y. compare p m (expression_of first.result.now) (expression_of y)) (sym second.ensures) in
     (tested.0, one_tested w c.args.occurrence (compare p m (expression_of first.result.now) (expression_of second.result.now)) (condition_of c.args.condition.now) c.args.self.now.goal c.args.ways.yes c.args.ways.no c.args.work.now _ _ _ _ n k seen tested.1 rest)
 
-pub returns-in_ok-push-in-Not : goal.returns-in_ok-push-in-Not
-returns-in_ok-push-in-Not c = λ w n k agrees rest.
+pub returns-in_ok-push-in-Not-clause-leads : goal.returns-in_ok-push-in-Not-clause-leads
+returns-in_ok-push-in-Not-clause-leads c = λ w n k agrees rest.
     let old = c.args.self.now in
     let part = c.deref-in-Not in
     let seen = ap condition_of c.in-Not.is ∙ not_condition_seen c.in-Not.part ∙ ap (λ x. negation (condition_of x)) (sym part.ensures) in
-    let f = subst (λ l. Testing w c.args.occurrence l (length old.points.items) (length old.variables.items) n k) c.in_ok-push-in-Not.ensures rest in
+    let f = subst (λ l. Testing w c.args.occurrence l (length old.points.items) (length old.variables.list.items) n k) c.in_ok-push-in-Not.ensures rest in
     (agrees, not_tested w c.args.occurrence (condition_of part.result.now) (condition_of c.args.condition.now) old.goal c.args.ways.yes c.args.ways.no c.args.work.now _ _ n k seen f)
 
-pub returns-in_ok-push-in-Both-2 : goal.returns-in_ok-push-in-Both-2
-returns-in_ok-push-in-Both-2 c = λ w n k agrees rest.
+pub returns-in_ok-push-in-Both-2-clause-leads : goal.returns-in_ok-push-in-Both-2-clause-leads
+returns-in_ok-push-in-Both-2-clause-leads c = λ w n k agrees rest.
     let old = c.args.self.now in
     let new = c.label.new.self in
     let middle = c.in_ok-middle-in-Both.middle in
@@ -46,13 +46,13 @@ returns-in_ok-push-in-Both-2 c = λ w n k agrees rest.
     ∙ ap (λ y. both (condition_of first.result.now) (condition_of y)) (sym second.ensures) in
     let one : Work = record { from = old.goal; condition = first.result; ways = record { yes = middle; no = c.args.ways.no } } in
     let two : Work = record { from = middle; condition = second.result; ways = c.args.ways } in
-    let f = subst (λ l. Testing w c.args.occurrence l (length new.points.items) (length new.variables.items) n k) (c.in_ok-push-in-Both-2.ensures ∙ ap (λ l. one ∷ l) c.in_ok-push-in-Both.ensures) rest in
-    let e = subst (λ x. Testing w c.args.occurrence (one ∷ two ∷ c.args.work.now) x (length old.variables.items) n k) (sym (ap points_in labelled.1))
+    let f = subst (λ l. Testing w c.args.occurrence l (length new.points.items) (length new.variables.list.items) n k) (c.in_ok-push-in-Both-2.ensures ∙ ap (λ l. one ∷ l) c.in_ok-push-in-Both.ensures) rest in
+    let e = subst (λ x. Testing w c.args.occurrence (one ∷ two ∷ c.args.work.now) x (length old.variables.list.items) n k) (sym (ap points_in labelled.1))
     (subst (λ x. Testing w c.args.occurrence (one ∷ two ∷ c.args.work.now) (length new.points.items) x n k) (sym (ap variables_in labelled.1)) f) in
     (labelled.0, both_tested w c.args.occurrence (condition_of first.result.now) (condition_of second.result.now) (condition_of c.args.condition.now) old.goal middle c.args.ways.yes c.args.ways.no c.args.work.now _ _ n k seen e)
 
-pub returns-in_ok-push-in-Either-2 : goal.returns-in_ok-push-in-Either-2
-returns-in_ok-push-in-Either-2 c = λ w n k agrees rest.
+pub returns-in_ok-push-in-Either-2-clause-leads : goal.returns-in_ok-push-in-Either-2-clause-leads
+returns-in_ok-push-in-Either-2-clause-leads c = λ w n k agrees rest.
     let old = c.args.self.now in
     let new = c.label-in-Either.new.self in
     let middle = c.in_ok-middle-in-Either.middle in
@@ -63,7 +63,7 @@ returns-in_ok-push-in-Either-2 c = λ w n k agrees rest.
     ∙ ap (λ y. either (condition_of first.result.now) (condition_of y)) (sym second.ensures) in
     let one : Work = record { from = old.goal; condition = first.result; ways = record { yes = c.args.ways.yes; no = middle } } in
     let two : Work = record { from = middle; condition = second.result; ways = c.args.ways } in
-    let f = subst (λ l. Testing w c.args.occurrence l (length new.points.items) (length new.variables.items) n k) (c.in_ok-push-in-Either-2.ensures ∙ ap (λ l. one ∷ l) c.in_ok-push-in-Either.ensures) rest in
-    let e = subst (λ x. Testing w c.args.occurrence (one ∷ two ∷ c.args.work.now) x (length old.variables.items) n k) (sym (ap points_in labelled.1))
+    let f = subst (λ l. Testing w c.args.occurrence l (length new.points.items) (length new.variables.list.items) n k) (c.in_ok-push-in-Either-2.ensures ∙ ap (λ l. one ∷ l) c.in_ok-push-in-Either.ensures) rest in
+    let e = subst (λ x. Testing w c.args.occurrence (one ∷ two ∷ c.args.work.now) x (length old.variables.list.items) n k) (sym (ap points_in labelled.1))
     (subst (λ x. Testing w c.args.occurrence (one ∷ two ∷ c.args.work.now) (length new.points.items) x n k) (sym (ap variables_in labelled.1)) f) in
     (labelled.0, either_tested w c.args.occurrence (condition_of first.result.now) (condition_of second.result.now) (condition_of c.args.condition.now) old.goal middle c.args.ways.yes c.args.ways.no c.args.work.now _ _ n k seen e)

@@ -4,9 +4,9 @@ use Rattle.mc_lowering.specs.Graphs.{plain, Appends}
 use Rattle.mc_lower.specs.Worlds.{stage_of}
 use Rattle.mc_lower.proofs.builder.Builder.forget.Goals as goal
 
-pub returns : goal.returns
-returns c = λ w agrees.
-    let later = c.in_ok-undefine_all.ensures w agrees in (
+pub returns-clause-leads : goal.returns-clause-leads
+returns-clause-leads c = λ w agrees.
+    let later = c.in_ok-undefine_all.ensures.leads w agrees in (
       later.0,
       record {
         made = c.in_ok-made.made.items;

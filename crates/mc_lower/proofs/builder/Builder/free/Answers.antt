@@ -5,11 +5,11 @@ use Rattle.mc_lowering.specs.Values.{Evaluates}
 use Rattle.mc_lower.specs.Worlds.{stage_of}
 use Rattle.mc_lower.proofs.builder.Builder.free.Goals as goal
 
-pub returns : goal.returns
-returns c = λ w agrees.
-    let cleared = c.in_ok-undefine.ensures w agrees in
-    let freed_there = c.in_ok-release.ensures w cleared.0 in
-    let value = c.in_ok-operand.ensures w freed_there.0 in (
+pub returns-clause-leads : goal.returns-clause-leads
+returns-clause-leads c = λ w agrees.
+    let cleared = c.in_ok-undefine.ensures.leads w agrees in
+    let freed_there = c.in_ok-release.ensures.leads w cleared.0 in
+    let value = c.in_ok-operand.ensures.leads w freed_there.0 in (
       value.0,
       record {
         operand = c.in_ok-operand.operand;

@@ -6,11 +6,11 @@ use Rattle.mc_lowering.specs.Values.{EvaluatesAll}
 use Rattle.mc_lower.specs.Worlds.{stage_of}
 use Rattle.mc_lower.proofs.builder.Builder.give.Goals as goal
 
-pub returns : goal.returns
-returns c = λ w agrees.
-    let cleared = c.in_ok-undefine.ensures w agrees in
-    let passed = c.in_ok-pass.ensures w cleared.0 in
-    let all = c.in_ok-operands.ensures w passed.0 in
+pub returns-clause-leads : goal.returns-clause-leads
+returns-clause-leads c = λ w agrees.
+    let cleared = c.in_ok-undefine.ensures.leads w agrees in
+    let passed = c.in_ok-pass.ensures.leads w cleared.0 in
+    let all = c.in_ok-operands.ensures.leads w passed.0 in
     let os = c.in_ok-operands.operands.items in
     let ts = c.evaluate_all.new.temporaries.items in
     let s = stage_of w c.args.self.now in

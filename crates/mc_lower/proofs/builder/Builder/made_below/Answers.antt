@@ -11,8 +11,8 @@ loop-number-init c = gathered_none _ _ _ _ c.new-made.ensures.items
 pub loop-number-preserved : goal.loop-number-preserved
 loop-number-preserved c =
     let n = c.loop-number.number in
-    let variables = c.args.self.now.variables.items in
-    let counted : c.len-number-end.result ≡ length variables = c.len-number-end.ensures ∙ c.args.self.now.variables.ok.0 in
+    let variables = c.args.self.now.variables.list.items in
+    let counted : c.len-number-end.result ≡ length variables = c.len-number-end.ensures ∙ c.args.self.now.variables.list.ok.0 in
     let below = c.loop-number-test.true in
     let inside : n < length variables = omega arith in
     let v = c.index.result.now in
@@ -28,8 +28,8 @@ loop-number-preserved c =
 pub returns : goal.returns
 returns c = λ w agrees.
     let n = c.loop-number.number in
-    let variables = c.args.self.now.variables.items in
-    let counted : c.len-number-end.result ≡ length variables = c.len-number-end.ensures ∙ c.args.self.now.variables.ok.0 in
+    let variables = c.args.self.now.variables.list.items in
+    let counted : c.len-number-end.result ≡ length variables = c.len-number-end.ensures ∙ c.args.self.now.variables.list.ok.0 in
     let above = c.loop-number-test.false in
     let end = c.loop-number.auto.number-end in
     let same : n ≡ length variables = omega arith in

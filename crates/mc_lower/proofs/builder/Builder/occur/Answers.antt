@@ -1,9 +1,12 @@
 use Rattle.std.proofs.Common.{◌≡◌, ◌∙◌}
-use Rattle.mc_lower.proofs.Agreeing.{before}
+use Rattle.std.proofs.Common.{ap, ◌∙◌}
+use Rattle.mc_lower.specs.Knowns.{with_occurrence}
+use Rattle.mc_lower.proofs.Agreeing.{before, one_more}
+use Rattle.mc_lower.proofs.Having.{one_occurrence_more}
 use Rattle.mc_lower.proofs.builder.Builder.occur.Goals as goal
 
-pub returns : goal.returns
-returns c = λ w agrees.
+pub returns-clause-leads : goal.returns-clause-leads
+returns-clause-leads c = λ w agrees.
     let outs = before (λ i l. w.at l.0 ≡ w.out i) c.label.new.self.outs.items _ _ c.in_ok-push.ensures.items agrees.outs in
     c.in_ok-label.ensures.kept w
     (record {
@@ -17,3 +20,10 @@ returns c = λ w agrees.
       outs = outs;
       blocks = agrees.blocks;
     })
+
+pub returns-clause-last : goal.returns-clause-last
+returns-clause-last c = c.len-occurrence.ensures ∙ c.label.new.self.outs.ok.0 ∙ ap (λ k. k.state.occurrences) c.in_ok-label.ensures.same
+
+pub returns-clause-same : goal.returns-clause-same
+returns-clause-same c =
+    one_occurrence_more c.label.new.self _ (one_more _ _ _ c.in_ok-push.ensures.items) ∙ ap (λ k. with_occurrence k) c.in_ok-label.ensures.same

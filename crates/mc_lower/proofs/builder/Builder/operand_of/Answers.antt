@@ -4,9 +4,9 @@ use Rattle.mc_lower.specs.Valued.{IsOperand}
 use Rattle.mc_lower.specs.Worlds.{stage_of}
 use Rattle.mc_lower.proofs.builder.Builder.operand_of.Goals as goal
 
-pub returns-in_ok-variable-in-Computed : goal.returns-in_ok-variable-in-Computed
-returns-in_ok-variable-in-Computed c = λ w agrees.
-    let there = c.in_ok-variable-in-Computed.ensures w agrees in
+pub returns-in_ok-variable-in-Computed-clause-leads : goal.returns-in_ok-variable-in-Computed-clause-leads
+returns-in_ok-variable-in-Computed-clause-leads c = λ w agrees.
+    let there = c.in_ok-variable-in-Computed.ensures.leads w agrees in
     let t = c.in_ok-variable-in-Computed.variable in (
       there.0,
       subst (λ v. IsOperand w.graph c.args.place v c.args.temporaries.now.items (stage_of w c.args.self.now) (Var t) c.take.new.temporaries.items (stage_of w c.take.new.self))

@@ -4,8 +4,8 @@ use Rattle.mc_lower.specs.Worlds.{IsMarked, point_in, role_of}
 use Rattle.mc_lower.proofs.Agreeing.{before, at_last, one_more}
 use Rattle.mc_lower.proofs.builder.Builder.put.Goals as goal
 
-pub returns : goal.returns
-returns c = λ w agrees.
+pub returns-clause-leads : goal.returns-clause-leads
+returns-clause-leads c = λ w agrees.
     let old = c.args.self.now in
     let points = c.in_ok-push-2.ensures.items in
     let marks = c.in_ok-push.ensures.items in (

@@ -6,11 +6,11 @@ use Rattle.mc_lower.specs.Worlds.{stage_of}
 use Rattle.mc_lower.proofs.Agreeing.{is_none}
 use Rattle.mc_lower.proofs.builder.Builder.put_into.Goals as goal
 
-pub returns-then-is_empty : goal.returns-then-is_empty
-returns-then-is_empty c = λ w agrees.
+pub returns-then-is_empty-clause-leads : goal.returns-then-is_empty-clause-leads
+returns-then-is_empty-clause-leads c = λ w agrees.
     let f = c.is_empty.ensures in
     let none : length c.args.target.fields.now ≡ 0 = grind (arith, nat_tests, c.if-is_empty.true) in
-    let put = c.in_ok-put_into_variable.ensures w agrees in
+    let put = c.in_ok-put_into_variable.ensures.leads w agrees in
     let s = stage_of w c.args.self.now in
     let u = stage_of w c.put_into_variable.new.self in
     let items = subst (λ l. Puts w.graph (w.out c.args.site.occurrence) c.args.site.place (record { variable = c.args.target.variable; fields = [] }) c.args.operand l s u) c.as_slice.ensures.value put.1 in (
@@ -19,5 +19,5 @@ returns-then-is_empty c = λ w agrees.
           (sym (is_none c.args.target.fields.now none)) items,
     )
 
-pub returns : goal.returns
-returns c = λ w agrees. let put = c.in_ok-put_into_field.ensures w agrees in (put.0, put.1.puts)
+pub returns-clause-leads : goal.returns-clause-leads
+returns-clause-leads c = λ w agrees. let put = c.in_ok-put_into_field.ensures.leads w agrees in (put.0, put.1.puts)

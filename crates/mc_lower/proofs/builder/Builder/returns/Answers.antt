@@ -1,4 +1,8 @@
-use Rattle.std.proofs.Common.{None, sym, subst}
+use Rattle.mc_lower.proofs.Readying.{ready_left, ready_same}
+use Rattle.mc_lower.specs.Knowns.{known}
+use Rattle.mc_lower.specs.Ready.{IsReturnReady}
+use Rattle.std.proofs.Common.{[], refl}
+use Rattle.std.proofs.Common.{sym, subst}
 use Rattle.std.specs.Prelude.{option_map}
 use Rattle.mc_resolved.specs.Programs.{returns as returning}
 use Rattle.mc_resolved.specs.Views.{right_of}
@@ -8,9 +12,9 @@ use Rattle.mc_lower.specs.Worlds.{stage_of}
 use Rattle.mc_lower.proofs.Meeting.{returned_nothing}
 use Rattle.mc_lower.proofs.builder.Builder.returns.Goals as goal
 
-pub returns-in_ok-go_out-in-None : goal.returns-in_ok-go_out-in-None
-returns-in_ok-go_out-in-None c = λ w u agrees rest.
-    let e = c.in_ok-go_out-in-None.ensures w agrees in
+pub returns-in_ok-go_out-in-None-clause-leads : goal.returns-in_ok-go_out-in-None-clause-leads
+returns-in_ok-go_out-in-None-clause-leads c = λ w u agrees rest.
+    let e = c.in_ok-go_out-in-None.ensures.leads w agrees in
     let s = stage_of w c.args.self.now in
     let m = stage_of w c.go_out.new.self in (
       e.0,
@@ -22,7 +26,19 @@ returns-in_ok-go_out-in-None c = λ w u agrees rest.
       ),
     )
 
-pub returns-in_ok-return_right-in-Some : goal.returns-in_ok-return_right-in-Some
-returns-in_ok-return_right-in-Some c = λ w u agrees rest.
-    let e = c.in_ok-return_right-in-Some.ensures w u agrees rest in
+pub returns-in_ok-return_right-in-Some-clause-leads : goal.returns-in_ok-return_right-in-Some-clause-leads
+returns-in_ok-return_right-in-Some-clause-leads c = λ w u agrees rest.
+    let e = c.in_ok-return_right-in-Some.ensures.leads w u agrees rest in
     (e.0, (e.1.0, subst (λ o. Lowers w.graph (around_of w c.args.context) (returning c.args.place (option_map (λ r. right_of r.now) o)) (stage_of w c.args.self.now) e.1.0) (sym c.in-Some.is) e.1.1, e.1.2))
+
+pub returns-in_ok-go_out-in-None-clause-ready : goal.returns-in_ok-go_out-in-None-clause-ready
+returns-in_ok-go_out-in-None-clause-ready c = λ later.
+    ready_same _ _ _ _ c.in_ok-go_out-in-None.ensures.same refl (ready_left _ _ c.args.context.occurrence [] c.args.tasks.now refl later)
+
+pub return_right-requires-clause-answered : goal.return_right-requires-clause-answered
+return_right-requires-clause-answered c =
+    let both = subst (λ o. IsReturnReady (known c.args.self.now) c.args.context.occurrence (option_map (λ r. right_of r.now) o)) c.in-Some.is c.requires.value in both.0
+
+pub return_right-requires-clause-right : goal.return_right-requires-clause-right
+return_right-requires-clause-right c =
+    let both = subst (λ o. IsReturnReady (known c.args.self.now) c.args.context.occurrence (option_map (λ r. right_of r.now) o)) c.in-Some.is c.requires.value in both.1

@@ -7,9 +7,9 @@ use Rattle.mc_lower.proofs.Agreeing.{appended}
 use Rattle.mc_lower.proofs.Valuing.{settled_sets}
 use Rattle.mc_lower.proofs.builder.Builder.set.Goals as goal
 
-pub returns : goal.returns
-returns c = λ w agrees.
-    let later = c.in_ok-append.ensures w agrees in
+pub returns-clause-leads : goal.returns-clause-leads
+returns-clause-leads c = λ w agrees.
+    let later = c.in_ok-append.ensures.leads w agrees in
     let first = c.in_ok-next.ensures.kept w later.0 in
     let code = ap (λ i. settled w.at i) c.sets.ensures ∙ settled_sets w.at (operation_of c.args.operation) c.args.variable c.target.result
     ∙ ap (λ q. sets (operation_of c.args.operation) c.args.variable (point (w.at q.0))) c.target.ensures in

@@ -1,7 +1,9 @@
+use Rattle.std.proofs.Common.{ap, ◌∙◌}
+use Rattle.mc_flow.specs.Steps.{field_count}
 use Rattle.mc_lowering.specs.Lowering.{sets_allocated}
 use Rattle.mc_lower.proofs.builder.Builder.set_to_new.Goals as goal
 
-pub returns : goal.returns
-returns c = λ i w agrees.
-    let allocated = c.in_ok-allocate.ensures w agrees in
-    (allocated.0, sets_allocated (c.in_ok-check_count.ensures w allocated.0) allocated.1)
+pub returns-clause-leads : goal.returns-clause-leads
+returns-clause-leads c = λ i w agrees.
+    let allocated = c.in_ok-allocate.ensures.leads w agrees in
+    (allocated.0, sets_allocated (ap (λ s. field_count s c.args.shape) allocated.0.structs ∙ c.requires) allocated.1)

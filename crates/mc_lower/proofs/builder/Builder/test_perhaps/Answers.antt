@@ -6,9 +6,9 @@ use Rattle.mc_lower.specs.Worlds.{stage_of}
 use Rattle.mc_lower.proofs.Testing.{perhaps_some, perhaps_none}
 use Rattle.mc_lower.proofs.builder.Builder.test_perhaps.Goals as goal
 
-pub returns-in_ok-test_or-in-Some : goal.returns-in_ok-test_or-in-Some
-returns-in_ok-test_or-in-Some c = λ w agrees.
-    let tested = c.in_ok-test_or-in-Some.ensures w agrees in
+pub returns-in_ok-test_or-in-Some-clause-leads : goal.returns-in_ok-test_or-in-Some-clause-leads
+returns-in_ok-test_or-in-Some-clause-leads c = λ w agrees.
+    let tested = c.in_ok-test_or-in-Some.ensures.leads w agrees in
     let s = stage_of w c.args.self.now in
     let u = stage_of w c.test_or.new.self in (
       tested.0,
@@ -16,11 +16,11 @@ returns-in_ok-test_or-in-Some c = λ w agrees.
           (perhaps_some w.graph (w.out c.args.occurrence) _ (w.at c.args.no.0) s u tested.1),
     )
 
-pub returns-in-None : goal.returns-in-None
-returns-in-None c = λ w agrees.
+pub returns-in-None-clause-leads : goal.returns-in-None-clause-leads
+returns-in-None-clause-leads c = λ w agrees.
     let s = stage_of w c.args.self.now in
     let b = c.args.self.now in (
       agrees,
       subst (λ o. TestsPerhapsOn w.graph (w.out c.args.occurrence) (option_map (λ d. condition_of d.now) o) (w.at c.args.no.0) s s) (sym c.in-None.is)
-          (perhaps_none w.graph (w.out c.args.occurrence) (w.at c.args.no.0) (w.at b.goal.0) (length b.points.items) (length b.variables.items)),
+          (perhaps_none w.graph (w.out c.args.occurrence) (w.at c.args.no.0) (w.at b.goal.0) (length b.points.items) (length b.variables.list.items)),
     )

@@ -1,8 +1,8 @@
 use Rattle.mc_lower.proofs.Testing.{plain_tested}
 use Rattle.mc_lower.proofs.builder.Builder.test_plain.Goals as goal
 
-pub returns : goal.returns
-returns c = λ w agrees.
-    let compared = c.in_ok-compare.ensures w agrees in
-    let value = c.in_ok-operand.ensures w compared.0 in
+pub returns-clause-leads : goal.returns-clause-leads
+returns-clause-leads c = λ w agrees.
+    let compared = c.in_ok-compare.ensures.leads w agrees in
+    let value = c.in_ok-operand.ensures.leads w compared.0 in
     (value.0, plain_tested w.graph _ _ _ _ _ _ _ _ _ _ _ _ _ _ c.new-temporaries.ensures.items c.nothing.ensures c.as_slice.ensures.value value.1 compared.1)
