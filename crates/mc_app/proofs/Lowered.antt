@@ -1,17 +1,46 @@
 -- Flow graphs of resolved programs are those of the programs themselves.
 use Rattle.std.proofs.Common.{◌≡◌, ◌∙◌, ◌<◌, ℕ, List, length, refl, sym, ap, subst}
+use Rattle.mc_ast.specs.Grammar.{IsUnit}
 use Rattle.mc_ast.specs.Trees.{UnitTree}
+use Rattle.mc_defs.specs.Conditions.{DefsFit}
 use Rattle.mc_defs.specs.declared.rules.Def.{Def}
 use Rattle.mc_defs.specs.declared.shapes.StructInfo.{StructInfo}
 use Rattle.mc_defs.specs.declared.shapes.Structs.{Structs}
 use Rattle.mc_flow.specs.declared.graph.Flow.{Flow}
 use Rattle.mc_lower.specs.declared.lowering.Lowered.{Lowered}
+use Rattle.mc_inputs.specs.Texts.{IsWellFormed}
+use Rattle.mc_kinds.specs.Typedefs.{HasKnownTypedefs}
 use Rattle.mc_lower.specs.Finished.{AreTooLong, IsFlowOf}
+use Rattle.mc_lower.specs.Ready.{IsSound}
+use Rattle.mc_lowerable.specs.Lowerable.{IsLowerableProgram}
+use Rattle.mc_lowering.specs.Scopes.{AreScoped}
+use Rattle.mc_numbers.specs.Numbers.{HasSmallNumbers}
+use Rattle.mc_places.specs.Places.{AreDistinct, declared_places}
+use Rattle.mc_resolved.specs.Programs.{Program}
+use Rattle.mc_text.specs.declared.token.Token.{Token}
 use Rattle.mc_resolved.specs.declared.program.Resolved.{Resolved}
 use Rattle.mc_resolved.specs.Resolving.{resolved_program}
 use Rattle.mc_resolved.specs.Views.{program_of}
+use Rattle.mc_types.specs.Shapes.{IsBound}
 use Rattle.mc_types.specs.Tables.{struct_infos, tables_of}
+use Rattle.mc_types.specs.Typing.{IsWellTyped}
+use Rattle.mc_valid.specs.Kinds.{IsWellMade}
 use Rattle.mc_app.specs.Checks.{AreLong, IsGraphOf}
+use Rattle.mc_app.proofs.Safe.{Differ, ReadApart}
+
+-- what is known of programs that were read and are well typed
+pub record Laws : Type 0 where
+  pub apart : ReadApart
+  pub differ : Differ
+  pub known : (unit : UnitTree) (tokens : List Token) → IsUnit unit tokens → HasKnownTypedefs unit
+  pub small : (unit : UnitTree) (tokens : List Token) → IsUnit unit tokens → HasSmallNumbers unit
+  pub made : (unit : UnitTree) (defs : List Def) (entry : List ℕ) → IsWellTyped unit entry → HasKnownTypedefs unit → HasSmallNumbers unit
+      → AreDistinct (declared_places unit) → DefsFit (struct_infos unit) defs → IsBound unit defs
+      → IsWellMade (record { list = struct_infos unit }) (resolved_program (tables_of unit) defs entry)
+  pub scoped : (unit : UnitTree) (defs : List Def) (entry : List ℕ) → IsWellTyped unit entry → AreDistinct (declared_places unit)
+      → AreScoped (resolved_program (tables_of unit) defs entry)
+  pub lowerable : (unit : UnitTree) (defs : List Def) (entry : List ℕ) → IsWellTyped unit entry → AreDistinct (declared_places unit)
+      → IsLowerableProgram (record { list = struct_infos unit }) (resolved_program (tables_of unit) defs entry)
 
 module _ (start : List ℕ) (unit : UnitTree) (defs : List Def) (program : Resolved) (structs : Structs) (same : program_of program defs ≡ resolved_program (tables_of unit) defs start) (infos : structs.list ≡ struct_infos unit) where
   pub graph_of : (x : Lowered) → IsFlowOf program structs x → IsGraphOf start unit defs x.flow
@@ -35,3 +64,25 @@ module _ (start : List ℕ) (unit : UnitTree) (defs : List Def) (program : Resol
   long_of long flow graph =
       let longer = long graph.graph defs graph.function graph.out graph.count (graph.program ∙ sym same) (one_list graph.graph.flow.structs graph.structs) graph.lowered in
       subst (λ (f : Flow). 10000 < length f.points) graph.is_its longer
+
+  abbrev list : Structs
+  list = record { list = struct_infos unit }
+
+  pub well_made : Laws → IsWellFormed start unit → IsBound unit defs → DefsFit (struct_infos unit) defs → IsWellMade structs (program_of program defs)
+  well_made laws sound bound fit =
+      let distinct = laws.differ (declared_places unit) (laws.apart sound.text unit sound.read) in
+      let known = laws.known unit sound.read.tokens sound.read.spells in
+      let small = laws.small unit sound.read.tokens sound.read.spells in
+      let made = subst (λ (p : Program). IsWellMade list p) (sym same) (laws.made unit defs start sound.typed known small distinct fit bound) in
+      subst (λ (s : Structs). IsWellMade s (program_of program defs)) (one_list list refl) made
+
+  pub is_sound : Laws → IsWellFormed start unit → IsBound unit defs → DefsFit (struct_infos unit) defs → IsSound (record { program = program; structs = structs })
+  is_sound laws sound bound fit =
+      let distinct = laws.differ (declared_places unit) (laws.apart sound.text unit sound.read) in
+      let lowerable = subst (λ (p : Program). IsLowerableProgram list p) (sym same) (laws.lowerable unit defs start sound.typed distinct) in
+      record {
+        defs = defs;
+        well = well_made laws sound bound fit;
+        scoped = subst (λ (p : Program). AreScoped p) (sym same) (laws.scoped unit defs start sound.typed distinct);
+        lowerable = subst (λ (s : Structs). IsLowerableProgram s (program_of program defs)) (one_list list refl) lowerable;
+      }

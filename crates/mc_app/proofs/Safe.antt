@@ -10,7 +10,8 @@ use Rattle.mc_flow.specs.Steps.{IsSafeFlow}
 use Rattle.mc_lowering.specs.Graphs.{Graph}
 use Rattle.mc_lowering.specs.Lowering.{IsLowering}
 use Rattle.mc_meaning.specs.Steps.{IsSafeProgram, program_of}
-use Rattle.mc_places.specs.Places.{AreAscending, AreDistinct, declared_places}
+use Rattle.mc_places.specs.Places.{AreAscending, AreDistinct, HasDistinctPlaces, declared_places}
+use Rattle.mc_read.specs.Programs.{IsReadAs}
 use Rattle.mc_resolved.specs.Programs.{Function}
 use Rattle.mc_resolved.specs.Resolving.{resolved_program}
 use Rattle.mc_text.specs.declared.place.Place.{Place}
@@ -28,19 +29,23 @@ use Rattle.mc_app.specs.Checks.{IsGraphOf, IsSafeUnit, IsShort}
 abbrev pub RunAlike : Type 0
 RunAlike = (unit : UnitTree) (f : FunctionTree) (short : StraightForm) → ReadsAs unit short → IsEntry unit f → TreeRunsAlike unit f short (flow_of short)
 
-pub reads_as : (start : List ℕ) (unit : UnitTree) (short : StraightForm) → IsWellFormed start unit → IsShort start unit short → ReadsAs unit short
-reads_as start unit short sound straight =
-    record { typed = subst (λ (s : List ℕ). IsWellTyped unit s) straight.0 sound.0; places = sound.1; straight = straight.1 }
+-- texts that are read declare variables at different places
+abbrev pub ReadApart : Type 0
+ReadApart = (text : List ℕ) (unit : UnitTree) → IsReadAs text unit → HasDistinctPlaces unit
+
+pub reads_as : ReadApart → (start : List ℕ) (unit : UnitTree) (short : StraightForm) → IsWellFormed start unit → IsShort start unit short → ReadsAs unit short
+reads_as apart start unit short sound straight =
+    record { typed = subst (λ (s : List ℕ). IsWellTyped unit s) straight.0 sound.typed; places = apart sound.text unit sound.read; straight = straight.1 }
 
 has_main : (unit : UnitTree) (short : StraightForm) → IsStraight unit short → (f : FunctionTree) × IsEntry unit f
 has_main unit short (without_struct statements) = (_, refl)
 has_main unit short (with_struct (struct_is fields) statements) = (_, refl)
 
-pub safe_form : RunAlike → (start : List ℕ) (unit : UnitTree) (defs : List Def) (short : StraightForm) → IsWellFormed start unit → IsShort start unit short
+pub safe_form : RunAlike → ReadApart → (start : List ℕ) (unit : UnitTree) (defs : List Def) (short : StraightForm) → IsWellFormed start unit → IsShort start unit short
     → IsSafeFlow (flow_of short) [] → IsSafeUnit start unit defs
-safe_form alike start unit defs short sound straight safe =
+safe_form alike apart start unit defs short sound straight safe =
     let main = has_main unit short straight.1 in
-    let same = alike unit main.0 short (reads_as start unit short sound straight) main.1 in
+    let same = alike unit main.0 short (reads_as apart start unit short sound straight) main.1 in
     let found : called_function (tables_of unit) start ≡ Some main.0 = subst (λ (s : List ℕ). called_function (tables_of unit) s ≡ Some main.0) (sym straight.0) main.1 in
     (main.0, found, inr ((short, straight), λ n choices kind place reaches. let run = (same.flow choices (fault kind place)).0 (n, reaches) in safe run.0 choices kind place run.1))
 
@@ -58,12 +63,13 @@ Differ = (places : List Place) → AreAscending places → AreDistinct places
 abbrev pub HasEntries : Type 0
 HasEntries = (unit : UnitTree) (start : List ℕ) → IsWellTyped unit start → (f : FunctionTree) × (called_function (tables_of unit) start ≡ Some f)
 
-pub safe_graph : SafeTrees → Differ → HasEntries → (start : List ℕ) (unit : UnitTree) (defs : List Def) (flow : Flow) → IsWellFormed start unit → IsGraphOf start unit defs flow
+pub safe_graph : SafeTrees → Differ → ReadApart → HasEntries → (start : List ℕ) (unit : UnitTree) (defs : List Def) (flow : Flow) → IsWellFormed start unit → IsGraphOf start unit defs flow
     → IsSafeFlow flow defs → IsSafeUnit start unit defs
-safe_graph trees differ entries start unit defs flow sound graph safe =
-    let main = entries unit start sound.0 in
+safe_graph trees differ apart entries start unit defs flow sound graph safe =
+    let main = entries unit start sound.typed in
+    let distinct = differ (declared_places unit) (apart sound.text unit sound.read) in
     let safe_too = subst (λ (f : Flow). IsSafeFlow f defs) (sym graph.is_its) safe in
-    (main.0, main.1, inl (trees unit defs start main.0 graph.graph graph.function graph.out graph.count sound.0 (differ (declared_places unit) sound.1) main.1 graph.program graph.lowered safe_too))
+    (main.0, main.1, inl (trees unit defs start main.0 graph.graph graph.function graph.out graph.count sound.typed distinct main.1 graph.program graph.lowered safe_too))
 
 -- ---- a well typed program has its entry
 

@@ -18,6 +18,7 @@ use mc_inputs::{Sources, read};
 use mc_kernel::certificates_are_safe;
 use mc_outside::{FileFault, Files};
 use mc_places::ascending_places_differ;
+use mc_read::programs_have_distinct_places;
 use mc_scoped::safe_flow_graphs_mean_safe_trees;
 use mc_typed::Bound;
 use mc_words::Analyse;
@@ -41,6 +42,7 @@ fn analyse_bound(alloc: Global, names: Analyse<'_>, bound: &Bound) -> Result<Ana
     // For the proof alone: a certificate means a safe flow graph, and that a safe program.
     certificates_are_safe();
     safe_flow_graphs_mean_safe_trees();
+    programs_have_distinct_places();
     ascending_places_differ();
     let defs = bound.defs();
     match graph(alloc, bound)? {

@@ -20,6 +20,7 @@ use mc_inputs::{Sources, read};
 use mc_judge::Verdict;
 use mc_outside::{FileFault, Files};
 use mc_places::ascending_places_differ;
+use mc_read::programs_have_distinct_places;
 use mc_scoped::safe_flow_graphs_mean_safe_trees;
 use mc_straight::{Program, lower, trees_run_alike};
 use mc_typed::Bound;
@@ -69,6 +70,7 @@ fn check_form<F: Files>(
 {
     // For the proof alone: the straight form runs as the program does.
     trees_run_alike();
+    programs_have_distinct_places();
     let Some(form) = form(alloc, bound.typed().unit(), names.start)? else {
         return Ok(Checked::NoGraph(NoGraph::NotYet));
     };
@@ -92,6 +94,7 @@ fn check<F: Files>(
 {
     // For the proof alone: a safe flow graph means a safe program.
     safe_flow_graphs_mean_safe_trees();
+    programs_have_distinct_places();
     ascending_places_differ();
     let defs = bound.defs();
     match graph(alloc, bound)? {

@@ -2,7 +2,6 @@
 use Rattle.std.specs.Prelude.{◌≡◌, ◌≤◌, ◌<◌, ◌^◌, ℕ, List, Ok, Err, length}
 use Rattle.mc_ast.specs.Trees.{UnitTree}
 use Rattle.mc_types.specs.declared.faults.Fault.{Fault}
-use Rattle.mc_places.specs.Places.{HasDistinctPlaces}
 use Rattle.mc_types.specs.Typing.{IsWellTyped}
 use Rattle.mc_types.specs.Shapes.{IsFirstBindFault}
 use Rattle.mc_types.specs.Tables.{struct_infos}
@@ -10,7 +9,7 @@ use Rattle.mc_defs.specs.declared.rules.Def.{Def}
 use Rattle.mc_defread.specs.Readings.{ReadsAs}
 use Rattle.mc_read.specs.declared.cause.Refusal.{Refusal as ProgramFault}
 use Rattle.mc_read.specs.Causes.{typing_refusal}
-use Rattle.mc_read.specs.Programs.{IsProgramOf}
+use Rattle.mc_read.specs.Programs.{IsProgramOf, IsReadAs}
 use Rattle.mc_read.specs.Refusals.{IsRefused}
 use Rattle.mc_inputs.specs.declared.refusal.NoProgram.{NoProgram}
 use Rattle.mc_inputs.specs.declared.refusal.NoProgram.TheVariants.{TooBig, Refused}
@@ -25,9 +24,11 @@ abbrev pub IsUnread : (start text : List ℕ) → NoProgram → Type 0
 IsUnread start text TooBig = 2 ^ 20 < length text
 IsUnread start text (Refused fault) = (length text ≤ 2 ^ 20) × IsRefused text start fault
 
--- the program is well typed for its entry, and its variables are declared at different places
-abbrev pub IsWellFormed : (start : List ℕ) → UnitTree → Type 0
-IsWellFormed start unit = IsWellTyped unit start × HasDistinctPlaces unit
+-- the program is well typed for its entry, and there is a text that is read as it
+pub record IsWellFormed (start : List ℕ) (unit : UnitTree) : Type 0 where
+  pub typed : IsWellTyped unit start
+  pub text : List ℕ
+  pub read : IsReadAs text unit
 
 -- the text is not too big, and is these definitions over the program's structs
 abbrev pub AreDefinitions : UnitTree → List Def → List ℕ → Type 0

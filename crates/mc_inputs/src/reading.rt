@@ -14,7 +14,7 @@ use crate::refusal::{NoDefinitions, NoProgram, Refusal};
 use mc_defread::{DefFault, read_defs};
 use mc_defs::Defs;
 use mc_outside::{FileFault, Files};
-use mc_read::{ReadFault, Refusal as ProgramFault, programs_have_distinct_places};
+use mc_read::{ReadFault, Refusal as ProgramFault};
 use mc_typed::{Bound, Typed, bind};
 use mc_types::TypeFault;
 use std::alloc::{AllocError, Global};
@@ -45,7 +45,6 @@ fn read_program(
     ensures well_formed { IfOk result (λ r. IfOk r (λ t. IsWellFormed start.now (unit_of t.unit))) }
     ensures start { IfOk result (λ r. IfOk r (λ t. t.entry ≡ start.now)) }
 {
-    programs_have_distinct_places();
     match mc_read::read(alloc, bytes, start.as_bytes()) {
         Ok(typed) => Ok(Ok(typed)),
         Err(ReadFault::Refused(fault)) => Ok(Err(NoProgram::Refused(fault))),

@@ -1,4 +1,4 @@
-use Rattle.std.proofs.Common.{◌≡◌, ◌≤◌, ℕ, List, length, subst}
+use Rattle.std.proofs.Common.{◌≡◌, ◌≤◌, ℕ, List, length, subst, sym}
 use Rattle.mc_analysis.specs.declared.analysis.Analysis.{Analysis}
 use Rattle.mc_analysis.specs.declared.analysis.Analysis.TheVariants.{Safe}
 use Rattle.mc_analysis.specs.Findings.{IsAnalysis}
@@ -6,10 +6,14 @@ use Rattle.mc_ast.specs.Views.{unit_of}
 use Rattle.mc_defs.specs.declared.rules.Def.{Def}
 use Rattle.mc_flow.specs.declared.graph.Flow.{Flow}
 use Rattle.mc_flow.specs.Valid.{IsValid}
+use Rattle.mc_inputs.specs.Texts.{IsWellFormed}
 use Rattle.mc_app.specs.Checks.{IsGraphOf}
 use Rattle.mc_app.proofs.Safe.{has_entry, safe_graph}
 use Rattle.mc_app.proofs.Whys.{only_ok}
 use Rattle.mc_app.proofs.analysing.analyse_bound.Goals as goal
+
+pub graph-requires : goal.graph-requires
+graph-requires c = subst (λ (s : List ℕ). IsWellFormed s (unit_of c.args.bound.now.typed.unit)) (sym c.requires.start) c.requires.well_formed
 
 pub returns-in_ok-found-in-Ok-clause-why : goal.returns-in_ok-found-in-Ok-clause-why
 returns-in_ok-found-in-Ok-clause-why c =
@@ -33,4 +37,4 @@ returns-in_ok-found-in-Ok-clause-safe c = λ f good.
     let found = subst (λ (ds : List Def). IsAnalysis flow ds c.in_ok-found-in-Ok.found) c.defs-defs.ensures.same c.in_ok-found-in-Ok.ensures in
     let proved = subst (λ (a : Analysis). IsAnalysis flow bound.defs a) is found in
     let safe = c.certificates_are_safe.ensures flow bound.defs proved.lines valid proved.valid in
-    safe_graph c.safe_flow_graphs_mean_safe_trees.ensures c.ascending_places_differ.ensures has_entry c.args.names.start.now unit bound.defs flow c.requires.well_formed graph safe
+    safe_graph c.safe_flow_graphs_mean_safe_trees.ensures c.ascending_places_differ.ensures c.programs_have_distinct_places.ensures has_entry c.args.names.start.now unit bound.defs flow c.requires.well_formed graph safe

@@ -1,14 +1,18 @@
-use Rattle.std.proofs.Common.{◌≡◌, ◌≤◌, ℕ, List, length, subst}
+use Rattle.std.proofs.Common.{◌≡◌, ◌≤◌, ℕ, List, length, subst, sym}
 use Rattle.mc_ast.specs.Views.{unit_of}
 use Rattle.mc_defs.specs.declared.rules.Def.{Def}
 use Rattle.mc_flow.specs.declared.graph.Flow.{Flow}
 use Rattle.mc_flow.specs.Steps.{IsSafeFlow}
+use Rattle.mc_inputs.specs.Texts.{IsWellFormed}
 use Rattle.mc_judge.specs.declared.verdict.Verdict.TheVariants.{Safe}
 use Rattle.mc_app.specs.Documents.{IsVerdictOn}
 use Rattle.mc_app.specs.Checks.{IsGraphOf, for_graph}
 use Rattle.mc_app.proofs.Safe.{has_entry, safe_graph}
 use Rattle.mc_app.proofs.Whys.{only_ok}
 use Rattle.mc_app.proofs.checking.check.Goals as goal
+
+pub graph-requires : goal.graph-requires
+graph-requires g c = subst (λ (s : List ℕ). IsWellFormed s (unit_of c.args.bound.now.typed.unit)) (sym c.requires.start) c.requires.well_formed
 
 pub returns-in_ok-verdict-in-Ok-clause-why : goal.returns-in_ok-verdict-in-Ok-clause-why
 returns-in_ok-verdict-in-Ok-clause-why g c =
@@ -30,4 +34,4 @@ returns-in_ok-verdict-in-Ok-clause-safe g c = λ good.
     let graph = subst (λ (s : List ℕ). IsGraphOf s unit bound.defs flow) c.requires.start made in
     let verdict : c.in_ok-verdict-in-Ok.verdict ≡ Safe = cc in
     let safe = subst (λ (ds : List Def). IsSafeFlow flow ds) c.defs-defs.ensures.same (c.in_ok-verdict-in-Ok.ensures.safe verdict) in
-    safe_graph c.safe_flow_graphs_mean_safe_trees.ensures c.ascending_places_differ.ensures has_entry c.args.names.start.now unit bound.defs flow c.requires.well_formed graph safe
+    safe_graph c.safe_flow_graphs_mean_safe_trees.ensures c.ascending_places_differ.ensures c.programs_have_distinct_places.ensures has_entry c.args.names.start.now unit bound.defs flow c.requires.well_formed graph safe

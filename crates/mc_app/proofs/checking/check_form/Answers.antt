@@ -14,7 +14,7 @@ verdict_on_form-requires g c =
     let same = c.unit.ensures ∙ ap (λ (t : Typed). t.unit) c.typed.ensures in
     let found = at_some c.in_ok-form.field-0 c.in-Some.form _ _ c.in-Some.is c.in_ok-form.ensures in
     let short = subst (λ (u : Tree). IsShort c.args.names.start.now (unit_of u) c.in-Some.form) same found in
-    c.trees_run_alike.ensures.typed (unit_of c.args.bound.now.typed.unit) c.in-Some.form (reads_as c.args.names.start.now (unit_of c.args.bound.now.typed.unit) c.in-Some.form c.requires short)
+    c.trees_run_alike.ensures.typed (unit_of c.args.bound.now.typed.unit) c.in-Some.form (reads_as c.programs_have_distinct_places.ensures c.args.names.start.now (unit_of c.args.bound.now.typed.unit) c.in-Some.form c.requires short)
 
 pub returns-clause-why : goal.returns-clause-why
 returns-clause-why g c =
@@ -30,4 +30,4 @@ returns-clause-safe g c = λ good.
     let found = at_some c.in_ok-form.field-0 c.in-Some.form _ _ c.in-Some.is c.in_ok-form.ensures in
     let short = subst (λ (u : Tree). IsShort c.args.names.start.now (unit_of u) c.in-Some.form) same found in
     let safe : c.in_ok-verdict.verdict ≡ Safe = cc in
-    safe_form c.trees_run_alike.ensures.runs c.args.names.start.now unit c.args.bound.now.defs c.in-Some.form c.requires short (c.in_ok-verdict.ensures.safe safe)
+    safe_form c.trees_run_alike.ensures.runs c.programs_have_distinct_places.ensures c.args.names.start.now unit c.args.bound.now.defs c.in-Some.form c.requires short (c.in_ok-verdict.ensures.safe safe)

@@ -9,7 +9,7 @@ pub returns-in-Ok-clause-well_formed : goal.returns-in-Ok-clause-well_formed
 returns-in-Ok-clause-well_formed c =
     let program = c.in-Ok.ensures.read in
     let same : c.as_bytes.result.now ≡ c.args.start.now = search rules in
-    (subst (λ (s : List ℕ). IsWellTyped (unit_of c.in-Ok.typed.unit) s) same program.typed, c.programs_have_distinct_places.ensures c.args.bytes.now (unit_of c.in-Ok.typed.unit) program.read)
+    record { typed = subst (λ (s : List ℕ). IsWellTyped (unit_of c.in-Ok.typed.unit) s) same program.typed; text = c.args.bytes.now; read = program.read }
 
 pub returns-in-Err-Refused-clause-read : goal.returns-in-Err-Refused-clause-read
 returns-in-Err-Refused-clause-read c =
