@@ -19,11 +19,11 @@ use Rattle.mc_app.specs.declared.analysing.Analysed.TheVariants as results
 use Rattle.mc_app.specs.declared.answer.Answer.{Answer}
 use Rattle.mc_app.specs.declared.answer.Answer.TheVariants.{Words, Refused, Checked, Ran, Analysed}
 use Rattle.mc_app.specs.declared.answer.Status.TheVariants as statuses
-use Rattle.mc_app.specs.declared.checking.Checked.TheVariants.{NoGraph, Judged}
+use Rattle.mc_app.specs.declared.checking.Checked.TheVariants.{TooLong, Judged}
 use Rattle.mc_app.specs.Answers.{AsksForSafety, HasTarget, IsAsked, IsSafeForWords, IsWhyWords, sources_of, status_of, target_of}
 use Rattle.mc_app.specs.Checks.{IsSafe, IsSafeWhereTold}
 
-one_word : (app : App) (words : List (List ℕ)) (id v w : List ℕ) → Reads app words id v → Reads app words id w → v ≡ w
+pub one_word : (app : App) (words : List (List ℕ)) (id v w : List ℕ) → Reads app words id v → Reads app words id w → v ≡ w
 one_word app words id v w h k = let e : Some v ≡ Some w = sym h ∙ k in cc
 
 abbrev SafeFor : Holds → (program definitions start : List ℕ) → Type 0
@@ -83,7 +83,7 @@ good_check holds words Words c e why asks = cc
 good_check holds words (Refused (refusals.Program cause)) c e why asks = cc
 good_check holds words (Refused (refusals.Definitions cause)) c e why asks = cc
 good_check holds words (Refused (refusals.Misfit fault)) c e why asks = cc
-good_check holds words (Checked (NoGraph cause)) c e why asks = cc
+good_check holds words (Checked TooLong) c e why asks = cc
 good_check holds words (Checked (Judged Safe)) c e why asks = refl
 good_check holds words (Checked (Judged (Alarms count))) c e why asks = cc
 good_check holds words (Checked (Judged (Mistaken refusal))) c e why asks = cc
@@ -98,7 +98,7 @@ good_analysis holds words (Refused (refusals.Definitions cause)) a e why asks = 
 good_analysis holds words (Refused (refusals.Misfit fault)) a e why asks = cc
 good_analysis holds words (Checked found) a e why asks = absurd (no_analysis words why.0 a why.1 asks)
 good_analysis holds words (Ran found) a e why asks = absurd (no_other words why.0 a why.1 asks)
-good_analysis holds words (Analysed (results.NoGraph cause)) a e why asks = cc
+good_analysis holds words (Analysed results.TooLong) a e why asks = cc
 good_analysis holds words (Analysed (results.Found (analysis.Safe f))) a e why asks = (f, refl)
 good_analysis holds words (Analysed (results.Found (analysis.Alarms f count))) a e why asks = cc
 good_analysis holds words (Analysed (results.Found (analysis.Paths document))) a e why asks = cc

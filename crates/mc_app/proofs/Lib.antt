@@ -6,3 +6,4 @@ pub mod Lowered
 pub mod Printing
 pub mod Safe
 pub mod Whys
+pub mod Alike

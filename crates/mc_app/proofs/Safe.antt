@@ -1,9 +1,8 @@
 -- A program whose flow graph is safe is safe itself.
-use Rattle.std.proofs.Common.{◌≡◌, ◌∙◌, ◌&&◌, ℕ, Bool, true, false, List, [], ◌∷◌, Some, inl, inr, refl, subst, sym}
+use Rattle.std.proofs.Common.{◌≡◌, ◌∙◌, ◌&&◌, ℕ, Bool, true, false, List, [], ◌∷◌, Some, refl, subst, sym}
 use Rattle.std.specs.List.{find, list_any}
 use Rattle.mc_ast.specs.Names.{is_same}
 use Rattle.mc_ast.specs.Trees.{FunctionTree, UnitTree}
-use Rattle.mc_base.specs.Runs.{fault}
 use Rattle.mc_defs.specs.declared.rules.Def.{Def}
 use Rattle.mc_flow.specs.declared.graph.Flow.{Flow}
 use Rattle.mc_flow.specs.Steps.{IsSafeFlow}
@@ -15,41 +14,14 @@ use Rattle.mc_read.specs.Programs.{IsReadAs}
 use Rattle.mc_resolved.specs.Programs.{Function}
 use Rattle.mc_resolved.specs.Resolving.{resolved_program}
 use Rattle.mc_text.specs.declared.place.Place.{Place}
-use Rattle.mc_straight.specs.declared.tree.Program.{Program as StraightForm}
-use Rattle.mc_straight.specs.Straight.{IsStraight, without_struct, with_struct, struct_is}
-use Rattle.mc_straight.specs.Runs.{IsEntry, ReadsAs, TreeRunsAlike}
-use Rattle.mc_straight.specs.Lowering.{flow_of}
 use Rattle.mc_types.specs.Tables.{called_function, is_defined, tables_of}
 use Rattle.mc_types.specs.Typing.{IsWellTyped, is_entry}
 use Rattle.mc_inputs.specs.Texts.{IsWellFormed}
-use Rattle.mc_app.specs.Checks.{IsGraphOf, IsSafeUnit, IsShort}
-
--- ---- straight programs
-
-abbrev pub RunAlike : Type 0
-RunAlike = (unit : UnitTree) (f : FunctionTree) (short : StraightForm) → ReadsAs unit short → IsEntry unit f → TreeRunsAlike unit f short (flow_of short)
+use Rattle.mc_app.specs.Checks.{IsGraphOf, IsSafeUnit}
 
 -- texts that are read declare variables at different places
 abbrev pub ReadApart : Type 0
 ReadApart = (text : List ℕ) (unit : UnitTree) → IsReadAs text unit → HasDistinctPlaces unit
-
-pub reads_as : ReadApart → (start : List ℕ) (unit : UnitTree) (short : StraightForm) → IsWellFormed start unit → IsShort start unit short → ReadsAs unit short
-reads_as apart start unit short sound straight =
-    record { typed = subst (λ (s : List ℕ). IsWellTyped unit s) straight.0 sound.typed; places = apart sound.text unit sound.read; straight = straight.1 }
-
-has_main : (unit : UnitTree) (short : StraightForm) → IsStraight unit short → (f : FunctionTree) × IsEntry unit f
-has_main unit short (without_struct statements) = (_, refl)
-has_main unit short (with_struct (struct_is fields) statements) = (_, refl)
-
-pub safe_form : RunAlike → ReadApart → (start : List ℕ) (unit : UnitTree) (defs : List Def) (short : StraightForm) → IsWellFormed start unit → IsShort start unit short
-    → IsSafeFlow (flow_of short) [] → IsSafeUnit start unit defs
-safe_form alike apart start unit defs short sound straight safe =
-    let main = has_main unit short straight.1 in
-    let same = alike unit main.0 short (reads_as apart start unit short sound straight) main.1 in
-    let found : called_function (tables_of unit) start ≡ Some main.0 = subst (λ (s : List ℕ). called_function (tables_of unit) s ≡ Some main.0) (sym straight.0) main.1 in
-    (main.0, found, inr ((short, straight), λ n choices kind place reaches. let run = (same.flow choices (fault kind place)).0 (n, reaches) in safe run.0 choices kind place run.1))
-
--- ---- programs that are lowered
 
 abbrev pub SafeTrees : Type 0
 SafeTrees =
@@ -69,7 +41,7 @@ safe_graph trees differ apart entries start unit defs flow sound graph safe =
     let main = entries unit start sound.typed in
     let distinct = differ (declared_places unit) (apart sound.text unit sound.read) in
     let safe_too = subst (λ (f : Flow). IsSafeFlow f defs) (sym graph.is_its) safe in
-    (main.0, main.1, inl (trees unit defs start main.0 graph.graph graph.function graph.out graph.count sound.typed distinct main.1 graph.program graph.lowered safe_too))
+    (main.0, main.1, trees unit defs start main.0 graph.graph graph.function graph.out graph.count sound.typed distinct main.1 graph.program graph.lowered safe_too)
 
 -- ---- a well typed program has its entry
 

@@ -8,8 +8,7 @@ use Rattle.mc_outside.specs.Outside.{Stays}
 use Rattle.mc_words.specs.declared.words.Check.{Check}
 use Rattle.mc_words.specs.declared.words.Run.{Run}
 use Rattle.mc_app.specs.declared.checking.Checked.{Checked}
-use Rattle.mc_app.specs.declared.checking.Checked.TheVariants.{NoGraph, Judged}
-use Rattle.mc_app.specs.declared.graphs.NoGraph.TheVariants.{TooLong, NotYet}
+use Rattle.mc_app.specs.declared.checking.Checked.TheVariants.{TooLong, Judged}
 use Rattle.mc_app.specs.declared.running.Ran.{Ran}
 use Rattle.mc_app.specs.declared.running.Ran.TheVariants.{TooBig, To}
 use Rattle.mc_app.specs.Checks.{IsWhyChecked}
@@ -17,8 +16,7 @@ use Rattle.mc_app.specs.Runs.{IsWhyRan}
 
 -- what files hold has stayed
 pub stay_checked : (old new : Holds) (c : Check) (unit : UnitTree) (defs : List Def) (found : Checked) → Stays old new → IsWhyChecked new c unit defs found → IsWhyChecked old c unit defs found
-stay_checked old new c unit defs (NoGraph TooLong) stays why = why
-stay_checked old new c unit defs (NoGraph NotYet) stays why = why
+stay_checked old new c unit defs TooLong stays why = why
 stay_checked old new c unit defs (Judged v) stays why = (why.0, why.1, why.2, λ document k. why.3 document (stays c.document.now ∙ k))
 
 pub stay_ran : (old new : Holds) (r : Run) (unit : UnitTree) (defs : List Def) (found : Ran) → Stays old new → IsWhyRan new r unit defs found → IsWhyRan old r unit defs found

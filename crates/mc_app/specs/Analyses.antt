@@ -8,13 +8,11 @@ use Rattle.mc_words.specs.declared.words.Analyse.{Analyse}
 use Rattle.mc_words.specs.Words.{AsksAnalyse}
 use Rattle.mc_app.specs.Checks.{AreLong, IsGraphOf}
 use Rattle.mc_app.specs.declared.analysing.Analysed.{Analysed}
-use Rattle.mc_app.specs.declared.analysing.Analysed.TheVariants.{NoGraph, Found}
-use Rattle.mc_app.specs.declared.graphs.NoGraph.TheVariants.{TooLong, NotYet}
+use Rattle.mc_app.specs.declared.analysing.Analysed.TheVariants.{TooLong, Found}
 
 -- each flow graph of the program is too long; or this is found of one that is not; a search may give up
 abbrev pub IsWhyAnalysed : Analyse → UnitTree → List Def → Analysed → Type 0
-IsWhyAnalysed a unit defs (NoGraph TooLong) = AreLong a.start.now unit defs
-IsWhyAnalysed a unit defs (NoGraph NotYet) = Unit {0}
+IsWhyAnalysed a unit defs TooLong = AreLong a.start.now unit defs
 IsWhyAnalysed a unit defs (Found analysis) =
     (flow : Flow) × IsGraphOf a.start.now unit defs flow × (length flow.points ≤ 10000) × IsAnalysis flow defs analysis
 

@@ -29,7 +29,7 @@ use Rattle.mc_app.specs.declared.analysing.Analysed.TheVariants as results
 use Rattle.mc_app.specs.declared.answer.Status.{Status}
 use Rattle.mc_app.specs.declared.answer.Status.TheVariants as statuses
 use Rattle.mc_app.specs.declared.checking.Checked.{Checked as Found}
-use Rattle.mc_app.specs.declared.checking.Checked.TheVariants.{NoGraph, Judged}
+use Rattle.mc_app.specs.declared.checking.Checked.TheVariants.{TooLong, Judged}
 use Rattle.mc_app.specs.declared.running.Ran.{Ran as Came}
 use Rattle.mc_app.specs.declared.running.Ran.TheVariants.{TooBig, To}
 
@@ -71,7 +71,7 @@ refusal_status (refusals.Definitions cause) = statuses.Definitions
 refusal_status (refusals.Misfit fault) = statuses.Program
 
 abbrev pub checked_status : Found → Status
-checked_status (NoGraph cause) = statuses.Program
+checked_status TooLong = statuses.Program
 checked_status (Judged Safe) = statuses.Good
 checked_status (Judged (Alarms count)) = statuses.Alarm
 checked_status (Judged (Mistaken refusal)) = statuses.Document
@@ -86,7 +86,7 @@ ran_status (To (ending.Short number)) = statuses.Document
 ran_status (To (ending.Bad number)) = statuses.Document
 
 abbrev pub analysed_status : Results → Status
-analysed_status (results.NoGraph cause) = statuses.Program
+analysed_status results.TooLong = statuses.Program
 analysed_status (results.Found (analysis.Safe f)) = statuses.Good
 analysed_status (results.Found (analysis.Alarms f count)) = statuses.Alarm
 analysed_status (results.Found (analysis.Paths document)) = statuses.Limit
@@ -116,7 +116,7 @@ code_of statuses.Memory = 8
 
 -- the document that an analysis has written
 abbrev pub analysed_document : Results → Option (List ℕ)
-analysed_document (results.NoGraph cause) = None
+analysed_document results.TooLong = None
 analysed_document (results.Found (analysis.Safe f)) = Some f.document.items
 analysed_document (results.Found (analysis.Alarms f count)) = Some f.document.items
 analysed_document (results.Found (analysis.Paths document)) = Some document.items

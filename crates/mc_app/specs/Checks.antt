@@ -1,5 +1,5 @@
 -- Why a check of a document comes to what it does, and what it means where all is well.
-use Rattle.std.specs.Prelude.{◌≡◌, ◌≤◌, ◌<◌, ◌⊎◌, ℕ, List, [], Some, codes, length}
+use Rattle.std.specs.Prelude.{◌≡◌, ◌≤◌, ◌<◌, ℕ, List, Some, length}
 use Rattle.mc_ast.specs.Trees.{FunctionTree, UnitTree}
 use Rattle.mc_types.specs.Tables.{called_function, struct_infos, tables_of}
 use Rattle.mc_defs.specs.declared.rules.Def.{Def}
@@ -14,20 +14,12 @@ use Rattle.mc_meaning.specs.Steps.{IsSafeProgram, program_of}
 use Rattle.mc_outside.specs.Outside.{WhereTold}
 use Rattle.mc_resolved.specs.Programs.{Function}
 use Rattle.mc_resolved.specs.Resolving.{resolved_program}
-use Rattle.mc_straight.specs.declared.tree.Program.{Program as StraightForm}
-use Rattle.mc_straight.specs.Straight.{IsStraight}
-use Rattle.mc_straight.specs.Lowering.{flow_of}
 use Rattle.mc_words.specs.declared.words.Check.{Check}
 use Rattle.mc_app.specs.declared.checking.Checked.{Checked}
-use Rattle.mc_app.specs.declared.checking.Checked.TheVariants.{NoGraph, Judged}
-use Rattle.mc_app.specs.declared.graphs.NoGraph.TheVariants.{TooLong, NotYet}
+use Rattle.mc_app.specs.declared.checking.Checked.TheVariants.{TooLong, Judged}
 use Rattle.mc_app.specs.Documents.{IsVerdictOn}
 
 -- ---- flow graphs
-
--- the program is straight, and this is its straight form
-abbrev pub IsShort : (start : List ℕ) → UnitTree → StraightForm → Type 0
-IsShort start unit form = (start ≡ codes "main") × IsStraight unit form
 
 -- this is a flow graph of the program with its definitions
 pub record IsGraphOf (start : List ℕ) (unit : UnitTree) (defs : List Def) (flow : Flow) : Type 0 where
@@ -44,37 +36,25 @@ pub record IsGraphOf (start : List ℕ) (unit : UnitTree) (defs : List Def) (flo
 abbrev pub AreLong : (start : List ℕ) → UnitTree → List Def → Type 0
 AreLong start unit defs = (flow : Flow) → IsGraphOf start unit defs flow → 10000 < length flow.points
 
--- what documents of a program are judged for: a flow graph of the program with its definitions, or, where the program is
--- straight, which has no shape commands, that of its straight form without any
-pub data IsJudgedFor (start : List ℕ) (unit : UnitTree) (defs : List Def) : Flow → List Def → Type 0 where
-  for_graph : {flow : Flow} → IsGraphOf start unit defs flow → length flow.points ≤ 10000 → IsJudgedFor start unit defs flow defs
-  for_form : {form : StraightForm} → IsShort start unit form → IsJudgedFor start unit defs (flow_of form) []
-
 -- ---- causes
 
--- this is the verdict on the document, for what documents of the program are judged for
+-- this is the verdict on the document for a flow graph of the program with its definitions
 abbrev pub IsJudged : Holds → Check → UnitTree → List Def → Verdict → Type 0
 IsJudged holds c unit defs v =
-    (flow : Flow) × (of : List Def) × IsJudgedFor c.start.now unit defs flow of
-    × WhereTold (holds c.document.now) (λ document. IsVerdictOn flow of document v)
+    (flow : Flow) × IsGraphOf c.start.now unit defs flow × (length flow.points ≤ 10000)
+    × WhereTold (holds c.document.now) (λ document. IsVerdictOn flow defs document v)
 
 -- why the check of a document of this program with these definitions comes to this
 abbrev pub IsWhyChecked : Holds → Check → UnitTree → List Def → Checked → Type 0
-IsWhyChecked holds c unit defs (NoGraph TooLong) = AreLong c.start.now unit defs
-IsWhyChecked holds c unit defs (NoGraph NotYet) = (form : StraightForm) → IsShort c.start.now unit form → ⊥
+IsWhyChecked holds c unit defs TooLong = AreLong c.start.now unit defs
 IsWhyChecked holds c unit defs (Judged v) = IsJudged holds c unit defs v
 
 -- ---- safety
 
--- no run of the program, with its definitions, has a fault; or none without any, where it is straight and has no shape commands
-abbrev pub IsSafeFunction : (start : List ℕ) → UnitTree → List Def → FunctionTree → Type 0
-IsSafeFunction start unit defs f =
-    IsSafeProgram (program_of unit defs) f ⊎ (((form : StraightForm) × IsShort start unit form) × IsSafeProgram (program_of unit []) f)
-
--- no run of the program from its entry has a fault
+-- no run of the program from its entry, with its definitions, has a fault
 abbrev pub IsSafeUnit : (start : List ℕ) → UnitTree → List Def → Type 0
 IsSafeUnit start unit defs =
-    (f : FunctionTree) × (called_function (tables_of unit) start ≡ Some f) × IsSafeFunction start unit defs f
+    (f : FunctionTree) × (called_function (tables_of unit) start ≡ Some f) × IsSafeProgram (program_of unit defs) f
 
 -- the texts are a program and its definitions, with which no run of the program has a fault
 abbrev pub IsSafe : (start text definitions : List ℕ) → Type 0

@@ -20,8 +20,6 @@ use Rattle.mc_app.specs.declared.answer.Answer.{Answer}
 use Rattle.mc_app.specs.declared.answer.Answer.TheVariants.{Words, Refused, Checked, Ran, Analysed}
 use Rattle.mc_app.specs.declared.checking.Checked.{Checked as Found}
 use Rattle.mc_app.specs.declared.checking.Checked.TheVariants as found
-use Rattle.mc_app.specs.declared.graphs.NoGraph.{NoGraph}
-use Rattle.mc_app.specs.declared.graphs.NoGraph.TheVariants.{TooLong, NotYet}
 use Rattle.mc_app.specs.declared.running.Ran.{Ran as Came}
 use Rattle.mc_app.specs.declared.running.Ran.TheVariants.{TooBig, To}
 
@@ -50,14 +48,9 @@ verdict_text verdict.Safe = codes "safe"
 verdict_text (verdict.Alarms count) = codes "alarms: " ++ decimal count
 verdict_text (verdict.Refused refusal) = codes "refused: " ++ mistake_text refusal
 
--- why there is nothing that documents are judged for
-abbrev pub no_graph_text : NoGraph → List ℕ
-no_graph_text TooLong = codes "program: TooLong"
-no_graph_text NotYet = codes "program: NotYet"
-
 -- what a check comes to
 abbrev pub checked_text : Found → List ℕ
-checked_text (found.NoGraph cause) = no_graph_text cause
+checked_text found.TooLong = codes "program: TooLong"
 checked_text (found.Judged v) = verdict_text v
 
 -- the kind of a fault
@@ -90,7 +83,7 @@ line text = text ++ codes "\n"
 
 -- what an analysis comes to: a report of its own, or a line
 abbrev pub analysed_text : Results → List ℕ
-analysed_text (results.NoGraph cause) = line (no_graph_text cause)
+analysed_text results.TooLong = line (codes "program: TooLong")
 analysed_text (results.Found (analysis.Safe f)) = f.report.items
 analysed_text (results.Found (analysis.Alarms f count)) = f.report.items
 analysed_text (results.Found (analysis.Paths document)) = line (codes "limit: Paths")

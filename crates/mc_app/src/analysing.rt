@@ -12,7 +12,7 @@ ghost use Rattle.mc_app.specs.Answers.{IsWhyWords, sources_of};
 ghost use Rattle.mc_app.specs.Checks.{IsSafeUnit, IsSafeWhereTold};
 
 use crate::Answer;
-use crate::graphs::{NoGraph, graph};
+use crate::graphs::graph;
 use mc_analysis::{Analysis, analyse};
 use mc_inputs::{Sources, read};
 use mc_kernel::certificates_are_safe;
@@ -27,8 +27,8 @@ use std::alloc::{AllocError, Global};
 /// What the analysis of a program comes to, where the program and its definitions fit.
 #[derive(Drop)]
 pub enum Analysed {
-    /// There is nothing that could be analysed.
-    NoGraph(NoGraph),
+    /// Each flow graph of the program has more than 10,000 points.
+    TooLong,
     Found(Analysis),
 }
 
@@ -50,7 +50,7 @@ fn analyse_bound(alloc: Global, names: Analyse<'_>, bound: &Bound) -> Result<Ana
             let found = analyse(alloc, &flow, defs, names.disjuncts as usize)?;
             Ok(Analysed::Found(found))
         }
-        Err(cause) => Ok(Analysed::NoGraph(cause)),
+        Err(_) => Ok(Analysed::TooLong),
     }
 }
 

@@ -5,7 +5,6 @@ ghost use Rattle.mc_app.specs.Printing.{analysed_text};
 
 use crate::Status;
 use crate::analysing::Analysed;
-use crate::verdict_text::print_no_graph;
 use mc_analysis::Analysis;
 use std::alloc::AllocError;
 
@@ -15,10 +14,7 @@ impl Analysed {
         ensures { OnOk result (out.new.items ≡ out.old.items ++ analysed_text self.now) }
     {
         match self {
-            Analysed::NoGraph(cause) => {
-                print_no_graph(out, *cause)?;
-                out.push(b'\n')?;
-            }
+            Analysed::TooLong => out.extend_from_slice(b"program: TooLong\n")?,
             Analysed::Found(Analysis::Safe(findings)) => {
                 out.extend_from_slice(&findings.report)?;
             }
@@ -36,7 +32,7 @@ impl Analysed {
         ensures { option_map (λ text. text.now) result ≡ analysed_document self.now }
     {
         match self {
-            Analysed::NoGraph(_) => None,
+            Analysed::TooLong => None,
             Analysed::Found(Analysis::Safe(findings)) => Some(findings.document.as_slice()),
             Analysed::Found(Analysis::Alarms(findings, _)) => Some(findings.document.as_slice()),
             Analysed::Found(Analysis::Paths(document)) => Some(document.as_slice()),
@@ -49,7 +45,7 @@ impl Analysed {
         ensures { result ≡ analysed_status self.now }
     {
         match self {
-            Analysed::NoGraph(_) => Status::Program,
+            Analysed::TooLong => Status::Program,
             Analysed::Found(Analysis::Safe(_)) => Status::Good,
             Analysed::Found(Analysis::Alarms(_, _)) => Status::Alarm,
             Analysed::Found(Analysis::Paths(_)) => Status::Limit,

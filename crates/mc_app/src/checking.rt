@@ -1,28 +1,22 @@
 // Checks a document.
-ghost use Rattle.std.specs.Prelude.{◌≡◌, [], List, IfOk, ℕ};
+ghost use Rattle.std.specs.Prelude.{◌≡◌, List, IfOk, ℕ};
 ghost use Rattle.mc_ast.specs.Views.{unit_of};
-ghost use Rattle.mc_flow.specs.Steps.{IsSafeFlow};
 ghost use Rattle.mc_inputs.specs.Texts.{IsWellFormed};
-ghost use Rattle.mc_outside.specs.Outside.{HasCause, Stays, WhereTold};
-ghost use Rattle.mc_straight.specs.Lowering.{flow_of};
-ghost use Rattle.mc_straight.specs.Typing.{IsTyped};
+ghost use Rattle.mc_outside.specs.Outside.{HasCause, Stays};
 ghost use Rattle.mc_words.specs.Words.{AsksCheck};
 ghost use Rattle.mc_words.specs.declared.words.Request.TheVariants as Meant;
 ghost use Rattle.mc_app.specs.Answers.{IsWhyWords, sources_of};
 ghost use Rattle.mc_app.specs.Checks.{IsSafeUnit, IsSafeWhereTold, IsWhyChecked};
-ghost use Rattle.mc_app.specs.Documents.{IsVerdictOn};
 
 use crate::Answer;
 use crate::documents::verdict_in;
-use crate::graphs::{NoGraph, form, graph};
-use mc_defs::Defs;
+use crate::graphs::graph;
 use mc_inputs::{Sources, read};
 use mc_judge::Verdict;
 use mc_outside::{FileFault, Files};
 use mc_places::ascending_places_differ;
 use mc_read::programs_have_distinct_places;
 use mc_scoped::safe_flow_graphs_mean_safe_trees;
-use mc_straight::{Program, lower, trees_run_alike};
 use mc_typed::Bound;
 use mc_words::Check;
 use std::alloc::Global;
@@ -30,52 +24,9 @@ use std::alloc::Global;
 /// What the check of a document comes to, where the program and its definitions fit.
 #[derive(Drop)]
 pub enum Checked {
-    /// There is nothing that documents of the program are judged for.
-    NoGraph(NoGraph),
+    /// Each flow graph of the program has more than 10,000 points.
+    TooLong,
     Judged(Verdict),
-}
-
-// The verdict on a document for the flow graph of a straight program. It has no shape commands, so its definitions play no
-// part.
-fn verdict_on_form<F: Files>(
-    alloc: Global,
-    files: &mut F,
-    document: &str,
-    form: &Program,
-) -> Result<Verdict, FileFault>
-    requires { IsTyped form.now }
-    ensures verdict { WhereTold (F.holds files.old document.now) (λ text. IfOk result (IsVerdictOn (flow_of form.now) [] text)) }
-    ensures safe { IfOk result (λ v. v ≡ Verdict.Safe → IsSafeFlow (flow_of form.now) []) }
-    ensures same { Stays (F.holds files.old) (F.holds files.new) }
-    ensures cause { HasCause (F.faults files.old) (F.faults files.new) result }
-{
-    let flow = lower(alloc, form)?;
-    let defs = Defs::new(alloc);
-    let verdict = verdict_in(alloc, files, document, &flow, &defs)?;
-    Ok(verdict)
-}
-
-// Checks a document of a program that is not lowered: of a straight one.
-fn check_form<F: Files>(
-    alloc: Global,
-    files: &mut F,
-    names: Check<'_>,
-    bound: &Bound,
-) -> Result<Checked, FileFault>
-    requires { IsWellFormed names.start.now (unit_of bound.now.typed.unit) }
-    ensures why { IfOk result (λ found. IsWhyChecked (F.holds files.old) names.entry (unit_of bound.now.typed.unit) bound.now.defs found) }
-    ensures safe { IfOk result (λ found. found ≡ Checked.Judged Verdict.Safe → IsSafeUnit names.entry.start.now (unit_of bound.now.typed.unit) bound.now.defs) }
-    ensures same { Stays (F.holds files.old) (F.holds files.new) }
-    ensures cause { HasCause (F.faults files.old) (F.faults files.new) result }
-{
-    // For the proof alone: the straight form runs as the program does.
-    trees_run_alike();
-    programs_have_distinct_places();
-    let Some(form) = form(alloc, bound.typed().unit(), names.start)? else {
-        return Ok(Checked::NoGraph(NoGraph::NotYet));
-    };
-    let verdict = verdict_on_form(alloc, files, names.document, &form)?;
-    Ok(Checked::Judged(verdict))
 }
 
 // Checks a document of a program with its definitions.
@@ -102,11 +53,7 @@ fn check<F: Files>(
             let verdict = verdict_in(alloc, files, names.document, &flow, defs)?;
             Ok(Checked::Judged(verdict))
         }
-        Err(NoGraph::TooLong) => Ok(Checked::NoGraph(NoGraph::TooLong)),
-        Err(NoGraph::NotYet) => {
-            let found = check_form(alloc, files, names, bound)?;
-            Ok(found)
-        }
+        Err(_) => Ok(Checked::TooLong),
     }
 }
 

@@ -1,10 +1,9 @@
 // What is printed of checks.
 ghost use Rattle.std.specs.Fmt.{decimal};
 ghost use Rattle.std.specs.Prelude.{◌≡◌, ◌++◌, OnOk, codes};
-ghost use Rattle.mc_app.specs.Printing.{checked_text, line_text, line_fault_text, mistake_text, no_graph_text, verdict_text};
+ghost use Rattle.mc_app.specs.Printing.{checked_text, line_text, line_fault_text, mistake_text, verdict_text};
 
 use crate::checking::Checked;
-use crate::graphs::NoGraph;
 use mc_cert::LineFault;
 use mc_judge::{Refusal, Verdict};
 use std::alloc::{AllocError, Global};
@@ -93,23 +92,13 @@ fn print_verdict(alloc: Global, out: &mut Vec<u8>, verdict: &Verdict) -> Result<
     Ok(())
 }
 
-/// Adds why there is no flow graph.
-pub fn print_no_graph(out: &mut Vec<u8>, cause: NoGraph) -> Result<(), AllocError>
-    ensures { OnOk result (out.new.items ≡ out.old.items ++ no_graph_text cause) }
-{
-    match cause {
-        NoGraph::TooLong => out.extend_from_slice(b"program: TooLong"),
-        NoGraph::NotYet => out.extend_from_slice(b"program: NotYet"),
-    }
-}
-
 impl Checked {
     /// Adds the text that tells of it.
     pub fn print(&self, alloc: Global, out: &mut Vec<u8>) -> Result<(), AllocError>
         ensures { OnOk result (out.new.items ≡ out.old.items ++ checked_text self.now) }
     {
         match self {
-            Checked::NoGraph(cause) => print_no_graph(out, *cause),
+            Checked::TooLong => out.extend_from_slice(b"program: TooLong"),
             Checked::Judged(verdict) => print_verdict(alloc, out, verdict),
         }
     }

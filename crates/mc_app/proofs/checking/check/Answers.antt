@@ -6,7 +6,7 @@ use Rattle.mc_flow.specs.Steps.{IsSafeFlow}
 use Rattle.mc_inputs.specs.Texts.{IsWellFormed}
 use Rattle.mc_judge.specs.declared.verdict.Verdict.TheVariants.{Safe}
 use Rattle.mc_app.specs.Documents.{IsVerdictOn}
-use Rattle.mc_app.specs.Checks.{IsGraphOf, for_graph}
+use Rattle.mc_app.specs.Checks.{IsGraphOf}
 use Rattle.mc_app.proofs.Safe.{has_entry, safe_graph}
 use Rattle.mc_app.proofs.Whys.{only_ok}
 use Rattle.mc_app.proofs.checking.check.Goals as goal
@@ -23,7 +23,7 @@ returns-in_ok-verdict-in-Ok-clause-why g c =
     let made = only_ok c.in_ok-flow.field-0 flow (λ (f : Flow). IsGraphOf bound.typed.entry unit bound.defs f) c.in-Ok.is c.in_ok-flow.ensures.graph in
     let graph = subst (λ (s : List ℕ). IsGraphOf s unit bound.defs flow) c.requires.start made in
     let short = only_ok c.in_ok-flow.field-0 flow (λ (f : Flow). length f.points ≤ 10000) c.in-Ok.is c.in_ok-flow.ensures.short in
-    (flow, bound.defs, for_graph graph short, λ text h. subst (λ (ds : List Def). IsVerdictOn flow ds text v) c.defs-defs.ensures.same (c.in_ok-verdict-in-Ok.ensures.verdict text h))
+    (flow, graph, short, λ text h. subst (λ (ds : List Def). IsVerdictOn flow ds text v) c.defs-defs.ensures.same (c.in_ok-verdict-in-Ok.ensures.verdict text h))
 
 pub returns-in_ok-verdict-in-Ok-clause-safe : goal.returns-in_ok-verdict-in-Ok-clause-safe
 returns-in_ok-verdict-in-Ok-clause-safe g c = λ good.

@@ -42,7 +42,7 @@ returns-in-Ok-clause-valid c =
     c.in-Ok.ensures.valid bound.defs made
 
 pub returns-in-Err-TooLong-clause-long : goal.returns-in-Err-TooLong-clause-long
-returns-in-Err-TooLong-clause-long c = λ same.
+returns-in-Err-TooLong-clause-long c =
     let bound = c.args.bound.now in
     let infos : c.structs.result.now.list ≡ struct_infos (unit_of bound.typed.unit) = rw c.typed.ensures at c.structs.ensures.infos in
     long_of bound.typed.entry (unit_of bound.typed.unit) bound.defs c.in_ok-program.program c.structs.result.now c.in_ok-program.ensures infos (c.in-Err-TooLong.ensures.long c.in-Err-TooLong.field-0-is)

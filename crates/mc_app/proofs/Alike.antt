@@ -1,0 +1,231 @@
+-- The document that an analysis has left is judged as the analysis ended.
+use Rattle.std.proofs.Common.{◌≡◌, ◌∙◌, ◌≤◌, ◌<◌, ◌⊎◌, ℕ, List, Some, inl, inr, refl, sym, ap, subst, length, arith}
+use Rattle.std.specs.Prelude.{None, Ok, Err}
+use Rattle.mc_analysis.specs.declared.analysis.Analysis.{Analysis}
+use Rattle.mc_analysis.specs.declared.analysis.Analysis.TheVariants as analysis
+use Rattle.mc_analysis.specs.Findings.{IsAnalysis}
+use Rattle.mc_ast.specs.Trees.{UnitTree}
+use Rattle.mc_defread.specs.Judging.{Judged as JudgedText}
+use Rattle.mc_defread.specs.Readings.{ReadsAs}
+use Rattle.mc_defs.specs.declared.rules.Def.{Def}
+use Rattle.mc_defs.specs.declared.shapes.StructInfo.{StructInfo}
+use Rattle.mc_defs.specs.declared.shapes.Structs.{Structs}
+use Rattle.mc_flow.specs.declared.graph.Flow.{Flow}
+use Rattle.mc_inputs.specs.Inputs.{AreInputs, Holds, IsRefused}
+use Rattle.mc_inputs.specs.Texts.{AreDefinitions, HasMisfit, IsProgramHere}
+use Rattle.mc_inputs.specs.declared.reading.Sources.{Sources}
+use Rattle.mc_inputs.specs.declared.refusal.NoDefinitions.TheVariants as no_definitions
+use Rattle.mc_inputs.specs.declared.refusal.NoProgram.TheVariants as no_program
+use Rattle.mc_inputs.specs.declared.refusal.Refusal.{Refusal}
+use Rattle.mc_inputs.specs.declared.refusal.Refusal.TheVariants.{Program, Definitions, Misfit}
+use Rattle.mc_judge.specs.declared.verdict.Verdict.{Verdict}
+use Rattle.mc_judge.specs.declared.verdict.Verdict.TheVariants.{Safe, Alarms}
+use Rattle.mc_judge.specs.Verdicts.{IsCertificate, IsChain, Tells}
+use Rattle.mc_lowering.specs.Graphs.{Graph}
+use Rattle.mc_lowering.specs.Lowering.{IsLowering}
+use Rattle.mc_read.specs.declared.cause.Refusal.{Refusal as ProgramFault}
+use Rattle.mc_read.specs.Programs.{IsProgramOf, IsReadAs}
+use Rattle.mc_read.specs.Refusals.{IsRefused as IsProgramRefused}
+use Rattle.mc_resolved.specs.Programs.{Function}
+use Rattle.mc_types.specs.First.{told_of}
+use Rattle.mc_types.specs.Shapes.{IsBound, bind_faults}
+use Rattle.mc_types.specs.Tables.{struct_infos}
+use Rattle.mc_words.specs.Commands.{analyse_app, check_app}
+use Rattle.mc_words.specs.declared.words.Analyse.{Analyse}
+use Rattle.mc_words.specs.declared.words.Check.{Check}
+use Rattle.mc_words.specs.declared.words.Request.{Request}
+use Rattle.mc_words.specs.declared.words.Request.TheVariants as request
+use Rattle.mc_words.specs.Words.{Asks, AsksAnalyse, AsksCheck}
+use Rattle.mc_app.specs.Alike.{AreJudgedAlike, AreStill, IsFoundStatus, NamesSame}
+use Rattle.mc_app.specs.Answers.{IsWhyWords, analysed_document, analysed_status, checked_status, document_of, sources_of, status_of}
+use Rattle.mc_app.specs.Checks.{AreLong, IsGraphOf, IsWhyChecked}
+use Rattle.mc_app.specs.Documents.{IsVerdictOn}
+use Rattle.mc_app.specs.declared.answer.Answer.{Answer}
+use Rattle.mc_app.specs.declared.answer.Answer.TheVariants.{Words, Refused, Checked, Ran, Analysed}
+use Rattle.mc_app.specs.declared.analysing.Analysed.{Analysed as Results}
+use Rattle.mc_app.specs.declared.analysing.Analysed.TheVariants as results
+use Rattle.mc_app.specs.declared.answer.Status.TheVariants as statuses
+use Rattle.mc_app.specs.declared.checking.Checked.{Checked as Found}
+use Rattle.mc_app.specs.declared.checking.Checked.TheVariants.{TooLong, Judged}
+use Rattle.mc_app.proofs.Asked.{no_analysis, no_other, no_run, one_word}
+
+-- what is known of texts and flow graphs
+pub record Laws : Type 0 where
+  pub read_once : (text : List ℕ) (one other : UnitTree) → IsReadAs text one → IsReadAs text other → one ≡ other
+  pub not_refused : (text entry : List ℕ) (unit : UnitTree) (refusal : ProgramFault) → IsProgramOf text entry unit → IsProgramRefused text entry refusal → ⊥
+  pub defined_once : (text : List ℕ) (structs : List StructInfo) (one other : JudgedText (List Def)) → ReadsAs text structs one → ReadsAs text structs other → one ≡ other
+  pub one_graph : (g h : Graph) (entry start : Function) (out count left more : ℕ) → g.program ≡ h.program → g.flow.structs ≡ h.flow.structs
+      → IsLowering g entry out count → IsLowering h start left more → (g.flow ≡ h.flow) × (g.stops ≡ h.stops)
+
+-- texts are a program for an entry and its definitions, which it fits
+pub record Given (start text definitions : List ℕ) (unit : UnitTree) (defs : List Def) : Type 0 where
+  pub program : IsProgramHere start text unit
+  pub defined : AreDefinitions unit defs definitions
+  pub fit : IsBound unit defs
+
+given : (holds : Holds) (s : Sources) (unit : UnitTree) (defs : List Def) (start p d text definitions : List ℕ) → s.program.now ≡ p → s.definitions.now ≡ d → s.start.now ≡ start
+    → holds p ≡ Some text → holds d ≡ Some definitions → AreInputs holds s unit defs → Given start text definitions unit defs
+given holds s unit defs start p d text definitions e f g h k inputs =
+    record {
+      program = subst (λ (x : List ℕ). IsProgramHere x text unit) g (inputs.program text (ap holds e ∙ h));
+      defined = inputs.definitions definitions (ap holds f ∙ k);
+      fit = inputs.fit;
+    }
+
+module _ (laws : Laws) (start text definitions : List ℕ) (unit : UnitTree) (defs : List Def) (here : Given start text definitions unit defs) where
+  -- the same texts are nothing else
+  pub one_unit : (other : UnitTree) → IsProgramHere start text other → other ≡ unit
+  one_unit other there = laws.read_once text other unit there.1.read here.program.1.read
+
+  pub one_defs : (others : List Def) → AreDefinitions unit others definitions → others ≡ defs
+  one_defs others there = let same = laws.defined_once definitions (struct_infos unit) (Ok others) (Ok defs) there.1 here.defined.1 in cc
+
+  pub never : (holds : Holds) (s : Sources) (p d : List ℕ) → s.program.now ≡ p → s.definitions.now ≡ d → s.start.now ≡ start
+      → holds p ≡ Some text → holds d ≡ Some definitions → (refusal : Refusal) → IsRefused holds s refusal → ⊥
+  never holds s p d e f g h k (Program no_program.TooBig) refused = let big = refused text (ap holds e ∙ h) in let small = here.program.0 in absurd (omega arith)
+  never holds s p d e f g h k (Program (no_program.Refused fault)) refused =
+      let unread = refused text (ap holds e ∙ h) in
+      laws.not_refused text start unit fault here.program.1 (subst (λ (x : List ℕ). IsProgramRefused text x fault) g unread.1)
+  never holds s p d e f g h k (Definitions no_definitions.TooBig) refused = let big = refused.2 definitions (ap holds f ∙ k) in let small = here.defined.0 in absurd (omega arith)
+  never holds s p d e f g h k (Definitions (no_definitions.Refused fault)) refused =
+      let unit_is = one_unit refused.0 (subst (λ (x : List ℕ). IsProgramHere x text refused.0) g (refused.1 text (ap holds e ∙ h))) in
+      let undefined = subst (λ (u : UnitTree). ReadsAs definitions (struct_infos u) (Err fault)) unit_is (refused.2 definitions (ap holds f ∙ k)).1 in
+      let same = laws.defined_once definitions (struct_infos unit) (Err fault) (Ok defs) undefined here.defined.1 in absurd cc
+  never holds s p d e f g h k (Misfit fault) refused =
+      let unit_is = one_unit refused.0 (subst (λ (x : List ℕ). IsProgramHere x text refused.0) g (refused.1 text (ap holds e ∙ h))) in
+      let others = refused.2.0 in
+      let defs_are = one_defs others (subst (λ (u : UnitTree). AreDefinitions u others definitions) unit_is (refused.2.1 definitions (ap holds f ∙ k))) in
+      let first = subst (λ (ds : List Def). HasMisfit unit ds fault) defs_are (subst (λ (u : UnitTree). HasMisfit u others fault) unit_is refused.2.2) in
+      let found : told_of None (bind_faults unit defs) ≡ Some first.0 = first.1 in
+      let none : None ≡ Some first.0 = ap (λ fs. told_of None fs) (sym here.fit) ∙ found in
+      absurd cc
+
+  -- the same program with its definitions has one flow graph
+  pub one_flow : (flow other : Flow) → IsGraphOf start unit defs flow → IsGraphOf start unit defs other → other ≡ flow
+  one_flow flow other one two =
+      let g = one.graph in
+      let h = two.graph in
+      let lists : h.flow.structs.list ≡ g.flow.structs.list = two.structs ∙ sym one.structs in
+      let structs : h.flow.structs ≡ g.flow.structs = ap (λ (l : List StructInfo). record { list = l }) lists in
+      let same = laws.one_graph h g two.function one.function two.out two.count one.out one.count (two.program ∙ sym one.program) structs two.lowered one.lowered in
+      sym two.is_its ∙ same.0 ∙ one.is_its
+
+-- ---- verdicts
+
+-- the verdict on the document of what was found is that
+verdict_is : (flow : Flow) (defs : List Def) (found : Analysis) (document : List ℕ) (v : Verdict) → IsAnalysis flow defs found → IsFoundStatus (analysed_status (results.Found found))
+    → Some document ≡ analysed_document (results.Found found) → Tells flow defs document v → checked_status (Judged v) ≡ analysed_status (results.Found found)
+verdict_is flow defs (analysis.Safe f) document v proved good is tells =
+    let document_is : document ≡ f.document.items = cc in
+    let certificate = record { lines = proved.lines; spelled = proved.spelled; valid = proved.valid } in
+    let safe = tells.safe.1 (subst (λ (t : List ℕ). IsCertificate flow defs t) (sym document_is) certificate) in
+    ap (λ (x : Verdict). checked_status (Judged x)) safe
+verdict_is flow defs (analysis.Alarms f count) document v found good is tells =
+    let document_is : document ≡ f.document.items = cc in
+    let chain = record { lines = found.lines; spelled = found.spelled; short = found.chain } in
+    let alarms = (tells.alarms count).1 (found.stuck, subst (λ (t : List ℕ). IsChain flow defs t found.stuck) (sym document_is) chain, found.counted, found.some) in
+    ap (λ (x : Verdict). checked_status (Judged x)) alarms
+verdict_is flow defs (analysis.Paths text) document v found (inl e) is tells = cc
+verdict_is flow defs (analysis.Paths text) document v found (inr e) is tells = cc
+verdict_is flow defs analysis.Unknown document v found (inl e) is tells = cc
+verdict_is flow defs analysis.Unknown document v found (inr e) is tells = cc
+
+-- what was found has left a document
+found_document : (found : Analysis) → IsFoundStatus (analysed_status (results.Found found)) → (document : List ℕ) × (analysed_document (results.Found found) ≡ Some document)
+found_document (analysis.Safe f) good = (f.document.items, refl)
+found_document (analysis.Alarms f count) good = (f.document.items, refl)
+found_document (analysis.Paths text) good = (text.items, refl)
+found_document analysis.Unknown (inl e) = cc
+found_document analysis.Unknown (inr e) = cc
+
+module _ (laws : Laws) (after : Holds) (more : List (List ℕ)) (c : Check) (asks : AsksCheck more c) (text definitions : List ℕ) (told : after c.program.now ≡ Some text) (defined : after c.definitions.now ≡ Some definitions) (unit : UnitTree) (defs : List Def) (here : Given c.start.now text definitions unit defs) (flow : Flow) (graph : IsGraphOf c.start.now unit defs flow) (short : length flow.points ≤ 10000) (found : Analysis) (is_found : IsAnalysis flow defs found) (good : IsFoundStatus (analysed_status (results.Found found))) (left : after c.document.now ≡ analysed_document (results.Found found)) where
+  -- whatever reads these words names the same
+  program_too : (d : Check) → AsksCheck more d → d.program.now ≡ c.program.now
+  program_too d too = one_word check_app more _ d.program.now c.program.now too.program asks.program
+
+  definitions_too : (d : Check) → AsksCheck more d → d.definitions.now ≡ c.definitions.now
+  definitions_too d too = one_word check_app more _ d.definitions.now c.definitions.now too.definitions asks.definitions
+
+  document_too : (d : Check) → AsksCheck more d → d.document.now ≡ c.document.now
+  document_too d too = one_word check_app more _ d.document.now c.document.now too.document asks.document
+
+  start_too : (d : Check) → AsksCheck more d → d.start.now ≡ c.start.now
+  start_too d too = one_word check_app more _ d.start.now c.start.now too.start asks.start
+
+  -- what is read now is what was read then
+  same_unit : (d : Check) → AsksCheck more d → (u : UnitTree) (ds : List Def) → AreInputs after (sources_of (request.Check d)) u ds → (u ≡ unit) × (ds ≡ defs)
+  same_unit d too u ds inputs =
+      let there = given after (sources_of (request.Check d)) u ds c.start.now c.program.now c.definitions.now text definitions (program_too d too) (definitions_too d too) (start_too d too) told defined inputs in
+      let unit_is = one_unit laws c.start.now text definitions unit defs here u there.program in
+      (unit_is, one_defs laws c.start.now text definitions unit defs here ds (subst (λ (x : UnitTree). AreDefinitions x ds definitions) unit_is there.defined))
+
+  judged : (d : Check) → AsksCheck more d → (ending : Found) → IsWhyChecked after d unit defs ending → checked_status ending ≡ analysed_status (results.Found found)
+  judged d too TooLong why =
+      let longer = subst (λ (s : List ℕ). AreLong s unit defs) (start_too d too) why flow graph in absurd (omega arith)
+  judged d too (Judged v) why =
+      let graph_too = subst (λ (s : List ℕ). IsGraphOf s unit defs why.0) (start_too d too) why.1 in
+      let flow_is = one_flow laws c.start.now text definitions unit defs here flow why.0 graph graph_too in
+      let document = found_document found good in
+      let held : after d.document.now ≡ Some document.0 = ap after (document_too d too) ∙ left ∙ document.1 in
+      let tells = (why.3 document.0 held).0 in
+      verdict_is flow defs found document.0 v is_found good (sym document.1) (subst (λ (f : Flow). Tells f defs document.0 v) flow_is tells)
+
+  refused_never : (r : Request) (refusal : Refusal) → Asks more r → IsRefused after (sources_of r) refusal → ⊥
+  refused_never (request.Check d) refusal too refused =
+      never laws c.start.now text definitions unit defs here after (sources_of (request.Check d)) c.program.now c.definitions.now (program_too d too) (definitions_too d too) (start_too d too)
+      told defined refusal refused
+  refused_never (request.Run r) refusal too refused = no_run more c r asks too
+  refused_never (request.Analyse a) refusal too refused = no_analysis more c a asks too
+
+  pub answers : (other : Answer) → IsWhyWords after more other → status_of other ≡ analysed_status (results.Found found)
+  answers Words why = absurd (why (request.Check c) asks)
+  answers (Refused refusal) why = absurd (refused_never why.0 refusal why.1 why.2)
+  answers (Checked ending) why =
+      let same = same_unit why.0 why.1 why.2.0 why.2.1 why.2.2 in
+      judged why.0 why.1 ending
+      (subst (λ (ds : List Def). IsWhyChecked after why.0 unit ds ending) same.1 (subst (λ (u : UnitTree). IsWhyChecked after why.0 u why.2.1 ending) same.0 why.2.3))
+  answers (Ran ending) why = absurd (no_run more c why.0 asks why.1)
+  answers (Analysed ending) why = absurd (no_analysis more c why.0 asks why.1)
+
+-- ---- both calls
+
+-- only an analysis that found something ends so
+found_by : (before : Holds) (words : List (List ℕ)) (a : Analyse) (one : Answer) → AsksAnalyse words a → IsWhyWords before words one → IsFoundStatus (status_of one)
+    → (found : Analysis) × (one ≡ Analysed (results.Found found))
+found_by before words a Words asks why good = absurd (why (request.Analyse a) asks)
+found_by before words a (Refused (Program cause)) asks why (inl e) = cc
+found_by before words a (Refused (Program cause)) asks why (inr e) = cc
+found_by before words a (Refused (Definitions cause)) asks why (inl e) = cc
+found_by before words a (Refused (Definitions cause)) asks why (inr e) = cc
+found_by before words a (Refused (Misfit fault)) asks why (inl e) = cc
+found_by before words a (Refused (Misfit fault)) asks why (inr e) = cc
+found_by before words a (Checked ending) asks why good = absurd (no_analysis words why.0 a why.1 asks)
+found_by before words a (Ran ending) asks why good = absurd (no_other words why.0 a why.1 asks)
+found_by before words a (Analysed results.TooLong) asks why (inl e) = cc
+found_by before words a (Analysed results.TooLong) asks why (inr e) = cc
+found_by before words a (Analysed (results.Found found)) asks why good = (found, refl)
+
+alike_found : Laws → (before after : Holds) (words more : List (List ℕ)) (a : Analyse) (c : Check) (found : Analysis) (other : Answer) → AsksAnalyse words a → AsksCheck more c
+    → NamesSame a c → AreStill before after a → IsWhyWords before words (Analysed (results.Found found)) → IsFoundStatus (analysed_status (results.Found found))
+    → after c.document.now ≡ analysed_document (results.Found found) → IsWhyWords after more other → status_of other ≡ analysed_status (results.Found found)
+alike_found laws before after words more a c found other asks too names still why good left then =
+    let b = why.0 in
+    let unit = why.2.0 in
+    let defs = why.2.1 in
+    let what = why.2.3 in
+    let program_is : b.program.now ≡ a.program.now = one_word analyse_app words _ b.program.now a.program.now why.1.program asks.program in
+    let definitions_are : b.definitions.now ≡ a.definitions.now = one_word analyse_app words _ b.definitions.now a.definitions.now why.1.definitions asks.definitions in
+    let start_is : b.start.now ≡ c.start.now = one_word analyse_app words _ b.start.now a.start.now why.1.start asks.start ∙ sym names.start in
+    let here = given before (sources_of (request.Analyse b)) unit defs c.start.now a.program.now a.definitions.now still.text still.definitions program_is definitions_are start_is
+        still.program_before still.definitions_before why.2.2 in
+    answers laws after more c too still.text still.definitions (ap after names.program ∙ still.program_after) (ap after names.definitions ∙ still.definitions_after) unit defs here what.0
+    (subst (λ (s : List ℕ). IsGraphOf s unit defs what.0) start_is what.1) what.2 found what.3 good left other then
+
+pub alike : Laws → AreJudgedAlike
+alike laws before after words more a c one other asks too names still why good left then =
+    let by = found_by before words a one asks why good in
+    let is = by.1 in
+    let why_found = subst (λ (x : Answer). IsWhyWords before words x) is why in
+    let good_found = subst (λ (x : Answer). IsFoundStatus (status_of x)) is good in
+    let left_found = subst (λ (x : Answer). after c.document.now ≡ document_of x) is left in
+    alike_found laws before after words more a c by.0 other asks too names still why_found good_found left_found then ∙ sym (ap (λ (x : Answer). status_of x) is)

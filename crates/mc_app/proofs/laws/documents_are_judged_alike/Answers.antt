@@ -1,0 +1,11 @@
+use Rattle.mc_app.proofs.Alike.{Laws, alike}
+use Rattle.mc_app.proofs.laws.documents_are_judged_alike.Goals as goal
+
+pub returns : goal.returns
+returns c =
+    alike (record {
+      read_once = c.texts_are_read_once.ensures;
+      not_refused = c.programs_are_not_refused.ensures;
+      defined_once = c.definitions_are_read_once.ensures;
+      one_graph = c.flow_graphs_are_one.ensures;
+    })

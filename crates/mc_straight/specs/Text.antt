@@ -1,6 +1,0 @@
--- The bytes of a text.
-use Rattle.std.specs.Prelude.{ℕ, ◌==◌, ◌||◌, Bool}
-
--- blank, tab, carriage return, line feed
-abbrev pub is_blank : ℕ → Bool
-is_blank b = b == 32 || b == 9 || b == 13 || b == 10
