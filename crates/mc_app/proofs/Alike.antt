@@ -38,7 +38,8 @@ use Rattle.mc_words.specs.declared.words.Request.TheVariants as request
 use Rattle.mc_words.specs.Words.{Asks, AsksAnalyse, AsksCheck}
 use Rattle.mc_app.specs.Alike.{AreJudgedAlike, AreStill, IsFoundStatus, NamesSame}
 use Rattle.mc_app.specs.Answers.{IsWhyWords, analysed_document, analysed_status, checked_status, document_of, sources_of, status_of}
-use Rattle.mc_app.specs.Checks.{AreLong, IsGraphOf, IsWhyChecked}
+use Rattle.mc_lowered.specs.Graphs.{AreLong, IsGraphOf}
+use Rattle.mc_app.specs.Checks.{IsWhyChecked}
 use Rattle.mc_app.specs.Documents.{IsVerdictOn}
 use Rattle.mc_app.specs.declared.answer.Answer.{Answer}
 use Rattle.mc_app.specs.declared.answer.Answer.TheVariants.{Words, Refused, Checked, Ran, Analysed}

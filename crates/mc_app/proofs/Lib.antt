@@ -2,7 +2,6 @@ pub mod Asked
 pub mod Causes
 pub mod Hearing
 pub mod Leaving
-pub mod Lowered
 pub mod Printing
 pub mod Safe
 pub mod Whys

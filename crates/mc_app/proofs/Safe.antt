@@ -17,7 +17,8 @@ use Rattle.mc_text.specs.declared.place.Place.{Place}
 use Rattle.mc_types.specs.Tables.{called_function, is_defined, tables_of}
 use Rattle.mc_types.specs.Typing.{IsWellTyped, is_entry}
 use Rattle.mc_inputs.specs.Texts.{IsWellFormed}
-use Rattle.mc_app.specs.Checks.{IsGraphOf, IsSafeUnit}
+use Rattle.mc_lowered.specs.Graphs.{IsGraphOf}
+use Rattle.mc_app.specs.Checks.{IsSafeUnit}
 
 -- texts that are read declare variables at different places
 abbrev pub ReadApart : Type 0

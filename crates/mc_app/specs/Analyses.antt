@@ -6,7 +6,7 @@ use Rattle.mc_defs.specs.declared.rules.Def.{Def}
 use Rattle.mc_flow.specs.declared.graph.Flow.{Flow}
 use Rattle.mc_words.specs.declared.words.Analyse.{Analyse}
 use Rattle.mc_words.specs.Words.{AsksAnalyse}
-use Rattle.mc_app.specs.Checks.{AreLong, IsGraphOf}
+use Rattle.mc_lowered.specs.Graphs.{AreLong, IsGraphOf}
 use Rattle.mc_app.specs.declared.analysing.Analysed.{Analysed}
 use Rattle.mc_app.specs.declared.analysing.Analysed.TheVariants.{TooLong, Found}
 

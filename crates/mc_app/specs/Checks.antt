@@ -1,40 +1,20 @@
 -- Why a check of a document comes to what it does, and what it means where all is well.
-use Rattle.std.specs.Prelude.{◌≡◌, ◌≤◌, ◌<◌, ℕ, List, Some, length}
+use Rattle.std.specs.Prelude.{◌≡◌, ◌≤◌, ℕ, List, Some, length}
 use Rattle.mc_ast.specs.Trees.{FunctionTree, UnitTree}
-use Rattle.mc_types.specs.Tables.{called_function, struct_infos, tables_of}
+use Rattle.mc_types.specs.Tables.{called_function, tables_of}
 use Rattle.mc_defs.specs.declared.rules.Def.{Def}
 use Rattle.mc_flow.specs.declared.graph.Flow.{Flow}
 use Rattle.mc_inputs.specs.Inputs.{Holds}
 use Rattle.mc_inputs.specs.declared.reading.Sources.{Sources}
 use Rattle.mc_inputs.specs.Texts.{AreDefinitions, IsProgramHere}
 use Rattle.mc_judge.specs.declared.verdict.Verdict.{Verdict}
-use Rattle.mc_lowering.specs.Graphs.{Graph}
-use Rattle.mc_lowering.specs.Lowering.{IsLowering}
+use Rattle.mc_lowered.specs.Graphs.{AreLong, IsGraphOf}
 use Rattle.mc_meaning.specs.Steps.{IsSafeProgram, program_of}
 use Rattle.mc_outside.specs.Outside.{WhereTold}
-use Rattle.mc_resolved.specs.Programs.{Function}
-use Rattle.mc_resolved.specs.Resolving.{resolved_program}
 use Rattle.mc_words.specs.declared.words.Check.{Check}
 use Rattle.mc_app.specs.declared.checking.Checked.{Checked}
 use Rattle.mc_app.specs.declared.checking.Checked.TheVariants.{TooLong, Judged}
 use Rattle.mc_app.specs.Documents.{IsVerdictOn}
-
--- ---- flow graphs
-
--- this is a flow graph of the program with its definitions
-pub record IsGraphOf (start : List ℕ) (unit : UnitTree) (defs : List Def) (flow : Flow) : Type 0 where
-  pub graph : Graph
-  pub program : graph.program ≡ resolved_program (tables_of unit) defs start
-  pub is_its : graph.flow ≡ flow
-  pub structs : graph.flow.structs.list ≡ struct_infos unit
-  pub function : Function
-  pub out : ℕ
-  pub count : ℕ
-  pub lowered : IsLowering graph function out count
-
--- each of them has more than 10,000 points
-abbrev pub AreLong : (start : List ℕ) → UnitTree → List Def → Type 0
-AreLong start unit defs = (flow : Flow) → IsGraphOf start unit defs flow → 10000 < length flow.points
 
 -- ---- causes
 

@@ -12,10 +12,10 @@ ghost use Rattle.mc_app.specs.Answers.{IsWhyWords, sources_of};
 ghost use Rattle.mc_app.specs.Checks.{IsSafeUnit, IsSafeWhereTold};
 
 use crate::Answer;
-use crate::graphs::graph;
 use mc_analysis::{Analysis, analyse};
 use mc_inputs::{Sources, read};
 use mc_kernel::certificates_are_safe;
+use mc_lowered::graph;
 use mc_outside::{FileFault, Files};
 use mc_places::ascending_places_differ;
 use mc_read::programs_have_distinct_places;
@@ -46,8 +46,8 @@ fn analyse_bound(alloc: Global, names: Analyse<'_>, bound: &Bound) -> Result<Ana
     ascending_places_differ();
     let defs = bound.defs();
     match graph(alloc, bound)? {
-        Ok(flow) => {
-            let found = analyse(alloc, &flow, defs, names.disjuncts as usize)?;
+        Ok(lowered) => {
+            let found = analyse(alloc, &lowered.flow, defs, names.disjuncts as usize)?;
             Ok(Analysed::Found(found))
         }
         Err(_) => Ok(Analysed::TooLong),

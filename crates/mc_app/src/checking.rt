@@ -10,9 +10,9 @@ ghost use Rattle.mc_app.specs.Checks.{IsSafeUnit, IsSafeWhereTold, IsWhyChecked}
 
 use crate::Answer;
 use crate::documents::verdict_in;
-use crate::graphs::graph;
 use mc_inputs::{Sources, read};
 use mc_judge::Verdict;
+use mc_lowered::graph;
 use mc_outside::{FileFault, Files};
 use mc_places::ascending_places_differ;
 use mc_read::programs_have_distinct_places;
@@ -49,8 +49,8 @@ fn check<F: Files>(
     ascending_places_differ();
     let defs = bound.defs();
     match graph(alloc, bound)? {
-        Ok(flow) => {
-            let verdict = verdict_in(alloc, files, names.document, &flow, defs)?;
+        Ok(lowered) => {
+            let verdict = verdict_in(alloc, files, names.document, &lowered.flow, defs)?;
             Ok(Checked::Judged(verdict))
         }
         Err(_) => Ok(Checked::TooLong),

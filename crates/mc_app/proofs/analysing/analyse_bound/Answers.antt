@@ -4,10 +4,10 @@ use Rattle.mc_analysis.specs.declared.analysis.Analysis.TheVariants.{Safe}
 use Rattle.mc_analysis.specs.Findings.{IsAnalysis}
 use Rattle.mc_ast.specs.Views.{unit_of}
 use Rattle.mc_defs.specs.declared.rules.Def.{Def}
-use Rattle.mc_flow.specs.declared.graph.Flow.{Flow}
 use Rattle.mc_flow.specs.Valid.{IsValid}
 use Rattle.mc_inputs.specs.Texts.{IsWellFormed}
-use Rattle.mc_app.specs.Checks.{IsGraphOf}
+use Rattle.mc_lower.specs.declared.lowering.Lowered.{Lowered}
+use Rattle.mc_lowered.specs.Graphs.{IsGraphOf}
 use Rattle.mc_app.proofs.Safe.{has_entry, safe_graph}
 use Rattle.mc_app.proofs.Whys.{only_ok}
 use Rattle.mc_app.proofs.analysing.analyse_bound.Goals as goal
@@ -19,20 +19,22 @@ pub returns-in_ok-found-in-Ok-clause-why : goal.returns-in_ok-found-in-Ok-clause
 returns-in_ok-found-in-Ok-clause-why c =
     let bound = c.args.bound.now in
     let unit = unit_of bound.typed.unit in
-    let flow = c.in-Ok.flow in
-    let made = only_ok c.in_ok-flow.field-0 flow (λ (f : Flow). IsGraphOf bound.typed.entry unit bound.defs f) c.in-Ok.is c.in_ok-flow.ensures.graph in
+    let x = c.in-Ok.lowered in
+    let flow = x.flow in
+    let made = only_ok c.in_ok-lowered.field-0 x (λ (y : Lowered). IsGraphOf bound.typed.entry unit bound.defs y.flow) c.in-Ok.is c.in_ok-lowered.ensures.graph in
     let graph = subst (λ (s : List ℕ). IsGraphOf s unit bound.defs flow) c.requires.start made in
-    let short = only_ok c.in_ok-flow.field-0 flow (λ (f : Flow). length f.points ≤ 10000) c.in-Ok.is c.in_ok-flow.ensures.short in
+    let short = only_ok c.in_ok-lowered.field-0 x (λ (y : Lowered). length y.flow.points ≤ 10000) c.in-Ok.is c.in_ok-lowered.ensures.short in
     (flow, graph, short, subst (λ (ds : List Def). IsAnalysis flow ds c.in_ok-found-in-Ok.found) c.defs-defs.ensures.same c.in_ok-found-in-Ok.ensures)
 
 pub returns-in_ok-found-in-Ok-clause-safe : goal.returns-in_ok-found-in-Ok-clause-safe
 returns-in_ok-found-in-Ok-clause-safe c = λ f good.
     let bound = c.args.bound.now in
     let unit = unit_of bound.typed.unit in
-    let flow = c.in-Ok.flow in
-    let made = only_ok c.in_ok-flow.field-0 flow (λ (g : Flow). IsGraphOf bound.typed.entry unit bound.defs g) c.in-Ok.is c.in_ok-flow.ensures.graph in
+    let x = c.in-Ok.lowered in
+    let flow = x.flow in
+    let made = only_ok c.in_ok-lowered.field-0 x (λ (y : Lowered). IsGraphOf bound.typed.entry unit bound.defs y.flow) c.in-Ok.is c.in_ok-lowered.ensures.graph in
     let graph = subst (λ (s : List ℕ). IsGraphOf s unit bound.defs flow) c.requires.start made in
-    let valid = only_ok c.in_ok-flow.field-0 flow (λ (g : Flow). IsValid g bound.defs) c.in-Ok.is c.in_ok-flow.ensures.valid in
+    let valid = only_ok c.in_ok-lowered.field-0 x (λ (y : Lowered). IsValid y.flow bound.defs) c.in-Ok.is c.in_ok-lowered.ensures.valid in
     let is : c.in_ok-found-in-Ok.found ≡ Safe f = cc in
     let found = subst (λ (ds : List Def). IsAnalysis flow ds c.in_ok-found-in-Ok.found) c.defs-defs.ensures.same c.in_ok-found-in-Ok.ensures in
     let proved = subst (λ (a : Analysis). IsAnalysis flow bound.defs a) is found in

@@ -1,12 +1,12 @@
 use Rattle.std.proofs.Common.{◌≡◌, ◌≤◌, ℕ, List, length, subst, sym}
 use Rattle.mc_ast.specs.Views.{unit_of}
 use Rattle.mc_defs.specs.declared.rules.Def.{Def}
-use Rattle.mc_flow.specs.declared.graph.Flow.{Flow}
 use Rattle.mc_flow.specs.Steps.{IsSafeFlow}
 use Rattle.mc_inputs.specs.Texts.{IsWellFormed}
+use Rattle.mc_lower.specs.declared.lowering.Lowered.{Lowered}
 use Rattle.mc_judge.specs.declared.verdict.Verdict.TheVariants.{Safe}
 use Rattle.mc_app.specs.Documents.{IsVerdictOn}
-use Rattle.mc_app.specs.Checks.{IsGraphOf}
+use Rattle.mc_lowered.specs.Graphs.{IsGraphOf}
 use Rattle.mc_app.proofs.Safe.{has_entry, safe_graph}
 use Rattle.mc_app.proofs.Whys.{only_ok}
 use Rattle.mc_app.proofs.checking.check.Goals as goal
@@ -18,19 +18,21 @@ pub returns-in_ok-verdict-in-Ok-clause-why : goal.returns-in_ok-verdict-in-Ok-cl
 returns-in_ok-verdict-in-Ok-clause-why g c =
     let bound = c.args.bound.now in
     let unit = unit_of bound.typed.unit in
-    let flow = c.in-Ok.flow in
+    let x = c.in-Ok.lowered in
+    let flow = x.flow in
     let v = c.in_ok-verdict-in-Ok.verdict in
-    let made = only_ok c.in_ok-flow.field-0 flow (λ (f : Flow). IsGraphOf bound.typed.entry unit bound.defs f) c.in-Ok.is c.in_ok-flow.ensures.graph in
+    let made = only_ok c.in_ok-lowered.field-0 x (λ (y : Lowered). IsGraphOf bound.typed.entry unit bound.defs y.flow) c.in-Ok.is c.in_ok-lowered.ensures.graph in
     let graph = subst (λ (s : List ℕ). IsGraphOf s unit bound.defs flow) c.requires.start made in
-    let short = only_ok c.in_ok-flow.field-0 flow (λ (f : Flow). length f.points ≤ 10000) c.in-Ok.is c.in_ok-flow.ensures.short in
+    let short = only_ok c.in_ok-lowered.field-0 x (λ (y : Lowered). length y.flow.points ≤ 10000) c.in-Ok.is c.in_ok-lowered.ensures.short in
     (flow, graph, short, λ text h. subst (λ (ds : List Def). IsVerdictOn flow ds text v) c.defs-defs.ensures.same (c.in_ok-verdict-in-Ok.ensures.verdict text h))
 
 pub returns-in_ok-verdict-in-Ok-clause-safe : goal.returns-in_ok-verdict-in-Ok-clause-safe
 returns-in_ok-verdict-in-Ok-clause-safe g c = λ good.
     let bound = c.args.bound.now in
     let unit = unit_of bound.typed.unit in
-    let flow = c.in-Ok.flow in
-    let made = only_ok c.in_ok-flow.field-0 flow (λ (f : Flow). IsGraphOf bound.typed.entry unit bound.defs f) c.in-Ok.is c.in_ok-flow.ensures.graph in
+    let x = c.in-Ok.lowered in
+    let flow = x.flow in
+    let made = only_ok c.in_ok-lowered.field-0 x (λ (y : Lowered). IsGraphOf bound.typed.entry unit bound.defs y.flow) c.in-Ok.is c.in_ok-lowered.ensures.graph in
     let graph = subst (λ (s : List ℕ). IsGraphOf s unit bound.defs flow) c.requires.start made in
     let verdict : c.in_ok-verdict-in-Ok.verdict ≡ Safe = cc in
     let safe = subst (λ (ds : List Def). IsSafeFlow flow ds) c.defs-defs.ensures.same (c.in_ok-verdict-in-Ok.ensures.safe verdict) in

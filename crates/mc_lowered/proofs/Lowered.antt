@@ -15,8 +15,10 @@ use Rattle.mc_lower.specs.Ready.{IsSound}
 use Rattle.mc_lowerable.specs.Lowerable.{IsLowerableProgram}
 use Rattle.mc_lowering.specs.Scopes.{AreScoped}
 use Rattle.mc_numbers.specs.Numbers.{HasSmallNumbers}
-use Rattle.mc_places.specs.Places.{AreDistinct, declared_places}
+use Rattle.mc_places.specs.Places.{AreAscending, AreDistinct, HasDistinctPlaces, declared_places}
+use Rattle.mc_read.specs.Programs.{IsReadAs}
 use Rattle.mc_resolved.specs.Programs.{Program}
+use Rattle.mc_text.specs.declared.place.Place.{Place}
 use Rattle.mc_text.specs.declared.token.Token.{Token}
 use Rattle.mc_resolved.specs.declared.program.Resolved.{Resolved}
 use Rattle.mc_resolved.specs.Resolving.{resolved_program}
@@ -25,13 +27,12 @@ use Rattle.mc_types.specs.Shapes.{IsBound}
 use Rattle.mc_types.specs.Tables.{struct_infos, tables_of}
 use Rattle.mc_types.specs.Typing.{IsWellTyped}
 use Rattle.mc_valid.specs.Kinds.{IsWellMade}
-use Rattle.mc_app.specs.Checks.{AreLong, IsGraphOf}
-use Rattle.mc_app.proofs.Safe.{Differ, ReadApart}
+use Rattle.mc_lowered.specs.Graphs.{AreLong, IsGraphOf}
 
 -- what is known of programs that were read and are well typed
 pub record Laws : Type 0 where
-  pub apart : ReadApart
-  pub differ : Differ
+  pub apart : (text : List ℕ) (unit : UnitTree) → IsReadAs text unit → HasDistinctPlaces unit
+  pub differ : (places : List Place) → AreAscending places → AreDistinct places
   pub known : (unit : UnitTree) (tokens : List Token) → IsUnit unit tokens → HasKnownTypedefs unit
   pub small : (unit : UnitTree) (tokens : List Token) → IsUnit unit tokens → HasSmallNumbers unit
   pub made : (unit : UnitTree) (defs : List Def) (entry : List ℕ) → IsWellTyped unit entry → HasKnownTypedefs unit → HasSmallNumbers unit

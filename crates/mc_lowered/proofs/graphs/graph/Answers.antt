@@ -1,8 +1,8 @@
 use Rattle.std.proofs.Common.{◌≡◌}
 use Rattle.mc_ast.specs.Views.{unit_of}
 use Rattle.mc_types.specs.Tables.{struct_infos}
-use Rattle.mc_app.proofs.Lowered.{Laws, graph_of, is_sound, long_of, well_made}
-use Rattle.mc_app.proofs.graphs.graph.Goals as goal
+use Rattle.mc_lowered.proofs.Lowered.{Laws, graph_of, is_sound, long_of, well_made}
+use Rattle.mc_lowered.proofs.graphs.graph.Goals as goal
 
 pub lower-requires : goal.lower-requires
 lower-requires c =

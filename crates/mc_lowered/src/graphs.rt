@@ -3,11 +3,10 @@ ghost use Rattle.std.specs.Prelude.{◌≤◌, IfErr, IfOk, length};
 ghost use Rattle.mc_ast.specs.Views.{unit_of};
 ghost use Rattle.mc_flow.specs.Valid.{IsValid};
 ghost use Rattle.mc_inputs.specs.Texts.{IsWellFormed};
-ghost use Rattle.mc_app.specs.Checks.{AreLong, IsGraphOf};
+ghost use Rattle.mc_lowered.specs.Graphs.{AreLong, IsGraphOf};
 
-use mc_flow::Flow;
 use mc_kinds::{resolved_programs_are_well_made, typedefs_are_known};
-use mc_lower::{LowerFault, lower};
+use mc_lower::{LowerFault, Lowered, lower};
 use mc_lowerable::resolved_programs_are_lowerable;
 use mc_numbers::numbers_are_small;
 use mc_places::ascending_places_differ;
@@ -21,12 +20,12 @@ use std::alloc::{AllocError, Global};
 #[derive(Clone, Copy, Debug, PartialEq, Eq)]
 pub struct TooLong;
 
-/// The flow graph of a program, which is valid with its definitions.
-pub fn graph(alloc: Global, bound: &Bound) -> Result<Result<Flow, TooLong>, AllocError>
+/// The flow graph of a program, which is valid with its definitions, and its points whose End counts as a stop.
+pub fn graph(alloc: Global, bound: &Bound) -> Result<Result<Lowered, TooLong>, AllocError>
     requires { IsWellFormed bound.now.typed.entry (unit_of bound.now.typed.unit) }
-    ensures graph { IfOk result (λ r. IfOk r (λ flow. IsGraphOf bound.now.typed.entry (unit_of bound.now.typed.unit) bound.now.defs flow)) }
-    ensures short { IfOk result (λ r. IfOk r (λ flow. length flow.points ≤ 10000)) }
-    ensures valid { IfOk result (λ r. IfOk r (λ flow. IsValid flow bound.now.defs)) }
+    ensures graph { IfOk result (λ r. IfOk r (λ x. IsGraphOf bound.now.typed.entry (unit_of bound.now.typed.unit) bound.now.defs x.flow)) }
+    ensures short { IfOk result (λ r. IfOk r (λ x. length x.flow.points ≤ 10000)) }
+    ensures valid { IfOk result (λ r. IfOk r (λ x. IsValid x.flow bound.now.defs)) }
     ensures long { IfOk result (λ r. IfErr r (λ e. AreLong bound.now.typed.entry (unit_of bound.now.typed.unit) bound.now.defs)) }
 {
     // For the proof alone: of what was read and is well typed, all that lowering asks for is there.
@@ -40,7 +39,7 @@ pub fn graph(alloc: Global, bound: &Bound) -> Result<Result<Flow, TooLong>, Allo
     bound.defs();
     let program = resolve(alloc, bound)?;
     match lower(alloc, &program, bound.typed().structs()) {
-        Ok(lowered) => Ok(Ok(lowered.flow)),
+        Ok(lowered) => Ok(Ok(lowered)),
         Err(LowerFault::TooLong) => Ok(Err(TooLong)),
         Err(LowerFault::NoMemory) => Err(AllocError),
     }
