@@ -7,7 +7,6 @@ pub mod Entering
 pub mod Firsts
 pub mod Gathering
 pub mod Having
-pub mod Lining
 pub mod Measuring
 pub mod Meeting
 pub mod Owning
