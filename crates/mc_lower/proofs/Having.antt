@@ -21,7 +21,7 @@ use Rattle.mc_lower.specs.declared.variables.Owner.{Owner as OwnerCode}
 use Rattle.mc_lower.specs.declared.variables.Variable.{Variable}
 use Rattle.mc_lowerable.specs.Lowerable.{NamesOnly, AllNameOnly, TestsOnly, TestsOnlyPerhaps, IsMadeArgument, AreMadeArguments}
 use Rattle.mc_lower.specs.Once.{IsNew}
-use Rattle.mc_lower.specs.Knowns.{Known, State, IsThere, known, lasting, owners_of, with_block, with_local, with_occurrence, with_owners}
+use Rattle.mc_lower.specs.Knowns.{Known, State, IsThere, known, lasting, owners_of, with_block, with_local, with_owners}
 use Rattle.mc_lower.specs.Ready.{HasKind, HaveKinds, IsReady, AreReady, IsTestReady, IsTestReadyPerhaps, IsArgumentReady, AreArgumentsReady, Still, in_state, locals_to}
 
 -- ---- owners
@@ -61,7 +61,8 @@ abbrev with_these : Builder → List OwnerCode → Known
 with_these b os =
     record {
       source = record { program = b.program.now; structs = b.structs.now };
-      state = record { owners = os; blocks = length b.blocks.items; occurrences = length b.outs.items };
+      state = record { owners = os; blocks = length b.blocks.items; occurrences = length b.lines.outs.items };
+      waiting = b.lines.waiting;
     }
 
 -- what is known after a variable was put last
@@ -75,7 +76,7 @@ pub received_same : (old now new : Known) (i n : ℕ) → new ≡ with_local i n
     → new ≡ with_owners (locals_to i (n + 1)) old
 received_same old now new i n last first =
     last ∙ ap (λ k. with_local i n k) first
-    ∙ ap (λ os. record { source = old.source; state = record { owners = os; blocks = old.state.blocks; occurrences = old.state.occurrences } })
+    ∙ ap (λ os. record { source = old.source; state = record { owners = os; blocks = old.state.blocks; occurrences = old.state.occurrences }; waiting = old.waiting })
     (append_assoc old.state.owners (locals_to i n) (OwnerCode.Local i n ∷ []) ∙ ap (λ m. old.state.owners ++ locals_to i m) (sym (add-one n)))
 
 -- ---- what holds of each item of a list
@@ -167,18 +168,16 @@ all_still_ready k s i [] still ready = tt
 all_still_ready k s i (e ∷ es) still ready = (still_ready k s i e still ready.0, all_still_ready k s i es still ready.1)
 
 -- ---- blocks and occurrences
-abbrev pub with_counts : Builder → (blocks occurrences : ℕ) → Known
-with_counts b n m =
+abbrev pub with_blocks : Builder → ℕ → Known
+with_blocks b n =
     record {
       source = record { program = b.program.now; structs = b.structs.now };
-      state = record { owners = owners_of b.variables.list.items; blocks = n; occurrences = m };
+      state = record { owners = owners_of b.variables.list.items; blocks = n; occurrences = length b.lines.outs.items };
+      waiting = b.lines.waiting;
     }
 
-pub one_block_more : (b : Builder) (n : ℕ) → n ≡ suc (length b.blocks.items) → with_counts b n (length b.outs.items) ≡ with_block (known b)
-one_block_more b n is = ap (λ m. with_counts b m (length b.outs.items)) is
-
-pub one_occurrence_more : (b : Builder) (n : ℕ) → n ≡ suc (length b.outs.items) → with_counts b (length b.blocks.items) n ≡ with_occurrence (known b)
-one_occurrence_more b n is = ap (λ m. with_counts b (length b.blocks.items) m) is
+pub one_block_more : (b : Builder) (n : ℕ) → n ≡ suc (length b.blocks.items) → with_blocks b n ≡ with_block (known b)
+one_block_more b n is = ap (λ m. with_blocks b m) is
 
 pub low_one : (n : ℕ) → 0 < suc n
 low_one n = omega arith

@@ -15,4 +15,5 @@ pub mod Resting
 pub mod Seen
 pub mod Testing
 pub mod Valuing
+pub mod Waiting
 pub mod Worlding
