@@ -2,9 +2,11 @@
 use Rattle.std.proofs.Common.{◌≡◌, ◌++◌, ℕ, suc, List, [], ◌∷◌, refl, sym, ap, ◌∙◌, subst, length, map, Vec, Global}
 use Rattle.mc_lower.specs.declared.builder.Builder.{Builder}
 use Rattle.mc_lower.specs.declared.builder.Label.{Label}
+use Rattle.mc_lower.specs.declared.conditions.Work.{Work}
 use Rattle.mc_lower.specs.declared.lines.Awaited.{Awaited}
 use Rattle.mc_lower.specs.declared.lines.Lines.{Lines}
 use Rattle.mc_lower.specs.Knowns.{Known, Waits, known, owners_of, with_all, with_label, with_next, with_occurrence}
+use Rattle.mc_lower.specs.Valued.{froms}
 use Rattle.mc_lower.proofs.Agreeing.{one_more, with_lines}
 
 -- ---- what is known with other lists
@@ -69,6 +71,25 @@ pub all_same : (more : List Awaited) (k m : Known) → with_all more k ≡ with_
 all_same [] k m is = is
 all_same (a ∷ more) k m is = all_same more k m (next_same a a (with_all more k) (with_all more m) is)
 
--- two that waited are gone
-pub both_gone : (l m : Label) (k a e : Known) → k ≡ with_label l a → a ≡ with_label m e → k ≡ with_label l (with_label m e)
-both_gone l m k a e first second = first ∙ ap (λ x. with_label l x) second
+-- what waited first, told twice
+pub popped : (l m : Label) (k i j : Known) → k ≡ with_label l i → k ≡ with_label m j → (m ≡ l) × (j ≡ i)
+popped l m k i j one other = let same = sym one ∙ other in (sym (label_same l m i j same), sym (next_same _ _ i j same))
+
+-- what waits is other where the same waits under a label
+pub under : (l : Label) (k i j : Known) → k ≡ with_label l i → j ≡ i → k ≡ with_label l j
+under l k i j is same = is ∙ ap (λ x. with_label l x) (sym same)
+
+pub waits_on : (k m : Known) → m ≡ k → Waits k → Waits m
+waits_on k m is waits = subst (λ x. Waits x) (sym is) waits
+
+-- where conditions are still to be tested from labels, one waits
+pub waits_all : (work : List Work) (k : Known) → Waits k → Waits (with_all (froms work) k)
+waits_all [] k waits = waits
+waits_all (t ∷ work) k waits = (t.from, with_all (froms work) k, refl)
+
+-- the condition that is next is tested from the goal
+pub next_there : (work : List Work) (t : Work) (more : List Work) (k m : Known) (l : Label) → work ≡ t ∷ more → with_all (froms work) k ≡ with_label l m
+    → (t.from ≡ l) × (m ≡ with_all (froms more) k)
+next_there work t more k m l is rest =
+    let same : with_label t.from (with_all (froms more) k) ≡ with_label l m = ap (λ x. with_all (froms x) k) (sym is) ∙ rest in
+    (label_same t.from l (with_all (froms more) k) m same, sym (next_same _ _ (with_all (froms more) k) m same))

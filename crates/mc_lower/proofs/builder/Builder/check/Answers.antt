@@ -16,7 +16,7 @@ returns-clause-leads c = λ w agrees.
     let first_label = c.in_ok-yes.ensures.kept w second_label.0 in (
       first_label.0,
       subst
-          (λ s. Checks w.graph (w.out c.args.occurrence) (role_of c.args.role) c.args.place (settled w.at c.args.otherwise) (condition_of c.args.condition.now) s (stage (w.at c.in_ok-yes.yes.0) (length new.points.items) (length new.variables.list.items)))
+          (λ s. Checks w.graph (w.out c.args.occurrence) (role_of c.args.role) c.args.place (settled w.at c.args.otherwise) (condition_of c.args.condition.now) s (stage (w.at c.in_ok-yes.yes.0) (length new.lines.points.items) (length new.variables.list.items)))
           (sym (first_label.1 ∙ second_label.1))
           (checked w.graph (w.out c.args.occurrence) (role_of c.args.role) c.args.place (settled w.at c.args.otherwise) (condition_of c.args.condition.now) _ (w.at c.in_ok-yes.yes.0) _ _ _ _ _ tested.1 put.1.at put.1.points
           (ap (λ v. length v.list.items) put.1.variables) put.1.there),

@@ -13,5 +13,5 @@ returns-clause-leads c = λ w agrees.
     let is : w.at b.goal.0 ≡ out = ap (λ l. w.at l.0) c.in_ok-meet.ensures.goal ∙ c.out-last.ensures w met.0 in (
       met.0,
       subst (λ s. Ends w.graph out s (stage_of w c.put.new.self)) (sym met.1)
-          (ended_at w.graph out (w.at b.goal.0) (length b.points.items) (length b.variables.list.items) _ _ _ is put.1.at put.1.points (ap (λ v. length v.list.items) put.1.variables) put.1.there),
+          (ended_at w.graph out (w.at b.goal.0) (length b.lines.points.items) (length b.variables.list.items) _ _ _ is put.1.at put.1.points (ap (λ v. length v.list.items) put.1.variables) put.1.there),
     )

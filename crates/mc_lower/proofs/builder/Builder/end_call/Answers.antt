@@ -19,5 +19,5 @@ returns-clause-leads c = λ w agrees.
     let here = subst (λ n. Forgets w.graph out c.args.place n (stage_of w b) (stage_of w new)) counted forgotten.1 in (
       met.0,
       subst (λ s. EndsCall w.graph out c.args.place count s (stage_of w new)) (sym met.1)
-          (ended w.graph out c.args.place count (w.at b.goal.0) (length b.points.items) (length b.variables.list.items) (stage_of w new) is here),
+          (ended w.graph out c.args.place count (w.at b.goal.0) (length b.lines.points.items) (length b.variables.list.items) (stage_of w new) is here),
     )

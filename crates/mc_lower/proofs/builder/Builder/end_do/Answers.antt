@@ -16,6 +16,6 @@ returns-clause-leads c = λ w agrees.
     let out = w.out c.args.occurrence in
     let d = condition_of c.args.condition.now in
     let new = stage_of w c.skip-2.new.self in
-    let here = did w.graph out c.args.place d (w.at c.args.head.0) (w.at b.goal.0) (length b.points.items) (length b.variables.list.items) (w.at c.args.turns.exit.0) _ _ _ new first.1 tested.1 last.1 in
+    let here = did w.graph out c.args.place d (w.at c.args.head.0) (w.at b.goal.0) (length b.lines.points.items) (length b.variables.list.items) (w.at c.args.turns.exit.0) _ _ _ new first.1 tested.1 last.1 in
     let there = subst (λ a. EndsDo w.graph out c.args.place d (w.at c.args.head.0) a (w.at c.args.turns.exit.0) (stage_of w b) new) (ap (λ l. w.at l.0) c.in_ok-meet.ensures.goal) here in
     (met.0, subst (λ s. EndsDo w.graph out c.args.place d (w.at c.args.head.0) (w.at c.args.turns.turn.0) (w.at c.args.turns.exit.0) s new) (sym met.1) there)

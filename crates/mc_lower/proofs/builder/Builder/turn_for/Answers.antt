@@ -20,7 +20,7 @@ returns-in-None-clause-leads c = λ w u agrees rest.
     let met = c.in_ok-meet.ensures.kept w skipped.0 in
     let b = c.meet.new.self in
     let last = subst (λ o. Finishes w.graph out (option_map simple_of o) m m) (sym c.in-None.is) finishes_none in
-    let here = turned w.graph out h (w.at c.args.begin.0) (w.at b.goal.0) (length b.points.items) (length b.variables.list.items) (w.at c.args.turns.exit.0) m m r.0 skipped.1 last r.1 in
+    let here = turned w.graph out h (w.at c.args.begin.0) (w.at b.goal.0) (length b.lines.points.items) (length b.variables.list.items) (w.at c.args.turns.exit.0) m m r.0 skipped.1 last r.1 in
     let there = subst (λ a. TurnsFor w.graph out h (w.at c.args.begin.0) a (w.at c.args.turns.exit.0) (stage_of w b) r.0) (ap (λ l. w.at l.0) c.in_ok-meet.ensures.goal) here in
     (met.0, (r.0, subst (λ s. TurnsFor w.graph out h (w.at c.args.begin.0) (w.at c.args.turns.turn.0) (w.at c.args.turns.exit.0) s r.0) (sym met.1) there, r.2))
 
@@ -34,7 +34,7 @@ returns-in_ok-push-in-Some-clause-leads c = λ w u agrees rest.
     let met = c.in_ok-meet.ensures.kept w skipped.0 in
     let b = c.meet.new.self in
     let last = subst (λ o. Finishes w.graph out (option_map simple_of o) m r.0) (sym c.in-Some.is) (finishes r.1) in
-    let here = turned w.graph out h (w.at c.args.begin.0) (w.at b.goal.0) (length b.points.items) (length b.variables.list.items) (w.at c.args.turns.exit.0) m r.0 r.2.0 skipped.1 last r.2.1 in
+    let here = turned w.graph out h (w.at c.args.begin.0) (w.at b.goal.0) (length b.lines.points.items) (length b.variables.list.items) (w.at c.args.turns.exit.0) m r.0 r.2.0 skipped.1 last r.2.1 in
     let there = subst (λ a. TurnsFor w.graph out h (w.at c.args.begin.0) a (w.at c.args.turns.exit.0) (stage_of w b) r.2.0) (ap (λ l. w.at l.0) c.in_ok-meet.ensures.goal) here in
     (met.0, (r.2.0, subst (λ s. TurnsFor w.graph out h (w.at c.args.begin.0) (w.at c.args.turns.turn.0) (w.at c.args.turns.exit.0) s r.2.0) (sym met.1) there, r.2.2))
 

@@ -7,10 +7,10 @@ use Rattle.mc_lower.proofs.builder.Builder.undefine_all.Goals as goal
 pub returns-clause-leads : goal.returns-clause-leads
 returns-clause-leads c = λ w agrees.
     let later = c.in_ok-append.ensures.leads w agrees in
-    let first = c.in_ok-next.ensures.kept w later.0 in (
+    let to = targets _ _ _ c.target.ensures c.next-next.ensures in (
       later.0,
       appended w _ c.args.place _ _ (λ q. Undef c.args.variables.now q) _ _
           (ap (λ q. Undef c.of-list.result (point (w.at q.0))) to
-          ∙ ap (λ vs. Undef vs (point (w.at c.next-next.result.0))) (c.of-list.ensures ∙ c.in_ok-from_slice.ensures.items))
+          ∙ ap (λ vs. Undef vs (point (w.at c.args.self.now.lines.labels))) (c.of-list.ensures ∙ c.in_ok-from_slice.ensures.items))
           later.1,
     )
