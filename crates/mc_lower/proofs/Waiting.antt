@@ -75,6 +75,10 @@ all_same (a ∷ more) k m is = all_same more k m (next_same a a (with_all more k
 pub popped : (l m : Label) (k i j : Known) → k ≡ with_label l i → k ≡ with_label m j → (m ≡ l) × (j ≡ i)
 popped l m k i j one other = let same = sym one ∙ other in (sym (label_same l m i j same), sym (next_same _ _ i j same))
 
+-- the label that waited first is gone
+pub gone_on : (l m : Label) (k i j : Known) → k ≡ with_label l i → k ≡ with_label m j → k ≡ with_label l j
+gone_on l m k i j one other = let both = popped l m k i j one other in other ∙ ap (λ x. with_label x j) both.0
+
 -- what waits is other where the same waits under a label
 pub under : (l : Label) (k i j : Known) → k ≡ with_label l i → j ≡ i → k ≡ with_label l j
 under l k i j is same = is ∙ ap (λ x. with_label l x) (sym same)
@@ -93,3 +97,13 @@ pub next_there : (work : List Work) (t : Work) (more : List Work) (k m : Known) 
 next_there work t more k m l is rest =
     let same : with_label t.from (with_all (froms more) k) ≡ with_label l m = ap (λ x. with_all (froms x) k) (sym is) ∙ rest in
     (label_same t.from l (with_all (froms more) k) m same, sym (next_same _ _ (with_all (froms more) k) m same))
+
+pub next_waits : (work : List Work) (t : Work) (more : List Work) (k m : Known) (l : Label) → work ≡ t ∷ more → with_all (froms work) k ≡ with_label l m → Waits k → Waits m
+next_waits work t more k m l is rest waits = let both = next_there work t more k m l is rest in waits_on _ _ both.1 (waits_all more k waits)
+
+-- what waits alone waits first
+pub alone_waits : (k : Known) (a : Awaited) → k.waiting ≡ a ∷ [] → (m : Known) × (k ≡ with_next a m)
+alone_waits k a is = (
+  record { source = k.source; state = k.state; waiting = [] },
+  ap (λ ws. record { source = k.source; state = k.state; waiting = ws }) is,
+)

@@ -31,8 +31,8 @@ clear-requires c =
     let first = popped _ _ _ _ _ c.in_ok-yes.ensures.known c.in_ok-put_last.ensures.rest in
     (c.in_ok-no.no, _, first.1 ∙ c.in_ok-no.ensures.known)
 
-pub clear-2-requires : goal.clear-2-requires
-clear-2-requires c =
+pub clear-requires-2 : goal.clear-requires-2
+clear-requires-2 c =
     let first = popped _ _ _ _ _ c.in_ok-yes.ensures.known c.in_ok-put_last.ensures.rest in
     let second = popped _ _ _ _ _ (first.1 ∙ c.in_ok-no.ensures.known) c.in_ok-clear.ensures.rest in
     waits_on _ _ second.1 c.requires

@@ -3,6 +3,7 @@ use Rattle.mc_resolved.specs.Programs.{plain, compare, negation, both, either}
 use Rattle.mc_resolved.specs.Views.{condition_of, expression_of}
 use Rattle.mc_lower.specs.declared.conditions.Work.{Work}
 use Rattle.mc_lower.specs.Knowns.{known, with_all, with_label}
+use Rattle.mc_lower.specs.Ready.{AreTestsReady, IsTestReady}
 use Rattle.mc_lower.specs.Valued.{Testing, froms}
 use Rattle.mc_lower.proofs.Agreeing.{points_in, variables_in}
 use Rattle.mc_lower.proofs.Having.{test_over, tests_over, tests_under}
@@ -98,10 +99,42 @@ returns-in_ok-push-in-Either-2-clause-rest c = λ k is.
     ap (λ l. with_all (froms l) k) (c.in_ok-push-in-Either-2.ensures ∙ ap (λ l. one ∷ l) c.in_ok-push-in-Either.ensures)
     ∙ ap (λ x. with_label old.lines.goal (with_label middle x)) (sym is)
     ∙ ap (λ x. with_label old.lines.goal x) (sym c.in_ok-middle-in-Either.ensures.known)
-    ∙ ap (λ g. with_label g (known c.label.new.self)) (sym c.in_ok-middle-in-Either.ensures.goal)
+    ∙ ap (λ g. with_label g (known c.label-in-Either.new.self)) (sym c.in_ok-middle-in-Either.ensures.goal)
 
 pub returns-in_ok-test_plain-in-Plain-clause-ready : goal.returns-in_ok-test_plain-in-Plain-clause-ready
 returns-in_ok-test_plain-in-Plain-clause-ready c = tests_under _ _ _ _ c.args.work.now c.in_ok-test_plain-in-Plain.ensures.rest c.requires.others
 
 pub returns-in_ok-test_comparison-in-Compare-clause-ready : goal.returns-in_ok-test_comparison-in-Compare-clause-ready
 returns-in_ok-test_comparison-in-Compare-clause-ready c = tests_under _ _ _ _ c.args.work.now c.in_ok-test_comparison-in-Compare.ensures.rest c.requires.others
+
+pub returns-in_ok-push-in-Both-2-clause-ready : goal.returns-in_ok-push-in-Both-2-clause-ready
+returns-in_ok-push-in-Both-2-clause-ready c =
+    let old = c.args.self.now in
+    let new = c.label.new.self in
+    let i = c.args.occurrence in
+    let middle = c.in_ok-middle-in-Both.middle in
+    let second = c.deref-in-Both in
+    let first = c.deref-in-Both-2 in
+    let seen = ap condition_of c.in-Both.is ∙ both_condition_seen c.in-Both.first c.in-Both.second ∙ ap (λ x. both (condition_of x) (condition_of c.in-Both.second.value)) (sym first.ensures)
+    ∙ ap (λ y. both (condition_of first.result.now) (condition_of y)) (sym second.ensures) in
+    let one : Work = record { from = old.lines.goal; condition = first.result; ways = record { yes = middle; no = c.args.ways.no } } in
+    let both_ready = subst (λ d. IsTestReady (known old) i d) seen c.requires.ready in
+    let waits = c.in_ok-middle-in-Both.ensures.known in
+    subst (λ l. AreTestsReady (known new) i l) (sym (c.in_ok-push-in-Both-2.ensures ∙ ap (λ l. one ∷ l) c.in_ok-push-in-Both.ensures))
+    (test_over _ _ middle i (condition_of first.result.now) waits both_ready.0, (test_over _ _ middle i (condition_of second.result.now) waits both_ready.1, tests_over _ _ middle i c.args.work.now waits c.requires.others))
+
+pub returns-in_ok-push-in-Either-2-clause-ready : goal.returns-in_ok-push-in-Either-2-clause-ready
+returns-in_ok-push-in-Either-2-clause-ready c =
+    let old = c.args.self.now in
+    let new = c.label-in-Either.new.self in
+    let i = c.args.occurrence in
+    let middle = c.in_ok-middle-in-Either.middle in
+    let second = c.deref-in-Either in
+    let first = c.deref-in-Either-2 in
+    let seen = ap condition_of c.in-Either.is ∙ either_condition_seen c.in-Either.first c.in-Either.second ∙ ap (λ x. either (condition_of x) (condition_of c.in-Either.second.value)) (sym first.ensures)
+    ∙ ap (λ y. either (condition_of first.result.now) (condition_of y)) (sym second.ensures) in
+    let one : Work = record { from = old.lines.goal; condition = first.result; ways = record { yes = c.args.ways.yes; no = middle } } in
+    let both_ready = subst (λ d. IsTestReady (known old) i d) seen c.requires.ready in
+    let waits = c.in_ok-middle-in-Either.ensures.known in
+    subst (λ l. AreTestsReady (known new) i l) (sym (c.in_ok-push-in-Either-2.ensures ∙ ap (λ l. one ∷ l) c.in_ok-push-in-Either.ensures))
+    (test_over _ _ middle i (condition_of first.result.now) waits both_ready.0, (test_over _ _ middle i (condition_of second.result.now) waits both_ready.1, tests_over _ _ middle i c.args.work.now waits c.requires.others))

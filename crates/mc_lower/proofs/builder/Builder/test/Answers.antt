@@ -4,7 +4,7 @@ use Rattle.mc_lower.specs.Knowns.{known, with_all}
 use Rattle.mc_lower.specs.Ready.{AreTestsReady}
 use Rattle.mc_lower.specs.Valued.{Testing, froms}
 use Rattle.mc_lower.proofs.Testing.{tested}
-use Rattle.mc_lower.proofs.Waiting.{next_there, waits_all, waits_on}
+use Rattle.mc_lower.proofs.Waiting.{next_there, next_waits}
 use Rattle.mc_lower.proofs.builder.Builder.test.Goals as goal
 
 pub parts-init : goal.parts-init
@@ -51,8 +51,7 @@ test_next-requires-clause-from c =
 
 pub test_next-requires-clause-waits : goal.test_next-requires-clause-waits
 test_next-requires-clause-waits c =
-    let is = next_there c.parts.work _ _ (known c.args.self.now) (known c.parts.self) _ c.in-Some.ensures c.parts.invariant.rest in
-    waits_on _ _ is.1 (waits_all _ (known c.args.self.now) c.requires.waits)
+    next_waits c.parts.work _ _ (known c.args.self.now) (known c.parts.self) _ c.in-Some.ensures c.parts.invariant.rest c.requires.waits
 
 pub test_next-requires-clause-ready : goal.test_next-requires-clause-ready
 test_next-requires-clause-ready c =

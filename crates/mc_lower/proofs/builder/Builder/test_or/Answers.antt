@@ -25,7 +25,7 @@ pub returns-clause-same : goal.returns-clause-same
 returns-clause-same c = let goes = popped _ _ _ _ _ c.in_ok-yes.ensures.known c.in_ok-test.ensures.rest in goes.1
 
 pub test-requires-clause-ready : goal.test-requires-clause-ready
-test-requires-clause-ready c = test_over _ _ _ _ _ c.in_ok-yes.ensures.known c.requires
+test-requires-clause-ready c = test_over _ _ _ c.args.occurrence (condition_of c.args.condition.now) c.in_ok-yes.ensures.known c.requires
 
 pub test-requires-clause-waits : goal.test-requires-clause-waits
 test-requires-clause-waits c = (c.in_ok-yes.yes, _, c.in_ok-yes.ensures.known)
