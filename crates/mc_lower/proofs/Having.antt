@@ -183,6 +183,10 @@ ready_waiting k ws i (times a b) ready = (ready_waiting k ws i a ready.0, ready_
 ready_waiting k ws i (plus a b) ready = (ready_waiting k ws i a ready.0, ready_waiting k ws i b ready.1)
 ready_waiting k ws i (difference a b) ready = (ready_waiting k ws i a ready.0, ready_waiting k ws i b ready.1)
 
+pub all_ready_waiting : (k : Known) (ws : List Awaited) (i : ℕ) (es : List Expr) → AreReady k i es → AreReady (other_waiting ws k) i es
+all_ready_waiting k ws i [] ready = tt
+all_ready_waiting k ws i (e ∷ es) ready = (ready_waiting k ws i e ready.0, all_ready_waiting k ws i es ready.1)
+
 pub test_waiting : (k : Known) (ws : List Awaited) (i : ℕ) (c : Cond) → IsTestReady k i c → IsTestReady (other_waiting ws k) i c
 test_waiting k ws i (plain place e) ready = ready_waiting k ws i e ready
 test_waiting k ws i (compare place c a b) ready = (ready_waiting k ws i a ready.0, ready_waiting k ws i b ready.1)

@@ -35,7 +35,7 @@ use Rattle.mc_lower.specs.Ready.{Fits, FitsAll, FitsFor, FitsItems, FitsStatemen
 use Rattle.mc_lower.specs.Left.{IsBehind, IsCommand}
 use Rattle.mc_lower.specs.Valued.{target_of}
 use Rattle.mc_lower.specs.declared.values.Target.{Target}
-use Rattle.mc_lower.proofs.Having.{argument_ready, arguments_ready, expression_ready, expressions_ready, fields_ready, test_ready, test_ready_perhaps}
+use Rattle.mc_lower.proofs.Having.{all_ready_waiting, ready_waiting, argument_ready, arguments_ready, expression_ready, expressions_ready, fields_ready, test_ready, test_ready_perhaps}
 
 abbrev pub at : Source → List Awaited → State → Known
 at src ws s = record { source = src; state = s; waiting = ws }
@@ -729,6 +729,38 @@ needs_if_else src ws vs s c place d a b fits = test_fits src vs s c d [] Any (fi
 pub needs_while : (src : Source) (ws vs : List Awaited) (s : State) (c : Context) (place : Place) (d : Cond) (a : Stmt) → FitsStatement (at src ws s) c (while_loop place d a) → IsTestReady (at src vs s) c.occurrence d
 needs_while src ws vs s c place d a fits = test_fits src vs s c d [] Any (fits_still src ws _ s s c _ _ _ _ _ _ (still_none s) (λ made p. p.0) (λ h q. q.0) fits)
 
+-- ---- under a label that waits
+call_under : (k : Known) (ws : List Awaited) (i : ℕ) (r : Option Kind) (d : Call) → IsCallReady k i r d → IsCallReady (at k.source ws k.state) i r d
+call_under k ws i r d ready =
+    record {
+      sound = ready.sound;
+      bounded = ready.bounded;
+      callee = ready.callee;
+      there = ready.there;
+      counted = ready.counted;
+      many = ready.many;
+      arguments = all_ready_waiting k ws i d.arguments ready.arguments;
+      answers = ready.answers;
+    }
+
+right_under : (k : Known) (ws : List Awaited) (i : ℕ) (right : Right) → IsRightReady k i right → IsRightReady (at k.source ws k.state) i right
+right_under k ws i (expression e) ready = ready_waiting k ws i e ready
+right_under k ws i (result_of d) ready = (ready.0, call_under k ws i _ d ready.1)
+right_under k ws i (allocation shape fields) ready = ready
+
+action_under : (k : Known) (ws : List Awaited) (i : ℕ) (a : Action) → IsActionReady k i a → IsActionReady (at k.source ws k.state) i a
+action_under k ws i (assign l right) ready = (ready.0, right_under k ws i right ready.1)
+action_under k ws i (add l e) ready = (ready.0, ready_waiting k ws i e ready.1)
+action_under k ws i (subtract l e) ready = (ready.0, ready_waiting k ws i e ready.1)
+action_under k ws i (call d) ready = (ready.0, call_under k ws i _ d ready.1)
+
+last_waiting : (k : Known) (ws : List Awaited) (i : ℕ) (o : Option Simple) → IsLastReady k i o → IsLastReady (at k.source ws k.state) i o
+last_waiting k ws i None ready = tt
+last_waiting k ws i (Some x) ready = action_under k ws i x.action ready
+
+pub last_under : (k m : Known) (l : Label) (i : ℕ) (o : Option Simple) → k ≡ with_label l m → IsLastReady k i o → IsLastReady m i o
+last_under k m l i o is ready = last_waiting (with_label l m) m.waiting i o (subst (λ x. IsLastReady x i o) is ready)
+
 -- ---- behind the body of a `for`
 pub ready_turn_none : (src : Source) (ws : List Awaited) (s : State) (i : ℕ) (h : Bor ForHead) (l m : Label) (ts : List Task) → Later (at src ws s) i [] ts → Ready (with_label m (at src ws s)) (Task.EndFor h l m i ∷ ts)
 ready_turn_none src ws s i h l m ts later = (tt, (at src ws s, refl, λ t f. later t f))
@@ -781,6 +813,10 @@ nothing_made (Task.Answer place own answer i) is = refl
 -- ---- the task that is next
 pub ready_next : (k : Known) (t u : Task) (ts : List Task) → t ≡ u → Ready k (t ∷ ts) → Ready k (u ∷ ts)
 ready_next k t u ts is ready = subst (λ x. Ready k (x ∷ ts)) is ready
+
+-- where no label waits for a task
+pub later_now : (k m : Known) (i : ℕ) (xs : List ℕ) (ts : List Task) → k ≡ m → Later m i xs ts → Later k i xs ts
+later_now k m i xs ts is later = subst (λ x. Later x i xs ts) (sym is) later
 
 -- ---- calls
 pub ready_call : (src new : Source) (ws : List Awaited) (s t : State) (i j : ℕ) (ys : List ℕ) (ts : List Task) → new ≡ src → ((n : ℕ) → Grown s n [] t) → s.occurrences ≤ j → Later (at src ws s) i [] ts → Later (at new ws t) j ys ts

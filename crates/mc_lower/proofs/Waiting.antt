@@ -107,3 +107,14 @@ alone_waits k a is = (
   record { source = k.source; state = k.state; waiting = [] },
   ap (λ ws. record { source = k.source; state = k.state; waiting = ws }) is,
 )
+
+-- two labels wait, the later one first
+pub both_wait : (l m : Label) (k j i h : Known) → k ≡ with_label l j → j ≡ with_label m i → i ≡ h → k ≡ with_label l (with_label m h)
+both_wait l m k j i h first second same = first ∙ ap (λ x. with_label l x) (second ∙ ap (λ x. with_label m x) same)
+
+-- where the `return` of a call goes waits first
+abbrev pub under_out : Known → Known → Known
+under_out k m = record { source = m.source; state = m.state; waiting = k.waiting }
+
+pub out_waits : (k m : Known) (i : ℕ) → m.waiting ≡ Awaited.Out i ∷ k.waiting → m ≡ with_next (Awaited.Out i) (under_out k m)
+out_waits k m i is = ap (λ ws. record { source = m.source; state = m.state; waiting = ws }) is
