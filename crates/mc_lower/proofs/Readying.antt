@@ -358,7 +358,7 @@ ready_do src ws s c e place d a turns l ts is fits later =
         with_label turns.turn (with_label turns.exit (at src ws s)),
         refl,
         λ t f. (
-          test_fits src _ t c (condition_of d.now) [] Any (fits_on src ws _ s t c (declared (statement_of a.now)) [] [] _ _ _ _ _ _ Any f (λ o. part_none _ _) (λ made p. p.1) (λ h q. q.1) (λ n scope r. tt) fits),
+          test_fits src (with_label turns.turn (with_label turns.exit (at src ws s))).waiting t c (condition_of d.now) [] Any (fits_on src ws _ s t c (declared (statement_of a.now)) [] [] _ _ _ _ _ _ Any f (λ o. part_none _ _) (λ made p. p.1) (λ h q. q.1) (λ n scope r. tt) fits),
           (at src ws t, refl, λ u g. later u (grown_on s t u c.occurrence c.occurrence _ f g)),
         ),
       ),

@@ -250,8 +250,10 @@ pub fn finish(builder: Builder) -> Result<Lowered, BuildFault>
     let merges = of_role(alloc, builder.lines.points.as_slice(), Role::Merge)?;
     let stops = of_role(alloc, builder.lines.points.as_slice(), Role::Stop)?;
     let thresholds = thresholds(alloc, builder.lines.points.as_slice())?;
-    let points = settle(alloc, table.as_slice(), builder.lines.points)?;
-    let vars = infos(alloc, builder.variables.list)?;
+    let lines = builder.lines;
+    let variables = builder.variables;
+    let points = settle(alloc, table.as_slice(), lines.points)?;
+    let vars = infos(alloc, variables.list)?;
     Ok(Lowered {
         flow: Flow {
             points,

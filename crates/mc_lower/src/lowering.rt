@@ -107,7 +107,7 @@ impl<'a> Builder<'a> {
     fn end(&mut self, occurrence: usize) -> Result<(), BuildFault>
         requires occurs { occurrence < (known self.old).state.occurrences }
         requires waits { (known self.old).waiting ≡ Out occurrence ∷ [] }
-        ensures leads { OnOk result (Leads (λ w s u. Ends w.graph (w.out occurrence) s u) self.old self.new) }
+        ensures { OnOk result (Leads (λ w s u. Ends w.graph (w.out occurrence) s u) self.old self.new) }
     {
         self.land(Role::Plain, NOWHERE, Instr::End)?;
         Ok(())

@@ -32,7 +32,7 @@ returns-clause-ready c = λ later.
     let m = known c.enter_call.new.self in
     let fits = begun_fits (known c.args.self.now) m (call_of c.args.call.now) c.in_ok-entered.entered sound c.requires.call.1.bounded b in
     let some = answered_there (known c.args.self.now) c.args.context.occurrence c.requires.call.0 (call_of c.args.call.now) _ c.in_ok-entered.entered.answer c.requires.call.1 b.there b.answered in
-    c.in_ok-push_body.ensures.ready m (under_out (known c.args.self.now) m) (out_waits _ m _ b.waiting) fits b.occurs (subst (λ l. Later (under_out (known c.args.self.now) m) c.in_ok-entered.entered.callee.occurrence (all_declared (function_of c.in_ok-entered.entered.callee.function.now).body) l) (sym c.in_ok-push.ensures)
+    c.in_ok-push_body.ensures.ready m (under_out (known c.args.self.now) m) (out_waits (known c.args.self.now) m _ b.waiting) fits b.occurs (subst (λ l. Later (under_out (known c.args.self.now) m) c.in_ok-entered.entered.callee.occurrence (all_declared (function_of c.in_ok-entered.entered.callee.function.now).body) l) (sym c.in_ok-push.ensures)
     (ready_answer _ _ _ _ _ c.args.context.occurrence _ (all_declared (function_of c.in_ok-entered.entered.callee.function.now).body) c.args.place c.own_result-own.result c.in_ok-entered.entered.answer c.args.tasks.now b.source b.grown b.latest c.requires.occurs some later))
 
 pub enter_call-requires : goal.enter_call-requires

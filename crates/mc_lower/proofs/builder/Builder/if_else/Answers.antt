@@ -1,5 +1,5 @@
 use Rattle.mc_lower.proofs.Readying.{needs_if_else, ready_if_else, ready_same}
-use Rattle.mc_lower.specs.Knowns.{with_label}
+use Rattle.mc_lower.specs.Knowns.{known, with_label}
 use Rattle.mc_lower.specs.Ready.{IsTestReady}
 use Rattle.std.proofs.Common.{◌∷◌, ap, ◌∙◌, subst, sym}
 use Rattle.mc_resolved.specs.Views.{condition_of, statement_of}
@@ -46,4 +46,4 @@ returns-clause-ready c = λ later.
 
 pub test_or-requires : goal.test_or-requires
 test_or-requires c =
-    subst (λ k. IsTestReady k c.args.context.occurrence (condition_of c.args.condition.now)) (sym (c.in_ok-no.ensures.known ∙ ap (λ k. with_label c.in_ok-no.no k) c.in_ok-merge.ensures.known)) (needs_if_else _ _ _ _ c.args.context c.args.place (condition_of c.args.condition.now) (statement_of c.args.first.now) (statement_of c.args.second.now) c.requires)
+    subst (λ k. IsTestReady k c.args.context.occurrence (condition_of c.args.condition.now)) (sym (c.in_ok-no.ensures.known ∙ ap (λ k. with_label c.in_ok-no.no k) c.in_ok-merge.ensures.known)) (needs_if_else _ _ (with_label c.in_ok-no.no (with_label c.in_ok-merge.merge (known c.args.self.now))).waiting _ c.args.context c.args.place (condition_of c.args.condition.now) (statement_of c.args.first.now) (statement_of c.args.second.now) c.requires)

@@ -16,7 +16,7 @@ use Rattle.mc_lower.proofs.builder.Builder.make_entry.Goals as goal
 
 pub returns : goal.returns
 returns c = λ w agrees.
-    let ended = c.in_ok-end.ensures.leads w agrees in
+    let ended = c.in_ok-end.ensures w agrees in
     let fallen = c.in_ok-fall.ensures.leads w ended.0 in
     let lowered = c.in_ok-body.ensures.leads w fallen.0 in
     let begun = c.in_ok-begin.ensures.leads w lowered.0 in

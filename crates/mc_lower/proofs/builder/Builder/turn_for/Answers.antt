@@ -53,3 +53,15 @@ returns-in_ok-push-in-Some-clause-ready c = λ k is later.
     let ready = last_under _ (with_label c.args.turns.exit k) c.args.turns.turn c.args.context.occurrence _ is c.requires.ready in
     ready_two _ _ _ _ _ _ _ landed c.in_ok-push-in-Some.ensures c.in_ok-push.ensures
     (ready_turn k.source k.waiting k.state c.args.context c.args.head (record { ref_ptr = (0, 0); now = c.in-Some.simple }) c.args.begin c.args.turns.exit c.args.tasks.now (ap (λ o. option_map simple_of o) c.in-Some.is) ready later)
+
+pub returns-in-None-clause-source : goal.returns-in-None-clause-source
+returns-in-None-clause-source c =
+    let k = with_label c.args.turns.exit c.requires.waits.0 in
+    let landed = c.in_ok-land.ensures.rest (Awaited.Goal c.args.turns.turn) k c.requires.waits.1 in
+    ap (λ x. x.source) landed ∙ sym (ap (λ x. x.source) c.requires.waits.1)
+
+pub returns-in_ok-push-in-Some-clause-source : goal.returns-in_ok-push-in-Some-clause-source
+returns-in_ok-push-in-Some-clause-source c =
+    let k = with_label c.args.turns.exit c.requires.waits.0 in
+    let landed = c.in_ok-land.ensures.rest (Awaited.Goal c.args.turns.turn) k c.requires.waits.1 in
+    ap (λ x. x.source) landed ∙ sym (ap (λ x. x.source) c.requires.waits.1)

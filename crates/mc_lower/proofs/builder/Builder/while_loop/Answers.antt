@@ -1,5 +1,5 @@
 use Rattle.mc_lower.proofs.Readying.{needs_while, ready_while, ready_same}
-use Rattle.mc_lower.specs.Knowns.{with_label}
+use Rattle.mc_lower.specs.Knowns.{known, with_label}
 use Rattle.mc_lower.specs.Ready.{IsTestReady}
 use Rattle.std.proofs.Common.{◌∷◌, ap, ◌∙◌, subst, sym}
 use Rattle.mc_resolved.specs.Views.{condition_of, statement_of}
@@ -31,4 +31,4 @@ returns-clause-ready c = λ later.
 
 pub test_or-requires : goal.test_or-requires
 test_or-requires c =
-    subst (λ k. IsTestReady k c.args.context.occurrence (condition_of c.args.condition.now)) (sym (c.in_ok-exit.ensures.known ∙ ap (λ k. with_label c.in_ok-exit.exit k) c.in_ok-skip.ensures.same)) (needs_while _ _ _ _ c.args.context c.args.place (condition_of c.args.condition.now) (statement_of c.args.body.now) c.requires)
+    subst (λ k. IsTestReady k c.args.context.occurrence (condition_of c.args.condition.now)) (sym (c.in_ok-exit.ensures.known ∙ ap (λ k. with_label c.in_ok-exit.exit k) c.in_ok-skip.ensures.same)) (needs_while _ _ (with_label c.in_ok-exit.exit (known c.args.self.now)).waiting _ c.args.context c.args.place (condition_of c.args.condition.now) (statement_of c.args.body.now) c.requires)
