@@ -7,6 +7,7 @@ pub mod Entering
 pub mod Firsts
 pub mod Gathering
 pub mod Having
+pub mod Lined
 pub mod Lining
 pub mod Measuring
 pub mod Meeting

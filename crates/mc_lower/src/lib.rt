@@ -6,6 +6,7 @@ mod builder;
 mod calls;
 mod conditions;
 mod finishing;
+mod lines;
 mod lowering;
 mod owners;
 mod statements;
