@@ -17,4 +17,5 @@ pub mod Resting
 pub mod Seen
 pub mod Testing
 pub mod Valuing
+pub mod Ways
 pub mod Worlding

@@ -9,6 +9,7 @@ mod finishing;
 mod lines;
 mod lowering;
 mod owners;
+mod settling;
 mod statements;
 mod tasks;
 mod values;
