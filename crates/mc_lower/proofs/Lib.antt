@@ -9,9 +9,11 @@ pub mod Gathering
 pub mod Having
 pub mod Lined
 pub mod Lining
+pub mod Marked
 pub mod Measuring
 pub mod Meeting
 pub mod Owning
+pub mod Pointing
 pub mod Readying
 pub mod Resting
 pub mod Seen

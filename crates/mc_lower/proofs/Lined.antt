@@ -59,31 +59,31 @@ pub few_within : (ns : List ℕ) (bound more : ℕ) → bound ≤ more → AreFe
 few_within ns bound more wider few = record { once = few.once; below = λ n high. few.below n (omega arith) }
 
 -- ---- how often a label is used
-abbrev marked : ℕ → List Mark → ℕ
+abbrev pub marked : ℕ → List Mark → ℕ
 marked n marks = times n (map (λ m. (subject m).0) marks)
 
-abbrev awaited : ℕ → List Label → List Awaited → ℕ
+abbrev pub awaited : ℕ → List Label → List Awaited → ℕ
 awaited n outs waiting = times n (map (λ a. (label_of outs a).0) waiting)
 
-abbrev joins : ℕ → List Mark → ℕ
+abbrev pub joins : ℕ → List Mark → ℕ
 joins n marks = times n (filter_map joined marks)
 
-abbrev goals : ℕ → List Awaited → ℕ
+abbrev pub goals : ℕ → List Awaited → ℕ
 goals n waiting = times n (filter_map awaited_goal waiting)
 
-abbrev outs_at : ℕ → List Label → ℕ
+abbrev pub outs_at : ℕ → List Label → ℕ
 outs_at n outs = times n (map (λ l. l.0) outs)
 
-abbrev points_at : ℕ → List Mark → ℕ
+abbrev pub points_at : ℕ → List Mark → ℕ
 points_at n marks = times n (filter_map known_point marks)
 
-used_times : (marks : List Mark) (outs : List Label) (waiting : List Awaited) (goal : Label) (n : ℕ)
+pub used_times : (marks : List Mark) (outs : List Label) (waiting : List Awaited) (goal : Label) (n : ℕ)
     → times n (used marks outs waiting goal) ≡ marked n marks + (one goal.0 n + awaited n outs waiting)
 used_times marks outs waiting goal n =
     times-append n (map (λ m. (subject m).0) marks) (goal.0 ∷ map (λ a. (label_of outs a).0) waiting)
     ∙ ap (λ k. marked n marks + k) (times-cons n goal.0 (map (λ a. (label_of outs a).0) waiting))
 
-apart_times : (marks : List Mark) (outs : List Label) (waiting : List Awaited) (goal : Label) (n : ℕ)
+pub apart_times : (marks : List Mark) (outs : List Label) (waiting : List Awaited) (goal : Label) (n : ℕ)
     → times n (joined_or_out marks outs waiting goal) ≡ (joins n marks + (one goal.0 n + goals n waiting)) + outs_at n outs
 apart_times marks outs waiting goal n =
     times-append n (filter_map joined marks ++ goal.0 ∷ filter_map awaited_goal waiting) (map (λ l. l.0) outs)

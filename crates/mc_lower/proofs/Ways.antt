@@ -1,13 +1,13 @@
 -- Walks from label to label, and the points that they end at.
-use Rattle.std.proofs.Common.{◌≡◌, ◌<◌, ◌≤◌, ◌+◌, ◌++◌, ◌⊎◌, ℕ, zero, suc, List, [], ◌∷◌, Some, refl, sym, ap, ◌∙◌, subst, length, map, set}
+use Rattle.std.proofs.Common.{◌≡◌, ◌<◌, ◌≤◌, ◌+◌, ◌++◌, ◌⊎◌, ℕ, List, [], ◌∷◌, refl, sym, ap, ◌∙◌, subst, length, set}
 use Rattle.std.proofs.Common.{arith, inl, inr}
 use Rattle.std.proofs.lemmas.Bool.{cases_eq, cases_lt}
 use Rattle.std.proofs.lemmas.List.{get_or-set_other, get_or-set_same, get_or_past, length-set}
 use Rattle.std.proofs.lemmas.List.Elements.{Contains-append_left, Contains-push, Contains-push_cases}
-use Rattle.std.specs.Prelude.{Contains, slice_get}
+use Rattle.std.specs.Prelude.{Contains}
 use Rattle.mc_lower.specs.declared.builder.Label.{Label}
 use Rattle.mc_lower.specs.declared.settling.Way.{Way}
-use Rattle.mc_lower.specs.Settled.{AreNoneMet, HasPoint, IsEnd, IsFilled, Settles, Walks, WalksTo, point_of_way, way_at}
+use Rattle.mc_lower.specs.Settled.{AreNoneMet, HasPoint, IsEnd, IsFilled, Settles, Walks, way_at}
 
 -- ---- the way of a label, where one has another way
 -- what leads on or is met is there
@@ -62,11 +62,15 @@ module _ {old mid : List Way} {path : List ℕ} {start at : ℕ} (walk : Walks o
           | inl same ↦ inr (m, ap (λ k. way_at old k) same ∙ on_before, ap (λ k. way_at new k) same ∙ met_now, inl refl)
           | inr other ↦ elim (walk.each l) [
             | inl is ↦ inl (same_now l other ∙ is)
-            | inr step ↦ inr (step.0, step.1, met_still l step.2,
-            elim step.3 [
-              | inl here ↦ inr (ap (λ k. way_at new k) here ∙ met_now)
-              | inr met ↦ inr (met_still step.0.0 met)
-            ])
+            | inr step ↦ inr (
+              step.0,
+              step.1,
+              met_still l step.2,
+              elim step.3 [
+                | inl here ↦ inr (ap (λ k. way_at new k) here ∙ met_now)
+                | inr met ↦ inr (met_still step.0.0 met)
+              ],
+            )
           ]
         ]
 
@@ -114,11 +118,16 @@ module _ {old mid : List Way} {path : List ℕ} {start at : ℕ} (walk : Walks o
           each = λ l.
               elim (walk.each l) [
                 | inl same ↦ inl (of_other l (λ met. none l (sym same ∙ met)) ∙ same)
-                | inr step ↦ inr (step.0, point, step.1, of_met l step.2,
-                elim step.3 [
-                  | inl here ↦ ap (λ k. way_at new k) here ∙ ended
-                  | inr met ↦ of_met step.0.0 met
-                ])
+                | inr step ↦ inr (
+                  step.0,
+                  point,
+                  step.1,
+                  of_met l step.2,
+                  elim step.3 [
+                    | inl here ↦ ap (λ k. way_at new k) here ∙ ended
+                    | inr met ↦ of_met step.0.0 met
+                  ],
+                )
               ];
           size = filled.size ∙ walk.size;
         }
