@@ -7,13 +7,17 @@ pub mod Entering
 pub mod Firsts
 pub mod Gathering
 pub mod Having
+pub mod Lined
+pub mod Marked
 pub mod Measuring
 pub mod Meeting
 pub mod Owning
+pub mod Pointing
 pub mod Readying
 pub mod Resting
 pub mod Seen
 pub mod Testing
 pub mod Valuing
 pub mod Waiting
+pub mod Ways
 pub mod Worlding
