@@ -5,17 +5,14 @@ use Rattle.mc_resolved.specs.Programs.{Function}
 use Rattle.mc_lowering.specs.Graphs.{Graph, plain, nowhere, Stage, stage, IsPoint, Appends}
 use Rattle.mc_lowering.specs.Lowering.{Answers, Falls, Makes, makes, LowersAll, in_body}
 use Rattle.mc_lower.specs.Finished.{Ends, ends}
+use Rattle.mc_lower.specs.declared.builder.Label.{Label}
+use Rattle.mc_lower.specs.declared.builder.Role.{Role as RoleCode}
+use Rattle.mc_lower.specs.Worlds.{World, Lands, lands}
 use Rattle.mc_lower.proofs.Meeting.{appended_at}
 
-pub ended_at : (g : Graph) (out a n k b m j : ℕ) → a ≡ out → a ≡ n → m ≡ suc n → j ≡ k → IsPoint g n plain nowhere End
-    → Ends g out (stage a n k) (stage b m j)
-ended_at g out a n k b m j is at more same there =
-    let to : n ≡ out = sym at ∙ is in
-    subst (λ x. Ends g out (stage x n k) (stage b m j)) (sym is)
-    (subst (λ x. Ends g out (stage out x k) (stage b m j)) (sym to)
-    (subst (λ x. Ends g out (stage out out k) (stage b x j)) (sym (more ∙ ap suc to))
-    (subst (λ x. Ends g out (stage out out k) (stage b (suc out) x)) (sym same)
-    (ends (subst (λ x. IsPoint g x plain nowhere End) to there)))))
+pub ended_at : (w : World) (out at : ℕ) (next : Label) (s u : Stage) → at ≡ out → Lands w at RoleCode.Plain nowhere End next s u → Ends w.graph out s u
+ended_at w out at next _ _ is (lands {k = k} there) =
+    subst (λ x. Ends w.graph out (stage x x k) (stage (w.at next.0) (suc x) k)) (sym is) (ends (subst (λ x. IsPoint w.graph x plain nowhere End) is there))
 
 pub entry_made : (g : Graph) (f : Function) (out a n k b p j : ℕ) (s m l e : Stage) → n ≡ 0 → k ≡ 0 → Appends g plain nowhere (λ q. Skip q) (stage a n k) s
     → Answers g out f.result s m → LowersAll g (in_body f out) f.body m l → Falls g f out l e → Ends g out e (stage b p j)

@@ -14,15 +14,18 @@ use Rattle.mc_resolved.specs.declared.program.Expression.{Expression}
 use Rattle.mc_resolved.specs.declared.program.FieldAt.{FieldAt as FieldCode}
 use Rattle.mc_resolved.specs.Programs.{FieldAt, Expr, number, input, value, minus, times, plus, difference, Local, Program, Function}
 use Rattle.mc_resolved.specs.Programs.{Cond, plain, compare, negation, both, either, Argument, variable, constant}
-use Rattle.mc_resolved.specs.Views.{argument_of, expression_of, field_of}
+use Rattle.mc_resolved.specs.Views.{argument_of, condition_of, expression_of, field_of}
 use Rattle.mc_valid.specs.Kinds.{Here, LeadsTo, IsOf, AreCompared, IsCondition, IsConditionPerhaps}
 use Rattle.mc_lower.specs.declared.builder.Builder.{Builder}
+use Rattle.mc_lower.specs.declared.builder.Label.{Label}
+use Rattle.mc_lower.specs.declared.conditions.Work.{Work as Tested}
+use Rattle.mc_lower.specs.declared.lines.Awaited.{Awaited}
 use Rattle.mc_lower.specs.declared.variables.Owner.{Owner as OwnerCode}
 use Rattle.mc_lower.specs.declared.variables.Variable.{Variable}
 use Rattle.mc_lowerable.specs.Lowerable.{NamesOnly, AllNameOnly, TestsOnly, TestsOnlyPerhaps, IsMadeArgument, AreMadeArguments}
 use Rattle.mc_lower.specs.Once.{IsNew}
-use Rattle.mc_lower.specs.Knowns.{Known, State, IsThere, known, lasting, owners_of, with_block, with_local, with_occurrence, with_owners}
-use Rattle.mc_lower.specs.Ready.{HasKind, HaveKinds, IsReady, AreReady, IsTestReady, IsTestReadyPerhaps, IsArgumentReady, AreArgumentsReady, Still, in_state, locals_to}
+use Rattle.mc_lower.specs.Knowns.{Known, State, IsThere, known, lasting, owners_of, with_block, with_label, with_local, with_owners}
+use Rattle.mc_lower.specs.Ready.{HasKind, HaveKinds, IsReady, AreReady, IsTestReady, AreTestsReady, IsTestReadyPerhaps, IsArgumentReady, AreArgumentsReady, Still, in_state, locals_to}
 
 -- ---- owners
 pub owners_last : (vs : List Variable) (v : Variable) → owners_of (vs ++ v ∷ []) ≡ owners_of vs ++ lasting v.owner
@@ -61,7 +64,8 @@ abbrev with_these : Builder → List OwnerCode → Known
 with_these b os =
     record {
       source = record { program = b.program.now; structs = b.structs.now };
-      state = record { owners = os; blocks = length b.blocks.items; occurrences = length b.outs.items };
+      state = record { owners = os; blocks = length b.blocks.items; occurrences = length b.lines.outs.items };
+      waiting = b.lines.waiting;
     }
 
 -- what is known after a variable was put last
@@ -75,7 +79,7 @@ pub received_same : (old now new : Known) (i n : ℕ) → new ≡ with_local i n
     → new ≡ with_owners (locals_to i (n + 1)) old
 received_same old now new i n last first =
     last ∙ ap (λ k. with_local i n k) first
-    ∙ ap (λ os. record { source = old.source; state = record { owners = os; blocks = old.state.blocks; occurrences = old.state.occurrences } })
+    ∙ ap (λ os. record { source = old.source; state = record { owners = os; blocks = old.state.blocks; occurrences = old.state.occurrences }; waiting = old.waiting })
     (append_assoc old.state.owners (locals_to i n) (OwnerCode.Local i n ∷ []) ∙ ap (λ m. old.state.owners ++ locals_to i m) (sym (add-one n)))
 
 -- ---- what holds of each item of a list
@@ -166,19 +170,58 @@ pub all_still_ready : (k : Known) (s : State) (i : ℕ) (es : List Expr) → Sti
 all_still_ready k s i [] still ready = tt
 all_still_ready k s i (e ∷ es) still ready = (still_ready k s i e still ready.0, all_still_ready k s i es still ready.1)
 
+-- whatever labels wait
+abbrev pub other_waiting : List Awaited → Known → Known
+other_waiting ws k = record { source = k.source; state = k.state; waiting = ws }
+
+pub ready_waiting : (k : Known) (ws : List Awaited) (i : ℕ) (e : Expr) → IsReady k i e → IsReady (other_waiting ws k) i e
+ready_waiting k ws i (number n) ready = tt
+ready_waiting k ws i input ready = tt
+ready_waiting k ws i (value l) ready = ready
+ready_waiting k ws i (minus e) ready = ready_waiting k ws i e ready
+ready_waiting k ws i (times a b) ready = (ready_waiting k ws i a ready.0, ready_waiting k ws i b ready.1)
+ready_waiting k ws i (plus a b) ready = (ready_waiting k ws i a ready.0, ready_waiting k ws i b ready.1)
+ready_waiting k ws i (difference a b) ready = (ready_waiting k ws i a ready.0, ready_waiting k ws i b ready.1)
+
+pub all_ready_waiting : (k : Known) (ws : List Awaited) (i : ℕ) (es : List Expr) → AreReady k i es → AreReady (other_waiting ws k) i es
+all_ready_waiting k ws i [] ready = tt
+all_ready_waiting k ws i (e ∷ es) ready = (ready_waiting k ws i e ready.0, all_ready_waiting k ws i es ready.1)
+
+pub test_waiting : (k : Known) (ws : List Awaited) (i : ℕ) (c : Cond) → IsTestReady k i c → IsTestReady (other_waiting ws k) i c
+test_waiting k ws i (plain place e) ready = ready_waiting k ws i e ready
+test_waiting k ws i (compare place c a b) ready = (ready_waiting k ws i a ready.0, ready_waiting k ws i b ready.1)
+test_waiting k ws i (negation c) ready = test_waiting k ws i c ready
+test_waiting k ws i (both c d) ready = (test_waiting k ws i c ready.0, test_waiting k ws i d ready.1)
+test_waiting k ws i (either c d) ready = (test_waiting k ws i c ready.0, test_waiting k ws i d ready.1)
+
+tests_waiting : (k : Known) (ws : List Awaited) (i : ℕ) (work : List Tested) → AreTestsReady k i work → AreTestsReady (other_waiting ws k) i work
+tests_waiting k ws i [] ready = tt
+tests_waiting k ws i (t ∷ work) ready = (test_waiting k ws i (condition_of t.condition.now) ready.0, tests_waiting k ws i work ready.1)
+
+-- under a label that waits first, and over it
+pub tests_under : (k m : Known) (l : Label) (i : ℕ) (work : List Tested) → k ≡ with_label l m → AreTestsReady k i work → AreTestsReady m i work
+tests_under k m l i work is ready = tests_waiting (with_label l m) m.waiting i work (subst (λ x. AreTestsReady x i work) is ready)
+
+pub tests_over : (k m : Known) (l : Label) (i : ℕ) (work : List Tested) → k ≡ with_label l m → AreTestsReady m i work → AreTestsReady k i work
+tests_over k m l i work is ready = subst (λ x. AreTestsReady x i work) (sym is) (tests_waiting m (with_label l m).waiting i work ready)
+
+pub test_over : (k m : Known) (l : Label) (i : ℕ) (c : Cond) → k ≡ with_label l m → IsTestReady m i c → IsTestReady k i c
+test_over k m l i c is ready = subst (λ x. IsTestReady x i c) (sym is) (test_waiting m (with_label l m).waiting i c ready)
+
+pub test_under : (k m : Known) (l : Label) (i : ℕ) (c : Cond) → k ≡ with_label l m → IsTestReady k i c → IsTestReady m i c
+test_under k m l i c is ready = test_waiting (with_label l m) m.waiting i c (subst (λ x. IsTestReady x i c) is ready)
+
 -- ---- blocks and occurrences
-abbrev pub with_counts : Builder → (blocks occurrences : ℕ) → Known
-with_counts b n m =
+abbrev pub with_blocks : Builder → ℕ → Known
+with_blocks b n =
     record {
       source = record { program = b.program.now; structs = b.structs.now };
-      state = record { owners = owners_of b.variables.list.items; blocks = n; occurrences = m };
+      state = record { owners = owners_of b.variables.list.items; blocks = n; occurrences = length b.lines.outs.items };
+      waiting = b.lines.waiting;
     }
 
-pub one_block_more : (b : Builder) (n : ℕ) → n ≡ suc (length b.blocks.items) → with_counts b n (length b.outs.items) ≡ with_block (known b)
-one_block_more b n is = ap (λ m. with_counts b m (length b.outs.items)) is
-
-pub one_occurrence_more : (b : Builder) (n : ℕ) → n ≡ suc (length b.outs.items) → with_counts b (length b.blocks.items) n ≡ with_occurrence (known b)
-one_occurrence_more b n is = ap (λ m. with_counts b (length b.blocks.items) m) is
+pub one_block_more : (b : Builder) (n : ℕ) → n ≡ suc (length b.blocks.items) → with_blocks b n ≡ with_block (known b)
+one_block_more b n is = ap (λ m. with_blocks b m) is
 
 pub low_one : (n : ℕ) → 0 < suc n
 low_one n = omega arith

@@ -5,14 +5,10 @@ use Rattle.mc_resolved.specs.declared.program.Resolved.{Resolved}
 use Rattle.mc_length.specs.Lengths.{IsLength}
 use Rattle.mc_resolved.specs.Views.{program_of}
 use Rattle.mc_lower.specs.declared.lowering.Lowered.{Lowered}
-use Rattle.mc_lower.specs.Finished.{AreShort, AreTooLong, IsFlowOf}
+use Rattle.mc_lower.specs.Finished.{AreTooLong, IsFlowOf}
 
 pub are_too_long : (program : Resolved) (structs : Structs) (n : ℕ) → IsLength program n → 10000 < n → AreTooLong program structs
 are_too_long program structs n right more = λ g defs entry out count is same lowering. let l = right g defs entry out count is lowering in omega (arith, more, l.least)
-
-pub are_short : (program : Resolved) (structs : Structs) (n : ℕ) → IsLength program n → n ≤ 10000 → AreShort program structs
-are_short program structs n right less = λ g defs entry out count is same lowering.
-    let l = right g defs entry out count is lowering in let most = l.most less in omega (arith, less, most)
 
 pub few_there : (program : Resolved) (structs : Structs) (n : ℕ) (x : Lowered) → IsLength program n → n ≤ 10000 → IsFlowOf program structs x → length x.flow.points ≤ 10000
 few_there program structs n x right less flow =

@@ -22,23 +22,36 @@ mapped_length f (x ∷ xs) = ap suc (mapped_length f xs)
 pub appended_at : (g : Graph) (role : Role) (place : Place) (code : PointId → Instr) (a n k : ℕ) (u : Stage) → Appends g role place code (stage a n k) u → a ≡ n
 appended_at g role place code _ _ _ _ (appends there) = refl
 
-pub ended : (g : Graph) (out : ℕ) (place : Place) (count a n k : ℕ) (u : Stage) → a ≡ out → Forgets g out place count (stage a n k) u
-    → EndsCall g out place count (stage a n k) u
-ended g out place count a n k u is f =
-    let to : n ≡ out = sym (appended_at g plain place _ a n k u f.undefined) ∙ is in
-    subst (λ x. EndsCall g out place count (stage x n k) u) (sym is)
-    (subst (λ x. EndsCall g out place count (stage out x k) u) (sym to)
-    (ends_call (subst (λ x. Forgets g out place count (stage out x k) u) to (subst (λ x. Forgets g out place count (stage x n k) u) is f))))
+pub ended : (g : Graph) (out : ℕ) (place : Place) (count at k : ℕ) (s u : Stage) → at ≡ out → s ≡ stage at at k → Forgets g out place count s u
+    → EndsCall g out place count s u
+ended g out place count at k s u is from f =
+    let here : s ≡ stage out out k = from ∙ ap (λ x. stage x x k) is in
+    subst (λ x. EndsCall g out place count x u) (sym here) (ends_call (subst (λ x. Forgets g out place count x u) here f))
 
-pub merged : (g : Graph) (place : Place) (a n k : ℕ) (u : Stage) → Appends g merge place (λ q. Skip q) (stage a n k) u → Merges g place a (stage a n k) u
-merged g place _ _ _ _ (appends there) = merges (appends there)
+pub merged : (g : Graph) (place : Place) (at k : ℕ) (s u : Stage) → s ≡ stage at at k → Appends g merge place (λ q. Skip q) (stage at at k) u → Merges g place at s u
+merged g place at k s u from there = subst (λ x. Merges g place at x u) (sym from) (merges there)
 
-pub exited : (g : Graph) (place : Place) (b e n k : ℕ) (u : Stage) → Appends g plain place (λ q. Skip q) (stage e n k) u → ExitsTo g place b e (stage b n k) u
+exited : (g : Graph) (place : Place) (b e n k : ℕ) (u : Stage) → Appends g plain place (λ q. Skip q) (stage e n k) u → ExitsTo g place b e (stage b n k) u
 exited g place b _ _ _ _ (appends there) = exits (appends there)
 
-pub did : (g : Graph) (out : ℕ) (place : Place) (d : Cond) (b a n j e p l : ℕ) (m u : Stage) → Appends g plain place (λ q. Skip q) (stage a n j) m
+pub exits_there : (g : Graph) (place : Place) (b e a n k : ℕ) (s u : Stage) → a ≡ e → GoesTo b s (stage a n k) → Appends g plain place (λ q. Skip q) (stage a n k) u
+    → ExitsTo g place b e s u
+exits_there g place b e _ _ _ _ u is (goes_to {a = a} {n = n} {k = k}) there =
+    exited g place b e n k u (subst (λ x. Appends g plain place (λ q. Skip q) (stage x n k) u) is there)
+
+pub otherwise_there : (other join a n k : ℕ) (s : Stage) → a ≡ other → GoesTo join s (stage a n k) → Otherwise other join s (stage a n k)
+otherwise_there other join _ _ _ _ is (goes_to {a = a} {n = n} {k = k}) =
+    subst (λ x. Otherwise other join (stage join n k) (stage x n k)) (sym is) otherwise
+
+did : (g : Graph) (out : ℕ) (place : Place) (d : Cond) (b a n j e p l : ℕ) (m u : Stage) → Appends g plain place (λ q. Skip q) (stage a n j) m
     → Tests g out d m b e p l → Appends g plain place (λ q. Skip q) (stage e p l) u → EndsDo g out place d b a e (stage a n j) u
 did g out place d b _ _ _ _ _ _ _ _ (appends there) tests (appends last) = ends_do (appends there) tests (appends last)
+
+pub did_there : (g : Graph) (out : ℕ) (place : Place) (d : Cond) (b at j e a p l : ℕ) (s m u : Stage) → s ≡ stage at at j → Appends g plain place (λ q. Skip q) (stage at at j) m
+    → Tests g out d m b e p l → a ≡ e → Appends g plain place (λ q. Skip q) (stage a p l) u → EndsDo g out place d b at e s u
+did_there g out place d b at j e a p l s m u from there tests is last =
+    subst (λ x. EndsDo g out place d b at e x u) (sym from)
+    (did g out place d b at at j e p l m u there tests (subst (λ x. Appends g plain place (λ q. Skip q) (stage x p l) u) is last))
 
 pub checked : (g : Graph) (out : ℕ) (role : Role) (place : Place) (code : Instr) (d : Cond) (s : Stage) (b f n m k j : ℕ) → Tests g out d s b f n k
     → f ≡ n → m ≡ suc n → j ≡ k → IsPoint g n role place code → Checks g out role place code d s (stage b m j)
@@ -47,9 +60,14 @@ checked g out role place code d s b f n m k j tests at more same there =
     (subst (λ x. Checks g out role place code d s (stage b (suc n) x)) (sym same)
     (checks (subst (λ x. Tests g out d s b x n k) at tests) there))
 
-pub turned : (g : Graph) (out : ℕ) (h : Head) (b a n k e : ℕ) (r m u : Stage) → Appends g plain h.place (λ q. Skip q) (stage a n k) r
+turned : (g : Graph) (out : ℕ) (h : Head) (b a n k e : ℕ) (r m u : Stage) → Appends g plain h.place (λ q. Skip q) (stage a n k) r
     → Finishes g out h.last r m → EndsFor g out h b e m u → TurnsFor g out h b a e (stage a n k) u
 turned g out h b _ _ _ e r m u (appends there) last ends = turns_for (appends there) last ends
+
+pub turned_there : (g : Graph) (out : ℕ) (h : Head) (b at k e : ℕ) (s r m u : Stage) → s ≡ stage at at k → Appends g plain h.place (λ q. Skip q) (stage at at k) r
+    → Finishes g out h.last r m → EndsFor g out h b e m u → TurnsFor g out h b at e s u
+turned_there g out h b at k e s r m u from there last ends =
+    subst (λ x. TurnsFor g out h b at e x u) (sym from) (turned g out h b at at k e r m u there last ends)
 
 -- ---- jumps
 pub broken : (g : Graph) (c : Around) (place : Place) (l : Loop) (s m u : Stage) → c.loop ≡ Some l → Leaves g c.out place c.blocks s m → GoesTo l.exit m u

@@ -19,18 +19,17 @@ owned_there w b owner i first agrees =
 
 -- the variable that was put last is created
 pub created : (w : World) (owner : OwnerCode) (info : VarInfo) (old new : Builder) (n : ℕ) → n ≡ length old.variables.list.items
-    → new.variables.list.items ≡ old.variables.list.items ++ record { owner = owner; info = info } ∷ [] → new.points ≡ old.points → new.goal ≡ old.goal
+    → new.variables.list.items ≡ old.variables.list.items ++ record { owner = owner; info = info } ∷ [] → new.lines ≡ old.lines
     → Agrees w new → Creates w.graph (owner_of w.out owner) info (stage_of w old) (var n) (stage_of w new)
-created w owner info old new n number items points goal agrees =
+created w owner info old new n number items lines agrees =
     let k : ℕ = length old.variables.list.items in
     let there : slice_get w.graph.owners k ≡ Some (owner_of w.out owner) =
     at_last (λ i v. slice_get w.graph.owners i ≡ Some (owner_of w.out v.owner)) old.variables.list.items _ _ items agrees.owners in
     let known : slice_get w.graph.flow.vars k ≡ Some info = at_last (λ i v. slice_get w.graph.flow.vars i ≡ Some v.info) old.variables.list.items _ _ items agrees.infos in
     subst (λ m. Creates w.graph (owner_of w.out owner) info (stage_of w old) (var m) (stage_of w new)) (sym number)
     (subst (λ u. Creates w.graph (owner_of w.out owner) info (stage_of w old) (var k) u)
-    (ap (λ m. stage (w.at old.goal.0) (length old.points.items) m) (sym (one_more old.variables.list.items _ _ items))
-    ∙ ap (λ ps. stage (w.at old.goal.0) (length ps.items) (length new.variables.list.items)) (sym points)
-    ∙ ap (λ l. stage (w.at l.0) (length new.points.items) (length new.variables.list.items)) (sym goal))
+    (ap (λ m. stage (w.at old.lines.goal.0) (length old.lines.points.items) m) (sym (one_more old.variables.list.items _ _ items))
+    ∙ ap (λ l. stage (w.at l.goal.0) (length l.points.items) (length new.variables.list.items)) (sym lines))
     (creates there known))
 
 -- a name and a kind make what is known of a variable

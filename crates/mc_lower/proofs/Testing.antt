@@ -51,16 +51,18 @@ comparing g place c a b ts n k y z t f n1 k1 m k2 l k3 points variables there hi
 -- a test that was put, behind which the temporaries become undefined on both ways
 pub compared : (w : World) (place : Place) (c : Comparison) (a b : Operand) (ts : List VarId) (code : Instr) (hit miss : Label) (t f : ℕ) (r : Stage)
     → (b0 b1 b2 b3 : Builder) → r ≡ stage_of w b0 → IsPut w RoleCode.Plain place code b0 b1 → code ≡ decides c a b (point hit.0) (point miss.0)
-    → Undefines w.graph place ts (stage (w.at hit.0) (length b1.points.items) (length b1.variables.list.items)) (stage t (length b2.points.items) (length b2.variables.list.items))
-    → Undefines w.graph place ts (stage (w.at miss.0) (length b2.points.items) (length b2.variables.list.items)) (stage f (length b3.points.items) (length b3.variables.list.items))
-    → Compares w.graph place c a b ts r t f (length b3.points.items) (length b3.variables.list.items)
-compared w place c a b ts code hit miss t f r b0 b1 b2 b3 from is_put is first second =
-    let n : ℕ = length b0.points.items in
+    → b1.lines.goal ≡ hit → b2.lines.goal ≡ miss
+    → Undefines w.graph place ts (stage_of w b1) (stage t (length b2.lines.points.items) (length b2.variables.list.items))
+    → Undefines w.graph place ts (stage_of w b2) (stage f (length b3.lines.points.items) (length b3.variables.list.items))
+    → Compares w.graph place c a b ts r t f (length b3.lines.points.items) (length b3.variables.list.items)
+compared w place c a b ts code hit miss t f r b0 b1 b2 b3 from is_put is to_hit to_miss first second =
+    let n : ℕ = length b0.lines.points.items in
     let k : ℕ = length b0.variables.list.items in
-    subst (λ s. Compares w.graph place c a b ts s t f (length b3.points.items) (length b3.variables.list.items)) (sym (from ∙ ap (λ x. stage x n k) is_put.at))
+    subst (λ s. Compares w.graph place c a b ts s t f (length b3.lines.points.items) (length b3.variables.list.items)) (sym (from ∙ ap (λ x. stage x n k) is_put.at))
     (comparing w.graph place c a b ts n k (w.at hit.0) (w.at miss.0) t f _ _ _ _ _ _ is_put.points (ap (λ v. length v.list.items) is_put.variables)
     (subst (λ i. IsPoint w.graph n plain place i) (ap (λ i. settled w.at i) is ∙ settled_decides w.at c a b (point hit.0) (point miss.0)) is_put.there)
-    first second)
+    (subst (λ (l : Label). Undefines w.graph place ts (stage (w.at l.0) (length b1.lines.points.items) (length b1.variables.list.items)) (stage t (length b2.lines.points.items) (length b2.variables.list.items))) to_hit first)
+    (subst (λ (l : Label). Undefines w.graph place ts (stage (w.at l.0) (length b2.lines.points.items) (length b2.variables.list.items)) (stage f (length b3.lines.points.items) (length b3.variables.list.items))) to_miss second))
 
 -- ---- conditions with parts
 -- a condition was tested, and then what was left

@@ -123,8 +123,8 @@ graph_of program b table x =
     record {
       program = program;
       flow = x.flow;
-      owners = map (λ (v : Variable). owner_of (out_of table b.outs.items) v.owner) b.variables.list.items;
-      roles = map (λ (d : Draft). role_of d.role) b.points.items;
+      owners = map (λ (v : Variable). owner_of (out_of table b.lines.outs.items) v.owner) b.variables.list.items;
+      roles = map (λ (d : Draft). role_of d.role) b.lines.points.items;
       stops = x.stops;
     }
 
@@ -133,9 +133,9 @@ world_of program b x f =
     record {
       graph = graph_of program b f.table x;
       at = point_at f.table;
-      out = out_of f.table b.outs.items;
+      out = out_of f.table b.lines.outs.items;
       blocks = blocks_of b.blocks.items;
-      apart = outs_apart f.table b.outs.items f.settled.apart;
+      apart = outs_apart f.table b.lines.outs.items f.settled.apart;
     }
 
 pub finished_agrees : (program : Program) (b : Builder) (x : Lowered) (f : IsFinished b x) → program.functions ≡ map function_of b.program.now.functions.items
@@ -144,12 +144,12 @@ finished_agrees program b x f is =
     record {
       functions = is;
       structs = f.structs;
-      points = λ i d there. ap (λ l. slice_get l i) f.points ∙ mapped_there (point_in (point_at f.table)) b.points.items i d there;
-      roles = mapped_there (λ (d : Draft). role_of d.role) b.points.items;
-      owners = mapped_there (λ (v : Variable). owner_of (out_of f.table b.outs.items) v.owner) b.variables.list.items;
+      points = λ i d there. ap (λ l. slice_get l i) f.points ∙ mapped_there (point_in (point_at f.table)) b.lines.points.items i d there;
+      roles = mapped_there (λ (d : Draft). role_of d.role) b.lines.points.items;
+      owners = mapped_there (λ (v : Variable). owner_of (out_of f.table b.lines.outs.items) v.owner) b.variables.list.items;
       infos = λ i v there. ap (λ l. slice_get l i) f.vars ∙ mapped_there (λ (u : Variable). u.info) b.variables.list.items i v there;
       marks = f.settled.marks;
-      outs = outs_there f.table b.outs.items;
+      outs = outs_there f.table b.lines.outs.items;
       blocks = λ i xs there. ap block_at there;
     }
 
@@ -158,7 +158,7 @@ pub flow_there : (program : Resolved) (structs : Structs) (old new : Builder) (x
     → old.program.now ≡ program → old.structs.now ≡ structs
     → ((w : World) → Agrees w old → slice_get w.graph.program.functions program.entry ≡ Some (function_of entry))
     → entry.parameters ≡ 0
-    → ((w : World) → Agrees w new → Agrees w old × (out : ℕ) × Makes w.graph (function_of entry) out (length new.variables.list.items) × (length new.points.items ≡ suc out))
+    → ((w : World) → Agrees w new → Agrees w old × (out : ℕ) × Makes w.graph (function_of entry) out (length new.variables.list.items) × (length new.lines.points.items ≡ suc out))
     → IsFinished new x → IsFlowOf program structs x
 flow_there program structs old new x entry is_program is_structs found alone made f = λ defs.
     let whole : Program = record { functions = map function_of new.program.now.functions.items; entry = program.entry; defs = defs } in
@@ -172,14 +172,14 @@ flow_there program structs old new x entry is_program is_structs found alone mad
       there = found w m.0;
       alone = alone;
       made = m.2;
-      points = ap (λ l. length l) f.points ∙ length-map new.points.items (point_in (point_at f.table)) ∙ m.3;
-      roles = length-map new.points.items (λ (d : Draft). role_of d.role) ∙ m.3;
+      points = ap (λ l. length l) f.points ∙ length-map new.lines.points.items (point_in (point_at f.table)) ∙ m.3;
+      roles = length-map new.lines.points.items (λ (d : Draft). role_of d.role) ∙ m.3;
       variables = ap (λ l. length l) f.vars ∙ length-map new.variables.list.items (λ (v : Variable). v.info);
-      owners = length-map new.variables.list.items (λ (v : Variable). owner_of (out_of f.table new.outs.items) v.owner);
-      once = once_owned (out_of f.table new.outs.items) new.variables.list.items w.apart new.variables.once;
-      heads = of_roles w.graph new.points.items head x.flow.heads refl f.heads;
-      merges = of_roles w.graph new.points.items merge x.flow.merges refl f.merges;
-      stops = of_roles w.graph new.points.items stop x.stops refl f.stops;
+      owners = length-map new.variables.list.items (λ (v : Variable). owner_of (out_of f.table new.lines.outs.items) v.owner);
+      once = once_owned (out_of f.table new.lines.outs.items) new.variables.list.items w.apart new.variables.once;
+      heads = of_roles w.graph new.lines.points.items head x.flow.heads refl f.heads;
+      merges = of_roles w.graph new.lines.points.items merge x.flow.merges refl f.merges;
+      stops = of_roles w.graph new.lines.points.items stop x.stops refl f.stops;
       thresholds = f.thresholds;
     } in (
       w.graph.owners,

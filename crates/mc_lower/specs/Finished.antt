@@ -12,7 +12,7 @@ use Rattle.mc_lowering.specs.Lowering.{AreThresholds, IsLowering, IsTooLong, ope
 use Rattle.mc_flow.specs.declared.instr.Operand.{Operand}
 use Rattle.mc_flow.specs.declared.instr.Operand.TheVariants.{Var, Const}
 use Rattle.mc_flow.specs.declared.instr.Instr.TheVariants.{End}
-use Rattle.std.specs.Prelude.{◌<◌, ◌≤◌, AllPairs, All, Contains}
+use Rattle.std.specs.Prelude.{◌<◌, AllPairs, All, Contains}
 use Rattle.mc_lowering.specs.Graphs.{point}
 use Rattle.mc_valid.specs.Kinds.{IsWellMade}
 use Rattle.mc_lower.specs.declared.builder.Builder.{Builder}
@@ -56,19 +56,19 @@ pub data Ends (g : Graph) (out : ℕ) : Stage → Stage → Type 0 where
 
 -- labels have points, with which all that is known of them holds
 pub record AreSettled (b : Builder) (table : List ℕ) : Type 0 where
-  pub marks : AllAt (λ i m. IsMarked (point_at table) m) b.marks.items
-  pub apart : AreApart (point_at table) b.outs.items
+  pub marks : AllAt (λ i m. IsMarked (point_at table) m) b.lines.marks.items
+  pub apart : AreApart (point_at table) b.lines.outs.items
 
 -- the flow graph, with points in place of labels
 pub record IsFinished (b : Builder) (x : Lowered) : Type 0 where
   pub table : List ℕ
   pub settled : AreSettled b table
-  pub points : x.flow.points ≡ map (point_in (point_at table)) b.points.items
+  pub points : x.flow.points ≡ map (point_in (point_at table)) b.lines.points.items
   pub vars : x.flow.vars ≡ map (λ v. v.info) b.variables.list.items
   pub structs : x.flow.structs ≡ b.structs.now
-  pub heads : AreThose b.points.items head x.flow.heads
-  pub merges : AreThose b.points.items merge x.flow.merges
-  pub stops : AreThose b.points.items stop x.stops
+  pub heads : AreThose b.lines.points.items head x.flow.heads
+  pub merges : AreThose b.lines.points.items merge x.flow.merges
+  pub stops : AreThose b.lines.points.items stop x.stops
   pub thresholds : AreThresholds x.flow.points x.flow.thresholds
 
 -- with some owners and roles, whatever the definitions of its shapes are, this is the flow graph of a program
@@ -91,9 +91,3 @@ abbrev pub AreTooLong : Resolved → Structs → Type 0
 AreTooLong program structs =
     (g : Graph) (defs : List Def) (entry : Function) (out count : ℕ) → g.program ≡ program_of program defs → g.flow.structs ≡ structs
     → IsLowering g entry out count → IsTooLong g
-
--- each flow graph of a program has at most 10,000 points
-abbrev pub AreShort : Resolved → Structs → Type 0
-AreShort program structs =
-    (g : Graph) (defs : List Def) (entry : Function) (out count : ℕ) → g.program ≡ program_of program defs → g.flow.structs ≡ structs
-    → IsLowering g entry out count → length g.flow.points ≤ 10000

@@ -3,6 +3,8 @@ use Rattle.std.specs.Prelude.{◌≡◌, ◌<◌, ◌++◌, ℕ, suc, List, [], 
 use Rattle.mc_defs.specs.declared.shapes.Structs.{Structs}
 use Rattle.mc_resolved.specs.declared.program.Resolved.{Resolved}
 use Rattle.mc_lower.specs.declared.builder.Builder.{Builder}
+use Rattle.mc_lower.specs.declared.builder.Label.{Label}
+use Rattle.mc_lower.specs.declared.lines.Awaited.{Awaited}
 use Rattle.mc_lower.specs.declared.variables.Owner.{Owner as OwnerCode}
 use Rattle.mc_lower.specs.declared.variables.Variable.{Variable}
 
@@ -17,9 +19,11 @@ pub record State : Type 0 where
   pub blocks : ℕ
   pub occurrences : ℕ
 
+-- and the labels that wait, the next one first
 pub record Known : Type 0 where
   pub source : Source
   pub state : State
+  pub waiting : List Awaited
 
 -- a temporary is no one's for long
 abbrev pub lasting : OwnerCode → List OwnerCode
@@ -36,7 +40,12 @@ known b =
     record {
       source = record { program = b.program.now; structs = b.structs.now };
       state =
-          record { owners = owners_of b.variables.list.items; blocks = length b.blocks.items; occurrences = length b.outs.items };
+          record {
+            owners = owners_of b.variables.list.items;
+            blocks = length b.blocks.items;
+            occurrences = length b.lines.outs.items;
+          };
+      waiting = b.lines.waiting;
     }
 
 abbrev pub nothing_known : Resolved → Structs → Known
@@ -44,6 +53,7 @@ nothing_known program structs =
     record {
       source = record { program = program; structs = structs };
       state = record { owners = []; blocks = 0; occurrences = 0 };
+      waiting = [];
     }
 
 -- the same is known
@@ -57,6 +67,7 @@ with_owners os k =
       source = k.source;
       state =
           record { owners = k.state.owners ++ os; blocks = k.state.blocks; occurrences = k.state.occurrences };
+      waiting = k.waiting;
     }
 
 abbrev pub with_local : (i x : ℕ) → Known → Known
@@ -71,15 +82,33 @@ with_block k =
       source = k.source;
       state =
           record { owners = k.state.owners; blocks = suc k.state.blocks; occurrences = k.state.occurrences };
+      waiting = k.waiting;
     }
 
+-- where its `return` goes waits first
 abbrev pub with_occurrence : Known → Known
 with_occurrence k =
     record {
       source = k.source;
       state =
           record { owners = k.state.owners; blocks = k.state.blocks; occurrences = suc k.state.occurrences };
+      waiting = Awaited.Out k.state.occurrences ∷ k.waiting;
     }
+
+-- ---- labels that wait
+abbrev pub with_next : Awaited → Known → Known
+with_next a k = record { source = k.source; state = k.state; waiting = a ∷ k.waiting }
+
+abbrev pub with_label : Label → Known → Known
+with_label l k = with_next (Awaited.Goal l) k
+
+abbrev pub with_all : List Awaited → Known → Known
+with_all [] k = k
+with_all (a ∷ more) k = with_next a (with_all more k)
+
+-- a label waits first
+abbrev pub Waits : Known → Type 0
+Waits k = (l : Label) × (m : Known) × (k ≡ with_label l m)
 
 -- ---- what is there
 -- a variable of an occurrence of a function is made

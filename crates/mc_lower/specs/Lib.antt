@@ -3,6 +3,7 @@ pub mod Owned
 pub mod Valued
 pub mod Once
 pub mod Lines
+pub mod Settled
 pub mod Knowns
 pub mod Ready
 pub mod Left

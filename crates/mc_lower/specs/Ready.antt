@@ -24,7 +24,8 @@ use Rattle.mc_lower.specs.declared.values.Work.{Work}
 use Rattle.mc_resolved.specs.Views.{expression_of}
 use Rattle.mc_lower.specs.declared.conditions.Work.{Work as Tested}
 use Rattle.mc_lower.specs.declared.calls.Entered.{Entered}
-use Rattle.mc_lower.specs.Knowns.{Source, State, Known, IsBounded, IsThere, IsAnswered, IsOpen, with_result}
+use Rattle.mc_lower.specs.declared.lines.Awaited.{Awaited}
+use Rattle.mc_lower.specs.Knowns.{Source, State, Known, IsBounded, IsThere, IsAnswered, IsOpen, with_all, with_result}
 use Rattle.mc_lower.specs.Valued.{target_of}
 
 -- ---- values
@@ -242,6 +243,24 @@ whose (Task.EndCall place c) = c.occurrence
 whose (Task.Take place target answer i) = i
 whose (Task.Answer place own answer i) = i
 
+-- the labels that wait for a task
+abbrev pub takes : Task → List Awaited
+takes (Task.Statements ss c) = []
+takes (Task.Statement a c) = []
+takes (Task.Simple x c) = []
+takes (Task.Declare place items c) = []
+takes (Task.EndBlock xs i) = []
+takes (Task.Otherwise l m) = Awaited.Goal l ∷ []
+takes (Task.Merge place l) = Awaited.Goal l ∷ []
+takes (Task.EndWhile place begin exit) = Awaited.Goal exit ∷ []
+takes (Task.EndDo place d begin turns i) = Awaited.Goal turns.turn ∷ Awaited.Goal turns.exit ∷ []
+takes (Task.For h a c) = []
+takes (Task.ForTurn h begin turns c) = Awaited.Goal turns.turn ∷ Awaited.Goal turns.exit ∷ []
+takes (Task.EndFor h begin exit i) = Awaited.Goal exit ∷ []
+takes (Task.EndCall place c) = Awaited.Out c.occurrence ∷ []
+takes (Task.Take place target answer i) = []
+takes (Task.Answer place own answer i) = []
+
 -- what was made is still there
 pub record Still (s t : State) : Type 0 where
   pub owners : (o : OwnerCode) → Contains s.owners o → Contains t.owners o
@@ -257,21 +276,22 @@ pub record Grown (s : State) (i : ℕ) (xs : List ℕ) (t : State) : Type 0 wher
       → Contains s.owners (OwnerCode.Local j x) ⊎ ((j ≡ i) × Contains xs x)
 
 abbrev pub in_state : Known → State → Known
-in_state k s = record { source = k.source; state = s }
+in_state k s = record { source = k.source; state = s; waiting = k.waiting }
 
 -- the kind of the entry's result
 abbrev pub entry_result : Source → Option Kind
 entry_result s = option_and_then (λ f. f.result) (slice_get (functions_in s) s.program.entry)
 
--- the first occurrence is the entry's, and its result, if any, is made
+-- the first occurrence is the entry's, its result, if any, is made, and where its `return` goes waits alone
 abbrev pub IsEntered : Known → Type 0
-IsEntered k = (0 < k.state.occurrences) × HasResult k 0 (entry_result k.source)
+IsEntered k = (0 < k.state.occurrences) × HasResult k 0 (entry_result k.source) × (k.waiting ≡ Awaited.Out 0 ∷ [])
 
--- each task has what it needs when it is next
+-- each task has what it needs when it is next, and the labels that wait for it wait first then
 abbrev pub Ready : Known → List Task → Type 0
 Ready k [] = IsEntered k
 Ready k (t ∷ ts) =
-    Needs k t × ((s : State) → Grown k.state (whose t) (makes t) s → Ready (in_state k s) ts)
+    Needs k t
+    × ((m : Known) × (k ≡ with_all (takes t) m) × ((s : State) → Grown m.state (whose t) (makes t) s → Ready (in_state m s) ts))
 
 -- as soon as these variables of an occurrence are made
 abbrev pub Later : Known → ℕ → List ℕ → List Task → Type 0
@@ -281,6 +301,7 @@ Later k i xs ts = (s : State) → Grown k.state i xs s → Ready (in_state k s) 
 pub record IsBegun (k : Known) (c : Call) (e : Entered) (m : Known) : Type 0 where
   pub source : m.source ≡ k.source
   pub grown : (i : ℕ) → Grown k.state i [] m.state
+  pub waiting : m.waiting ≡ Awaited.Out e.callee.occurrence ∷ k.waiting
   pub latest : k.state.occurrences ≤ e.callee.occurrence
   pub no_others : (x : ℕ) → IsThere m e.callee.occurrence x → x < e.callee.function.now.parameters
   pub there : slice_get (functions_in k.source) c.function ≡ Some (function_of e.callee.function.now)

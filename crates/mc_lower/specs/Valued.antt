@@ -14,6 +14,7 @@ use Rattle.mc_lowering.specs.Values.{Computes, Tests, TestsPerhaps, Puts}
 use Rattle.mc_lower.specs.declared.builder.Builder.{Builder}
 use Rattle.mc_lower.specs.declared.conditions.Ways.{Ways}
 use Rattle.mc_lower.specs.declared.conditions.Work.{Work as Tested}
+use Rattle.mc_lower.specs.declared.lines.Awaited.{Awaited}
 use Rattle.mc_lower.specs.declared.values.How.{How}
 use Rattle.mc_lower.specs.declared.values.Operation.{Operation as OperationCode}
 use Rattle.mc_lower.specs.declared.values.Target.{Target}
@@ -101,7 +102,7 @@ pub record PutsField (g : Graph) (out : ℕ) (place : Place) (l : Left) (o : Ope
 -- from what is there now to what is there then, a condition goes two ways
 abbrev pub TestsTo : World → ℕ → Cond → Ways → Builder → Builder → Type 0
 TestsTo w i d ways old new =
-    Tests w.graph (w.out i) d (stage_of w old) (w.at ways.yes.0) (w.at ways.no.0) (length new.points.items)
+    Tests w.graph (w.out i) d (stage_of w old) (w.at ways.yes.0) (w.at ways.no.0) (length new.lines.points.items)
     (length new.variables.list.items)
 
 -- what is still to be tested leads from so many points and variables to so many
@@ -112,6 +113,10 @@ Testing w i (t ∷ more) n k m j =
     × Tests w.graph (w.out i) (condition_of t.condition.now) (stage (w.at t.from.0) n k) (w.at t.ways.yes.0)
     (w.at t.ways.no.0) p q
     × Testing w i more p q m j
+
+-- the labels that are tested from wait in that order
+abbrev pub froms : List Tested → List Awaited
+froms work = map (λ t. Awaited.Goal t.from) work
 
 -- a condition goes on where it is true, and else to a point
 pub data TestsOn (g : Graph) (out : ℕ) (d : Cond) (f : ℕ) : Stage → Stage → Type 0 where

@@ -84,17 +84,17 @@ AllAt {A} P xs = (i : ℕ) (x : A) → slice_get xs i ≡ Some x → P i x
 pub record Agrees (w : World) (b : Builder) : Type 0 where
   pub functions : w.graph.program.functions ≡ map function_of b.program.now.functions.items
   pub structs : w.graph.flow.structs ≡ b.structs.now
-  pub points : AllAt (λ i d. slice_get w.graph.flow.points i ≡ Some (point_in w.at d)) b.points.items
-  pub roles : AllAt (λ i d. slice_get w.graph.roles i ≡ Some (role_of d.role)) b.points.items
+  pub points : AllAt (λ i d. slice_get w.graph.flow.points i ≡ Some (point_in w.at d)) b.lines.points.items
+  pub roles : AllAt (λ i d. slice_get w.graph.roles i ≡ Some (role_of d.role)) b.lines.points.items
   pub owners : AllAt (λ i v. slice_get w.graph.owners i ≡ Some (owner_of w.out v.owner)) b.variables.list.items
   pub infos : AllAt (λ i v. slice_get w.graph.flow.vars i ≡ Some v.info) b.variables.list.items
-  pub marks : AllAt (λ i m. IsMarked w.at m) b.marks.items
-  pub outs : AllAt (λ i l. w.at l.0 ≡ w.out i) b.outs.items
+  pub marks : AllAt (λ i m. IsMarked w.at m) b.lines.marks.items
+  pub outs : AllAt (λ i l. w.at l.0 ≡ w.out i) b.lines.outs.items
   pub blocks : AllAt (λ i xs. w.blocks i ≡ xs.items) b.blocks.items
 
 -- how far it is made
 abbrev pub stage_of : World → Builder → Stage
-stage_of w b = stage (w.at b.goal.0) (length b.points.items) (length b.variables.list.items)
+stage_of w b = stage (w.at b.lines.goal.0) (length b.lines.points.items) (length b.variables.list.items)
 
 -- whatever finished flow graph agrees with what is there now agrees with what was there before, and this leads from
 -- the one stage to the other in it
@@ -107,14 +107,19 @@ pub data GoesTo (q : ℕ) : Stage → Stage → Type 0 where
 
 -- a point at the goal
 pub record IsPut (w : World) (role : RoleCode) (place : Place) (code : Instr) (old new : Builder) : Type 0 where
-  pub at : w.at old.goal.0 ≡ length old.points.items
-  pub there : IsPoint w.graph (length old.points.items) (role_of role) place (settled w.at code)
-  pub points : length new.points.items ≡ suc (length old.points.items)
+  pub at : w.at old.lines.goal.0 ≡ length old.lines.points.items
+  pub there : IsPoint w.graph (length old.lines.points.items) (role_of role) place (settled w.at code)
+  pub points : length new.lines.points.items ≡ suc (length old.lines.points.items)
   pub variables : new.variables ≡ old.variables
-  pub goal : new.goal ≡ old.goal
 
 -- a point at the goal, which goes on to a label
 pub data Lays (w : World) (role : RoleCode) (place : Place) (code : Instr) (next : Label) : Stage → Stage
     → Type 0 where
   lays : {n k : ℕ} → IsPoint w.graph n (role_of role) place (settled w.at code)
       → Lays w role place code next (stage n n k) (stage (w.at next.0) (suc n) k)
+
+-- the same, where a label is that point
+pub data Lands (w : World) (at : ℕ) (role : RoleCode) (place : Place) (code : Instr) (next : Label) : Stage → Stage
+    → Type 0 where
+  lands : {k : ℕ} → IsPoint w.graph at (role_of role) place (settled w.at code)
+      → Lands w at role place code next (stage at at k) (stage (w.at next.0) (suc at) k)

@@ -26,12 +26,11 @@ impl<'a> Builder<'a> {
         ensures same { OnOk result (Keeps self.old self.new) }
         ensures leads { OnOk result (Leads (λ w s u. Appends w.graph plain place (λ q. Malloc variable shape q) s u) self.old self.new) }
     {
-        let next = self.label()?;
+        let next = self.next();
         self.append(
             Role::Plain,
             place,
             Instr::Malloc(variable, shape, next.target()),
-            next,
         )?;
         Ok(())
     }
@@ -47,7 +46,7 @@ impl<'a> Builder<'a> {
         ensures same { OnOk result (Keeps self.old self.new) }
         ensures leads { OnOk result (Leads (λ w s u. Appends w.graph plain place (λ q. Store base field.shape field.field operand q) s u) self.old self.new) }
     {
-        let next = self.label()?;
+        let next = self.next();
         self.append(
             Role::Plain,
             place,
@@ -58,7 +57,6 @@ impl<'a> Builder<'a> {
                 operand,
                 next.target(),
             ),
-            next,
         )?;
         Ok(())
     }
@@ -351,13 +349,8 @@ impl<'a> Builder<'a> {
         ensures same { OnOk result (Keeps self.old self.new) }
         ensures leads { OnOk result (Leads (λ w s u. Appends w.graph plain place (λ q. Free operand q) s u) self.old self.new) }
     {
-        let next = self.label()?;
-        self.append(
-            Role::Plain,
-            place,
-            Instr::Free(operand, next.target()),
-            next,
-        )?;
+        let next = self.next();
+        self.append(Role::Plain, place, Instr::Free(operand, next.target()))?;
         Ok(())
     }
 

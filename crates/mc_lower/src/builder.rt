@@ -1,10 +1,13 @@
 // A flow graph while it is made: its points go on to labels, which become points at the end.
-ghost use Rattle.std.specs.Prelude.{[], ◌≡◌, ◌<◌, ◌++◌, OnOk, IfOk, suc, length};
+ghost use Rattle.std.specs.Prelude.{[], ◌≡◌, ◌<◌, ◌++◌, OnOk, IfOk, length};
 ghost use Rattle.mc_lowering.specs.Graphs.{Appends, Undefines, plain, point, stage};
 ghost use Rattle.mc_flow.specs.declared.instr.Instr.TheVariants.{Skip, Copy, Undef};
-ghost use Rattle.mc_lower.specs.Knowns.{IsOpen, Keeps, known, nothing_known, with_block, with_occurrence};
-ghost use Rattle.mc_lower.specs.Worlds.{GoesTo, World, Agrees, IsPut, Lays, Leads, blocks_in, role_of, stage_of};
+ghost use Rattle.mc_lower.specs.declared.lines.Awaited.{Awaited};
+ghost use Rattle.mc_lower.specs.Knowns.{IsOpen, Keeps, Known, Waits, known, nothing_known, with_block, with_label, with_next, with_occurrence};
+ghost use Rattle.mc_lower.specs.Lines.{label_of};
+ghost use Rattle.mc_lower.specs.Worlds.{GoesTo, World, Agrees, IsPut, Lands, Lays, Leads, blocks_in, role_of, stage_of};
 
+use crate::lines::Lines;
 use crate::variables::Variables;
 use mc_base::{Items, PointId, VarId};
 use mc_defs::Structs;
@@ -22,8 +25,6 @@ pub const NOWHERE: Place = Place { line: 1, column: 1 };
 /// Why no flow graph is made.
 #[derive(Clone, Copy, Debug, PartialEq, Eq)]
 pub enum BuildFault {
-    /// What is known of labels does not hold together, or two occurrences of functions have one point.
-    Absent,
     NoMemory,
 }
 
@@ -38,9 +39,6 @@ impl<T: Drop> From<AllocFailed<T>> for BuildFault {
         BuildFault::NoMemory
     }
 }
-
-/// What is made is no flow graph.
-pub const ABSENT: BuildFault = BuildFault::Absent;
 
 /// A point that may not be known yet.
 #[derive(Clone, Copy, Debug, PartialEq, Eq)]
@@ -85,23 +83,16 @@ pub struct Builder<'a> {
     pub alloc: Global,
     pub program: &'a Resolved,
     pub structs: &'a Structs,
-    pub points: Vec<Draft>,
+    pub lines: Lines,
     pub variables: Variables,
-    pub marks: Vec<Mark>,
-    /// Where the `return` of each occurrence of a function goes.
-    pub outs: Vec<Label>,
     /// The variables of each block and of those around it in the same loop.
     pub blocks: Vec<Vec<usize>>,
-    /// How many labels there are.
-    pub labels: u64,
-    /// What was made goes on to this label.
-    pub goal: Label,
 }
 
 impl<'a> Builder<'a> {
     /// The empty flow graph, whose goal is its first point.
     pub fn new(alloc: Global, program: &'a Resolved, structs: &'a Structs) -> Builder<'a>
-        ensures points { result.points.items ≡ [] }
+        ensures points { result.lines.points.items ≡ [] }
         ensures variables { result.variables.list.items ≡ [] }
         ensures known { known result ≡ nothing_known program.now structs.now }
         ensures program { result.program.now ≡ program.now }
@@ -111,39 +102,36 @@ impl<'a> Builder<'a> {
             alloc,
             program,
             structs,
-            points: Vec::new(alloc),
+            lines: Lines::new(alloc),
             variables: Variables::new(alloc),
-            marks: Vec::new(alloc),
-            outs: Vec::new(alloc),
             blocks: Vec::new(alloc),
-            labels: 1,
-            goal: Label(0),
         }
     }
 
-    /// A new label.
-    pub fn label(&mut self) -> Result<Label, BuildFault>
-        ensures same { OnOk result (Keeps self.old self.new) }
-        ensures kept { OnOk result (Leads (λ w s u. s ≡ u) self.old self.new) }
-        ensures goal { OnOk result (self.new.goal ≡ self.old.goal) }
+    /// The label that is new next.
+    pub fn next(&self) -> Label
+        ensures { result ≡ record { 0 = self.now.lines.labels } }
     {
-        let label = Label(self.labels);
-        match self.labels.checked_add(1) {
-            Some(labels) => self.labels = labels,
-            None => return Err(BuildFault::NoMemory),
-        }
+        self.lines.next()
+    }
+
+    /// A new label, which waits first.
+    pub fn label(&mut self) -> Result<Label, BuildFault>
+        ensures known { IfOk result (λ l. known self.new ≡ with_label l (known self.old)) }
+        ensures kept { OnOk result (Leads (λ w s u. s ≡ u) self.old self.new) }
+        ensures goal { OnOk result (self.new.lines.goal ≡ self.old.lines.goal) }
+    {
+        let label = self.lines.wait()?;
         Ok(label)
     }
 
-    /// A new occurrence of a function.
+    /// A new occurrence of a function; where its `return` goes waits first.
     pub fn occur(&mut self) -> Result<usize, BuildFault>
         ensures leads { OnOk result (Leads (λ w s u. s ≡ u) self.old self.new) }
         ensures last { IfOk result (λ i. i ≡ (known self.old).state.occurrences) }
         ensures same { OnOk result (known self.new ≡ with_occurrence (known self.old)) }
     {
-        let label = self.label()?;
-        let occurrence = self.outs.len();
-        self.outs.push(label)?;
+        let occurrence = self.lines.occur()?;
         Ok(occurrence)
     }
 
@@ -152,7 +140,7 @@ impl<'a> Builder<'a> {
         requires { occurrence < (known self.now).state.occurrences }
         ensures { (w : World) → Agrees w self.now → w.at result.0 ≡ w.out occurrence }
     {
-        match self.outs.get(occurrence) {
+        match self.lines.outs.get(occurrence) {
             Some(label) => *label,
             None => unreachable!(),
         }
@@ -213,62 +201,52 @@ impl<'a> Builder<'a> {
         Ok(block)
     }
 
-    // What was made goes on to this label.
-    fn join(&mut self, label: Label) -> Result<(), BuildFault>
-        ensures same { OnOk result (Keeps self.old self.new) }
-        ensures joined { OnOk result (Leads (λ w s u. (w.at self.old.goal.0 ≡ w.at label.0) × (s ≡ u)) self.old self.new) }
-        ensures goal { OnOk result (self.new.goal ≡ self.old.goal) }
-    {
-        self.marks.push(Mark::Same(self.goal, label))?;
-        Ok(())
-    }
-
-    /// What was made goes on to this label, and so does what is made next.
-    pub fn meet(&mut self, label: Label) -> Result<(), BuildFault>
-        ensures same { OnOk result (Keeps self.old self.new) }
-        ensures kept { OnOk result (Leads (λ w s u. s ≡ u) self.old self.new) }
-        ensures goal { OnOk result (self.new.goal ≡ label) }
-    {
-        self.join(label)?;
-        self.goal = label;
-        Ok(())
-    }
-
     /// What was made goes on to this label, and what is made next is reached from elsewhere alone.
     pub fn go(&mut self, label: Label) -> Result<(), BuildFault>
         ensures same { OnOk result (Keeps self.old self.new) }
         ensures leads { OnOk result (Leads (λ w s u. GoesTo (w.at label.0) s u) self.old self.new) }
     {
-        self.join(label)?;
-        let next = self.label()?;
-        self.goal = next;
+        self.lines.go(label)?;
         Ok(())
     }
 
-    /// A point at the goal. The points of a program are counted before, so they are few.
-    pub fn put(&mut self, role: Role, place: Place, code: Instr) -> Result<(), BuildFault>
+    /// What was made goes on to this label; the label that waits first is the goal then.
+    pub fn go_last(&mut self, label: Label) -> Result<(), BuildFault>
+        requires { Waits (known self.old) }
+        ensures rest { OnOk result (known self.old ≡ with_label self.new.lines.goal (known self.new)) }
+        ensures leads { OnOk result (Leads (λ w s u. GoesTo (w.at label.0) s u) self.old self.new) }
+    {
+        self.lines.go_last(label)?;
+        Ok(())
+    }
+
+    /// A point at the goal that goes on to the label that is new next, which is the goal then. The points of a program are
+    /// counted before, so they are few.
+    pub fn append(&mut self, role: Role, place: Place, code: Instr) -> Result<(), BuildFault>
         ensures same { OnOk result (Keeps self.old self.new) }
+        ensures leads { OnOk result (Leads (λ w s u. Lays w role place code (record { 0 = self.old.lines.labels }) s u) self.old self.new) }
+    {
+        self.lines.put(Draft { role, code, place })?;
+        Ok(())
+    }
+
+    /// A point at the goal; the label that waits first is the goal then.
+    pub fn put_last(&mut self, role: Role, place: Place, code: Instr) -> Result<(), BuildFault>
+        requires { Waits (known self.old) }
+        ensures rest { OnOk result (known self.old ≡ with_label self.new.lines.goal (known self.new)) }
         ensures leads { OnOk result ((w : World) → Agrees w self.new → Agrees w self.old × IsPut w role place code self.old self.new) }
     {
-        let at = self.points.len();
-        self.marks.push(Mark::At(self.goal, at))?;
-        self.points.push(Draft { role, code, place })?;
+        self.lines.put_last(Draft { role, code, place })?;
         Ok(())
     }
 
-    /// A point at the goal that goes on to this label, which is the goal then.
-    pub fn append(
-        &mut self,
-        role: Role,
-        place: Place,
-        code: Instr,
-        next: Label,
-    ) -> Result<(), BuildFault>
-        ensures same { OnOk result (Keeps self.old self.new) }
-        ensures leads { OnOk result (Leads (λ w s u. Lays w role place code next s u) self.old self.new) }
+    /// What was made goes on to the label that waits first, and there is this point, which goes on to the label that is new next.
+    pub fn land(&mut self, role: Role, place: Place, code: Instr) -> Result<(), BuildFault>
+        requires { (a : Awaited) × (k : Known) × (known self.old ≡ with_next a k) }
+        ensures rest { OnOk result ((a : Awaited) (k : Known) → known self.old ≡ with_next a k → known self.new ≡ k) }
+        ensures leads { OnOk result ((a : Awaited) (k : Known) → known self.old ≡ with_next a k → Leads (λ w s u. Lands w (w.at (label_of self.old.lines.outs.items a).0) role place code (record { 0 = self.old.lines.labels }) s u) self.old self.new) }
     {
-        self.put(role, place, code)?;
-        self.goal = next;
+        self.lines.land(Draft { role, code, place })?;
         Ok(())
     }
 
@@ -277,8 +255,8 @@ impl<'a> Builder<'a> {
         ensures same { OnOk result (Keeps self.old self.new) }
         ensures leads { OnOk result (Leads (λ w s u. Appends w.graph (role_of role) place (λ q. Skip q) s u) self.old self.new) }
     {
-        let next = self.label()?;
-        self.append(role, place, Instr::Skip(next.target()), next)?;
+        let next = self.next();
+        self.append(role, place, Instr::Skip(next.target()))?;
         Ok(())
     }
 
@@ -292,12 +270,11 @@ impl<'a> Builder<'a> {
         ensures same { OnOk result (Keeps self.old self.new) }
         ensures leads { OnOk result (Leads (λ w s u. Appends w.graph plain place (λ q. Copy variable operand q) s u) self.old self.new) }
     {
-        let next = self.label()?;
+        let next = self.next();
         self.append(
             Role::Plain,
             place,
             Instr::Copy(variable, operand, next.target()),
-            next,
         )?;
         Ok(())
     }
@@ -307,9 +284,9 @@ impl<'a> Builder<'a> {
         ensures same { OnOk result (Keeps self.old self.new) }
         ensures leads { OnOk result (Leads (λ w s u. Appends w.graph plain place (λ q. Undef variables.now q) s u) self.old self.new) }
     {
-        let next = self.label()?;
+        let next = self.next();
         let list = Items::of(Vec::from_slice(self.alloc, variables)?);
-        self.append(Role::Plain, place, Instr::Undef(list, next.target()), next)?;
+        self.append(Role::Plain, place, Instr::Undef(list, next.target()))?;
         Ok(())
     }
 

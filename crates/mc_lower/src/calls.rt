@@ -7,17 +7,18 @@ ghost use Rattle.mc_lowering.specs.Lowering.{Awaits, Declares, LowersAll, Lowers
 ghost use Rattle.mc_resolved.specs.Programs.{assign, call as performs_call, result_of, returns};
 ghost use Rattle.mc_resolved.specs.Views.{action_of, call_of, expression_of, function_of, initial_of, right_of};
 ghost use Rattle.mc_lower.specs.Left.{AnswersResult, Begins, DeclaresFirst, EndsCall, IsEntered, PassesAll, Rest, TakesResult, around_of};
-ghost use Rattle.mc_lower.specs.Knowns.{IsAnswered, IsThere, Keeps, Known, known, with_owners};
+ghost use Rattle.mc_lower.specs.Knowns.{IsAnswered, IsThere, Keeps, Known, known, with_next, with_owners};
 ghost use Rattle.mc_lower.specs.Ready.{AreReady, FitsAll, FitsItems, IsActionReady, IsBegun, IsCallReady, IsNamed, IsRightReady, Later, Needs, Ready, functions_in, locals_to, with_awaited};
 ghost use Rattle.mc_lower.specs.Valued.{target_of};
+ghost use Rattle.mc_lower.specs.declared.lines.Awaited.TheVariants.{Out};
 ghost use Rattle.mc_lower.specs.declared.tasks.Task.TheVariants.{EndCall};
 ghost use Rattle.mc_lower.specs.Worlds.{Agrees, GoesTo, Leads, World, stage_of};
 
-use crate::builder::{BuildFault, Builder};
+use crate::builder::{BuildFault, Builder, Role};
 use crate::tasks::{Context, Task, push};
 use crate::values::{How, Site, Target};
-use mc_base::VarId;
-use mc_flow::Operand;
+use mc_base::{Items, VarId};
+use mc_flow::{Instr, Operand};
 use mc_resolved::{Action, Call, Function, Initial, RightSide, Simple};
 use mc_stack::Stack;
 use mc_text::Place;
@@ -142,13 +143,15 @@ impl<'a> Builder<'a> {
 
     /// The body of a call is behind: its variables become undefined.
     pub fn end_call(&mut self, place: Place, callee: Context<'a>) -> Result<(), BuildFault>
-        requires { callee.occurrence < (known self.old).state.occurrences }
-        ensures same { OnOk result (Keeps self.old self.new) }
+        requires occurs { callee.occurrence < (known self.old).state.occurrences }
+        requires waits { (k : Known) × (known self.old ≡ with_next (Out callee.occurrence) k) }
+        ensures rest { OnOk result (known self.old ≡ with_next (Out callee.entry.occurrence) (known self.new)) }
         ensures leads { OnOk result (Leads (λ w s u. EndsCall w.graph (w.out callee.entry.occurrence) place (length (function_of callee.entry.function.now).locals) s u) self.old self.new) }
     {
-        let last = self.out(callee.occurrence);
-        self.meet(last)?;
-        self.forget(place, callee.occurrence, callee.function.locals.len())?;
+        let made = self.made_below(callee.occurrence, callee.function.locals.len())?;
+        let next = self.next();
+        let code = Instr::Undef(Items::of(made), next.target());
+        self.land(Role::Plain, place, code)?;
         Ok(())
     }
 
@@ -212,7 +215,7 @@ fn push_body<'a>(
     place: Place,
     callee: Context<'a>,
 ) -> Result<(), BuildFault>
-    ensures ready { OnOk result ((k : Known) → FitsAll k callee.entry (function_of callee.entry.function.now).body → Needs k (EndCall place callee.entry) → Later k callee.entry.occurrence (all_declared (function_of callee.entry.function.now).body) tasks.old → Ready k tasks.new) }
+    ensures ready { OnOk result ((k m : Known) → k ≡ with_next (Out callee.entry.occurrence) m → FitsAll k callee.entry (function_of callee.entry.function.now).body → Needs k (EndCall place callee.entry) → Later m callee.entry.occurrence (all_declared (function_of callee.entry.function.now).body) tasks.old → Ready k tasks.new) }
     ensures leads { OnOk result ((w : World) (s u : Stage) → Rest w tasks.new s u → (m : Stage) × LowersAll w.graph (around_of w callee.entry) (function_of callee.entry.function.now).body s m × ((n : Stage) × EndsCall w.graph (w.out callee.entry.occurrence) place (length (function_of callee.entry.function.now).locals) m n × Rest w tasks.old n u)) }
 {
     push(tasks, Task::EndCall(place, callee))?;

@@ -4,9 +4,9 @@ ghost use Rattle.mc_lowering.specs.Graphs.{Undefines, plain, point, stage};
 ghost use Rattle.mc_lowering.specs.Values.{Compares, decides};
 ghost use Rattle.mc_resolved.specs.Programs.{compare, plain as plain_condition};
 ghost use Rattle.mc_resolved.specs.Views.{condition_of, expression_of};
-ghost use Rattle.mc_lower.specs.Knowns.{Keeps, known};
+ghost use Rattle.mc_lower.specs.Knowns.{Keeps, Known, Waits, known, with_all, with_label};
 ghost use Rattle.mc_lower.specs.Ready.{AreTestsReady, IsReady, IsTestReady, IsTestReadyPerhaps};
-ghost use Rattle.mc_lower.specs.Valued.{Testing, TestsOn, TestsPerhapsOn, TestsTo};
+ghost use Rattle.mc_lower.specs.Valued.{Testing, TestsOn, TestsPerhapsOn, TestsTo, froms};
 ghost use Rattle.mc_lower.specs.Worlds.{Agrees, Leads, World, stage_of};
 
 use crate::builder::{BuildFault, Builder, Label, Role};
@@ -67,20 +67,14 @@ fn push<'c>(
 }
 
 impl<'a> Builder<'a> {
-    // From a label on, temporaries become undefined, and it goes on to another.
-    fn clear(
-        &mut self,
-        place: Place,
-        temporaries: &[VarId],
-        from: Label,
-        to: Label,
-    ) -> Result<(), BuildFault>
-        ensures same { OnOk result (Keeps self.old self.new) }
-        ensures leads { OnOk result ((w : World) → Agrees w self.new → Agrees w self.old × Undefines w.graph place temporaries.now (stage (w.at from.0) (length self.old.points.items) (length self.old.variables.list.items)) (stage (w.at to.0) (length self.new.points.items) (length self.new.variables.list.items))) }
+    // Temporaries become undefined, and what was made goes on to a label; the label that waits first is the goal then.
+    fn clear(&mut self, place: Place, temporaries: &[VarId], to: Label) -> Result<(), BuildFault>
+        requires { Waits (known self.old) }
+        ensures rest { OnOk result (known self.old ≡ with_label self.new.lines.goal (known self.new)) }
+        ensures leads { OnOk result ((w : World) → Agrees w self.new → Agrees w self.old × Undefines w.graph place temporaries.now (stage_of w self.old) (stage (w.at to.0) (length self.new.lines.points.items) (length self.new.variables.list.items))) }
     {
-        self.goal = from;
         self.undefine(place, temporaries)?;
-        self.meet(to)?;
+        self.go_last(to)?;
         Ok(())
     }
 
@@ -94,15 +88,16 @@ impl<'a> Builder<'a> {
         temporaries: &[VarId],
         ways: Ways,
     ) -> Result<(), BuildFault>
-        ensures same { OnOk result (Keeps self.old self.new) }
-        ensures leads { OnOk result ((w : World) → Agrees w self.new → Agrees w self.old × Compares w.graph place comparison left right temporaries.now (stage_of w self.old) (w.at ways.yes.0) (w.at ways.no.0) (length self.new.points.items) (length self.new.variables.list.items)) }
+        requires { Waits (known self.old) }
+        ensures rest { OnOk result (known self.old ≡ with_label self.new.lines.goal (known self.new)) }
+        ensures leads { OnOk result ((w : World) → Agrees w self.new → Agrees w self.old × Compares w.graph place comparison left right temporaries.now (stage_of w self.old) (w.at ways.yes.0) (w.at ways.no.0) (length self.new.lines.points.items) (length self.new.variables.list.items)) }
     {
-        let yes = self.label()?;
         let no = self.label()?;
+        let yes = self.label()?;
         let code = decides(comparison, left, right, Ways { yes, no });
-        self.put(Role::Plain, place, code)?;
-        self.clear(place, temporaries, yes, ways.yes)?;
-        self.clear(place, temporaries, no, ways.no)?;
+        self.put_last(Role::Plain, place, code)?;
+        self.clear(place, temporaries, ways.yes)?;
+        self.clear(place, temporaries, ways.no)?;
         Ok(())
     }
 
@@ -113,8 +108,9 @@ impl<'a> Builder<'a> {
         expression: &Expression,
         ways: Ways,
     ) -> Result<(), BuildFault>
-        requires { IsReady (known self.old) site.occurrence (expression_of expression.now) }
-        ensures same { OnOk result (Keeps self.old self.new) }
+        requires ready { IsReady (known self.old) site.occurrence (expression_of expression.now) }
+        requires waits { Waits (known self.old) }
+        ensures rest { OnOk result (known self.old ≡ with_label self.new.lines.goal (known self.new)) }
         ensures leads { OnOk result ((w : World) → Agrees w self.new → Agrees w self.old × TestsTo w site.occurrence (plain_condition site.place (expression_of expression.now)) ways self.old self.new) }
     {
         let mut temporaries = Vec::new(self.alloc);
@@ -141,7 +137,8 @@ impl<'a> Builder<'a> {
     ) -> Result<(), BuildFault>
         requires left { IsReady (known self.old) site.occurrence (expression_of left.now) }
         requires right { IsReady (known self.old) site.occurrence (expression_of right.now) }
-        ensures same { OnOk result (Keeps self.old self.new) }
+        requires waits { Waits (known self.old) }
+        ensures rest { OnOk result (known self.old ≡ with_label self.new.lines.goal (known self.new)) }
         ensures leads { OnOk result ((w : World) → Agrees w self.new → Agrees w self.old × TestsTo w site.occurrence (compare site.place comparison (expression_of left.now) (expression_of right.now)) ways self.old self.new) }
     {
         let mut temporaries = Vec::new(self.alloc);
@@ -168,11 +165,12 @@ impl<'a> Builder<'a> {
     ) -> Result<(), BuildFault>
         requires ready { IsTestReady (known self.old) occurrence (condition_of condition.now) }
         requires others { AreTestsReady (known self.old) occurrence work.old }
-        ensures same { OnOk result (Keeps self.old self.new) }
+        requires waits { Waits (known self.old) }
+        ensures rest { OnOk result ((k : Known) → known self.old ≡ with_all (froms work.old) k → with_all (froms work.new) k ≡ with_label self.new.lines.goal (known self.new)) }
         ensures ready { OnOk result (AreTestsReady (known self.new) occurrence work.new) }
-        ensures leads { OnOk result ((w : World) (n k : ℕ) → Agrees w self.new → Testing w occurrence work.new (length self.new.points.items) (length self.new.variables.list.items) n k → Agrees w self.old × Testing w occurrence (record { from = self.old.goal; condition = condition.entry; ways = ways } ∷ work.old) (length self.old.points.items) (length self.old.variables.list.items) n k) }
+        ensures leads { OnOk result ((w : World) (n k : ℕ) → Agrees w self.new → Testing w occurrence work.new (length self.new.lines.points.items) (length self.new.variables.list.items) n k → Agrees w self.old × Testing w occurrence (record { from = self.old.lines.goal; condition = condition.entry; ways = ways } ∷ work.old) (length self.old.lines.points.items) (length self.old.variables.list.items) n k) }
     {
-        let from = self.goal;
+        let from = self.lines.goal;
         match condition {
             Condition::Plain(place, expression) => {
                 let site = Site {
@@ -221,38 +219,40 @@ impl<'a> Builder<'a> {
         }
     }
 
-    // What is next is tested from its label on, or its parts are next.
+    // What is next is tested from the goal on, or its parts are next.
     fn test_next<'c>(
         &mut self,
         occurrence: usize,
         next: Work<'c>,
         work: &mut Stack<Work<'c>>,
     ) -> Result<(), BuildFault>
+        requires from { next.from ≡ self.old.lines.goal }
         requires ready { IsTestReady (known self.old) occurrence (condition_of next.condition.now) }
         requires others { AreTestsReady (known self.old) occurrence work.old }
-        ensures same { OnOk result (Keeps self.old self.new) }
+        requires waits { Waits (known self.old) }
+        ensures rest { OnOk result ((k : Known) → known self.old ≡ with_all (froms work.old) k → with_all (froms work.new) k ≡ with_label self.new.lines.goal (known self.new)) }
         ensures ready { OnOk result (AreTestsReady (known self.new) occurrence work.new) }
-        ensures leads { OnOk result ((w : World) (n k : ℕ) → Agrees w self.new → Testing w occurrence work.new (length self.new.points.items) (length self.new.variables.list.items) n k → Agrees w self.old × Testing w occurrence (next.entry ∷ work.old) (length self.old.points.items) (length self.old.variables.list.items) n k) }
+        ensures leads { OnOk result ((w : World) (n k : ℕ) → Agrees w self.new → Testing w occurrence work.new (length self.new.lines.points.items) (length self.new.variables.list.items) n k → Agrees w self.old × Testing w occurrence (next.entry ∷ work.old) (length self.old.lines.points.items) (length self.old.variables.list.items) n k) }
     {
-        self.goal = next.from;
         self.enter_condition(occurrence, next.condition, next.ways, work)?;
         Ok(())
     }
 
-    /// A condition goes one way where it is true, else the other; a loop, so that none is too deep. The goal is none of
-    /// them then.
+    /// A condition goes one way where it is true, else the other; a loop, so that none is too deep. The label that waits first is
+    /// the goal then.
     pub fn test(
         &mut self,
         occurrence: usize,
         condition: &Condition,
         ways: Ways,
     ) -> Result<(), BuildFault>
-        requires { IsTestReady (known self.old) occurrence (condition_of condition.now) }
-        ensures same { OnOk result (Keeps self.old self.new) }
+        requires ready { IsTestReady (known self.old) occurrence (condition_of condition.now) }
+        requires waits { Waits (known self.old) }
+        ensures rest { OnOk result (known self.old ≡ with_label self.new.lines.goal (known self.new)) }
         ensures leads { OnOk result ((w : World) → Agrees w self.new → Agrees w self.old × TestsTo w occurrence (condition_of condition.now) ways self.old self.new) }
     {
         let mut work = Stack::new(self.alloc);
-        push(&mut work, self.goal, condition, ways)?;
+        push(&mut work, self.lines.goal, condition, ways)?;
         'parts: for _ in 0..u64::MAX {
             match work.pop() {
                 Some(next) => self.test_next(occurrence, next, &mut work)?,
@@ -275,7 +275,6 @@ impl<'a> Builder<'a> {
     {
         let yes = self.label()?;
         self.test(occurrence, condition, Ways { yes, no })?;
-        self.goal = yes;
         Ok(())
     }
 

@@ -1,13 +1,13 @@
 // Labels become points, and the lists of a flow graph are made.
-ghost use Rattle.std.specs.Prelude.{ℕ, ◌≡◌, ◌↔◌, ◌++◌, ◌∷◌, [], IfOk, OnOk, IsTrue, length, map, slice_set};
+ghost use Rattle.std.specs.Prelude.{ℕ, ◌≡◌, ◌↔◌, ◌++◌, ◌∷◌, [], IfOk, OnOk, IsTrue, map};
 ghost use Rattle.mc_flow.specs.declared.graph.Point.{Point};
 ghost use Rattle.mc_lowering.specs.Lowering.{AreThresholds, operands};
-ghost use Rattle.mc_lower.specs.Finished.{AreApart, AreConstants, AreSettled, AreThose, IsFinished, constants, point_at};
-ghost use Rattle.mc_lower.specs.Lines.{AreOrdered, with_known, with_same};
-ghost use Rattle.mc_lower.specs.Worlds.{AllAt, IsMarked, point_in, role_of, settled, target as point_of_target};
+ghost use Rattle.mc_lower.specs.Finished.{AreConstants, AreThose, IsFinished, constants, point_at};
+ghost use Rattle.mc_lower.specs.Worlds.{point_in, role_of, settled, target as point_of_target};
 
-use crate::builder::{ABSENT, BuildFault, Builder, Draft, Label, Mark, Role};
+use crate::builder::{BuildFault, Builder, Draft, Label, Role};
 use crate::lowering::Lowered;
+use crate::settling::settle_labels;
 use crate::variables::Variable;
 use mc_base::{Items, PointId, VarInfo};
 use mc_defs::{FieldInfo, StructInfo, Structs};
@@ -22,117 +22,6 @@ fn point_of(table: &[usize], label: Label) -> usize
         Some(point) => *point,
         None => 0,
     }
-}
-
-// The point of a label is put into the table.
-fn set_point(table: &mut Vec<usize>, label: Label, point: usize)
-    ensures { table.new.items ≡ slice_set table.old.items label.0 point }
-{
-    if (label.0 as usize) < table.len() {
-        table[label.0 as usize] = point;
-    }
-}
-
-// A point that is known is put into the table.
-fn set_known(table: &mut Vec<usize>, mark: Mark)
-    ensures { table.new.items ≡ with_known mark table.old.items }
-{
-    match mark {
-        Mark::At(label, point) => set_point(table, label, point),
-        Mark::Same(_, _) => {}
-    }
-}
-
-// The point of another label is put into the table.
-fn set_same(table: &mut Vec<usize>, mark: Mark)
-    ensures { table.new.items ≡ with_same mark table.old.items }
-{
-    match mark {
-        Mark::At(_, _) => {}
-        Mark::Same(label, other) => {
-            let point = point_of(table.as_slice(), other);
-            set_point(table, label, point);
-        }
-    }
-}
-
-// A table for so many labels.
-fn blank(alloc: Global, labels: u64) -> Result<Vec<usize>, BuildFault>
-    ensures { IfOk result (λ table. length table.items ≡ labels) }
-{
-    let mut table = Vec::new(alloc);
-    for at in 0..labels {
-        table.push(0)?;
-    }
-    Ok(table)
-}
-
-// A table of the points of labels: of those that are known first, and then of those that are the points of others. A label that is
-// the point of another is that before the other is known, so the last of these come first.
-fn points_of(alloc: Global, labels: u64, marks: &[Mark]) -> Result<Vec<usize>, BuildFault>
-    ensures { IfOk result (λ table. AreOrdered marks.now labels → AllAt (λ i m. IsMarked (point_at table.items) m) marks.now) }
-{
-    let mut table = blank(alloc, labels)?;
-    for at in 0..marks.len() {
-        set_known(&mut table, marks[at]);
-    }
-    for left in 0..marks.len() {
-        set_same(&mut table, marks[marks.len() - 1 - left]);
-    }
-    Ok(table)
-}
-
-// Whether what is known of a label holds of the table.
-fn holds(table: &[usize], mark: Mark) -> bool
-    ensures { IsTrue result ↔ IsMarked (point_at table.now) mark }
-{
-    match mark {
-        Mark::At(label, point) => point_of(table, label) == point,
-        Mark::Same(label, other) => point_of(table, label) == point_of(table, other),
-    }
-}
-
-// Whether all that is known of labels holds of the table.
-fn all_hold(table: &[usize], marks: &[Mark]) -> bool
-    ensures { IsTrue result → AllAt (λ i m. IsMarked (point_at table.now) m) marks.now }
-{
-    for at in 0..marks.len() {
-        if !holds(table, marks[at]) {
-            return false;
-        }
-    }
-    true
-}
-
-// For each point, the last of these labels that it is the point of.
-fn last_labels(
-    alloc: Global,
-    table: &[usize],
-    outs: &[Label],
-    count: usize,
-) -> Result<Vec<usize>, BuildFault> {
-    let mut lasts = Vec::new(alloc);
-    for _ in 0..count {
-        lasts.push(0)?;
-    }
-    for at in 0..outs.len() {
-        if let Some(slot) = lasts.get_mut(point_of(table, outs[at])) {
-            *slot = at;
-        }
-    }
-    Ok(lasts)
-}
-
-// Whether these labels are different points, by a table that has for each point the number of its label.
-fn are_apart(table: &[usize], outs: &[Label], lasts: &[usize]) -> bool
-    ensures { IsTrue result → AreApart (point_at table.now) outs.now }
-{
-    for at in 0..outs.len() {
-        if lasts.get(point_of(table, outs[at])).copied() != Some(at) {
-            return false;
-        }
-    }
-    true
 }
 
 // The point that a target stands for.
@@ -350,32 +239,21 @@ fn structs_again(alloc: Global, structs: &Structs) -> Result<Structs, BuildFault
     })
 }
 
-// The table of the points of labels, with which all that is known of them holds.
-fn checked_points(builder: &Builder) -> Result<Vec<usize>, BuildFault>
-    ensures { IfOk result (λ table. AreSettled builder.now table.items) }
-{
-    let marks = builder.marks.as_slice();
-    let outs = builder.outs.as_slice();
-    let table = points_of(builder.alloc, builder.labels, marks)?;
-    let lasts = last_labels(builder.alloc, table.as_slice(), outs, builder.points.len())?;
-    let fits = all_hold(table.as_slice(), marks)
-        && are_apart(table.as_slice(), outs, lasts.as_slice());
-    if fits { Ok(table) } else { Err(ABSENT) }
-}
-
 /// The flow graph with these points and variables.
 pub fn finish(builder: Builder) -> Result<Lowered, BuildFault>
     ensures { IfOk result (λ x. IsFinished builder.entry x) }
 {
     let alloc = builder.alloc;
-    let table = checked_points(&builder)?;
+    let table = settle_labels(alloc, &builder.lines)?;
     let structs = structs_again(alloc, builder.structs)?;
-    let heads = of_role(alloc, builder.points.as_slice(), Role::Head)?;
-    let merges = of_role(alloc, builder.points.as_slice(), Role::Merge)?;
-    let stops = of_role(alloc, builder.points.as_slice(), Role::Stop)?;
-    let thresholds = thresholds(alloc, builder.points.as_slice())?;
-    let points = settle(alloc, table.as_slice(), builder.points)?;
-    let vars = infos(alloc, builder.variables.list)?;
+    let heads = of_role(alloc, builder.lines.points.as_slice(), Role::Head)?;
+    let merges = of_role(alloc, builder.lines.points.as_slice(), Role::Merge)?;
+    let stops = of_role(alloc, builder.lines.points.as_slice(), Role::Stop)?;
+    let thresholds = thresholds(alloc, builder.lines.points.as_slice())?;
+    let lines = builder.lines;
+    let variables = builder.variables;
+    let points = settle(alloc, table.as_slice(), lines.points)?;
+    let vars = infos(alloc, variables.list)?;
     Ok(Lowered {
         flow: Flow {
             points,

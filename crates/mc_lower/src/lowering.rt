@@ -1,9 +1,10 @@
 // A program is lowered: a loop over what is left, with a stack of its own.
-ghost use Rattle.std.specs.Prelude.{[], ℕ, ◌≡◌, ◌<◌, ◌≤◌, ◌↔◌, IfErr, IfOk, OnOk, IsTrue, length, slice_get, suc};
+ghost use Rattle.std.specs.Prelude.{[], ◌∷◌, ℕ, ◌≡◌, ◌<◌, ◌≤◌, ◌↔◌, IfErr, IfOk, OnOk, IsTrue, length, slice_get, suc};
 ghost use Rattle.mc_lowering.specs.Lowering.{Answers, Falls, IsMain, LowersAll, Makes, in_body};
 ghost use Rattle.mc_resolved.specs.Views.{function_of};
-ghost use Rattle.mc_lower.specs.Finished.{AreShort, AreTooLong, Ends, IsFlowOf, IsValidFlow};
-ghost use Rattle.mc_lower.specs.declared.lowering.LowerFault.TheVariants.{Absent, TooLong};
+ghost use Rattle.mc_lower.specs.Finished.{AreTooLong, Ends, IsFlowOf, IsValidFlow};
+ghost use Rattle.mc_lower.specs.declared.lines.Awaited.TheVariants.{Out};
+ghost use Rattle.mc_lower.specs.declared.lowering.LowerFault.TheVariants.{TooLong};
 ghost use Rattle.mc_lower.specs.Knowns.{IsAnswered, Keeps, known};
 ghost use Rattle.mc_lower.specs.Ready.{FitsAll, IsEntered, IsSound, Ready, functions_in, with_awaited};
 ghost use Rattle.mc_lower.specs.Left.{Rest};
@@ -104,25 +105,24 @@ impl<'a> Builder<'a> {
 
     // An End, where the `return` of the entry goes.
     fn end(&mut self, occurrence: usize) -> Result<(), BuildFault>
-        requires { occurrence < (known self.old).state.occurrences }
-        ensures same { OnOk result (Keeps self.old self.new) }
-        ensures leads { OnOk result (Leads (λ w s u. Ends w.graph (w.out occurrence) s u) self.old self.new) }
+        requires occurs { occurrence < (known self.old).state.occurrences }
+        requires waits { (known self.old).waiting ≡ Out occurrence ∷ [] }
+        ensures { OnOk result (Leads (λ w s u. Ends w.graph (w.out occurrence) s u) self.old self.new) }
     {
-        let last = self.out(occurrence);
-        self.meet(last)?;
-        self.put(Role::Plain, NOWHERE, Instr::End)?;
+        self.land(Role::Plain, NOWHERE, Instr::End)?;
         Ok(())
     }
 
     // A Skip, the entry, and an End.
     fn make_entry(&mut self, entry: &'a Function) -> Result<(), BuildFault>
-        requires no_points { self.old.points.items ≡ [] }
+        requires no_points { self.old.lines.points.items ≡ [] }
         requires no_variables { self.old.variables.list.items ≡ [] }
         requires no_owners { (known self.old).state.owners ≡ [] }
         requires no_occurrences { (known self.old).state.occurrences ≡ 0 }
+        requires none_waits { (known self.old).waiting ≡ [] }
         requires sound { IsSound (known self.old).source }
         requires there { slice_get (functions_in (known self.old).source) (known self.old).source.program.entry ≡ Some (function_of entry.now) }
-        ensures { OnOk result ((w : World) → Agrees w self.new → Agrees w self.old × (out : ℕ) × Makes w.graph (function_of entry.now) out (length self.new.variables.list.items) × (length self.new.points.items ≡ suc out)) }
+        ensures { OnOk result ((w : World) → Agrees w self.new → Agrees w self.old × (out : ℕ) × Makes w.graph (function_of entry.now) out (length self.new.variables.list.items) × (length self.new.lines.points.items ≡ suc out)) }
     {
         self.skip(Role::Plain, NOWHERE)?;
         let occurrence = self.occur()?;
@@ -154,8 +154,6 @@ fn build(alloc: Global, program: &Resolved, structs: &Structs) -> Result<Lowered
 pub enum LowerFault {
     /// Each has more than 10,000 points.
     TooLong,
-    /// What was made is no flow graph. Each flow graph of the program has at most 10,000 points.
-    Absent,
     NoMemory,
 }
 
@@ -166,7 +164,6 @@ pub fn lower(alloc: Global, program: &Resolved, structs: &Structs) -> Result<Low
     ensures valid { IfOk result (λ x. IsValidFlow program.now structs.now x) }
     ensures short { IfOk result (λ x. length x.flow.points ≤ 10000) }
     ensures long { IfErr result (λ e. e ≡ TooLong → AreTooLong program.now structs.now) }
-    ensures absent { IfErr result (λ e. e ≡ Absent → AreShort program.now structs.now) }
 {
     match length(alloc, program) {
         Ok(points) => {
@@ -178,7 +175,6 @@ pub fn lower(alloc: Global, program: &Resolved, structs: &Structs) -> Result<Low
     }
     match build(alloc, program, structs) {
         Ok(lowered) => Ok(lowered),
-        Err(BuildFault::Absent) => Err(LowerFault::Absent),
         Err(BuildFault::NoMemory) => Err(LowerFault::NoMemory),
     }
 }

@@ -5,7 +5,7 @@ ghost use Rattle.mc_lowering.specs.Lowering.{result_info};
 ghost use Rattle.mc_resolved.specs.Views.{function_of};
 ghost use Rattle.mc_lower.specs.Knowns.{IsAnswered, IsOpen, IsThere, Keeps, known, lasting, owners_of, with_local, with_owners, with_result};
 ghost use Rattle.mc_lower.specs.Once.{IsNew};
-ghost use Rattle.mc_lower.specs.Owned.{CreatesLocal, Forgets, IsFirst, IsLocalOf};
+ghost use Rattle.mc_lower.specs.Owned.{CreatesLocal, IsFirst, IsLocalOf};
 ghost use Rattle.mc_lower.specs.Worlds.{Agrees, Leads, World, blocks_in, owner_of, stage_of};
 
 use crate::builder::{BuildFault, Builder};
@@ -161,8 +161,8 @@ impl<'a> Builder<'a> {
         Ok(made)
     }
 
-    // Those of the first so many variables of an occurrence that are made by now, ascending.
-    fn made_below(&self, occurrence: usize, count: usize) -> Result<Vec<VarId>, BuildFault>
+    /// Those of the first so many variables of an occurrence that are made by now, ascending.
+    pub fn made_below(&self, occurrence: usize, count: usize) -> Result<Vec<VarId>, BuildFault>
         ensures { IfOk result (λ vs. (w : World) → Agrees w self.now → AreMade w.graph (w.out occurrence) (λ x. x < count) (stage_of w self.now) vs.items) }
     {
         let mut made = Vec::new(self.alloc);
@@ -186,21 +186,6 @@ impl<'a> Builder<'a> {
     {
         let made = self.made_among(occurrence, numbers)?;
         self.undefine(place, made.as_slice())?;
-        Ok(())
-    }
-
-    /// The variables of an occurrence of a function become undefined by one point.
-    pub fn forget(
-        &mut self,
-        place: Place,
-        occurrence: usize,
-        count: usize,
-    ) -> Result<(), BuildFault>
-        ensures same { OnOk result (Keeps self.old self.new) }
-        ensures leads { OnOk result (Leads (λ w s u. Forgets w.graph (w.out occurrence) place count s u) self.old self.new) }
-    {
-        let made = self.made_below(occurrence, count)?;
-        self.undefine_all(place, made.as_slice())?;
         Ok(())
     }
 

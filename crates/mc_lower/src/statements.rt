@@ -7,8 +7,8 @@ ghost use Rattle.mc_lowering.specs.Lowering.{AreArguments, Lowers, LowersAll};
 ghost use Rattle.mc_resolved.specs.Programs.{assert_shape, assume_shape, block, break_loop, continue_loop, do_loop, for_loop, if_else, if_only, returns, while_loop};
 ghost use Rattle.mc_resolved.specs.Views.{argument_of, condition_of, function_of, head_of, right_of, statement_of, stmts_of};
 ghost use Rattle.mc_lower.specs.Left.{Begins, Checks, EndsDo, EndsFor, EntersFor, ExitsTo, HasParts, IsBehind, IsCommand, Merges, Met, Otherwise, TurnsFor, around_of};
-ghost use Rattle.mc_lower.specs.Knowns.{IsAnswered, IsOpen, IsThere, Keeps, known};
-ghost use Rattle.mc_lower.specs.Ready.{AreArgumentsReady, FitsAll, FitsFor, FitsStatement, IsArgumentReady, IsLastReady, IsPlainReady, IsReturnReady, IsRightReady, IsTestReady, Later, Needs, Ready, makes};
+ghost use Rattle.mc_lower.specs.Knowns.{IsAnswered, IsOpen, IsThere, Keeps, Known, known, with_all, with_label};
+ghost use Rattle.mc_lower.specs.Ready.{AreArgumentsReady, FitsAll, FitsFor, FitsStatement, IsArgumentReady, IsLastReady, IsPlainReady, IsReturnReady, IsRightReady, IsTestReady, Later, Needs, Ready, makes, takes};
 ghost use Rattle.mc_lower.specs.Worlds.{Agrees, Leads, World, role_of, settled, stage_of};
 
 use crate::builder::{BuildFault, Builder, Label, NOWHERE, Role};
@@ -41,9 +41,7 @@ impl<'a> Builder<'a> {
         let yes = self.label()?;
         let no = self.label()?;
         self.test(occurrence, condition, Ways { yes, no })?;
-        self.goal = no;
-        self.put(role, place, otherwise)?;
-        self.goal = yes;
+        self.put_last(role, place, otherwise)?;
         Ok(())
     }
 
@@ -74,9 +72,9 @@ impl<'a> Builder<'a> {
         let occurrence = context.occurrence;
         let variable = self.local(occurrence, shape.variable);
         let operands = self.arguments(occurrence, shape.arguments.as_slice())?;
-        let next = self.label()?;
+        let next = self.next();
         let code = Instr::AssumeShape(shape.predicate, variable, operands, next.target());
-        self.append(Role::Plain, shape.place, code, next)?;
+        self.append(Role::Plain, shape.place, code)?;
         Ok(())
     }
 
@@ -90,9 +88,9 @@ impl<'a> Builder<'a> {
         let occurrence = context.occurrence;
         let start = self.argument(occurrence, shape.start);
         let operands = self.arguments(occurrence, shape.arguments.as_slice())?;
-        let next = self.label()?;
+        let next = self.next();
         let code = Instr::AssertShape(shape.predicate, start, operands, next.target());
-        self.append(Role::Plain, shape.place, code, next)?;
+        self.append(Role::Plain, shape.place, code)?;
         Ok(())
     }
 
@@ -101,8 +99,8 @@ impl<'a> Builder<'a> {
         ensures same { OnOk result (Keeps self.old self.new) }
         ensures leads { OnOk result (Leads (λ w s u. Appends w.graph plain place (λ q. EmptinessAsserted q) s u) self.old self.new) }
     {
-        let next = self.label()?;
-        self.append(Role::Plain, place, Instr::AssertEmpty(next.target()), next)?;
+        let next = self.next();
+        self.append(Role::Plain, place, Instr::AssertEmpty(next.target()))?;
         Ok(())
     }
 
@@ -162,8 +160,8 @@ impl<'a> Builder<'a> {
         ensures ready { OnOk result (Later (known self.old) context.entry.occurrence (declared (if_else place (condition_of condition.now) (statement_of first.now) (statement_of second.now))) tasks.old → Ready (known self.new) tasks.new) }
         ensures leads { OnOk result (Begins (λ w s m. Lowers w.graph (around_of w context.entry) (if_else place (condition_of condition.now) (statement_of first.now) (statement_of second.now)) s m) self.old tasks.old self.new tasks.new) }
     {
-        let no = self.label()?;
         let merge = self.label()?;
+        let no = self.label()?;
         self.test_or(context.occurrence, condition, no)?;
         push(tasks, Task::Merge(place, merge))?;
         push(tasks, Task::Statement(second, context))?;
@@ -174,21 +172,22 @@ impl<'a> Builder<'a> {
 
     // The second part of an `if` begins.
     fn otherwise(&mut self, no: Label, merge: Label) -> Result<(), BuildFault>
-        ensures same { OnOk result (Keeps self.old self.new) }
+        requires { (k : Known) × (known self.old ≡ with_label no k) }
+        ensures rest { OnOk result (known self.old ≡ with_label no (known self.new)) }
         ensures leads { OnOk result (Leads (λ w s u. Otherwise (w.at no.0) (w.at merge.0) s u) self.old self.new) }
     {
-        self.meet(merge)?;
-        self.goal = no;
+        self.go_last(merge)?;
         Ok(())
     }
 
     // The ways of an `if` meet at a Skip.
     fn merge(&mut self, place: Place, merge: Label) -> Result<(), BuildFault>
-        ensures same { OnOk result (Keeps self.old self.new) }
+        requires { (k : Known) × (known self.old ≡ with_label merge k) }
+        ensures rest { OnOk result (known self.old ≡ with_label merge (known self.new)) }
         ensures leads { OnOk result (Leads (λ w s u. Merges w.graph place (w.at merge.0) s u) self.old self.new) }
     {
-        self.meet(merge)?;
-        self.skip(Role::Merge, place)?;
+        let next = self.next();
+        self.land(Role::Merge, place, Instr::Skip(next.target()))?;
         Ok(())
     }
 
@@ -206,7 +205,7 @@ impl<'a> Builder<'a> {
         ensures ready { OnOk result (Later (known self.old) context.entry.occurrence (declared (while_loop place (condition_of condition.now) (statement_of body.now))) tasks.old → Ready (known self.new) tasks.new) }
         ensures leads { OnOk result (Begins (λ w s m. Lowers w.graph (around_of w context.entry) (while_loop place (condition_of condition.now) (statement_of body.now)) s m) self.old tasks.old self.new tasks.new) }
     {
-        let head = self.goal;
+        let head = self.lines.goal;
         self.skip(Role::Head, place)?;
         let exit = self.label()?;
         self.test_or(context.occurrence, condition, exit)?;
@@ -217,11 +216,11 @@ impl<'a> Builder<'a> {
 
     // The body of a `while` goes to the head.
     fn end_while(&mut self, place: Place, head: Label, exit: Label) -> Result<(), BuildFault>
-        ensures same { OnOk result (Keeps self.old self.new) }
+        requires { (k : Known) × (known self.old ≡ with_label exit k) }
+        ensures rest { OnOk result (known self.old ≡ with_label exit (known self.new)) }
         ensures leads { OnOk result (Leads (λ w s u. ExitsTo w.graph place (w.at head.0) (w.at exit.0) s u) self.old self.new) }
     {
-        self.meet(head)?;
-        self.goal = exit;
+        self.go_last(head)?;
         self.skip(Role::Plain, place)?;
         Ok(())
     }
@@ -240,10 +239,10 @@ impl<'a> Builder<'a> {
         ensures ready { OnOk result (Later (known self.old) context.entry.occurrence (declared (do_loop place (statement_of body.now) (condition_of condition.now))) tasks.old → Ready (known self.new) tasks.new) }
         ensures leads { OnOk result (Begins (λ w s m. Lowers w.graph (around_of w context.entry) (do_loop place (statement_of body.now) (condition_of condition.now)) s m) self.old tasks.old self.new tasks.new) }
     {
-        let head = self.goal;
+        let head = self.lines.goal;
         self.skip(Role::Head, place)?;
-        let turn = self.label()?;
         let exit = self.label()?;
+        let turn = self.label()?;
         push(
             tasks,
             Task::EndDo(
@@ -267,18 +266,18 @@ impl<'a> Builder<'a> {
         turns: Turns,
         occurrence: usize,
     ) -> Result<(), BuildFault>
-        requires { IsTestReady (known self.old) occurrence (condition_of condition.now) }
-        ensures same { OnOk result (Keeps self.old self.new) }
+        requires ready { IsTestReady (known self.old) occurrence (condition_of condition.now) }
+        requires waits { (k : Known) × (known self.old ≡ with_label turns.turn (with_label turns.exit k)) }
+        ensures rest { OnOk result (known self.old ≡ with_label turns.turn (with_label turns.exit (known self.new))) }
         ensures leads { OnOk result (Leads (λ w s u. EndsDo w.graph (w.out occurrence) place (condition_of condition.now) (w.at head.0) (w.at turns.turn.0) (w.at turns.exit.0) s u) self.old self.new) }
     {
-        self.meet(turns.turn)?;
-        self.skip(Role::Plain, place)?;
+        let next = self.next();
+        self.land(Role::Plain, place, Instr::Skip(next.target()))?;
         let ways = Ways {
             yes: head,
             no: turns.exit,
         };
         self.test(occurrence, condition, ways)?;
-        self.goal = turns.exit;
         self.skip(Role::Plain, place)?;
         Ok(())
     }
@@ -323,10 +322,10 @@ impl<'a> Builder<'a> {
         ensures ready { OnOk result (Later (known self.old) context.entry.occurrence (declared (statement_of body.now)) tasks.old → Ready (known self.new) tasks.new) }
         ensures leads { OnOk result (Begins (λ w s m. EntersFor w.graph (around_of w context.entry) (head_of head.now) (statement_of body.now) s m) self.old tasks.old self.new tasks.new) }
     {
-        let begin = self.goal;
+        let begin = self.lines.goal;
         self.skip(Role::Head, head.place)?;
-        let turn = self.label()?;
         let exit = self.label()?;
+        let turn = self.label()?;
         self.test_perhaps(context.occurrence, head.condition.as_ref(), exit)?;
         push(
             tasks,
@@ -345,13 +344,14 @@ impl<'a> Builder<'a> {
         turns: Turns,
         context: Context<'a>,
     ) -> Result<(), BuildFault>
-        requires { IsLastReady (known self.old) context.occurrence (head_of head.now).last }
+        requires ready { IsLastReady (known self.old) context.occurrence (head_of head.now).last }
+        requires waits { (k : Known) × (known self.old ≡ with_label turns.turn (with_label turns.exit k)) }
         ensures source { OnOk result ((known self.new).source ≡ (known self.old).source) }
-        ensures ready { OnOk result (Later (known self.old) context.entry.occurrence [] tasks.old → Ready (known self.new) tasks.new) }
+        ensures ready { OnOk result ((k : Known) → known self.old ≡ with_label turns.turn (with_label turns.exit k) → Later k context.entry.occurrence [] tasks.old → Ready (known self.new) tasks.new) }
         ensures leads { OnOk result (Begins (λ w s m. TurnsFor w.graph (w.out context.entry.occurrence) (head_of head.now) (w.at begin.0) (w.at turns.turn.0) (w.at turns.exit.0) s m) self.old tasks.old self.new tasks.new) }
     {
-        self.meet(turns.turn)?;
-        self.skip(Role::Plain, head.place)?;
+        let next = self.next();
+        self.land(Role::Plain, head.place, Instr::Skip(next.target()))?;
         push(
             tasks,
             Task::EndFor(head, begin, turns.exit, context.occurrence),
@@ -373,11 +373,11 @@ impl<'a> Builder<'a> {
         exit: Label,
         occurrence: usize,
     ) -> Result<(), BuildFault>
-        ensures same { OnOk result (Keeps self.old self.new) }
+        requires { (k : Known) × (known self.old ≡ with_label exit k) }
+        ensures rest { OnOk result (known self.old ≡ with_label exit (known self.new)) }
         ensures leads { OnOk result (Leads (λ w s u. EndsFor w.graph (w.out occurrence) (head_of head.now) (w.at begin.0) (w.at exit.0) s u) self.old self.new) }
     {
-        self.meet(begin)?;
-        self.goal = exit;
+        self.go_last(begin)?;
         self.skip(Role::Plain, head.place)?;
         self.leave(NOWHERE, occurrence, head.variables.as_slice())?;
         Ok(())
@@ -669,8 +669,9 @@ impl<'a> Builder<'a> {
     fn behind(&mut self, task: Task<'a>) -> Result<(), BuildFault>
         requires is_behind { IsBehind task }
         requires needs { Needs (known self.old) task }
+        requires waits { (k : Known) × (known self.old ≡ with_all (takes task) k) }
         ensures none { OnOk result (makes task.entry ≡ []) }
-        ensures same { OnOk result (Keeps self.old self.new) }
+        ensures rest { OnOk result (known self.old ≡ with_all (takes task.entry) (known self.new)) }
         ensures leads { OnOk result (Leads (λ w s u. Met w task.entry s u) self.old self.new) }
     {
         match task {

@@ -178,12 +178,11 @@ impl<'a> Builder<'a> {
         ensures same { OnOk result (Keeps self.old self.new) }
         ensures leads { OnOk result (Leads (λ w s u. Appends w.graph plain place (λ q. sets (operation_of operation) variable q) s u) self.old self.new) }
     {
-        let next = self.label()?;
+        let next = self.next();
         self.append(
             Role::Plain,
             place,
             operation.sets(variable, next.target()),
-            next,
         )?;
         Ok(())
     }

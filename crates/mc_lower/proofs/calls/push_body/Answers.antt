@@ -18,5 +18,5 @@ returns-clause-leads c = λ w s u rest.
 pub returns-clause-ready : goal.returns-clause-ready
 returns-clause-ready c =
     let body = Task.Statements c.as_slice.result c.args.callee in
-    λ k fits occurs later. subst (λ l. Ready k l) (sym (c.in_ok-push-2.ensures ∙ ap (λ l. body ∷ l) c.in_ok-push.ensures))
-    (ready_body k c.args.callee c.as_slice.result c.args.place c.args.tasks.now c.as_slice.ensures.value fits occurs later)
+    λ k m waits fits occurs later. subst (λ l. Ready k l) (sym (c.in_ok-push-2.ensures ∙ ap (λ l. body ∷ l) c.in_ok-push.ensures))
+    (ready_body k m c.args.callee c.as_slice.result c.args.place c.args.tasks.now waits c.as_slice.ensures.value fits occurs later)

@@ -10,11 +10,11 @@ use Rattle.mc_lower.proofs.finishing.finish.Goals as goal
 pub returns : goal.returns
 returns c =
     let table = c.in_ok-table.table.items in
-    let points : c.in_ok-points.points ≡ map (point_in (point_at table)) c.args.builder.points.items = rw c.as_slice-5.ensures.value at c.in_ok-points.ensures in
+    let points : c.in_ok-points.points ≡ map (point_in (point_at table)) c.args.builder.lines.points.items = rw c.as_slice-5.ensures.value at c.in_ok-points.ensures in
     let known = rw c.as_slice-4.ensures.value at (c.in_ok-thresholds.ensures (point_at table)) in
     record {
       table = table;
-      settled = c.in_ok-table.ensures;
+      settled = record { marks = c.in_ok-table.ensures.marks; apart = c.in_ok-table.ensures.apart };
       points = points;
       vars = c.in_ok-vars.ensures;
       structs = c.in_ok-structs.ensures;

@@ -35,7 +35,7 @@ assign-requires-clause-right c =
 
 pub returns-in_ok-assign-in-Expression-clause-ready : goal.returns-in_ok-assign-in-Expression-clause-ready
 returns-in_ok-assign-in-Expression-clause-ready c = λ later.
-    ready_same _ _ _ _ c.in_ok-assign-in-Expression.ensures.same refl (ready_left _ _ c.args.context.occurrence [] c.args.tasks.now refl later)
+    ready_same _ _ _ _ c.in_ok-assign-in-Expression.ensures.same refl (ready_left _ _ _ c.args.context.occurrence [] c.args.tasks.now refl later)
 
 pub assign-requires-in-Malloc-clause-right : goal.assign-requires-in-Malloc-clause-right
 assign-requires-in-Malloc-clause-right c =
@@ -43,4 +43,4 @@ assign-requires-in-Malloc-clause-right c =
 
 pub returns-in_ok-assign-in-Malloc-clause-ready : goal.returns-in_ok-assign-in-Malloc-clause-ready
 returns-in_ok-assign-in-Malloc-clause-ready c = λ later.
-    ready_same _ _ _ _ c.in_ok-assign-in-Malloc.ensures.same refl (ready_left _ _ c.args.context.occurrence [] c.args.tasks.now refl later)
+    ready_same _ _ _ _ c.in_ok-assign-in-Malloc.ensures.same refl (ready_left _ _ _ c.args.context.occurrence [] c.args.tasks.now refl later)

@@ -1,7 +1,7 @@
 use Rattle.mc_lower.proofs.Readying.{nothing_made}
-use Rattle.mc_lower.specs.Knowns.{known}
-use Rattle.mc_lower.specs.Ready.{Needs}
-use Rattle.std.proofs.Common.{sym, subst}
+use Rattle.mc_lower.specs.Knowns.{Known, known, with_all}
+use Rattle.mc_lower.specs.Ready.{Needs, takes}
+use Rattle.std.proofs.Common.{◌≡◌, sym, subst}
 use Rattle.mc_lower.specs.Left.{Met}
 use Rattle.mc_lower.specs.Worlds.{stage_of}
 use Rattle.mc_lower.proofs.builder.Builder.behind.Goals as goal
@@ -87,12 +87,12 @@ pub returns-in_ok-answer_result-in-Answer-clause-none : goal.returns-in_ok-answe
 returns-in_ok-answer_result-in-Answer-clause-none c =
     nothing_made c.args.task c.requires.is_behind
 
-pub end_do-requires : goal.end_do-requires
-end_do-requires c =
+pub end_do-requires-clause-ready : goal.end_do-requires-clause-ready
+end_do-requires-clause-ready c =
     subst (λ t. Needs (known c.args.self.now) t) c.in-EndDo.is c.requires.needs
 
-pub end_call-requires : goal.end_call-requires
-end_call-requires c =
+pub end_call-requires-clause-occurs : goal.end_call-requires-clause-occurs
+end_call-requires-clause-occurs c =
     subst (λ t. Needs (known c.args.self.now) t) c.in-EndCall.is c.requires.needs
 
 pub take_result-requires-clause-named : goal.take_result-requires-clause-named
@@ -110,3 +110,78 @@ answer_result-requires-clause-occurs c =
 pub answer_result-requires-clause-some : goal.answer_result-requires-clause-some
 answer_result-requires-clause-some c =
     let both = subst (λ t. Needs (known c.args.self.now) t) c.in-Answer.is c.requires.needs in both.1
+
+pub returns-in_ok-leave-in-EndBlock-clause-rest : goal.returns-in_ok-leave-in-EndBlock-clause-rest
+returns-in_ok-leave-in-EndBlock-clause-rest c =
+    let old = c.args.self.now in
+    subst (λ t. known old ≡ with_all (takes t) (known c.leave.new.self)) (sym c.in-EndBlock.is) (sym c.in_ok-leave-in-EndBlock.ensures.same)
+
+pub returns-in_ok-otherwise-in-Otherwise-clause-rest : goal.returns-in_ok-otherwise-in-Otherwise-clause-rest
+returns-in_ok-otherwise-in-Otherwise-clause-rest c =
+    let old = c.args.self.now in
+    subst (λ t. known old ≡ with_all (takes t) (known c.otherwise.new.self)) (sym c.in-Otherwise.is) c.in_ok-otherwise-in-Otherwise.ensures.rest
+
+pub otherwise-requires : goal.otherwise-requires
+otherwise-requires c =
+    let old = c.args.self.now in
+    subst (λ t. (k : Known) × (known old ≡ with_all (takes t) k)) c.in-Otherwise.is c.requires.waits
+
+pub returns-in_ok-merge-in-Merge-clause-rest : goal.returns-in_ok-merge-in-Merge-clause-rest
+returns-in_ok-merge-in-Merge-clause-rest c =
+    let old = c.args.self.now in
+    subst (λ t. known old ≡ with_all (takes t) (known c.merge.new.self)) (sym c.in-Merge.is) c.in_ok-merge-in-Merge.ensures.rest
+
+pub merge-requires : goal.merge-requires
+merge-requires c =
+    let old = c.args.self.now in
+    subst (λ t. (k : Known) × (known old ≡ with_all (takes t) k)) c.in-Merge.is c.requires.waits
+
+pub returns-in_ok-end_while-in-EndWhile-clause-rest : goal.returns-in_ok-end_while-in-EndWhile-clause-rest
+returns-in_ok-end_while-in-EndWhile-clause-rest c =
+    let old = c.args.self.now in
+    subst (λ t. known old ≡ with_all (takes t) (known c.end_while.new.self)) (sym c.in-EndWhile.is) c.in_ok-end_while-in-EndWhile.ensures.rest
+
+pub end_while-requires : goal.end_while-requires
+end_while-requires c =
+    let old = c.args.self.now in
+    subst (λ t. (k : Known) × (known old ≡ with_all (takes t) k)) c.in-EndWhile.is c.requires.waits
+
+pub returns-in_ok-end_do-in-EndDo-clause-rest : goal.returns-in_ok-end_do-in-EndDo-clause-rest
+returns-in_ok-end_do-in-EndDo-clause-rest c =
+    let old = c.args.self.now in
+    subst (λ t. known old ≡ with_all (takes t) (known c.end_do.new.self)) (sym c.in-EndDo.is) c.in_ok-end_do-in-EndDo.ensures.rest
+
+pub end_do-requires-clause-waits : goal.end_do-requires-clause-waits
+end_do-requires-clause-waits c =
+    let old = c.args.self.now in
+    subst (λ t. (k : Known) × (known old ≡ with_all (takes t) k)) c.in-EndDo.is c.requires.waits
+
+pub returns-in_ok-end_for-in-EndFor-clause-rest : goal.returns-in_ok-end_for-in-EndFor-clause-rest
+returns-in_ok-end_for-in-EndFor-clause-rest c =
+    let old = c.args.self.now in
+    subst (λ t. known old ≡ with_all (takes t) (known c.end_for.new.self)) (sym c.in-EndFor.is) c.in_ok-end_for-in-EndFor.ensures.rest
+
+pub end_for-requires : goal.end_for-requires
+end_for-requires c =
+    let old = c.args.self.now in
+    subst (λ t. (k : Known) × (known old ≡ with_all (takes t) k)) c.in-EndFor.is c.requires.waits
+
+pub returns-in_ok-end_call-in-EndCall-clause-rest : goal.returns-in_ok-end_call-in-EndCall-clause-rest
+returns-in_ok-end_call-in-EndCall-clause-rest c =
+    let old = c.args.self.now in
+    subst (λ t. known old ≡ with_all (takes t) (known c.end_call.new.self)) (sym c.in-EndCall.is) c.in_ok-end_call-in-EndCall.ensures.rest
+
+pub end_call-requires-clause-waits : goal.end_call-requires-clause-waits
+end_call-requires-clause-waits c =
+    let old = c.args.self.now in
+    subst (λ t. (k : Known) × (known old ≡ with_all (takes t) k)) c.in-EndCall.is c.requires.waits
+
+pub returns-in_ok-take_result-in-Take-clause-rest : goal.returns-in_ok-take_result-in-Take-clause-rest
+returns-in_ok-take_result-in-Take-clause-rest c =
+    let old = c.args.self.now in
+    subst (λ t. known old ≡ with_all (takes t) (known c.take_result.new.self)) (sym c.in-Take.is) (sym c.in_ok-take_result-in-Take.ensures.same)
+
+pub returns-in_ok-answer_result-in-Answer-clause-rest : goal.returns-in_ok-answer_result-in-Answer-clause-rest
+returns-in_ok-answer_result-in-Answer-clause-rest c =
+    let old = c.args.self.now in
+    subst (λ t. known old ≡ with_all (takes t) (known c.answer_result.new.self)) (sym c.in-Answer.is) (sym c.in_ok-answer_result-in-Answer.ensures.same)

@@ -26,7 +26,7 @@ returns-clause-ready c = λ later.
     let inner = Task.Statements c.args.statements c.in_block.result in
     let low = c.in_ok-block.ensures.last in
     ready_same _ _ _ _ c.in_ok-block.ensures.same (c.in_ok-push-2.ensures ∙ ap (λ l. inner ∷ l) c.in_ok-push.ensures)
-    (ready_block _ _ _ c.args.context c.in_block.result c.args.numbers c.args.statements c.in_ok-block.block c.args.tasks.now c.in_block.ensures (omega arith) (block_grown (known c.args.self.now).state c.args.context.occurrence) c.requires later)
+    (ready_block _ _ _ _ c.args.context c.in_block.result c.args.numbers c.args.statements c.in_ok-block.block c.args.tasks.now c.in_block.ensures (omega arith) (block_grown (known c.args.self.now).state c.args.context.occurrence) c.requires later)
 
 pub open-requires : goal.open-requires
 open-requires c =

@@ -1,6 +1,6 @@
 use Rattle.mc_lower.proofs.Readying.{entered_on}
 use Rattle.mc_lower.specs.Knowns.{known}
-use Rattle.std.proofs.Common.{sym}
+use Rattle.std.proofs.Common.{refl, sym}
 use Rattle.mc_lower.specs.Ready.{FitsAll, Ready}
 use Rattle.std.proofs.Common.{[], ◌∷◌, None, map, ap, ◌∙◌, subst}
 use Rattle.mc_resolved.specs.Views.{function_of, statement_of, stmts_of}
@@ -31,4 +31,4 @@ run-requires c =
     let here : Context = record { function = c.args.entry; occurrence = c.args.occurrence; block = None; turns = None } in
     let t = Task.Statements c.as_slice.result here in
     subst (λ l. Ready (known c.args.self.now) l) (sym (c.in_ok-push.ensures ∙ ap (λ l. t ∷ l) c.new-tasks.ensures))
-    (subst (λ l. FitsAll (known c.args.self.now) here (stmts_of (map statement_of l))) (sym c.as_slice.ensures.value) c.requires.fits, λ s f. entered_on (known c.args.self.now).source (known c.args.self.now).state s f.still c.requires.entered)
+    (subst (λ l. FitsAll (known c.args.self.now) here (stmts_of (map statement_of l))) (sym c.as_slice.ensures.value) c.requires.fits, (known c.args.self.now, refl, λ s f. entered_on (known c.args.self.now).source (known c.args.self.now).waiting (known c.args.self.now).state s f.still c.requires.entered))

@@ -11,6 +11,7 @@ use Rattle.mc_lower.specs.Left.{around_of}
 use Rattle.mc_lower.specs.Worlds.{stage_of}
 use Rattle.mc_lower.proofs.Calling.{answered}
 use Rattle.mc_lower.proofs.Resting.{pushed}
+use Rattle.mc_lower.proofs.Waiting.{out_waits, under_out}
 use Rattle.mc_lower.proofs.builder.Builder.call_and_return.Goals as goal
 
 pub returns-clause-leads : goal.returns-clause-leads
@@ -31,8 +32,8 @@ returns-clause-ready c = λ later.
     let m = known c.enter_call.new.self in
     let fits = begun_fits (known c.args.self.now) m (call_of c.args.call.now) c.in_ok-entered.entered sound c.requires.call.1.bounded b in
     let some = answered_there (known c.args.self.now) c.args.context.occurrence c.requires.call.0 (call_of c.args.call.now) _ c.in_ok-entered.entered.answer c.requires.call.1 b.there b.answered in
-    c.in_ok-push_body.ensures.ready m fits b.occurs (subst (λ l. Later m c.in_ok-entered.entered.callee.occurrence (all_declared (function_of c.in_ok-entered.entered.callee.function.now).body) l) (sym c.in_ok-push.ensures)
-    (ready_answer _ _ _ _ c.args.context.occurrence _ (all_declared (function_of c.in_ok-entered.entered.callee.function.now).body) c.args.place c.own_result-own.result c.in_ok-entered.entered.answer c.args.tasks.now b.source b.grown b.latest c.requires.occurs some later))
+    c.in_ok-push_body.ensures.ready m (under_out (known c.args.self.now) m) (out_waits (known c.args.self.now) m _ b.waiting) fits b.occurs (subst (λ l. Later (under_out (known c.args.self.now) m) c.in_ok-entered.entered.callee.occurrence (all_declared (function_of c.in_ok-entered.entered.callee.function.now).body) l) (sym c.in_ok-push.ensures)
+    (ready_answer _ _ _ _ _ c.args.context.occurrence _ (all_declared (function_of c.in_ok-entered.entered.callee.function.now).body) c.args.place c.own_result-own.result c.in_ok-entered.entered.answer c.args.tasks.now b.source b.grown b.latest c.requires.occurs some later))
 
 pub enter_call-requires : goal.enter_call-requires
 enter_call-requires c =

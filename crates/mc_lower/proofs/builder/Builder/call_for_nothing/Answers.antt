@@ -5,6 +5,7 @@ use Rattle.mc_lower.specs.Knowns.{known}
 use Rattle.mc_resolved.specs.Views.{call_of}
 use Rattle.mc_lowering.specs.Lowering.{performs_call}
 use Rattle.mc_lower.specs.Worlds.{stage_of}
+use Rattle.mc_lower.proofs.Waiting.{out_waits, under_out}
 use Rattle.mc_lower.proofs.builder.Builder.call_for_nothing.Goals as goal
 
 pub returns-clause-leads : goal.returns-clause-leads
@@ -19,4 +20,4 @@ returns-clause-ready c = λ later.
     let sound = c.requires.1.sound in
     let m = known c.enter_call.new.self in
     let fits = begun_fits (known c.args.self.now) m (call_of c.args.call.now) c.in_ok-entered.entered sound c.requires.1.bounded b in
-    c.in_ok-push_body.ensures.ready m fits b.occurs (ready_call _ _ _ _ c.args.context.occurrence _ (all_declared (function_of c.in_ok-entered.entered.callee.function.now).body) c.args.tasks.now b.source b.grown b.latest later)
+    c.in_ok-push_body.ensures.ready m (under_out (known c.args.self.now) m) (out_waits (known c.args.self.now) m _ b.waiting) fits b.occurs (ready_call _ _ _ _ _ c.args.context.occurrence _ (all_declared (function_of c.in_ok-entered.entered.callee.function.now).body) c.args.tasks.now b.source b.grown b.latest later)

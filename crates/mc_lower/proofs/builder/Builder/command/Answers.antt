@@ -61,35 +61,35 @@ returns-in_ok-continue_loop-in-Continue-clause-leads c = λ w agrees.
 
 pub free-requires : goal.free-requires
 free-requires c =
-    needs_free _ _ c.args.context c.in-Free.place (expression_of c.in-Free.pointer) (statement_of c.args.statement.now) (ap statement_of c.in-Free.is ∙ free_statement_seen c.in-Free.place c.in-Free.pointer) c.requires.fits
+    needs_free _ _ _ c.args.context c.in-Free.place (expression_of c.in-Free.pointer) (statement_of c.args.statement.now) (ap statement_of c.in-Free.is ∙ free_statement_seen c.in-Free.place c.in-Free.pointer) c.requires.fits
 
 pub check-requires : goal.check-requires
 check-requires c =
-    needs_assert _ _ c.args.context c.in-Assert.place (condition_of c.in-Assert.condition) (statement_of c.args.statement.now) (ap statement_of c.in-Assert.is ∙ assert_statement_seen c.in-Assert.place c.in-Assert.condition) c.requires.fits
+    needs_assert _ _ _ c.args.context c.in-Assert.place (condition_of c.in-Assert.condition) (statement_of c.args.statement.now) (ap statement_of c.in-Assert.is ∙ assert_statement_seen c.in-Assert.place c.in-Assert.condition) c.requires.fits
 
 pub check-requires-in-Assume : goal.check-requires-in-Assume
 check-requires-in-Assume c =
-    needs_assume _ _ c.args.context c.in-Assume.place (condition_of c.in-Assume.condition) (statement_of c.args.statement.now) (ap statement_of c.in-Assume.is ∙ assume_statement_seen c.in-Assume.place c.in-Assume.condition) c.requires.fits
+    needs_assume _ _ _ c.args.context c.in-Assume.place (condition_of c.in-Assume.condition) (statement_of c.args.statement.now) (ap statement_of c.in-Assume.is ∙ assume_statement_seen c.in-Assume.place c.in-Assume.condition) c.requires.fits
 
 pub assume_shape-requires-clause-there : goal.assume_shape-requires-clause-there
 assume_shape-requires-clause-there c =
-    let both = needs_assume_shape _ _ c.args.context _ _ _ _ (statement_of c.args.statement.now) (ap statement_of c.in-AssumeShape.is ∙ assume_shape_statement_seen c.in-AssumeShape.shape) c.requires.fits in both.0
+    let both = needs_assume_shape _ _ _ c.args.context _ _ _ _ (statement_of c.args.statement.now) (ap statement_of c.in-AssumeShape.is ∙ assume_shape_statement_seen c.in-AssumeShape.shape) c.requires.fits in both.0
 
 pub assume_shape-requires-clause-arguments : goal.assume_shape-requires-clause-arguments
 assume_shape-requires-clause-arguments c =
-    let both = needs_assume_shape _ _ c.args.context _ _ _ _ (statement_of c.args.statement.now) (ap statement_of c.in-AssumeShape.is ∙ assume_shape_statement_seen c.in-AssumeShape.shape) c.requires.fits in both.1
+    let both = needs_assume_shape _ _ _ c.args.context _ _ _ _ (statement_of c.args.statement.now) (ap statement_of c.in-AssumeShape.is ∙ assume_shape_statement_seen c.in-AssumeShape.shape) c.requires.fits in both.1
 
 pub assert_shape-requires-clause-start : goal.assert_shape-requires-clause-start
 assert_shape-requires-clause-start c =
-    let both = needs_assert_shape _ _ c.args.context _ _ _ _ (statement_of c.args.statement.now) (ap statement_of c.in-AssertShape.is ∙ assert_shape_statement_seen c.in-AssertShape.shape) c.requires.fits in both.0
+    let both = needs_assert_shape _ _ _ c.args.context _ _ _ _ (statement_of c.args.statement.now) (ap statement_of c.in-AssertShape.is ∙ assert_shape_statement_seen c.in-AssertShape.shape) c.requires.fits in both.0
 
 pub assert_shape-requires-clause-arguments : goal.assert_shape-requires-clause-arguments
 assert_shape-requires-clause-arguments c =
-    let both = needs_assert_shape _ _ c.args.context _ _ _ _ (statement_of c.args.statement.now) (ap statement_of c.in-AssertShape.is ∙ assert_shape_statement_seen c.in-AssertShape.shape) c.requires.fits in both.1
+    let both = needs_assert_shape _ _ _ c.args.context _ _ _ _ (statement_of c.args.statement.now) (ap statement_of c.in-AssertShape.is ∙ assert_shape_statement_seen c.in-AssertShape.shape) c.requires.fits in both.1
 
 pub break_loop-requires-clause-turns : goal.break_loop-requires-clause-turns
 break_loop-requires-clause-turns c =
-    needs_break _ _ c.args.context c.in-Break.place (statement_of c.args.statement.now) (ap statement_of c.in-Break.is ∙ break_statement_seen c.in-Break.place) c.requires.fits
+    needs_break _ _ _ c.args.context c.in-Break.place (statement_of c.args.statement.now) (ap statement_of c.in-Break.is ∙ break_statement_seen c.in-Break.place) c.requires.fits
 
 pub break_loop-requires-clause-open : goal.break_loop-requires-clause-open
 break_loop-requires-clause-open c =
@@ -97,7 +97,7 @@ break_loop-requires-clause-open c =
 
 pub continue_loop-requires-clause-turns : goal.continue_loop-requires-clause-turns
 continue_loop-requires-clause-turns c =
-    needs_continue _ _ c.args.context c.in-Continue.place (statement_of c.args.statement.now) (ap statement_of c.in-Continue.is ∙ continue_statement_seen c.in-Continue.place) c.requires.fits
+    needs_continue _ _ _ c.args.context c.in-Continue.place (statement_of c.args.statement.now) (ap statement_of c.in-Continue.is ∙ continue_statement_seen c.in-Continue.place) c.requires.fits
 
 pub continue_loop-requires-clause-open : goal.continue_loop-requires-clause-open
 continue_loop-requires-clause-open c =

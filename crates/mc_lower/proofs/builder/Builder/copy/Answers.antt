@@ -1,11 +1,11 @@
 use Rattle.std.proofs.Common.{ap}
 use Rattle.mc_flow.specs.declared.instr.Instr.TheVariants.{Copy}
 use Rattle.mc_lowering.specs.Graphs.{point}
-use Rattle.mc_lower.proofs.Agreeing.{appended}
+use Rattle.mc_lower.proofs.Agreeing.{appended, targets}
 use Rattle.mc_lower.proofs.builder.Builder.copy.Goals as goal
 
 pub returns-clause-leads : goal.returns-clause-leads
 returns-clause-leads c = λ w agrees.
     let later = c.in_ok-append.ensures.leads w agrees in
-    let first = c.in_ok-next.ensures.kept w later.0 in
-    (first.0, appended w _ c.args.place _ c.in_ok-next.next (λ q. Copy c.args.variable c.args.operand q) _ _ _ first.1 (ap (λ q. Copy c.args.variable c.args.operand (point (w.at q.0))) c.target.ensures) later.1)
+    let to = targets _ _ _ c.target.ensures c.next-next.ensures in
+    (later.0, appended w _ c.args.place _ _ (λ q. Copy c.args.variable c.args.operand q) _ _ (ap (λ q. Copy c.args.variable c.args.operand (point (w.at q.0))) to) later.1)

@@ -21,7 +21,7 @@ returns-clause-leads c = λ w agrees.
         outs = agrees.outs;
         blocks = agrees.blocks;
       },
-      created w c.args.owner c.args.info old _ c.len.result (c.len.ensures ∙ old.variables.list.ok.0) items refl refl agrees,
+      created w c.args.owner c.args.info old _ c.len.result (c.len.ensures ∙ old.variables.list.ok.0) items refl agrees,
     )
 
 pub returns-clause-same : goal.returns-clause-same

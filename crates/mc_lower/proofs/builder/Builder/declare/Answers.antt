@@ -44,7 +44,7 @@ declare_one-requires c =
     let more : List InitialCode = take (length items - 1) (drop 1 items) in
     let split : items ≡ first ∷ more =
     first_of items first c.in-len1-up.len_at_least c.first-item.is ∙ ap (λ (l : List InitialCode). first ∷ l) (sym (take_rest items 1)) in
-    first_item _ _ c.args.context first items more split c.requires
+    first_item _ _ _ c.args.context first items more split c.requires
 
 pub returns-clause-ready : goal.returns-clause-ready
 returns-clause-ready c = λ later.
@@ -54,10 +54,10 @@ returns-clause-ready c = λ later.
     let split : items ≡ first ∷ more =
     first_of items first c.in-len1-up.len_at_least c.first-item.is ∙ ap (λ (l : List InitialCode). first ∷ l) (sym (take_rest items 1)) in
     c.in_ok-declare_one.ensures.ready
-    (λ s f. subst (λ l. Ready (in_state (known c.args.self.now) s) l) (sym c.in_ok-push.ensures) (later_items _ _ c.args.context c.args.place first items (record { ref_ptr = (0, 0); now = more }) c.args.tasks.now split c.requires later s f))
+    (λ s f. subst (λ l. Ready (in_state (known c.args.self.now) s) l) (sym c.in_ok-push.ensures) (later_items _ _ _ c.args.context c.args.place first items (record { ref_ptr = (0, 0); now = more }) c.args.tasks.now split c.requires later s f))
 
 pub returns-in_default-clause-ready : goal.returns-in_default-clause-ready
 returns-in_default-clause-ready c = λ later.
     let below = c.in_default.len_below in
     let count : length c.args.items.now ≡ 0 = omega arith in
-    ready_left _ _ c.args.context.occurrence _ c.args.tasks.now (ap (λ l. items_declared (map initial_of l)) (is_none c.args.items.now count)) later
+    ready_left _ _ _ c.args.context.occurrence _ c.args.tasks.now (ap (λ l. items_declared (map initial_of l)) (is_none c.args.items.now count)) later

@@ -39,7 +39,7 @@ returns-in_ok-assign_right-in-Some-clause-leads c = λ w u agrees rest.
 
 pub create_local-requires-clause-low : goal.create_local-requires-clause-low
 create_local-requires-clause-low c =
-    declared_low _ _ c.args.context (initial_of c.args.item.now) c.requires
+    declared_low _ _ _ c.args.context (initial_of c.args.item.now) c.requires
 
 pub assign_right-requires-clause-named : goal.assign_right-requires-clause-named
 assign_right-requires-clause-named c =
@@ -48,7 +48,7 @@ assign_right-requires-clause-named c =
 pub assign_right-requires-clause-right : goal.assign_right-requires-clause-right
 assign_right-requires-clause-right c =
     subst (λ k. IsRightReady k c.args.context.occurrence (right_of c.in-Some.right)) (sym c.in_ok-variable.ensures.same)
-    (declared_right _ _ _ c.args.context c.args.item.now.variable (option_map right_of c.args.item.now.value) _ (ap (λ o. option_map right_of o) c.in-Some.is) (local_grown (known c.args.self.now) c.args.context.occurrence c.args.item.now.variable c.requires.stands.occurs) c.requires)
+    (declared_right _ _ _ _ c.args.context c.args.item.now.variable (option_map right_of c.args.item.now.value) _ (ap (λ o. option_map right_of o) c.in-Some.is) (local_grown (known c.args.self.now) c.args.context.occurrence c.args.item.now.variable c.requires.stands.occurs) c.requires)
 
 pub returns-in_ok-undefine_all-in-None-clause-ready : goal.returns-in_ok-undefine_all-in-None-clause-ready
 returns-in_ok-undefine_all-in-None-clause-ready c = λ later.

@@ -1,17 +1,16 @@
-use Rattle.std.proofs.Common.{◌≡◌, length, ap, ◌∙◌, sym, subst}
-use Rattle.mc_lower.specs.Finished.{Ends}
-use Rattle.mc_lower.specs.Worlds.{stage_of}
+use Rattle.mc_lower.specs.declared.lines.Awaited.{Awaited}
+use Rattle.mc_lower.proofs.Agreeing.{out_label}
 use Rattle.mc_lower.proofs.Entering.{ended_at}
+use Rattle.mc_lower.proofs.Waiting.{alone_waits}
 use Rattle.mc_lower.proofs.builder.Builder.end.Goals as goal
 
-pub returns-clause-leads : goal.returns-clause-leads
-returns-clause-leads c = λ w agrees.
-    let put = c.in_ok-put.ensures.leads w agrees in
-    let met = c.in_ok-meet.ensures.kept w put.0 in
-    let b = c.meet.new.self in
-    let out = w.out c.args.occurrence in
-    let is : w.at b.goal.0 ≡ out = ap (λ l. w.at l.0) c.in_ok-meet.ensures.goal ∙ c.out-last.ensures w met.0 in (
-      met.0,
-      subst (λ s. Ends w.graph out s (stage_of w c.put.new.self)) (sym met.1)
-          (ended_at w.graph out (w.at b.goal.0) (length b.points.items) (length b.variables.list.items) _ _ _ is put.1.at put.1.points (ap (λ v. length v.list.items) put.1.variables) put.1.there),
-    )
+pub returns : goal.returns
+returns c = λ w agrees.
+    let old = c.args.self.now in
+    let i = c.args.occurrence in
+    let alone = alone_waits _ _ c.requires.waits in
+    let landed = c.in_ok-land.ensures.leads (Awaited.Out i) alone.0 alone.1 w agrees in
+    (landed.0, ended_at w (w.out i) _ _ _ _ (out_label w old i c.requires.occurs landed.0) landed.1)
+
+pub land-requires : goal.land-requires
+land-requires c = let alone = alone_waits _ _ c.requires.waits in (Awaited.Out c.args.occurrence, alone.0, alone.1)

@@ -1,23 +1,35 @@
-use Rattle.std.proofs.Common.{◌≡◌, subst, sym, ap, ◌∙◌, length}
+use Rattle.std.proofs.Common.{◌≡◌, ◌<◌, subst, sym, ap, ◌∙◌, length}
+use Rattle.mc_flow.specs.declared.instr.Instr.TheVariants.{Undef}
+use Rattle.mc_lowering.specs.Graphs.{AreMade, Appends, plain, point}
 use Rattle.mc_resolved.specs.Views.{function_of, local_of}
-use Rattle.mc_lower.specs.Left.{EndsCall}
-use Rattle.mc_lower.specs.Owned.{Forgets}
+use Rattle.mc_lower.specs.declared.lines.Awaited.{Awaited}
+use Rattle.mc_lower.specs.Knowns.{with_next}
 use Rattle.mc_lower.specs.Worlds.{stage_of}
+use Rattle.mc_lower.proofs.Agreeing.{appended_there, out_label, targets}
 use Rattle.mc_lower.proofs.Meeting.{ended, mapped_length}
 use Rattle.mc_lower.proofs.builder.Builder.end_call.Goals as goal
 
 pub returns-clause-leads : goal.returns-clause-leads
 returns-clause-leads c = λ w agrees.
-    let forgotten = c.in_ok-forget.ensures.leads w agrees in
-    let met = c.in_ok-meet.ensures.kept w forgotten.0 in
-    let b = c.meet.new.self in
-    let new = c.forget.new.self in
-    let out = w.out c.args.callee.occurrence in
+    let old = c.args.self.now in
+    let i = c.args.callee.occurrence in
+    let landed = c.in_ok-land.ensures.leads (Awaited.Out i) c.requires.waits.0 c.requires.waits.1 w agrees in
+    let vs = c.in_ok-made.made.items in
+    let to = targets _ _ _ c.target.ensures c.next-next.ensures in
+    let there = appended_there w _ _ c.args.place _ _ (λ q. Undef vs q) _ _
+    (ap (λ q. Undef c.of.result (point (w.at q.0))) to ∙ ap (λ l. Undef l (point (w.at old.lines.labels))) c.of.ensures) landed.1 in
     let count = length (function_of c.args.callee.function.now).locals in
     let counted : c.len.result ≡ count = c.len.ensures ∙ c.args.callee.function.now.locals.ok.0 ∙ sym (mapped_length local_of c.args.callee.function.now.locals.items) in
-    let is : w.at b.goal.0 ≡ out = ap (λ l. w.at l.0) c.in_ok-meet.ensures.goal ∙ c.out-last.ensures w met.0 in
-    let here = subst (λ n. Forgets w.graph out c.args.place n (stage_of w b) (stage_of w new)) counted forgotten.1 in (
-      met.0,
-      subst (λ s. EndsCall w.graph out c.args.place count s (stage_of w new)) (sym met.1)
-          (ended w.graph out c.args.place count (w.at b.goal.0) (length b.points.items) (length b.variables.list.items) (stage_of w new) is here),
+    let made = subst (λ n. AreMade w.graph (w.out i) (λ x. x < n) (stage_of w old) vs) counted (c.in_ok-made.ensures w landed.0) in (
+      landed.0,
+      ended w.graph (w.out i) c.args.place count _ there.0 (stage_of w old) _ (out_label w old i c.requires.occurs landed.0) there.1
+          (record { made = vs; are_made = made; undefined = subst (λ s. Appends w.graph plain c.args.place (λ q. Undef vs q) s (stage_of w c.land.new.self)) (sym there.1) there.2 }),
     )
+
+pub returns-clause-rest : goal.returns-clause-rest
+returns-clause-rest c =
+    let out = Awaited.Out c.args.callee.occurrence in
+    c.requires.waits.1 ∙ ap (λ k. with_next out k) (sym (c.in_ok-land.ensures.rest out c.requires.waits.0 c.requires.waits.1))
+
+pub land-requires : goal.land-requires
+land-requires c = (Awaited.Out c.args.callee.occurrence, c.requires.waits.0, c.requires.waits.1)

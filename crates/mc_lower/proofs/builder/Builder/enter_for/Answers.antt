@@ -1,5 +1,5 @@
 use Rattle.mc_lower.proofs.Readying.{for_condition, ready_enter_for, ready_same}
-use Rattle.mc_lower.specs.Knowns.{known}
+use Rattle.mc_lower.specs.Knowns.{known, with_label}
 use Rattle.mc_lower.specs.Ready.{IsTestReadyPerhaps}
 use Rattle.std.proofs.Common.{◌∷◌, ap, ◌∙◌, subst, sym}
 use Rattle.std.specs.Prelude.{option_map}
@@ -11,6 +11,7 @@ use Rattle.mc_lower.specs.Valued.{TestsPerhapsOn}
 use Rattle.mc_lower.specs.Worlds.{stage_of}
 use Rattle.mc_lower.proofs.Meeting.{for_met}
 use Rattle.mc_lower.proofs.Resting.{copied_map, pushed_two}
+use Rattle.mc_lower.proofs.Waiting.{both_wait}
 use Rattle.mc_lower.proofs.builder.Builder.enter_for.Goals as goal
 
 pub returns-clause-leads : goal.returns-clause-leads
@@ -20,8 +21,8 @@ returns-clause-leads c = λ w u agrees rest.
     let m = stage_of w c.test_perhaps.new.self in
     let r = pushed_two w _ _ _ _ _ m u c.in_ok-push-2.ensures c.in_ok-push.ensures rest in
     let tested = c.in_ok-test_perhaps.ensures.leads w agrees in
-    let last = c.in_ok-exit.ensures.kept w tested.0 in
-    let first = c.in_ok-turn.ensures.kept w last.0 in
+    let last = c.in_ok-turn.ensures.kept w tested.0 in
+    let first = c.in_ok-exit.ensures.kept w last.0 in
     let skipped = c.in_ok-skip.ensures.leads w first.0 in
     let condition = subst (λ o. TestsPerhapsOn w.graph (w.out c.args.context.occurrence) o (w.at exit.0) (stage_of w c.label-2.new.self) m)
     (sym (copied_map condition_of c.as_ref.result) ∙ ap (λ o. option_map condition_of o) c.as_ref.ensures.value) tested.1 in
@@ -32,11 +33,11 @@ returns-clause-leads c = λ w u agrees rest.
 pub returns-clause-ready : goal.returns-clause-ready
 returns-clause-ready c = λ later.
     let body = Task.Statement c.args.body c.in_loop.result in
-    ready_same _ _ _ _ (c.in_ok-test_perhaps.ensures.same ∙ c.in_ok-exit.ensures.same ∙ c.in_ok-turn.ensures.same ∙ c.in_ok-skip.ensures.same) (c.in_ok-push-2.ensures ∙ ap (λ l. body ∷ l) c.in_ok-push.ensures)
-    (ready_enter_for _ _ c.args.context c.in_loop.result c.args.head c.args.body c.args.self.now.goal (record { exit = c.in_ok-exit.exit; turn = c.in_ok-turn.turn }) c.args.tasks.now c.in_loop.ensures c.requires later)
+    ready_same _ _ _ _ (c.in_ok-test_perhaps.ensures.same ∙ both_wait _ _ _ _ _ _ c.in_ok-turn.ensures.known c.in_ok-exit.ensures.known c.in_ok-skip.ensures.same) (c.in_ok-push-2.ensures ∙ ap (λ l. body ∷ l) c.in_ok-push.ensures)
+    (ready_enter_for _ _ _ c.args.context c.in_loop.result c.args.head c.args.body c.args.self.now.lines.goal (record { exit = c.in_ok-exit.exit; turn = c.in_ok-turn.turn }) c.args.tasks.now c.in_loop.ensures c.requires later)
 
 pub test_perhaps-requires : goal.test_perhaps-requires
 test_perhaps-requires c =
-    let here = for_condition _ _ c.args.context (head_of c.args.head.now) (statement_of c.args.body.now) c.requires in
-    subst (λ k. IsTestReadyPerhaps k c.args.context.occurrence (option_map (λ x. condition_of x.now) c.as_ref.result)) (sym (c.in_ok-exit.ensures.same ∙ c.in_ok-turn.ensures.same ∙ c.in_ok-skip.ensures.same))
-    (subst (λ o. IsTestReadyPerhaps (known c.args.self.now) c.args.context.occurrence o) (sym (sym (copied_map condition_of c.as_ref.result) ∙ ap (λ o. option_map condition_of o) c.as_ref.ensures.value)) here)
+    let here = for_condition _ _ (with_label c.in_ok-turn.turn (with_label c.in_ok-exit.exit (known c.args.self.now))).waiting _ c.args.context (head_of c.args.head.now) (statement_of c.args.body.now) c.requires in
+    subst (λ k. IsTestReadyPerhaps k c.args.context.occurrence (option_map (λ x. condition_of x.now) c.as_ref.result)) (sym (both_wait _ _ _ _ _ _ c.in_ok-turn.ensures.known c.in_ok-exit.ensures.known c.in_ok-skip.ensures.same))
+    (subst (λ o. IsTestReadyPerhaps (with_label c.in_ok-turn.turn (with_label c.in_ok-exit.exit (known c.args.self.now))) c.args.context.occurrence o) (sym (sym (copied_map condition_of c.as_ref.result) ∙ ap (λ o. option_map condition_of o) c.as_ref.ensures.value)) here)

@@ -34,16 +34,16 @@ returns-in_ok-push-in-Simple-clause-leads c = λ w u agrees rest.
 
 pub returns-in-Nothing-clause-ready : goal.returns-in-Nothing-clause-ready
 returns-in-Nothing-clause-ready c = λ later.
-    ready_same _ _ _ _ refl c.in_ok-push.ensures (ready_for_nothing _ _ c.args.context c.args.head c.args.body c.args.tasks.now (ap start_of c.in-Nothing.is) c.requires later)
+    ready_same _ _ _ _ refl c.in_ok-push.ensures (ready_for_nothing _ _ _ c.args.context c.args.head c.args.body c.args.tasks.now (ap start_of c.in-Nothing.is) c.requires later)
 
 pub returns-in_ok-push-in-Declaration-clause-ready : goal.returns-in_ok-push-in-Declaration-clause-ready
 returns-in_ok-push-in-Declaration-clause-ready c = λ later.
     let first = Task.Declare c.in-Declaration.place c.as_slice.result c.args.context in
     ready_same _ _ _ _ refl (c.in_ok-push-in-Declaration.ensures ∙ ap (λ l. first ∷ l) c.in_ok-push.ensures)
-    (ready_for_declaring _ _ c.args.context c.args.head c.args.body c.in-Declaration.place c.as_slice.result c.args.tasks.now
+    (ready_for_declaring _ _ _ c.args.context c.args.head c.args.body c.in-Declaration.place c.as_slice.result c.args.tasks.now
     (ap start_of c.in-Declaration.is ∙ ap (λ l. declares c.in-Declaration.place (map initial_of l)) (sym c.as_slice.ensures.value)) c.requires later)
 
 pub returns-in_ok-push-in-Simple-clause-ready : goal.returns-in_ok-push-in-Simple-clause-ready
 returns-in_ok-push-in-Simple-clause-ready c = λ later.
     ready_two _ _ _ _ _ _ _ refl c.in_ok-push-in-Simple.ensures c.in_ok-push.ensures
-    (ready_for_performing _ _ c.args.context c.args.head c.args.body (record { ref_ptr = (0, 0); now = c.in-Simple.simple }) c.args.tasks.now (ap start_of c.in-Simple.is) c.requires later)
+    (ready_for_performing _ _ _ c.args.context c.args.head c.args.body (record { ref_ptr = (0, 0); now = c.in-Simple.simple }) c.args.tasks.now (ap start_of c.in-Simple.is) c.requires later)

@@ -1,3 +1,4 @@
+use Rattle.mc_lower.specs.Knowns.{known, with_label}
 use Rattle.mc_lower.proofs.Readying.{needs_if, ready_if_only, ready_same}
 use Rattle.mc_lower.specs.Ready.{IsTestReady}
 use Rattle.std.proofs.Common.{◌∷◌, ap, ◌∙◌, subst, sym}
@@ -21,9 +22,9 @@ returns-clause-leads c = λ w u agrees rest.
 
 pub returns-clause-ready : goal.returns-clause-ready
 returns-clause-ready c = λ later.
-    ready_same _ _ _ _ (c.in_ok-test_or.ensures.same ∙ c.in_ok-merge.ensures.same) (c.in_ok-push-2.ensures ∙ ap (λ l. Task.Statement c.args.part c.args.context ∷ l) c.in_ok-push.ensures)
-    (ready_if_only _ _ c.args.context c.args.place (condition_of c.args.condition.now) c.args.part c.in_ok-merge.merge c.args.tasks.now c.requires later)
+    ready_same _ _ _ _ (c.in_ok-test_or.ensures.same ∙ c.in_ok-merge.ensures.known) (c.in_ok-push-2.ensures ∙ ap (λ l. Task.Statement c.args.part c.args.context ∷ l) c.in_ok-push.ensures)
+    (ready_if_only _ _ _ c.args.context c.args.place (condition_of c.args.condition.now) c.args.part c.in_ok-merge.merge c.args.tasks.now c.requires later)
 
 pub test_or-requires : goal.test_or-requires
 test_or-requires c =
-    subst (λ k. IsTestReady k c.args.context.occurrence (condition_of c.args.condition.now)) (sym c.in_ok-merge.ensures.same) (needs_if _ _ c.args.context c.args.place (condition_of c.args.condition.now) (statement_of c.args.part.now) c.requires)
+    subst (λ k. IsTestReady k c.args.context.occurrence (condition_of c.args.condition.now)) (sym c.in_ok-merge.ensures.known) (needs_if _ _ (with_label c.in_ok-merge.merge (known c.args.self.now)).waiting _ c.args.context c.args.place (condition_of c.args.condition.now) (statement_of c.args.part.now) c.requires)

@@ -1,14 +1,21 @@
-use Rattle.std.proofs.Common.{subst, sym, ap, length}
-use Rattle.mc_lower.specs.Left.{Merges}
-use Rattle.mc_lower.specs.Worlds.{stage_of}
+use Rattle.std.proofs.Common.{ap, sym, ◌∙◌}
+use Rattle.mc_flow.specs.declared.instr.Instr.TheVariants.{Skip}
+use Rattle.mc_lowering.specs.Graphs.{point}
+use Rattle.mc_lower.specs.declared.lines.Awaited.{Awaited}
+use Rattle.mc_lower.proofs.Agreeing.{appended_there, targets}
 use Rattle.mc_lower.proofs.Meeting.{merged}
+use Rattle.mc_lower.proofs.Waiting.{under}
 use Rattle.mc_lower.proofs.builder.Builder.merge.Goals as goal
 
 pub returns-clause-leads : goal.returns-clause-leads
 returns-clause-leads c = λ w agrees.
-    let skipped = c.in_ok-skip.ensures.leads w agrees in
-    let met = c.in_ok-meet.ensures.kept w skipped.0 in
-    let b = c.meet.new.self in
-    let here = subst (λ n. Merges w.graph c.args.place n (stage_of w b) (stage_of w c.skip.new.self)) (ap (λ l. w.at l.0) c.in_ok-meet.ensures.goal)
-    (merged w.graph c.args.place (w.at b.goal.0) (length b.points.items) (length b.variables.list.items) _ skipped.1) in
-    (met.0, subst (λ s. Merges w.graph c.args.place (w.at c.args.merge.0) s (stage_of w c.skip.new.self)) (sym met.1) here)
+    let landed = c.in_ok-land.ensures.leads (Awaited.Goal c.args.merge) c.requires.0 c.requires.1 w agrees in
+    let to = targets _ _ _ c.target.ensures c.next-next.ensures in
+    let there = appended_there w _ _ c.args.place _ _ (λ q. Skip q) _ _ (ap (λ q. Skip (point (w.at q.0))) to) landed.1 in
+    (landed.0, merged w.graph c.args.place (w.at c.args.merge.0) there.0 _ _ there.1 there.2)
+
+pub returns-clause-rest : goal.returns-clause-rest
+returns-clause-rest c = under _ _ _ _ c.requires.1 (c.in_ok-land.ensures.rest (Awaited.Goal c.args.merge) c.requires.0 c.requires.1)
+
+pub land-requires : goal.land-requires
+land-requires c = (Awaited.Goal c.args.merge, c.requires.0, c.requires.1)

@@ -1,12 +1,16 @@
-use Rattle.std.proofs.Common.{subst, sym, ap, ◌∙◌, length}
-use Rattle.mc_lowering.specs.Graphs.{stage}
-use Rattle.mc_lower.specs.Left.{Otherwise, otherwise}
-use Rattle.mc_lower.proofs.Agreeing.{elsewhere}
+use Rattle.mc_lower.proofs.Meeting.{otherwise_there}
+use Rattle.mc_lower.proofs.Waiting.{gone_on, popped}
+use Rattle.std.proofs.Common.{ap}
 use Rattle.mc_lower.proofs.builder.Builder.otherwise.Goals as goal
 
 pub returns-clause-leads : goal.returns-clause-leads
 returns-clause-leads c = λ w agrees.
-    let b = c.meet.new.self in
-    let met = c.in_ok-meet.ensures.kept w (elsewhere w b c.args.no agrees) in
-    let from = met.1 ∙ ap (λ l. stage (w.at l.0) (length b.points.items) (length b.variables.list.items)) c.in_ok-meet.ensures.goal in
-    (met.0, subst (λ s. Otherwise (w.at c.args.no.0) (w.at c.args.merge.0) s (stage (w.at c.args.no.0) (length b.points.items) (length b.variables.list.items))) (sym from) otherwise)
+    let gone = c.in_ok-go_last.ensures.leads w agrees in
+    let goes = popped _ _ _ _ _ c.requires.1 c.in_ok-go_last.ensures.rest in
+    (gone.0, otherwise_there (w.at c.args.no.0) (w.at c.args.merge.0) _ _ _ _ (ap (λ l. w.at l.0) goes.0) gone.1)
+
+pub returns-clause-rest : goal.returns-clause-rest
+returns-clause-rest c = gone_on _ _ _ _ _ c.requires.1 c.in_ok-go_last.ensures.rest
+
+pub go_last-requires : goal.go_last-requires
+go_last-requires c = (c.args.no, c.requires.0, c.requires.1)

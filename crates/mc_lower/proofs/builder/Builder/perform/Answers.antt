@@ -63,7 +63,7 @@ change-requires-clause-ready c =
 
 pub returns-in_ok-change-in-Add-clause-ready : goal.returns-in_ok-change-in-Add-clause-ready
 returns-in_ok-change-in-Add-clause-ready c = λ later.
-    ready_same _ _ _ _ c.in_ok-change-in-Add.ensures.same refl (ready_left _ _ c.args.context.occurrence [] c.args.tasks.now refl later)
+    ready_same _ _ _ _ c.in_ok-change-in-Add.ensures.same refl (ready_left _ _ _ c.args.context.occurrence [] c.args.tasks.now refl later)
 
 pub change-requires-in-Subtract-clause-named : goal.change-requires-in-Subtract-clause-named
 change-requires-in-Subtract-clause-named c =
@@ -75,4 +75,4 @@ change-requires-in-Subtract-clause-ready c =
 
 pub returns-in_ok-change-in-Subtract-clause-ready : goal.returns-in_ok-change-in-Subtract-clause-ready
 returns-in_ok-change-in-Subtract-clause-ready c = λ later.
-    ready_same _ _ _ _ c.in_ok-change-in-Subtract.ensures.same refl (ready_left _ _ c.args.context.occurrence [] c.args.tasks.now refl later)
+    ready_same _ _ _ _ c.in_ok-change-in-Subtract.ensures.same refl (ready_left _ _ _ c.args.context.occurrence [] c.args.tasks.now refl later)

@@ -35,7 +35,7 @@ return_value-requires-clause-right c =
 
 pub returns-in_ok-return_value-in-Expression-clause-ready : goal.returns-in_ok-return_value-in-Expression-clause-ready
 returns-in_ok-return_value-in-Expression-clause-ready c = λ later.
-    ready_same _ _ _ _ c.in_ok-return_value-in-Expression.ensures.same refl (ready_left _ _ c.args.context.occurrence [] c.args.tasks.now refl later)
+    ready_same _ _ _ _ c.in_ok-return_value-in-Expression.ensures.same refl (ready_left _ _ _ c.args.context.occurrence [] c.args.tasks.now refl later)
 
 pub return_value-requires-in-Malloc-clause-right : goal.return_value-requires-in-Malloc-clause-right
 return_value-requires-in-Malloc-clause-right c =
@@ -43,4 +43,4 @@ return_value-requires-in-Malloc-clause-right c =
 
 pub returns-in_ok-return_value-in-Malloc-clause-ready : goal.returns-in_ok-return_value-in-Malloc-clause-ready
 returns-in_ok-return_value-in-Malloc-clause-ready c = λ later.
-    ready_same _ _ _ _ c.in_ok-return_value-in-Malloc.ensures.same refl (ready_left _ _ c.args.context.occurrence [] c.args.tasks.now refl later)
+    ready_same _ _ _ _ c.in_ok-return_value-in-Malloc.ensures.same refl (ready_left _ _ _ c.args.context.occurrence [] c.args.tasks.now refl later)

@@ -33,7 +33,7 @@ returns-in_ok-return_right-in-Some-clause-leads c = λ w u agrees rest.
 
 pub returns-in_ok-go_out-in-None-clause-ready : goal.returns-in_ok-go_out-in-None-clause-ready
 returns-in_ok-go_out-in-None-clause-ready c = λ later.
-    ready_same _ _ _ _ c.in_ok-go_out-in-None.ensures.same refl (ready_left _ _ c.args.context.occurrence [] c.args.tasks.now refl later)
+    ready_same _ _ _ _ c.in_ok-go_out-in-None.ensures.same refl (ready_left _ _ _ c.args.context.occurrence [] c.args.tasks.now refl later)
 
 pub return_right-requires-clause-answered : goal.return_right-requires-clause-answered
 return_right-requires-clause-answered c =

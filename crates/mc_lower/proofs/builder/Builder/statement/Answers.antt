@@ -49,19 +49,19 @@ returns-in_ok-command-in-Free-clause-leads c = λ w u agrees rest.
 
 pub returns-in_ok-push-in-Declaration-clause-ready : goal.returns-in_ok-push-in-Declaration-clause-ready
 returns-in_ok-push-in-Declaration-clause-ready c = λ later.
-    ready_same _ _ _ _ refl c.in_ok-push-in-Declaration.ensures (ready_declaration _ _ c.args.context c.in-Declaration.place c.as_slice.result (statement_of c.args.statement.now) c.args.tasks.now (ap statement_of c.in-Declaration.is ∙ declaration_statement_seen c.in-Declaration.place c.in-Declaration.items ∙ ap (λ l. declaration c.in-Declaration.place (map initial_of l)) (sym c.as_slice.ensures.value)) c.requires later)
+    ready_same _ _ _ _ refl c.in_ok-push-in-Declaration.ensures (ready_declaration _ _ _ c.args.context c.in-Declaration.place c.as_slice.result (statement_of c.args.statement.now) c.args.tasks.now (ap statement_of c.in-Declaration.is ∙ declaration_statement_seen c.in-Declaration.place c.in-Declaration.items ∙ ap (λ l. declaration c.in-Declaration.place (map initial_of l)) (sym c.as_slice.ensures.value)) c.requires later)
 
 pub returns-in-Empty-clause-ready : goal.returns-in-Empty-clause-ready
 returns-in-Empty-clause-ready c = λ later.
-    ready_left _ _ c.args.context.occurrence _ c.args.tasks.now (ap declared (ap statement_of c.in-Empty.is ∙ empty_statement_seen)) later
+    ready_left _ _ _ c.args.context.occurrence _ c.args.tasks.now (ap declared (ap statement_of c.in-Empty.is ∙ empty_statement_seen)) later
 
 pub returns-in_ok-push-in-Simple-clause-ready : goal.returns-in_ok-push-in-Simple-clause-ready
 returns-in_ok-push-in-Simple-clause-ready c = λ later.
-    ready_same _ _ _ _ refl c.in_ok-push-in-Simple.ensures (ready_simple _ _ c.args.context (record { ref_ptr = (0, 0); now = c.in-Simple.simple }) (statement_of c.args.statement.now) c.args.tasks.now (ap statement_of c.in-Simple.is ∙ simple_statement_seen c.in-Simple.simple) c.requires later)
+    ready_same _ _ _ _ refl c.in_ok-push-in-Simple.ensures (ready_simple _ _ _ c.args.context (record { ref_ptr = (0, 0); now = c.in-Simple.simple }) (statement_of c.args.statement.now) c.args.tasks.now (ap statement_of c.in-Simple.is ∙ simple_statement_seen c.in-Simple.simple) c.requires later)
 
 pub returns-requires-clause-value : goal.returns-requires-clause-value
 returns-requires-clause-value c =
-    needs_return _ _ c.args.context c.in-Return.place _ (statement_of c.args.statement.now) (ap statement_of c.in-Return.is ∙ return_statement_seen c.in-Return.place c.in-Return.value ∙ ap (λ o. returns c.in-Return.place (option_map right_of o)) (sym c.as_ref.ensures.value) ∙ ap (λ o. returns c.in-Return.place o) (copied_map right_of c.as_ref.result)) c.requires
+    needs_return _ _ _ c.args.context c.in-Return.place _ (statement_of c.args.statement.now) (ap statement_of c.in-Return.is ∙ return_statement_seen c.in-Return.place c.in-Return.value ∙ ap (λ o. returns c.in-Return.place (option_map right_of o)) (sym c.as_ref.ensures.value) ∙ ap (λ o. returns c.in-Return.place o) (copied_map right_of c.as_ref.result)) c.requires
 
 pub returns-requires-clause-occurs : goal.returns-requires-clause-occurs
 returns-requires-clause-occurs c =
@@ -73,7 +73,7 @@ returns-in_ok-returns-in-Return-clause-ready c = λ later.
 
 pub returns-in_ok-command-in-Free-clause-ready : goal.returns-in_ok-command-in-Free-clause-ready
 returns-in_ok-command-in-Free-clause-ready c = λ later.
-    ready_same _ _ _ _ c.in_ok-command-in-Free.ensures.same refl (ready_left _ _ c.args.context.occurrence _ c.args.tasks.now c.in_ok-command-in-Free.ensures.none later)
+    ready_same _ _ _ _ c.in_ok-command-in-Free.ensures.same refl (ready_left _ _ _ c.args.context.occurrence _ c.args.tasks.now c.in_ok-command-in-Free.ensures.none later)
 
 pub returns-in_ok-outer-in-Block-clause-ready : goal.returns-in_ok-outer-in-Block-clause-ready
 returns-in_ok-outer-in-Block-clause-ready c =

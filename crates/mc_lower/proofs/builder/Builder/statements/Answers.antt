@@ -37,10 +37,10 @@ returns-clause-ready c = λ later.
     let more : List Statement = take (length items - 1) (drop 1 items) in
     let split : items ≡ first ∷ more =
     first_of items first c.in-len1-up.len_at_least c.first-item.is ∙ ap (λ (l : List Statement). first ∷ l) (sym (take_rest items 1)) in
-    ready_two _ _ _ _ _ _ _ refl c.in_ok-push-2.ensures c.in_ok-push.ensures (ready_statements _ _ c.args.context (record { ref_ptr = (0, 0); now = first }) c.args.statements (record { ref_ptr = (0, 0); now = more }) c.args.tasks.now split c.requires later)
+    ready_two _ _ _ _ _ _ _ refl c.in_ok-push-2.ensures c.in_ok-push.ensures (ready_statements _ _ _ c.args.context (record { ref_ptr = (0, 0); now = first }) c.args.statements (record { ref_ptr = (0, 0); now = more }) c.args.tasks.now split c.requires later)
 
 pub returns-in_default-clause-ready : goal.returns-in_default-clause-ready
 returns-in_default-clause-ready c = λ later.
     let below = c.in_default.len_below in
     let count : length c.args.statements.now ≡ 0 = omega arith in
-    ready_left _ _ c.args.context.occurrence _ c.args.tasks.now (ap (λ l. all_declared (stmts_of (map statement_of l))) (is_none c.args.statements.now count)) later
+    ready_left _ _ _ c.args.context.occurrence _ c.args.tasks.now (ap (λ l. all_declared (stmts_of (map statement_of l))) (is_none c.args.statements.now count)) later

@@ -22,5 +22,5 @@ returns-in-None-clause-leads c = λ w agrees.
     let b = c.args.self.now in (
       agrees,
       subst (λ o. TestsPerhapsOn w.graph (w.out c.args.occurrence) (option_map (λ d. condition_of d.now) o) (w.at c.args.no.0) s s) (sym c.in-None.is)
-          (perhaps_none w.graph (w.out c.args.occurrence) (w.at c.args.no.0) (w.at b.goal.0) (length b.points.items) (length b.variables.list.items)),
+          (perhaps_none w.graph (w.out c.args.occurrence) (w.at c.args.no.0) (w.at b.lines.goal.0) (length b.lines.points.items) (length b.variables.list.items)),
     )

@@ -1,4 +1,6 @@
+use Rattle.std.proofs.Common.{sym, ◌∙◌}
 use Rattle.mc_lower.proofs.Testing.{plain_tested}
+use Rattle.mc_lower.proofs.Waiting.{waits_on}
 use Rattle.mc_lower.proofs.builder.Builder.test_plain.Goals as goal
 
 pub returns-clause-leads : goal.returns-clause-leads
@@ -6,3 +8,9 @@ returns-clause-leads c = λ w agrees.
     let compared = c.in_ok-compare.ensures.leads w agrees in
     let value = c.in_ok-operand.ensures.leads w compared.0 in
     (value.0, plain_tested w.graph _ _ _ _ _ _ _ _ _ _ _ _ _ _ c.new-temporaries.ensures.items c.nothing.ensures c.as_slice.ensures.value value.1 compared.1)
+
+pub returns-clause-rest : goal.returns-clause-rest
+returns-clause-rest c = sym c.in_ok-operand.ensures.same ∙ c.in_ok-compare.ensures.rest
+
+pub compare-requires : goal.compare-requires
+compare-requires c = waits_on _ _ c.in_ok-operand.ensures.same c.requires.waits

@@ -1,16 +1,16 @@
 use Rattle.std.proofs.Common.{ap, ◌∙◌}
 use Rattle.mc_flow.specs.declared.instr.Instr.TheVariants.{Undef}
 use Rattle.mc_lowering.specs.Graphs.{point}
-use Rattle.mc_lower.proofs.Agreeing.{appended}
+use Rattle.mc_lower.proofs.Agreeing.{appended, targets}
 use Rattle.mc_lower.proofs.builder.Builder.undefine_all.Goals as goal
 
 pub returns-clause-leads : goal.returns-clause-leads
 returns-clause-leads c = λ w agrees.
     let later = c.in_ok-append.ensures.leads w agrees in
-    let first = c.in_ok-next.ensures.kept w later.0 in (
-      first.0,
-      appended w _ c.args.place _ c.in_ok-next.next (λ q. Undef c.args.variables.now q) _ _ _ first.1
-          (ap (λ q. Undef c.of-list.result (point (w.at q.0))) c.target.ensures
-          ∙ ap (λ vs. Undef vs (point (w.at c.in_ok-next.next.0))) (c.of-list.ensures ∙ c.in_ok-from_slice.ensures.items))
+    let to = targets _ _ _ c.target.ensures c.next-next.ensures in (
+      later.0,
+      appended w _ c.args.place _ _ (λ q. Undef c.args.variables.now q) _ _
+          (ap (λ q. Undef c.of-list.result (point (w.at q.0))) to
+          ∙ ap (λ vs. Undef vs (point (w.at c.args.self.now.lines.labels))) (c.of-list.ensures ∙ c.in_ok-from_slice.ensures.items))
           later.1,
     )

@@ -1,4 +1,5 @@
 use Rattle.mc_lower.proofs.Readying.{needs_while, ready_while, ready_same}
+use Rattle.mc_lower.specs.Knowns.{known, with_label}
 use Rattle.mc_lower.specs.Ready.{IsTestReady}
 use Rattle.std.proofs.Common.{◌∷◌, ap, ◌∙◌, subst, sym}
 use Rattle.mc_resolved.specs.Views.{condition_of, statement_of}
@@ -14,7 +15,7 @@ use Rattle.mc_lower.proofs.builder.Builder.while_loop.Goals as goal
 pub returns-clause-leads : goal.returns-clause-leads
 returns-clause-leads c = λ w u agrees rest.
     let body = Task.Statement c.args.body c.in_loop.result in
-    let r = pushed w _ (body ∷ Task.EndWhile c.args.place c.args.self.now.goal c.in_ok-exit.exit ∷ c.args.tasks.now) _ u (c.in_ok-push-2.ensures ∙ ap (λ l. body ∷ l) c.in_ok-push.ensures) rest in
+    let r = pushed w _ (body ∷ Task.EndWhile c.args.place c.args.self.now.lines.goal c.in_ok-exit.exit ∷ c.args.tasks.now) _ u (c.in_ok-push-2.ensures ∙ ap (λ l. body ∷ l) c.in_ok-push.ensures) rest in
     let tested = c.in_ok-test_or.ensures.leads w agrees in
     let labelled = c.in_ok-exit.ensures.kept w tested.0 in
     let skipped = c.in_ok-skip.ensures.leads w labelled.0 in
@@ -25,9 +26,9 @@ returns-clause-leads c = λ w u agrees rest.
 pub returns-clause-ready : goal.returns-clause-ready
 returns-clause-ready c = λ later.
     let body = Task.Statement c.args.body c.in_loop.result in
-    ready_same _ _ _ _ (c.in_ok-test_or.ensures.same ∙ c.in_ok-exit.ensures.same ∙ c.in_ok-skip.ensures.same) (c.in_ok-push-2.ensures ∙ ap (λ l. body ∷ l) c.in_ok-push.ensures)
-    (ready_while _ _ c.args.context c.in_loop.result c.args.place (condition_of c.args.condition.now) c.args.body _ c.args.self.now.goal c.in_ok-exit.exit c.args.tasks.now c.in_loop.ensures c.requires later)
+    ready_same _ _ _ _ (c.in_ok-test_or.ensures.same ∙ c.in_ok-exit.ensures.known ∙ ap (λ k. with_label c.in_ok-exit.exit k) c.in_ok-skip.ensures.same) (c.in_ok-push-2.ensures ∙ ap (λ l. body ∷ l) c.in_ok-push.ensures)
+    (ready_while _ _ _ c.args.context c.in_loop.result c.args.place (condition_of c.args.condition.now) c.args.body _ c.args.self.now.lines.goal c.in_ok-exit.exit c.args.tasks.now c.in_loop.ensures c.requires later)
 
 pub test_or-requires : goal.test_or-requires
 test_or-requires c =
-    subst (λ k. IsTestReady k c.args.context.occurrence (condition_of c.args.condition.now)) (sym (c.in_ok-exit.ensures.same ∙ c.in_ok-skip.ensures.same)) (needs_while _ _ c.args.context c.args.place (condition_of c.args.condition.now) (statement_of c.args.body.now) c.requires)
+    subst (λ k. IsTestReady k c.args.context.occurrence (condition_of c.args.condition.now)) (sym (c.in_ok-exit.ensures.known ∙ ap (λ k. with_label c.in_ok-exit.exit k) c.in_ok-skip.ensures.same)) (needs_while _ _ (with_label c.in_ok-exit.exit (known c.args.self.now)).waiting _ c.args.context c.args.place (condition_of c.args.condition.now) (statement_of c.args.body.now) c.requires)
