@@ -30,7 +30,7 @@ use Rattle.mc_lower.specs.declared.tasks.Context.{Context}
 use Rattle.mc_lower.specs.declared.tasks.Task.{Task}
 use Rattle.mc_lower.specs.declared.tasks.Turns.{Turns}
 use Rattle.mc_lowerable.specs.Lowerable.{IsOnce, AllNameOnly, AreLowerable, IsLowerableAction, IsLowerableLast, IsLowerableRight, IsLowerableStart, TestsOnly, TestsOnlyPerhaps}
-use Rattle.mc_lower.specs.Knowns.{Known, Source, State, IsAnswered, IsBounded, IsOpen, IsThere, IsWithin, with_all, with_label, with_local, with_next, with_occurrence, with_owners}
+use Rattle.mc_lower.specs.Knowns.{Known, Source, State, IsAnswered, IsBounded, IsOpen, IsThere, IsWithin, with_label, with_local, with_next, with_occurrence, with_owners}
 use Rattle.mc_lower.specs.Ready.{Fits, FitsAll, FitsFor, FitsItems, FitsStatement, Grown, HasResult, Still, IsActionReady, IsArgumentReady, AreArgumentsReady, IsBegun, IsCallReady, IsEntered, IsLastReady, IsNamed, IsReady, IsReturnReady, IsRightReady, IsSound, IsTestReady, IsTestReadyPerhaps, Later, Ready, entry_result, functions_in, here, loops, locals_to, makes, with_awaited}
 use Rattle.mc_lower.specs.Left.{IsBehind, IsCommand}
 use Rattle.mc_lower.specs.Valued.{target_of}

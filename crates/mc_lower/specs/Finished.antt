@@ -1,5 +1,5 @@
 -- Labels become points: the flow graph that the code answers.
-use Rattle.std.specs.Prelude.{◌≡◌, ℕ, suc, ℤ, List, map, Some, None, Option, filter_map, length, slice_get, slice_index_or}
+use Rattle.std.specs.Prelude.{◌≡◌, ℕ, suc, ℤ, List, map, Some, None, Option, filter_map, slice_get, slice_index_or}
 use Rattle.mc_base.specs.declared.ids.PointId.{PointId}
 use Rattle.mc_defs.specs.declared.rules.Def.{Def}
 use Rattle.mc_defs.specs.declared.shapes.Structs.{Structs}

@@ -19,7 +19,7 @@ pub record State : Type 0 where
   pub blocks : ℕ
   pub occurrences : ℕ
 
--- and the labels that wait, the next one first
+-- what is lowered, what was made by then, and the labels that wait, the next one first
 pub record Known : Type 0 where
   pub source : Source
   pub state : State

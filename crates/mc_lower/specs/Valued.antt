@@ -114,7 +114,7 @@ Testing w i (t ∷ more) n k m j =
     (w.at t.ways.no.0) p q
     × Testing w i more p q m j
 
--- the labels that are tested from wait in that order
+-- the labels from which conditions are still to be tested, which wait in that order
 abbrev pub froms : List Tested → List Awaited
 froms work = map (λ t. Awaited.Goal t.from) work
 

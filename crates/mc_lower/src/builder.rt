@@ -1,11 +1,11 @@
 // A flow graph while it is made: its points go on to labels, which become points at the end.
-ghost use Rattle.std.specs.Prelude.{[], ◌≡◌, ◌<◌, ◌++◌, OnOk, IfOk, length};
-ghost use Rattle.mc_lowering.specs.Graphs.{Appends, Undefines, plain, point, stage};
+ghost use Rattle.std.specs.Prelude.{[], ◌≡◌, ◌<◌, ◌++◌, OnOk, IfOk};
+ghost use Rattle.mc_lowering.specs.Graphs.{Appends, Undefines, plain, point};
 ghost use Rattle.mc_flow.specs.declared.instr.Instr.TheVariants.{Skip, Copy, Undef};
 ghost use Rattle.mc_lower.specs.declared.lines.Awaited.{Awaited};
 ghost use Rattle.mc_lower.specs.Knowns.{IsOpen, Keeps, Known, Waits, known, nothing_known, with_block, with_label, with_next, with_occurrence};
 ghost use Rattle.mc_lower.specs.Lines.{label_of};
-ghost use Rattle.mc_lower.specs.Worlds.{GoesTo, World, Agrees, IsPut, Lands, Lays, Leads, blocks_in, role_of, stage_of};
+ghost use Rattle.mc_lower.specs.Worlds.{GoesTo, World, Agrees, IsPut, Lands, Lays, Leads, blocks_in, role_of};
 
 use crate::lines::Lines;
 use crate::variables::Variables;

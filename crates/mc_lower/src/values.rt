@@ -179,11 +179,7 @@ impl<'a> Builder<'a> {
         ensures leads { OnOk result (Leads (λ w s u. Appends w.graph plain place (λ q. sets (operation_of operation) variable q) s u) self.old self.new) }
     {
         let next = self.next();
-        self.append(
-            Role::Plain,
-            place,
-            operation.sets(variable, next.target()),
-        )?;
+        self.append(Role::Plain, place, operation.sets(variable, next.target()))?;
         Ok(())
     }
 

@@ -1,4 +1,3 @@
-use Rattle.std.proofs.Common.{◌≡◌, ap, refl, ◌∙◌, length}
 use Rattle.mc_lower.proofs.Agreeing.{fewer, no_more, stayed}
 use Rattle.mc_lower.proofs.Waiting.{waits_more}
 use Rattle.mc_lower.proofs.builder.Builder.label.Goals as goal

@@ -1,4 +1,4 @@
-use Rattle.std.proofs.Common.{ap, sym, ◌∙◌}
+use Rattle.std.proofs.Common.{ap}
 use Rattle.mc_flow.specs.declared.instr.Instr.TheVariants.{Skip}
 use Rattle.mc_lowering.specs.Graphs.{point}
 use Rattle.mc_lower.specs.declared.lines.Awaited.{Awaited}

@@ -1,4 +1,3 @@
-use Rattle.std.proofs.Common.{ap, ◌∙◌}
 use Rattle.mc_lower.proofs.Agreeing.{fewer, no_more, stayed}
 use Rattle.mc_lower.proofs.Waiting.{occurs_more}
 use Rattle.mc_lower.proofs.builder.Builder.occur.Goals as goal

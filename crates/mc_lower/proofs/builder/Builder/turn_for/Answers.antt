@@ -1,10 +1,9 @@
 use Rattle.mc_lower.proofs.Readying.{last_under, ready_turn, ready_turn_none, ready_same, ready_two}
 use Rattle.std.proofs.Common.{◌∙◌}
-use Rattle.std.proofs.Common.{ap, ◌∙◌, length, subst, sym}
+use Rattle.std.proofs.Common.{ap, ◌∙◌, subst, sym}
 use Rattle.std.specs.Prelude.{option_map}
 use Rattle.mc_resolved.specs.Views.{head_of, simple_of}
 use Rattle.mc_lowering.specs.Lowering.{Finishes, finishes, finishes_none}
-use Rattle.mc_lower.specs.Left.{TurnsFor}
 use Rattle.mc_lower.specs.Worlds.{stage_of}
 use Rattle.mc_flow.specs.declared.instr.Instr.TheVariants.{Skip}
 use Rattle.mc_lowering.specs.Graphs.{point}
