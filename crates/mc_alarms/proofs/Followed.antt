@@ -1,7 +1,7 @@
 -- Chains that are followed line by line.
 use Rattle.std.proofs.Common.{◌≡◌, ◌++◌, ◌∷◌, ◌∙◌, ◌+◌, ◌≤◌, ◌⊎◌, inl, inr, ℕ, List, [], Bool, true, false, Option, Some, None, Contains, option_map, refl, sym, ap, subst, length, append_assoc, arith}
 use Rattle.std.specs.Prelude.{Err, IfOk, Ok, Result, is_some}
-use Rattle.std.specs.List.{AllByRecursion}
+use Rattle.std.specs.List.{AllByRecursion, list_all}
 use Rattle.std.proofs.lemmas.List.{append-nil}
 use Rattle.mc_cert.specs.declared.line.Line.{Line}
 use Rattle.mc_cert.specs.declared.line.Line.TheVariants as line
@@ -14,7 +14,7 @@ use Rattle.mc_state.specs.declared.line.Version.TheVariants.{One}
 use Rattle.mc_state.specs.declared.raw_state.RawState.{RawState}
 use Rattle.mc_kernel.specs.Branches.{IsPlain, MayStep, Path, Setting, roots}
 use Rattle.mc_kernel.specs.Instances.{IsInstance, IsStuck}
-use Rattle.mc_kernel.specs.Judges.{Knowledge}
+use Rattle.mc_kernel.specs.Judges.{Knowledge, is_cut}
 use Rattle.mc_kernel.specs.Readings.{Reading, Stage, begun, behind, cutting, finished, first_branch, heading, has_no_branch, marked, ready, reading_line, ruled, ruling, setting_of}
 use Rattle.mc_base.specs.declared.ids.PointId.{PointId}
 use Rattle.mc_premises.specs.Known.{Test, Tells}
@@ -300,6 +300,24 @@ module _ (laws : DocumentsAreFollowed) (flow : Flow) (defs : List Def) (valid : 
         counted = refl;
       }
 
+  -- where there are no loops, it is never refused
+  pub pass_is_taken : (old : Position) (premise : ℕ) → flow.heads ≡ [] → old ≡ position_of flow defs (begun Chain) → IsRefusedHere line.Pass old premise → ⊥
+  pass_is_taken old premise none is refused =
+      let one = laws.judges flow defs valid in
+      let k = one.0 in
+      let well = one.1 in
+      let pf : old.flow ≡ flow = ap (λ (p : Position). p.flow) is in
+      let pd : old.defs ≡ defs = ap (λ (p : Position). p.defs) is in
+      let stand : Stands k well (begun Chain) old =
+      subst (λ (p : Position). Stands k well (begun Chain) p) (sym is) (record { judge = one.2; kept = laws.begun flow defs Chain; here = refl }) in
+      let no_line : reading_line k well flow defs line.Pass (begun Chain) ≡ Err premise =
+      move (λ (f : Flow) (d : List Def). reading_line k well f d line.Pass (begun Chain) ≡ Err premise) old.flow flow old.defs defs pf pd (refused k well (begun Chain) stand) in
+      let new : Reading = ruled (begun Chain) (roots flow []) in
+      let yes : ◌≡◌ {A = Judged Reading} (need 1 (list_all (is_cut []) flow.heads) (Ok new)) (Ok new) =
+      ap (λ (heads : List PointId). need 1 (list_all (is_cut []) heads) (Ok new)) none in
+      let clash : ◌≡◌ {A = Judged Reading} (Ok new) (Err premise) = sym yes ∙ no_line in
+      cc clash
+
   -- ---- the end
 
   record IsEnded (last next : Reading) : Type 0 where
@@ -321,6 +339,7 @@ module _ (laws : DocumentsAreFollowed) (flow : Flow) (defs : List Def) (valid : 
     pub chain : IsShortChain flow defs (lines ++ line.End ∷ []) stuck
     pub alarms : AreAlarmLines flow defs stuck text
     pub counted : new.stuck ≡ length stuck
+    pub ended : new.stage ≡ finished
 
   pub ends : (lines : List Line) (old new : Position) (text : List ℕ) (ended : ℕ) → IsFollowed flow defs lines old text ended
       → IsApplied line.End old new → HasEnded lines text new
@@ -336,7 +355,28 @@ module _ (laws : DocumentsAreFollowed) (flow : Flow) (defs : List Def) (valid : 
             (record { last = m.next; read = m.read; ended = i.stage; stuck_are = i.same }));
         alarms = r.alarms;
         counted = sym (ap (λ (q : Position). q.stuck) m.stands.here) ∙ ap (λ (bs : List Path). length bs) i.same;
+        ended = sym (ap (λ (q : Position). q.stage) m.stands.here) ∙ i.stage;
       }
+
+  -- where no branch is open, it is never refused
+  pub end_is_taken : (lines : List Line) (old : Position) (text : List ℕ) (ended premise : ℕ) → IsFollowed flow defs lines old text ended
+      → old.branches ≡ [] → IsRefusedHere line.End old premise → ⊥
+  end_is_taken lines old text ended premise f none refused =
+      let one = laws.judges flow defs valid in
+      let k = one.0 in
+      let well = one.1 in
+      let r = f.reads k well one.2 in
+      let last = r.last in
+      let new : Reading = record last { stage = finished } in
+      let no_line : reading_line k well flow defs line.End last ≡ Err premise =
+      move (λ (h : Flow) (d : List Def). reading_line k well h d line.End last ≡ Err premise) old.flow flow old.defs defs f.of_flow f.of_defs (refused k well last r.stands) in
+      let begun_still : reading_line k well flow defs line.End last ≡ need 3 (has_no_branch last.branches) (Ok new) =
+      ap (λ (s : Stage). have 1 (ready flow last s) (λ (t : Reading). need 3 (has_no_branch t.branches) (Ok (record t { stage = finished }))))
+          (stage_is k well one.2 last old r.stands f.begun) in
+      let none_open : ◌≡◌ {A = Judged Reading} (need 3 (has_no_branch last.branches) (Ok new)) (Ok new) =
+      ap (λ (bs : List Path). need 3 (has_no_branch bs) (Ok new)) (ap (λ (q : Position). q.branches) r.stands.here ∙ none) in
+      let clash : ◌≡◌ {A = Judged Reading} (Ok new) (Err premise) = sym (begun_still ∙ none_open) ∙ no_line in
+      cc clash
 
 -- the lines so far are all read
 pub is_front : (flow : Flow) (defs : List Def) (lines : List Line) (p : Position) (text : List ℕ) (ended : ℕ) → IsFollowed flow defs lines p text ended → IsFront flow defs lines

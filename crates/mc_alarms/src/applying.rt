@@ -1,5 +1,5 @@
 // Lines that are added to a chain.
-ghost use Rattle.std.specs.Prelude.{◌≡◌, ◌+◌, IfOk, OnOk, true, false};
+ghost use Rattle.std.specs.Prelude.{◌≡◌, ◌+◌, [], IfOk, OnOk, true, false};
 ghost use Rattle.mc_alarms.specs.declared.walk.Turn.TheVariants.{Lost};
 ghost use Rattle.mc_alarms.specs.Walks.{IsAtCode, IsMet, IsNowhere, IsWalk, MayApply, goes_on};
 ghost use Rattle.mc_flow.specs.Valid.{IsValid};
@@ -29,6 +29,7 @@ impl<'f> Walk<'f> {
     /// A chain of which the pass is begun.
     pub fn start(alloc: Global, flow: &'f Flow, defs: &'f Defs) -> Result<Walk<'f>, NoMemory>
         requires valid { IsValid flow.now defs.now }
+        requires no_loops { flow.now.heads ≡ [] }
         ensures { IfOk result (IsWalk flow.now defs.now) }
     {
         // For the proof alone: documents are read line by line.
@@ -46,7 +47,9 @@ impl<'f> Walk<'f> {
                 text: Vec::new(alloc),
                 ended: 0,
             }),
-            Err(_) => Err(AllocError),
+            // Where no loop needs a cut, the pass may begin.
+            Err(ApplyFault::Premise(_)) => unreachable!(),
+            Err(ApplyFault::NoMemory) => Err(AllocError),
         }
     }
 

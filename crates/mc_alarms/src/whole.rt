@@ -53,7 +53,8 @@ impl Walk<'_> {
                         count: complete.alarms,
                     }))
                 }
-                Err(_) => Err(AllocError),
+                // A document that took its end has ended.
+                Err(_) => unreachable!(),
             },
             Err(_) => Err(AllocError),
         }

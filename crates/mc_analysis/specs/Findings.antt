@@ -1,6 +1,7 @@
 -- What is found of a flow graph.
-use Rattle.std.specs.Prelude.{◌≡◌, ◌<◌, ℕ, List, length}
+use Rattle.std.specs.Prelude.{◌≡◌, ◌<◌, ℕ, Bool, true, false, List, length}
 use Rattle.mc_cert.specs.declared.line.Line.{Line}
+use Rattle.mc_cert.specs.declared.line.Line.TheVariants as line
 use Rattle.mc_cert.specs.Lines.{lines_of}
 use Rattle.mc_defs.specs.declared.rules.Def.{Def}
 use Rattle.mc_flow.specs.declared.graph.Flow.{Flow}
@@ -38,6 +39,12 @@ pub record HasTooManyPaths (flow : Flow) (defs : List Def) (document : List ℕ)
   pub spelled : SpellAll (lines_of document) lines
   pub front : IsFront flow defs lines
   pub many : 65536 < ended_by lines
+
+-- a certificate has a line of a chain of one pass too, if it is neither the header nor the pass
+abbrev pub stays : Line → Bool
+stays (line.Header version form) = false
+stays line.Pass = false
+stays other = true
 
 -- what is found; a search may give up
 abbrev pub IsAnalysis : Flow → List Def → Analysis → Type 0

@@ -1,16 +1,17 @@
 // How a flow graph is analysed.
-ghost use Rattle.std.specs.Prelude.{◌≡◌, ◌<◌, [], IfOk, length};
+ghost use Rattle.std.specs.Prelude.{◌≡◌, ◌<◌, List, [], IfOk, length};
 ghost use Rattle.mc_alarms.specs.Outcomes.{IsFront, IsWhole};
 ghost use Rattle.mc_alarms.specs.Walks.{ended_by};
+ghost use Rattle.mc_defs.specs.declared.rules.Def.{Def};
 ghost use Rattle.mc_flow.specs.Valid.{IsValid};
 ghost use Rattle.mc_kernel.specs.Certificates.{IsValidCertificate};
-ghost use Rattle.mc_analysis.specs.Findings.{HasAlarms, HasTooManyPaths, IsAnalysis, IsProved};
+ghost use Rattle.mc_reading.specs.Documents.{IsShortChain};
+ghost use Rattle.mc_analysis.specs.Findings.{HasAlarms, HasTooManyPaths, IsAnalysis, IsProved, stays};
 
 use crate::{Analysis, Findings};
 use mc_alarms::{Document, Outcome, alarms};
 use mc_base::NoMemory;
 use mc_cert::{Form, Line, Version};
-use mc_certified::is_certificate;
 use mc_find::{Limits, find};
 use mc_flow::{Defs, Flow};
 use mc_report::certificate_report;
@@ -53,31 +54,40 @@ fn crowded(alloc: Global, flow: &Flow, defs: &Defs, lines: &[Line]) -> Result<Ve
     Ok(text)
 }
 
-// The lines of a chain without cuts as those of a certificate.
-fn certified(alloc: Global, lines: Vec<Line>) -> Result<Vec<Line>, NoMemory> {
+/// Whether a certificate has a line of a chain of one pass too.
+fn stays(line: &Line) -> bool
+    ensures { result ≡ stays line.now }
+{
+    match line {
+        Line::Header(_, _) => false,
+        Line::Pass => false,
+        _ => true,
+    }
+}
+
+// The lines of a chain of one pass as those of a certificate, which they are where no branch is stuck.
+fn certified(alloc: Global, lines: Vec<Line>) -> Result<Vec<Line>, NoMemory>
+    ensures { IfOk result (λ list. (flow : Flow) (defs : List Def) → IsShortChain flow defs lines.items []
+        → IsValidCertificate flow defs list.items) }
+{
     let mut list = Vec::with_capacity(alloc, lines.len())?;
     list.push(Line::Header(Version::One, Form::Certificate))?;
     for line in lines {
-        match line {
-            Line::Header(_, _) => {}
-            Line::Pass => {}
-            other => list.push(other)?,
+        if stays(&line) {
+            list.push(line)?;
         }
     }
     Ok(list)
 }
 
 // What a chain without alarms shows: the same lines make a certificate.
-fn calm(alloc: Global, flow: &Flow, defs: &Defs, chain: Document) -> Result<Analysis, NoMemory>
-    requires { IsValid flow.now defs.now }
-    ensures { IfOk result (IsAnalysis flow.now defs.now) }
+fn calm(alloc: Global, flow: &Flow, defs: &Defs, chain: Document) -> Result<Findings, NoMemory>
+    requires chain { IsWhole flow.now defs.now chain }
+    requires none { chain.count ≡ 0 }
+    ensures { IfOk result (IsProved flow.now defs.now) }
 {
     let lines = certified(alloc, chain.lines)?;
-    if !is_certificate(alloc, flow, defs, lines.as_slice())? {
-        return Ok(Analysis::Unknown);
-    }
-    let findings = proved(alloc, flow, defs, lines.as_slice())?;
-    Ok(Analysis::Safe(findings))
+    proved(alloc, flow, defs, lines.as_slice())
 }
 
 // Where there are no loops, every branch is followed to its end.
@@ -89,7 +99,8 @@ fn without_loops(alloc: Global, flow: &Flow, defs: &Defs) -> Result<Analysis, No
     match alarms(alloc, flow, defs)? {
         Outcome::Whole(chain) => {
             if chain.count == 0 {
-                return calm(alloc, flow, defs, chain);
+                let findings = calm(alloc, flow, defs, chain)?;
+                return Ok(Analysis::Safe(findings));
             }
             let count = chain.count;
             let findings = alarming(alloc, flow, defs, chain)?;

@@ -1,9 +1,12 @@
-use Rattle.std.proofs.Common.{◌∷◌, ◌++◌, ◌∙◌, List, [], ap}
+use Rattle.std.proofs.Common.{◌∷◌, ◌++◌, ◌∙◌, List, [], ap, subst}
+use Rattle.std.specs.Prelude.{Err}
 use Rattle.mc_cert.specs.declared.line.Line.{Line}
 use Rattle.mc_cert.specs.declared.line.Line.TheVariants.{Header, Pass}
+use Rattle.mc_proof.specs.declared.fault.ApplyFault.{ApplyFault}
+use Rattle.mc_proof.specs.Positions.{Applies}
 use Rattle.mc_state.specs.declared.line.Form.TheVariants.{Chain}
 use Rattle.mc_state.specs.declared.line.Version.TheVariants.{One}
-use Rattle.mc_alarms.proofs.Followed.{same_followed, starts}
+use Rattle.mc_alarms.proofs.Followed.{pass_is_taken, same_followed, starts}
 use Rattle.mc_alarms.proofs.walk.Walk.start.Goals as goal
 
 pub returns-in-Ok : goal.returns-in-Ok
@@ -15,3 +18,8 @@ returns-in-Ok c =
     ∙ ap (λ (ls : List Line). ls ++ Pass ∷ []) (c.in_ok-push.ensures.items ∙ ap (λ (ls : List Line). ls ++ Header One Chain ∷ []) c.new-lines.ensures.items))
     c.new.ensures.items
     (starts c.documents_are_followed.ensures flow defs c.requires.valid c.start-proof.result c.apply.new.self c.start-proof.ensures c.in-Ok.ensures)
+
+pub unreachable-requires : goal.unreachable-requires
+unreachable-requires c =
+    let told = subst (λ (f : ApplyFault). Applies Pass c.start-proof.result c.apply.new.self (Err f)) c.in-Err-Premise.field-0-is c.in-Err-Premise.ensures in
+    pass_is_taken c.documents_are_followed.ensures c.args.flow.now c.args.defs.now c.requires.valid c.start-proof.result _ c.requires.no_loops c.start-proof.ensures told.0
