@@ -27,9 +27,6 @@ use Rattle.mc_analysis.specs.Findings.{stays}
 abbrev opened : Path → Path
 opened b = record b { closing = false }
 
-cons_same : {A : Type 0} (x : A) (xs ys : List A) → xs ≡ ys → x ∷ xs ≡ x ∷ ys
-cons_same x xs ys e = ap (λ (zs : List _). x ∷ zs) e
-
 opened_to : (p : PointId) (s : State) (goal : Option Goal) → opened (path_to p s goal) ≡ path_to p s goal
 opened_to p s None = refl
 opened_to p s (Some goal) = refl

@@ -1,7 +1,5 @@
-use Rattle.std.proofs.Common.{rules, ◌≡◌, ◌∙◌, List, [], subst, sym}
+use Rattle.std.proofs.Common.{rules, ◌≡◌, ◌∙◌, [], subst, sym}
 use Rattle.std.proofs.lemmas.List.{nil_from_length}
-use Rattle.mc_cert.specs.declared.line.Line.{Line}
-use Rattle.mc_kernel.specs.Branches.{Path}
 use Rattle.mc_kernel.specs.Certificates.{IsValidCertificate}
 use Rattle.mc_reading.specs.Documents.{IsShortChain}
 use Rattle.mc_analysis.proofs.finding.calm.Goals as goal
