@@ -372,7 +372,7 @@ module _ (laws : DocumentsAreFollowed) (flow : Flow) (defs : List Def) (valid : 
       move (λ (h : Flow) (d : List Def). reading_line k well h d line.End last ≡ Err premise) old.flow flow old.defs defs f.of_flow f.of_defs (refused k well last r.stands) in
       let begun_still : reading_line k well flow defs line.End last ≡ need 3 (has_no_branch last.branches) (Ok new) =
       ap (λ (s : Stage). have 1 (ready flow last s) (λ (t : Reading). need 3 (has_no_branch t.branches) (Ok (record t { stage = finished }))))
-          (stage_is k well one.2 last old r.stands f.begun) in
+      (stage_is k well one.2 last old r.stands f.begun) in
       let none_open : ◌≡◌ {A = Judged Reading} (need 3 (has_no_branch last.branches) (Ok new)) (Ok new) =
       ap (λ (bs : List Path). need 3 (has_no_branch bs) (Ok new)) (ap (λ (q : Position). q.branches) r.stands.here ∙ none) in
       let clash : ◌≡◌ {A = Judged Reading} (Ok new) (Err premise) = sym (begun_still ∙ none_open) ∙ no_line in

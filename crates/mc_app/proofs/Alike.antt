@@ -218,7 +218,7 @@ alike_found laws before after words more a c found other asks too names still wh
     let definitions_are : b.definitions.now ≡ a.definitions.now = one_word analyse_app words _ b.definitions.now a.definitions.now why.1.definitions asks.definitions in
     let start_is : b.start.now ≡ c.start.now = one_word analyse_app words _ b.start.now a.start.now why.1.start asks.start ∙ sym names.start in
     let here = given before (sources_of (request.Analyse b)) unit defs c.start.now a.program.now a.definitions.now still.text still.definitions program_is definitions_are start_is
-        still.program_before still.definitions_before why.2.2 in
+    still.program_before still.definitions_before why.2.2 in
     answers laws after more c too still.text still.definitions (ap after names.program ∙ still.program_after) (ap after names.definitions ∙ still.definitions_after) unit defs here what.0
     (subst (λ (s : List ℕ). IsGraphOf s unit defs what.0) start_is what.1) what.2 found what.3 good left other then
 
