@@ -14,4 +14,4 @@ unreachable-requires c =
     let old = c.args.self in
     let ended = ends c.documents_are_followed.ensures c.args.flow.now c.args.defs.now c.requires.followed.valid old.lines.items old.proof c.apply.new.self old.text.items old.ended
     c.requires.followed c.in-Ok.ensures in
-    c.in-Ok-finish-2.ensures.err.1 ended.ended
+    c.in-Err-finish.ensures.err.1 ended.ended
