@@ -118,12 +118,12 @@ verdict_is : (flow : Flow) (defs : List Def) (found : Analysis) (document : List
     → Some document ≡ analysed_document (results.Found found) → Tells flow defs document v → checked_status (Judged v) ≡ analysed_status (results.Found found)
 verdict_is flow defs (analysis.Safe f) document v proved good is tells =
     let document_is : document ≡ f.document.items = cc in
-    let certificate = record { lines = proved.lines; spelled = proved.spelled; valid = proved.valid } in
+    let certificate : IsCertificate flow defs f.document.items = record { lines = proved.lines; spelled = proved.spelled; valid = proved.valid } in
     let safe = tells.safe.1 (subst (λ (t : List ℕ). IsCertificate flow defs t) (sym document_is) certificate) in
     ap (λ (x : Verdict). checked_status (Judged x)) safe
 verdict_is flow defs (analysis.Alarms f count) document v found good is tells =
     let document_is : document ≡ f.document.items = cc in
-    let chain = record { lines = found.lines; spelled = found.spelled; short = found.chain } in
+    let chain : IsChain flow defs f.document.items found.stuck = record { lines = found.lines; spelled = found.spelled; short = found.chain } in
     let alarms = (tells.alarms count).1 (found.stuck, subst (λ (t : List ℕ). IsChain flow defs t found.stuck) (sym document_is) chain, found.counted, found.some) in
     ap (λ (x : Verdict). checked_status (Judged x)) alarms
 verdict_is flow defs (analysis.Paths text) document v found (inl e) is tells = cc

@@ -6,6 +6,6 @@ returns c =
     alike (record {
       read_once = c.texts_are_read_once.ensures;
       not_refused = c.programs_are_not_refused.ensures;
-      defined_once = c.definitions_are_read_once.ensures;
+      defined_once = c.texts_are_read_once-2.ensures;
       one_graph = c.flow_graphs_are_one.ensures;
     })
