@@ -1,3 +1,6 @@
 pub mod Written
 pub mod Edges
 pub mod Folding
+pub mod Naming
+pub mod Forgetting
+pub mod Kinded
