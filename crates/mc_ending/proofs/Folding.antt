@@ -243,8 +243,7 @@ module _ (defs : List Def) (fit : IsDefs defs) (before s : State) (sound : IsFal
   calls_go (call ∷ calls) [] h = absurd h
   calls_go (call ∷ calls) (id ∷ ids) h =
       let rest = calls_go calls ids h.1 in
-      let m = h.0 in
-      (
+      let m = h.0 in (
         Ind m.node call.pred m.nodes ∷ rest.0,
         (m.there, rest.1),
         ((refl, name_meets call.at (term_of by.names call.at) m.node refl m.same_at, args_meet call.args m.nodes m.same_args), rest.2),

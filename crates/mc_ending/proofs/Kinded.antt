@@ -1,6 +1,6 @@
 -- The kinds of the terms that the names of a rule stand for.
 use Rattle.std.proofs.Common.{◌≡◌, inl, inr, ◌<◌, ◌+◌, ℕ, zero, suc, Option, Some, None, List, [], ◌∷◌, ◌++◌, length, map, take, drop, slice_get, Bool, true, false, refl, sym, ◌∙◌, ap, subst, arith, append_assoc, length-append, eqb-true}
-use Rattle.std.specs.Prelude.{◌==◌, All, option_map}
+use Rattle.std.specs.Prelude.{◌==◌, All, option_map, if◌then◌else◌}
 use Rattle.std.specs.List.{AllByRecursion}
 use Rattle.std.proofs.lemmas.List.{length-map}
 use Rattle.std.proofs.lemmas.Option.{slice_get_within}
@@ -10,6 +10,7 @@ use Rattle.mc_base.specs.declared.ids.PredId.{PredId}
 use Rattle.mc_base.specs.declared.ids.StructId.{StructId}
 use Rattle.mc_base.specs.declared.plain.Kind.{Kind}
 use Rattle.mc_base.specs.declared.plain.Kind.TheVariants.{Ptr}
+use Rattle.mc_base.specs.declared.plain.VarInfo.{VarInfo}
 use Rattle.mc_defs.specs.declared.rules.Call.{Call}
 use Rattle.mc_defs.specs.declared.rules.Def.{Def}
 use Rattle.mc_defs.specs.declared.rules.DefAtom.{DefAtom}
@@ -129,5 +130,85 @@ module _ (kinds : Kinds) where
   call_kinded defs ks names call all f = (
     all call.at Ptr f.pointer,
     λ def d. (let two : Some f.def ≡ Some def = sym f.defined ∙ d in let same : f.def ≡ def = cc two in
-    subst (λ (z : Def). HaveTermKinds kinds z.params (map (term_of names) call.args)) same (args_known ks names call.args f.def.params all f.args)),
+        subst (λ (z : Def). HaveTermKinds kinds z.params (map (term_of names) call.args)) same (args_known ks names call.args f.def.params all f.args)),
   )
+
+-- ---- the names of a rule
+
+edge_has : (P : Edge → Type 0) (es : Edges) (id : EdgeId) (e : Edge) → AllByRecursion (λ x. P x.1) es → edge_with es id ≡ Some e → P e
+edge_has P [] id e a is = absurd (cc is)
+edge_has P (x ∷ es) id e a is = at (x.0.0 == id.0) (edge_has P es id e a.1) is
+  where
+    at : (b : Bool) → (edge_with es id ≡ Some e → P e) → (if b then Some x.1 else edge_with es id) ≡ Some e → P e
+    at true rest is = let same : x.1 ≡ e = cc is in subst P same a.0
+    at false rest is = rest is
+
+module _ (structs : List StructInfo) (defs : List Def) (vars : List VarInfo) (fit : DefsFit structs defs) (s : State) (made : IsWellMade defs vars structs s) where
+  -- the contents of a block that is there
+  pub contents_kinded : (params : List Kind) (rule : Rule) → RuleFitsStructs structs defs params rule → (shape : StructId) → rule.block ≡ Some shape → (id : EdgeId) (b : NodeId) (contents : List NodeId)
+      → edge_with s.graph.edges id ≡ Some (Block b shape (map Some contents)) → HaveTermKinds s.kinds (content_kinds params rule) (map plain contents)
+  contents_kinded params rule fits shape is id b contents there =
+      let block = edge_has (EdgeFitsStructs structs s.kinds) s.graph.edges id (Block b shape (map Some contents)) made.fits_program.blocks_fit there in
+      let kinds : kinds_of structs (Some shape) ≡ Some (content_kinds params rule) = ap (kinds_of structs) (sym is) ∙ fits.block in
+      let same : Some (map (λ f. f.kind) block.0.fields) ≡ Some (content_kinds params rule) = sym (ap (option_map (λ (info : StructInfo). map (λ f. f.kind) info.fields)) block.1) ∙ kinds in
+      let one : map (λ f. f.kind) block.0.fields ≡ content_kinds params rule = cc same in
+      fields_kinds s.kinds (content_kinds params rule) contents (subst (λ (ks : List Kind). MayHaveKinds s.kinds ks (map Some contents)) one block.2)
+
+  pub no_contents_kinded : (params : List Kind) (rule : Rule) → RuleFitsStructs structs defs params rule → rule.block ≡ None → HaveTermKinds s.kinds (content_kinds params rule) []
+  no_contents_kinded params rule fits is =
+      let same : Some [] ≡ Some (content_kinds params rule) = ap (kinds_of structs) (sym is) ∙ fits.block in
+      let one : [] ≡ content_kinds params rule = cc same in
+      subst (λ (ks : List Kind). HaveTermKinds s.kinds ks []) one tt
+
+  -- what a goal asks for
+  pub goal_kinded : (pred : PredId) (at : NodeId) (args : List NodeId) → HasKind s.kinds Ptr at → ArgsFit defs s.kinds pred args → IsKinded defs s.kinds pred (plain at) (map plain args)
+  goal_kinded pred at args has f = (
+    has,
+    λ def d. (let two : Some f.0 ≡ Some def = sym f.1 ∙ d in let same : f.0 ≡ def = cc two in
+        subst (λ (z : Def). HaveTermKinds s.kinds z.params (map plain args)) same (plain_kinds s.kinds f.0.params args f.2)),
+  )
+
+  -- what is asked for at the end of a segment
+  pub end_kinded : (id : EdgeId) (at : NodeId) (args : List NodeId) (pred : PredId) (stop : NodeId) (ends : List NodeId) → edge_with s.graph.edges id ≡ Some (Seg at args pred stop ends)
+      → IsKinded defs s.kinds pred (plain stop) (map plain ends)
+  end_kinded id at args pred stop ends there =
+      let f = edge_has (EdgeFitsDefs defs s.kinds) s.graph.edges id (Seg at args pred stop ends) made.fits_defs there in
+      goal_kinded pred stop ends f.2 f.3
+
+  module _ (pred : PredId) (at : Term) (args : List Term) (asked : IsKinded defs s.kinds pred at args) (by : RuleTerms defs s pred at args)
+      (contents : HaveTermKinds s.kinds (content_kinds by.def.params by.rule) (map plain by.contents)) where
+    fits : RuleFitsStructs structs defs by.def.params by.rule
+    fits = rule_fits_structs structs defs fit pred.0 by.def by.defined by.place by.rule by.listed
+
+    front_kinded : HaveTermKinds s.kinds (take (length (at ∷ args)) by.rule.names) (at ∷ args)
+    front_kinded =
+        let count : suc (length by.def.params) ≡ length (at ∷ args) = ap suc (sym by.count) in
+        let own : HaveTermKinds s.kinds (Ptr ∷ by.def.params) (at ∷ args) = (asked.0, asked.1 by.def by.defined) in
+        subst (λ (ks : List Kind). HaveTermKinds s.kinds ks (at ∷ args)) (sym fits.fits.names.front ∙ ap (λ (n : ℕ). take n by.rule.names) count) own
+
+    back_kinded : HaveTermKinds s.kinds (take (length (map plain by.contents)) (drop (length (at ∷ args)) by.rule.names)) (map plain by.contents)
+    back_kinded =
+        let first : suc (length by.def.params) ≡ length (at ∷ args) = ap suc (sym by.count) in
+        let count : length by.rule.contents ≡ length (map plain by.contents) = sym (length-map by.contents plain ∙ by.contents_count) in
+        subst (λ (ks : List Kind). HaveTermKinds s.kinds ks (map plain by.contents))
+        (ap (λ (n : ℕ). take n (drop (suc (length by.def.params)) by.rule.names)) count ∙ ap (λ (n : ℕ). take (length (map plain by.contents)) (drop n by.rule.names)) first)
+        contents
+
+    abbrev first : List Term
+    first = (at ∷ args) ++ map plain by.contents
+
+    spelled : by.names ≡ first ++ by.fixed
+    spelled = by.front ∙ sym (append_assoc (at ∷ args) (map plain by.contents) by.fixed)
+
+    pub names_known : AllKnown s.kinds by.rule.names by.names
+    names_known i kind e =
+        let whole = both_kinds s.kinds by.rule.names (at ∷ args) (map plain by.contents) front_kinded back_kinded in
+        let below = front_known s.kinds by.rule.names first by.fixed whole in
+        let mine = subst (λ (ts : List Term). KnownBelow s.kinds by.rule.names ts (length first)) (sym spelled) below in
+        let a : length first ≡ length (at ∷ args) + length (map plain by.contents) = length-append (at ∷ args) (map plain by.contents) in
+        let b : length (map plain by.contents) ≡ length by.rule.contents = length-map by.contents plain ∙ by.contents_count in
+        let c : length (at ∷ args) ≡ suc (length by.def.params) = ap suc by.count in
+        let count : length first ≡ suc (length by.def.params) + length by.rule.contents = omega arith in
+        let all = fixed_known s.kinds by.rule.names by.names (suc (length by.def.params) + length by.rule.contents) by.rule.atoms fits.fits.names.atoms by.sums
+        (subst (λ (n : ℕ). KnownBelow s.kinds by.rule.names by.names n) count mine) in
+        all i kind (slice_get_within by.rule.names i kind e) e

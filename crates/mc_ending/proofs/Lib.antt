@@ -4,3 +4,4 @@ pub mod Folding
 pub mod Naming
 pub mod Forgetting
 pub mod Kinded
+pub mod Ends

@@ -73,8 +73,8 @@ pub spare_named : (s : State) (node : NodeId) (add : ℤ) (kind : Kind) (t : Ter
 spare_named s node add kind t same_node same_add bounded = (
   (new_nodes_have_kinds s (kind ∷ []) bounded).0.0,
   subst (λ (n : NodeId). Written (spare s node add kind) (Eq (next_node s) n t.add)) (sym same_node)
-  (subst (λ (z : ℤ). Written (spare s node add kind) (Eq (next_node s) node z)) (sym same_add)
-  (base (known.written (length s.atoms) (last_there s.atoms (Eq (next_node s) node add))))),
+      (subst (λ (z : ℤ). Written (spare s node add kind) (Eq (next_node s) node z)) (sym same_add)
+      (base (known.written (length s.atoms) (last_there s.atoms (Eq (next_node s) node add))))),
 )
 
 -- ---- equal terms

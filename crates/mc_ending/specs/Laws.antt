@@ -6,7 +6,6 @@ use Rattle.mc_defs.specs.Conditions.{DefsFit}
 use Rattle.mc_defs.specs.declared.rules.Def.{Def}
 use Rattle.mc_defs.specs.declared.shapes.StructInfo.{StructInfo}
 use Rattle.mc_graph.specs.Graph.{Edges}
-use Rattle.mc_premises.specs.Known.{Test, Tells}
 use Rattle.mc_pure.specs.Pure.{HasKind}
 use Rattle.mc_state.specs.declared.goal.Goal.{Goal}
 use Rattle.mc_state.specs.Covers.{Cover}
@@ -15,12 +14,11 @@ use Rattle.mc_state.specs.State.{State}
 use Rattle.mc_state.specs.Terms.{plain}
 use Rattle.mc_ending.specs.Ending.{CanEnd}
 
--- where a goal that fits has a cover in a well-made state, lines of a side branch lead to its end: of well-made states it
--- is known what is derived
+-- where a goal that fits has a cover in a well-made state, lines of a side branch lead to its end
 abbrev pub SidesCanEnd : Type 0
 SidesCanEnd =
     (structs : List StructInfo) (defs : List Def) (vars : List VarInfo)
-    → DefsFit structs defs → ((t : State) → IsWellMade defs vars structs t → (know : Test) × Tells know t)
+    → DefsFit structs defs
     → (s : State) (goal : Goal) (left : Edges)
     → IsWellMade defs vars structs s → HasKind s.kinds Ptr goal.at → ArgsFit defs s.kinds goal.pred goal.args
     → Cover defs s goal.pred (plain goal.at) (map plain goal.args) s.graph.edges left → CanEnd defs goal s

@@ -1,4 +1,6 @@
 //! Side branches can be ended: where a predicate has a cover, lines make an Ind of it.
 #![tactic(auto)]
 
-pub fn nothing() {}
+mod laws;
+
+pub use laws::sides_can_end;
