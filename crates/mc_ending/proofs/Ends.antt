@@ -49,18 +49,18 @@ use Rattle.mc_ending.proofs.Written.{all_same_grown, grown_on, later_on, named_g
 
 -- ---- edges that are there or not
 
-there_or : (o : Option Edge) → (o ≡ None) ⊎ ((e : Edge) × (o ≡ Some e))
+pub there_or : (o : Option Edge) → (o ≡ None) ⊎ ((e : Edge) × (o ≡ Some e))
 there_or None = inl refl
 there_or (Some e) = inr (e, refl)
 
-clash : (o : Option Edge) (e : Edge) → o ≡ None → o ≡ Some e → ⊥
+pub clash : (o : Option Edge) (e : Edge) → o ≡ None → o ≡ Some e → ⊥
 clash o e none some = let two : None ≡ Some e = sym none ∙ some in cc two
 
-same_id : (a b : EdgeId) → (a.0 == b.0) ≡ true → a ≡ b
+pub same_id : (a b : EdgeId) → (a.0 == b.0) ≡ true → a ≡ b
 same_id a b e = ap (λ (n : ℕ). record { 0 = n }) (eqb-true a.0 b.0 e)
 
 -- an id is none of those of which something holds that does not hold of it
-among_none : (P : EdgeId → Type 0) (id : EdgeId) (ids : List EdgeId) → (P id → ⊥) → AllByRecursion P ids → is_among id ids ≡ false
+pub among_none : (P : EdgeId → Type 0) (id : EdgeId) (ids : List EdgeId) → (P id → ⊥) → AllByRecursion P ids → is_among id ids ≡ false
 among_none P id [] never all = refl
 among_none P id (other ∷ ids) never all = at (among_none P id ids never all.1) (other.0 == id.0) refl
   where
@@ -68,7 +68,7 @@ among_none P id (other ∷ ids) never all = at (among_none P id ids never all.1)
     at rest true is = absurd (never (subst P (same_id other id is) all.0))
     at rest false is = rest
 
-apart_more : (id : EdgeId) (ids : List EdgeId) → is_among id ids ≡ false → are_distinct ids ≡ true → are_distinct (id ∷ ids) ≡ true
+pub apart_more : (id : EdgeId) (ids : List EdgeId) → is_among id ids ≡ false → are_distinct ids ≡ true → are_distinct (id ∷ ids) ≡ true
 apart_more id ids none distinct = ap (λ (b : Bool). not b && are_distinct ids) none ∙ distinct
 
 -- an edge that is there without another was there
@@ -79,7 +79,7 @@ was_there es high id other e a is = at (other.0 == id.0) refl
     at true same = absurd (clash (edge_with (without es id) other) e (ap (edge_with (without es id)) (same_id other id same) ∙ gone 0 es high id a) is)
     at false differ = sym (kept_other es id other differ) ∙ is
 
-made_grown : (s t : State) → IsGrown s t → (pred : PredId) (at : Term) (args : List Term) (id : EdgeId) (m : IsMadeBy s pred at args id) → edge_with t.graph.edges id ≡ Some (Ind m.node pred m.nodes)
+pub made_grown : (s t : State) → IsGrown s t → (pred : PredId) (at : Term) (args : List Term) (id : EdgeId) (m : IsMadeBy s pred at args id) → edge_with t.graph.edges id ≡ Some (Ind m.node pred m.nodes)
     → IsMadeBy t pred at args id
 made_grown s t g pred at args id m there = record {
   node = m.node;
@@ -89,7 +89,7 @@ made_grown s t g pred at args id m there = record {
   same_args = all_same_grown s t g args (map plain m.nodes) m.same_args;
 }
 
-lie_count : (s : State) (kinds : List Kind) (ts : List Term) → TermsLieIn s kinds ts → length kinds ≡ length ts
+pub lie_count : (s : State) (kinds : List Kind) (ts : List Term) → TermsLieIn s kinds ts → length kinds ≡ length ts
 lie_count s [] [] a = refl
 lie_count s [] (t ∷ ts) a = absurd a
 lie_count s (kind ∷ kinds) [] a = absurd a

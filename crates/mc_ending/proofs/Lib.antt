@@ -5,3 +5,8 @@ pub mod Naming
 pub mod Forgetting
 pub mod Kinded
 pub mod Ends
+pub mod Options
+pub mod Tested
+pub mod Fixed
+pub mod Fitted
+pub mod Machine

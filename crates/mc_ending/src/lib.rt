@@ -2,5 +2,7 @@
 #![tactic(auto)]
 
 mod laws;
+mod met;
 
 pub use laws::sides_can_end;
+pub use met::Met;
