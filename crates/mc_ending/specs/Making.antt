@@ -1,9 +1,11 @@
 -- A predicate is made of the edges of a cover, the marks of the cover from the last one on.
-use Rattle.std.specs.Prelude.{◌≡◌, ◌++◌, List, [], ◌∷◌, true, false, Some, map}
+use Rattle.std.specs.Prelude.{◌≡◌, ◌++◌, List, [], ◌∷◌, true, false, Option, Some, None, map}
 use Rattle.std.specs.List.{AllByRecursion}
 use Rattle.mc_base.specs.declared.ids.EdgeId.{EdgeId}
+use Rattle.mc_base.specs.declared.ids.NodeId.{NodeId}
 use Rattle.mc_defs.specs.declared.rules.Def.{Def}
 use Rattle.mc_graph.specs.declared.edge.Edge.{Edge}
+use Rattle.mc_graph.specs.declared.edge.Edge.TheVariants.{Block, Ind, Seg}
 use Rattle.mc_graph.specs.Graph.{edge_with}
 use Rattle.mc_premises.specs.Known.{Test}
 use Rattle.mc_premises.specs.Named.{are_distinct}
@@ -11,7 +13,7 @@ use Rattle.mc_search.specs.Search.{is_free, uses}
 use Rattle.mc_cover.specs.declared.goals.Goal.{Goal}
 use Rattle.mc_cover.specs.declared.goals.Mark.{Mark}
 use Rattle.mc_cover.specs.declared.goals.Mark.TheVariants.{AtEnd, ByInd, BySeg, ByRule, ByCall}
-use Rattle.mc_cover.specs.Goals.{Setting}
+use Rattle.mc_cover.specs.Goals.{Setting, all_there}
 use Rattle.mc_cover.specs.Marks.{Named, calls_of, fits, rule_at, takes}
 use Rattle.mc_state.specs.declared.terms.Term.{Term}
 use Rattle.mc_state.specs.State.{State}
@@ -59,3 +61,16 @@ pub record IsMaking (know : Test) (defs : List Def) (before : State) (g : Goal) 
   pub apart : are_distinct ids ≡ true
   pub unused : AllByRecursion (λ id. uses takes (marks_of front) id.0 ≡ false) ids
   pub kept : (id : EdgeId) (e : Edge) → uses takes (marks_of front) id.0 ≡ true → edge_with before.graph.edges id ≡ Some e → edge_with s.graph.edges id ≡ Some e
+
+-- the nodes of the fields of a block, where all are known
+abbrev pub fields_of_block : Option Edge → Option (List NodeId)
+fields_of_block None = None
+fields_of_block (Some (Block at shape fields)) = all_there fields
+fields_of_block (Some (Ind at pred args)) = None
+fields_of_block (Some (Seg at args pred «end» ends)) = None
+
+-- marks lead from open goals to an end, behind marks that were taken before, the last one first
+abbrev pub LeadsOn : Setting → List Mark → List Mark → List Goal → Type 0
+LeadsOn w taken [] open_goals = open_goals ≡ []
+LeadsOn w taken (m ∷ ms) [] = ⊥
+LeadsOn w taken (m ∷ ms) (g ∷ gs) = (fits w g m ≡ true) × (is_free takes taken m ≡ true) × LeadsOn w (m ∷ taken) ms (calls_of w g m ++ gs)

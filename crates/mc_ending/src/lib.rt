@@ -3,6 +3,7 @@
 
 mod laws;
 mod met;
+mod names;
 
 pub use laws::sides_can_end;
 pub use met::Met;
