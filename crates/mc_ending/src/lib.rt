@@ -4,6 +4,7 @@
 mod laws;
 mod met;
 mod names;
+mod opening;
 
 pub use laws::sides_can_end;
 pub use met::Met;
