@@ -7,7 +7,7 @@ use crate::orders::{edge_of, line_of, makes_edge};
 use crate::plan::{Ground, Plan, Task, plan_of};
 use crate::terms::{plain, plain_terms};
 use crate::walk::{Turn, Walk};
-use mc_base::{EdgeId, NoMemory};
+use mc_base::{EdgeId, Kind, NoMemory, NodeId};
 use mc_cert::Line;
 use mc_covering::cover;
 use mc_flow::{Defs, Flow};
@@ -66,6 +66,26 @@ impl Walk<'_> {
         }
     }
 
+    /// Writes all that is known on the first branch: a node for zero is named and forgotten, and what stays is written. A
+    /// fold may then take a block of which an atom of a rule above it speaks.
+    fn write_known(&mut self, flow: &Flow, defs: &Defs) -> Result<(), NoMemory>
+        requires followed { IsWalk flow.now defs.now self.old }
+        requires here { IsAtSide self.old.proof }
+        ensures follows { OnOk result (IsWalk flow.now defs.now self.new) }
+    {
+        let Some(branch) = self.proof.current() else {
+            return Ok(());
+        };
+        let node = branch.state.next_node();
+        if !self.apply(flow, defs, Line::L8(NodeId(0), 0, Kind::Ptr))? {
+            return Ok(());
+        }
+        if self.is_at_side() {
+            self.apply(flow, defs, Line::L11(node))?;
+        }
+        Ok(())
+    }
+
     /// Ends the first branch, which is a side branch, by the lines of a cover.
     pub fn end_side(&mut self, flow: &Flow, defs: &Defs) -> Result<Turn, NoMemory>
         requires followed { IsWalk flow.now defs.now self.old }
@@ -73,6 +93,10 @@ impl Walk<'_> {
         ensures follows { OnOk result (IsWalk flow.now defs.now self.new) }
         ensures lost { IfOk result (λ turn. turn ≡ Lost → IsAtSide self.new.proof) }
     {
+        self.write_known(flow, defs)?;
+        if !self.is_at_side() {
+            return Ok(Turn::On);
+        }
         let Some(plan) = self.plan(defs)? else {
             return Ok(Turn::Lost);
         };

@@ -10,3 +10,4 @@ pub mod Tested
 pub mod Fixed
 pub mod Fitted
 pub mod Machine
+pub mod Leading

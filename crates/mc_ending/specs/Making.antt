@@ -74,3 +74,11 @@ abbrev pub LeadsOn : Setting → List Mark → List Mark → List Goal → Type 
 LeadsOn w taken [] open_goals = open_goals ≡ []
 LeadsOn w taken (m ∷ ms) [] = ⊥
 LeadsOn w taken (m ∷ ms) (g ∷ gs) = (fits w g m ≡ true) × (is_free takes taken m ≡ true) × LeadsOn w (m ∷ taken) ms (calls_of w g m ++ gs)
+
+-- no goal has a stop
+abbrev pub HaveNoStop : List Goal → Type 0
+HaveNoStop gs = AllByRecursion (λ h. h.stop ≡ None) gs
+
+-- what a mark leaves is put before what is open, and the names of its rule are these
+abbrev pub IsOpenedBy : Setting → Goal → Mark → List Term → List Goal → List Goal → Type 0
+IsOpenedBy w h m names new old = (new ≡ calls_of w h m ++ old) × AreNamesOf w h m names

@@ -8,3 +8,4 @@ mod opening;
 
 pub use laws::sides_can_end;
 pub use met::Met;
+pub use opening::{all_met, rule_of};
