@@ -6,11 +6,8 @@ mod applying;
 mod following;
 mod laws;
 mod lines;
-mod orders;
 mod outcome;
-mod plan;
 mod sides;
-mod terms;
 mod walk;
 mod whole;
 

@@ -1,0 +1,13 @@
+pub mod Written
+pub mod Edges
+pub mod Folding
+pub mod Naming
+pub mod Forgetting
+pub mod Kinded
+pub mod Ends
+pub mod Options
+pub mod Tested
+pub mod Fixed
+pub mod Fitted
+pub mod Machine
+pub mod Leading

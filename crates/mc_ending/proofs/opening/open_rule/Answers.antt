@@ -1,0 +1,22 @@
+use Rattle.std.proofs.Common.{◌≡◌, ◌++◌, ◌∙◌, List, None, Some, map, option_map, reverse, ap, sym, arith}
+use Rattle.mc_base.specs.declared.ids.NodeId.{NodeId}
+use Rattle.mc_cover.specs.Goals.{contents_by}
+use Rattle.mc_cover.specs.Marks.{goal_of, names_at}
+use Rattle.mc_ending.specs.Making.{setting_in}
+use Rattle.mc_ending.proofs.Leading.{rule_opened}
+use Rattle.mc_ending.proofs.opening.open_rule.Goals as goal
+
+pub returns : goal.returns
+returns c = λ know f.
+    let r = c.rule_of.ensures.there c.in-Some.rule c.in-Some.is in
+    let rule = c.in-Some.rule.now in
+    let h = c.args.goal.now in
+    let pushed = c.in_ok-push_calls.ensures in
+    let value = c.deref.ensures.value in
+    let slice = c.as_slice.ensures in
+    let e : reverse c.push_calls.new.open.items ≡ map (goal_of c.in-Some-2.names.items None) rule.calls ++ reverse c.args.open.now.items = grind (arith, pushed, value, slice) in
+    rule_opened (setting_in know c.args.defs.now c.args.state.now) h c.args.place c.args.block rule r.0 c.in-Some-2.names.items _ _ f r.1 r.2
+    (λ contents is.
+    let two : Some c.in-Some-2.names.items ≡ Some (names_at h rule contents) = sym (ap (option_map (λ v. v.items)) c.in-Some-2.is) ∙ c.in_ok-names.ensures know contents is in
+    cc two)
+    e

@@ -1,0 +1,11 @@
+//! Side branches can be ended: where a predicate has a cover, lines make an Ind of it.
+#![tactic(auto)]
+
+mod laws;
+mod met;
+mod names;
+mod opening;
+
+pub use laws::sides_can_end;
+pub use met::Met;
+pub use opening::{all_met, rule_of};
