@@ -81,8 +81,7 @@ module _ (w : Setting) where
       let same : rule ≡ by.0.rule = same_some rule by.0.rule (sym listed ∙ (ap (λ (d : Def). slice_get d.rules place) one ∙ p.listed)) in
       let held = made p.contents (ap (λ (r : Rule). contents_by w.know w.edges h.at r.block block) same ∙ p.taken) in
       let are : names ≡ by.0.names = held ∙ (ap (λ (r : Rule). names_at h r p.contents) same ∙ sym p.names) in
-      let calls : calls_of w h (ByRule place block) ≡ map (goal_of by.0.names None) by.0.rule.calls = ap calls_of_rule by.1 in
-      (
+      let calls : calls_of w h (ByRule place block) ≡ map (goal_of by.0.names None) by.0.rule.calls = ap calls_of_rule by.1 in (
         e ∙ ap (λ (gs : List Goal). gs ++ old) (ap (λ (ts : List Term). map (goal_of ts None) rule.calls) are ∙ (ap (λ (r : Rule). map (goal_of by.0.names None) r.calls) same ∙ sym calls)),
         (by.0, by.1, are),
       )

@@ -192,7 +192,7 @@ module _ (structs : List StructInfo) (defs : List Def) (vars : List VarInfo) (fi
         front = r.1 ∙ ap (λ l. h.at ∷ l) (append_assoc h.args (map plain p.contents) r.0);
         kinds = all_lie_from know before tells by.rule.names names p.kinds;
         sums = fixed_fixes by.rule.names (h.at ∷ (h.args ++ map plain p.contents)) by.rule.atoms (suc (length p.def.params) + length by.rule.contents)
-        (first_count h p.def p.contents (length by.rule.contents) p.count p.contents_count) rule.names.atoms names refl;
+            (first_count h p.def p.contents (length by.rule.contents) p.count p.contents_count) rule.names.atoms names refl;
         atoms = atoms_from know before tells names by.rule.atoms p.atoms;
       }
 
@@ -427,13 +427,13 @@ module _ (structs : List StructInfo) (defs : List Def) (vars : List VarInfo) (fi
           new = new;
           instance = closes t id rest met.goal.pred q.b q.args q.last q.lasts consistent here made.0 both;
           making = fold_step t bounded m.later met front o.0 o.5 gone ids new gone_unused (unused_front met front (rest ∷ ids) m.unused).1 apart last.1 made.1 (kept_front t met front m.kept)
-          (record {
-            node = q.b;
-            nodes = q.args;
-            there = is_new t.graph.edges gone t.graph.next new bounded.ids;
-            same_at = same_from t m.later met.goal.at (plain q.b) (equal_from know before tells met.goal.at (plain q.b) q.same_at);
-            same_args = all_same_from t m.later met.goal.args (map plain q.args) (all_equal_from know before tells met.goal.args (map plain q.args) q.same_args);
-          });
+              (record {
+                node = q.b;
+                nodes = q.args;
+                there = is_new t.graph.edges gone t.graph.next new bounded.ids;
+                same_at = same_from t m.later met.goal.at (plain q.b) (equal_from know before tells met.goal.at (plain q.b) q.same_at);
+                same_args = all_same_from t m.later met.goal.args (map plain q.args) (all_equal_from know before tells met.goal.args (map plain q.args) q.same_args);
+              });
         }
 
     -- ---- a rule folds
@@ -499,13 +499,13 @@ module _ (structs : List StructInfo) (defs : List Def) (vars : List VarInfo) (fi
           new = new;
           instance = r.instance;
           making = fold_step t bounded m.later met front o.0 o.5 gone ids new (block_unused met front block own is_edge o.4 (unused_front met front own u.0)) (unused_front met front ids u.1) apart d.1 made.1 (kept_front t met front m.kept)
-          (record {
-            node = r.node;
-            nodes = r.nodes;
-            there = is_new t.graph.edges gone t.graph.next new bounded.ids;
-            same_at = r.same_at;
-            same_args = r.same_args;
-          });
+              (record {
+                node = r.node;
+                nodes = r.nodes;
+                there = is_new t.graph.edges gone t.graph.next new bounded.ids;
+                same_at = r.same_at;
+                same_args = r.same_args;
+              });
         }
 
     -- ---- the begin and the end
