@@ -1,6 +1,6 @@
 -- Chains that are followed line by line.
 use Rattle.std.proofs.Common.{◌≡◌, ◌++◌, ◌∷◌, ◌∙◌, ◌+◌, ◌≤◌, ◌⊎◌, inl, inr, ℕ, List, [], Bool, true, false, Option, Some, None, Contains, option_map, refl, sym, ap, subst, length, append_assoc, arith}
-use Rattle.std.specs.Prelude.{Err, IfOk, Ok, Result, is_some}
+use Rattle.std.specs.Prelude.{Err, Ok, is_some}
 use Rattle.std.specs.List.{AllByRecursion, list_all}
 use Rattle.std.proofs.lemmas.List.{append-nil}
 use Rattle.mc_cert.specs.declared.line.Line.{Line}
@@ -26,10 +26,8 @@ use Rattle.mc_reading.specs.Documents.{IsAskedHere, IsJudge, IsKept, IsMade, IsR
 use Rattle.mc_report.specs.Report.{AreAlarmLines, IsAlarmLine, count_line}
 use Rattle.mc_alarms.specs.Laws.{BranchesAreFollowed, DocumentsAreFollowed}
 use Rattle.mc_alarms.specs.declared.outcome.Document.{Document}
-use Rattle.mc_alarms.specs.Outcomes.{IsFront, IsLost, IsWhole}
-use Rattle.mc_alarms.specs.Walks.{AreOpen, IsAtCode, IsAtFirst, IsAtSide, IsCodeLine, IsFollowed, IsMet, IsNowhere, MayApply, ended_by, ending, goes_on}
-use Rattle.mc_alarms.specs.declared.walk.Turn.{Turn}
-use Rattle.mc_alarms.specs.declared.walk.Turn.TheVariants.{Lost}
+use Rattle.mc_alarms.specs.Outcomes.{IsFront, IsWhole}
+use Rattle.mc_alarms.specs.Walks.{AreOpen, IsAtCode, IsAtFirst, IsCodeLine, IsFirstGone, IsFollowed, IsMet, IsNowhere, IsSure, IsTurned, MayApply, ended_by, ending, goes_on}
 use Rattle.mc_state.specs.declared.goal.Goal.{Goal}
 use Rattle.mc_alarms.proofs.Going.{goes_by_advance, goes_by_rule, goes_unmarked}
 
@@ -210,6 +208,17 @@ module _ (laws : DocumentsAreFollowed) (flow : Flow) (defs : List Def) (valid : 
         counted = count ∙ ap (λ (m : ℕ). m + ending l) f.counted ∙ sym (ended_more lines l);
       }
 
+  -- what it made of the first branch
+  pub turns : (lines : List Line) (l : Line) (old new : Position) (text : List ℕ) (ended : ℕ) → is_rule l ≡ true → IsFollowed flow defs lines old text ended
+      → IsApplied l old new → IsTurned flow defs l old new
+  turns lines l old new text ended rule f applied =
+      let one = laws.judges flow defs valid in
+      let r = f.reads one.0 one.1 one.2 in
+      let m = more one.0 one.1 one.2 f.behind l r.last old new r.read r.stands f.of_flow f.of_defs applied in
+      let i = ruled_by one.0 one.1 one.2 l r.last old m.next rule r.stands f.of_flow f.of_defs f.begun m.line_read in
+      let v = moved_by one.0 one.1 one.2 l r.last m.next old new r.stands m.stands i in
+      record { first = i.first; others = i.others; branches_are = i.open_are; next = i.paths; instance = i.instance; come = v.branches_are }
+
   pub sticks : (lines : List Line) (old new : Position) (text told : List ℕ) (ended n : ℕ) (b : Path)
       → IsFollowed flow defs lines old text ended → Some b ≡ option_map (λ (c : Path × List Path). c.0) (first_branch old.branches)
       → IsAlarmLine flow defs b.point b.state told → IsApplied line.C1 old new → n ≡ ended + 1
@@ -299,6 +308,17 @@ module _ (laws : DocumentsAreFollowed) (flow : Flow) (defs : List Def) (valid : 
             };
         counted = refl;
       }
+
+  -- it begins with the entry alone
+  pub begins_with : (old new : Position) → old ≡ position_of flow defs (begun Chain) → IsApplied line.Pass old new → new.branches ≡ roots flow []
+  begins_with old new is applied =
+      let pf : old.flow ≡ flow = ap (λ (p : Position). p.flow) is in
+      let pd : old.defs ≡ defs = ap (λ (p : Position). p.defs) is in
+      let one = laws.judges flow defs valid in
+      let stand : Stands one.0 one.1 (begun Chain) old =
+      subst (λ (p : Position). Stands one.0 one.1 (begun Chain) p) (sym is) (record { judge = one.2; kept = laws.begun flow defs Chain; here = refl }) in
+      let m = more one.0 one.1 one.2 [] line.Pass (begun Chain) old new refl stand pf pd applied in
+      sym (ap (λ (q : Position). q.branches) m.stands.here) ∙ (passed one.0 one.1 m.next m.line_read).branches_are
 
   -- where there are no loops, it is never refused
   pub pass_is_taken : (old : Position) (premise : ℕ) → flow.heads ≡ [] → old ≡ position_of flow defs (begun Chain) → IsRefusedHere line.Pass old premise → ⊥
@@ -399,22 +419,6 @@ pub same_followed : (flow : Flow) (defs : List Def) (lines own : List Line) (p :
 same_followed flow defs lines own p text mine ended e g f =
     subst (λ (t : List ℕ). IsFollowed flow defs own p t ended) (sym g) (subst (λ (ls : List Line). IsFollowed flow defs ls p text ended) (sym e) f)
 
--- the line is surely applied: it goes on, may be applied, and is an instance at the first open branch
-pub record IsSure (flow : Flow) (defs : List Def) (l : Line) (p : Position) : Type 0 where
-  pub goes : goes_on l ≡ true
-  pub may : MayApply l p
-  pub there : IsNowhere flow defs l p → ⊥
-
--- what a turn by it would say if it were lost
-abbrev pub Refused : Flow → List Def → Line → Position → Position → Type 0
-Refused flow defs l old new = (new ≡ old) × (goes_on l ≡ true → IsNowhere flow defs l old)
-
--- it never is
-pub never_lost : {E : Type 0} (flow : Flow) (defs : List Def) (l : Line) (old new : Position) (r : Result Turn E) → IsSure flow defs l old
-    → IfOk r (λ turn. turn ≡ Lost → Refused flow defs l old new) → IfOk r (λ turn. turn ≡ Lost → ⊥)
-never_lost flow defs l old new (Ok turn) sure h = λ e. sure.there ((h e).1 sure.goes)
-never_lost flow defs l old new (Err x) sure h = tt
-
 -- the same line
 pub same_sure : (flow : Flow) (defs : List Def) (asked : Option Line) (l m : Line) (p : Position) → asked ≡ Some l → asked ≡ Some m → IsSure flow defs l p → IsSure flow defs m p
 same_sure flow defs asked l m p e g sure = subst (λ (n : Line). IsSure flow defs n p) same sure
@@ -444,6 +448,14 @@ current_at p c e = by p.branches e
       where
         some_same : (c b : Path) → Some c ≡ Some b → c ≡ b
         some_same c b e = cc e
+
+-- there is none
+pub none_open : (p : Position) → ◌≡◌ {A = Option Path} None (option_map (λ (d : Path × List Path). d.0) (first_branch p.branches)) → p.branches ≡ []
+none_open p e = by p.branches e
+  where
+    by : (bs : List Path) → ◌≡◌ {A = Option Path} None (option_map (λ (d : Path × List Path). d.0) (first_branch bs)) → bs ≡ []
+    by [] e = refl
+    by (b ∷ bs) e = absurd (cc e)
 
 pub current_is : (p : Position) (c b : Path) (others : List Path) → p.branches ≡ b ∷ others → Some c ≡ option_map (λ (d : Path × List Path). d.0) (first_branch p.branches) → c ≡ b
 current_is p c b others is e =
@@ -484,12 +496,12 @@ module _ (laws : DocumentsAreFollowed) (flow : Flow) (defs : List Def) (lines : 
     here_open = (subst (AreOpen flow) is f.open_are).0
 
     -- a test that tells what is derived at the first branch, whose state is well made
-    record IsTold : Type 0 where
+    pub record IsTold : Type 0 where
       pub know : Test
       pub tells : Tells know b.state
       pub made : IsMade flow defs b
 
-    told : IsTold
+    pub told : IsTold
     told =
         let one = laws.judges flow defs f.valid in
         let r = f.reads one.0 one.1 one.2 in
@@ -567,24 +579,13 @@ module _ (laws : DocumentsAreFollowed) (flow : Flow) (defs : List Def) (lines : 
       same_first : (b c : Path) (bs cs : List Path) → ◌≡◌ {A = List Path} (b ∷ bs) (c ∷ cs) → b ≡ c
       same_first b c bs cs e = cc e
 
-  -- the lines end at a side branch
-  pub ends_at_side : IsAtSide p → IsLost flow defs lines
-  ends_at_side at = record {
-    behind = f.behind;
-    spelled = f.spelled;
-    reads = λ k well judge.
-        let r = f.reads k well judge in
-        record {
-          last = r.last;
-          read = r.read;
-          not_ended = λ e. (let clash : ruling ≡ finished = sym (ap (λ (q : Position). q.stage) r.stands.here ∙ f.begun) ∙ e in cc clash);
-          first = at.first;
-          others = at.others;
-          branches_are = ap (λ (q : Position). q.branches) r.stands.here ∙ at.branches_are;
-          goal = at.goal;
-          side = at.side;
-        };
-  }
+-- where a line ends the first branch, that is gone
+pub goes_away : (flow : Flow) (defs : List Def) (l : Line) (old new : Position) (t : IsTurned flow defs l old new) → t.next ≡ [] → IsFirstGone old new
+goes_away flow defs l old new t none b others is =
+    t.come ∙ ap (λ (bs : List Path). bs ++ t.others) none ∙ same_others t.first b t.others others (sym t.branches_are ∙ is)
+  where
+    same_others : (b c : Path) (bs cs : List Path) → ◌≡◌ {A = List Path} (b ∷ bs) (c ∷ cs) → bs ≡ cs
+    same_others b c bs cs e = cc e
 
 -- nothing is changed by a line that is refused
 pub refused_stays : (flow : Flow) (defs : List Def) (lines : List Line) (old new : Position) (text : List ℕ) (ended : ℕ) → new ≡ old

@@ -1,8 +1,10 @@
 -- The laws on which following a chain stands.
+use Rattle.mc_cover.specs.Laws.{FirstIsCover, NoFirstNoCover}
 use Rattle.mc_judges.specs.Judges.{JudgesAreThere}
 use Rattle.mc_progress.specs.Asked.{CodeLinesAreRight, FirstLinesAreRight}
 use Rattle.mc_progress.specs.Progress.{LinesStayInside, LinesStayOpen}
 use Rattle.mc_reading.specs.Laws.{BegunIsKept, ChainsAreRead, LinesAreAdded, LinesKeep, RulesAreRead}
+use Rattle.mc_step.specs.JudgedLaws.{StepsAreWellMade}
 
 -- documents are read line by line by a right judge, which is there, and one that has ended is a chain of one pass
 pub record DocumentsAreFollowed : Type 0 where
@@ -19,3 +21,9 @@ pub record BranchesAreFollowed : Type 0 where
   pub code : CodeLinesAreRight
   pub inside : LinesStayInside
   pub still_open : LinesStayOpen
+
+-- what an instruction asserts fits the state of its side branch, and of covers there the first is found, if there is any
+pub record AssertionsAreCovered : Type 0 where
+  pub made : StepsAreWellMade
+  pub found : FirstIsCover
+  pub missed : NoFirstNoCover

@@ -1,5 +1,5 @@
 -- What comes of following a program.
-use Rattle.std.specs.Prelude.{◌≡◌, ◌<◌, ◌≤◌, Bool, List, ◌∷◌, Ok, Some, length}
+use Rattle.std.specs.Prelude.{◌≡◌, ◌<◌, ◌≤◌, Bool, List, ◌∷◌, length}
 use Rattle.mc_cert.specs.declared.line.Line.{Line}
 use Rattle.mc_cert.specs.declared.line.Line.TheVariants.{Header}
 use Rattle.mc_defs.specs.declared.rules.Def.{Def}
@@ -9,13 +9,11 @@ use Rattle.mc_state.specs.declared.line.Version.TheVariants.{One}
 use Rattle.mc_state.specs.declared.raw_state.RawState.{RawState}
 use Rattle.mc_kernel.specs.Branches.{Path}
 use Rattle.mc_kernel.specs.Judges.{Knowledge}
-use Rattle.mc_kernel.specs.Readings.{Reading, finished}
-use Rattle.mc_reading.specs.Documents.{IsJudge, IsOpen, IsShortChain, reading_document}
-use Rattle.mc_state.specs.declared.goal.Goal.{Goal}
+use Rattle.mc_reading.specs.Documents.{IsJudge, IsOpen, IsShortChain}
 use Rattle.mc_report.specs.Report.{IsChainReport}
 use Rattle.mc_alarms.specs.declared.outcome.Document.{Document}
 use Rattle.mc_alarms.specs.declared.outcome.Outcome.{Outcome}
-use Rattle.mc_alarms.specs.declared.outcome.Outcome.TheVariants.{Whole, Paths, Lost}
+use Rattle.mc_alarms.specs.declared.outcome.Outcome.TheVariants.{Whole, Paths}
 use Rattle.mc_alarms.specs.Walks.{ended_by}
 
 -- the lines are a chain of one pass with so many stuck branches, and the text is its report
@@ -32,25 +30,7 @@ pub record IsFront (flow : Flow) (defs : List Def) (lines : List Line) : Type 0 
   pub spelled : lines ≡ Header One Chain ∷ behind
   pub reads : (k : Knowledge) (well : RawState → Bool) → IsJudge k well flow defs → IsOpen k well flow defs Chain behind
 
--- whoever judges rightly, the lines are read, and the first open branch behind them is a side branch
-pub record EndsAtSide (k : Knowledge) (well : RawState → Bool) (flow : Flow) (defs : List Def) (lines : List Line) : Type 0 where
-  pub last : Reading
-  pub read : reading_document k well flow defs Chain lines ≡ Ok last
-  pub not_ended : last.stage ≡ finished → ⊥
-  pub first : Path
-  pub others : List Path
-  pub branches_are : last.branches ≡ first ∷ others
-  pub goal : Goal
-  pub side : first.goal ≡ Some goal
-
--- the lines are a chain's, up to a side branch: whoever judges rightly, all are read
-pub record IsLost (flow : Flow) (defs : List Def) (lines : List Line) : Type 0 where
-  pub behind : List Line
-  pub spelled : lines ≡ Header One Chain ∷ behind
-  pub reads : (k : Knowledge) (well : RawState → Bool) → IsJudge k well flow defs → EndsAtSide k well flow defs behind
-
 -- what an outcome says
 abbrev pub IsOutcome : Flow → List Def → Outcome → Type 0
 IsOutcome flow defs (Whole d) = IsWhole flow defs d
 IsOutcome flow defs (Paths lines) = IsFront flow defs lines.items × (65536 < ended_by lines.items)
-IsOutcome flow defs (Lost lines) = IsLost flow defs lines.items

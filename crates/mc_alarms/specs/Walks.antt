@@ -1,14 +1,22 @@
 -- A chain that is being written.
-use Rattle.std.specs.Prelude.{◌≡◌, ◌+◌, ℕ, Bool, true, false, List, [], ◌∷◌, Option, Some, None, Ok, option_and_then}
+use Rattle.std.specs.Prelude.{◌≡◌, ◌+◌, ℕ, Bool, true, false, List, [], ◌∷◌, ◌++◌, Option, Some, None, Ok, map, option_and_then}
 use Rattle.std.specs.List.{AllByRecursion}
+use Rattle.mc_base.specs.declared.plain.Kind.TheVariants.{Ptr}
 use Rattle.mc_cert.specs.declared.line.Line.{Line}
 use Rattle.mc_cert.specs.declared.line.Line.TheVariants as line
 use Rattle.mc_defs.specs.declared.rules.Def.{Def}
 use Rattle.mc_flow.specs.declared.graph.Flow.{Flow}
 use Rattle.mc_flow.specs.Valid.{IsValid}
+use Rattle.mc_graph.specs.Graph.{Edges}
+use Rattle.mc_pure.specs.Pure.{HasKind}
 use Rattle.mc_state.specs.declared.line.Form.TheVariants.{Chain}
 use Rattle.mc_state.specs.declared.line.Version.TheVariants.{One}
 use Rattle.mc_state.specs.declared.raw_state.RawState.{RawState}
+use Rattle.mc_state.specs.Covers.{Cover}
+use Rattle.mc_state.specs.Facts.{IsFalse}
+use Rattle.mc_state.specs.Fits.{ArgsFit}
+use Rattle.mc_state.specs.State.{State}
+use Rattle.mc_state.specs.Terms.{plain}
 use Rattle.mc_kernel.specs.Branches.{IsPlain, Path}
 use Rattle.mc_kernel.specs.Instances.{IsInstance}
 use Rattle.mc_kernel.specs.Judges.{Knowledge}
@@ -56,6 +64,29 @@ ended_by (l ∷ lines) = ending l + ended_by lines
 abbrev pub AreOpen : Flow → List Path → Type 0
 AreOpen flow branches = AllByRecursion (λ b. IsInside flow b × (b.closing ≡ false)) branches
 
+-- ---- side branches
+
+-- a side branch's goal fits its state, and has a cover there unless the state is false
+pub record IsCovered (defs : List Def) (s : State) (goal : Goal) : Type 0 where
+  pub at : HasKind s.kinds Ptr goal.at
+  pub args : ArgsFit defs s.kinds goal.pred goal.args
+  pub cover : (IsFalse s → ⊥) → (left : Edges) × Cover defs s goal.pred (plain goal.at) (map plain goal.args) s.graph.edges left
+
+-- the first open branch is a side branch whose goal has a cover
+pub record IsAtCovered (defs : List Def) (p : Position) : Type 0 where
+  pub first : Path
+  pub others : List Path
+  pub branches_are : p.branches ≡ first ∷ others
+  pub goal : Goal
+  pub side : first.goal ≡ Some goal
+  pub covered : IsCovered defs first.state goal
+
+-- each open side branch has a cover
+abbrev pub AreCovered : List Def → List Path → Type 0
+AreCovered defs branches = AllByRecursion (λ b. (goal : Goal) → b.goal ≡ Some goal → IsCovered defs b.state goal) branches
+
+-- ---- walks
+
 -- whoever judges rightly, the lines behind the header are read up to here, and the text is the lines of the stuck branches
 pub record IsReadTo (k : Knowledge) (well : RawState → Bool) (flow : Flow) (defs : List Def) (lines : List Line) (p : Position)
     (text : List ℕ) : Type 0 where
@@ -101,11 +132,12 @@ pub record IsAtCode (p : Position) : Type 0 where
   pub plain : IsPlain first
   pub nothing_first : (know : Test) → Tells know first.state → false_or_null know first.state.graph.edges ≡ None
 
--- a line ends it as false, or unfolds an edge at null
+-- it is no side branch, and a line ends it as false, or unfolds an edge at null
 pub record IsAtFirst (l : Line) (p : Position) : Type 0 where
   pub first : Path
   pub others : List Path
   pub branches_are : p.branches ≡ first ∷ others
+  pub plain : IsPlain first
   pub asked : (know : Test) → Tells know first.state → false_or_null know first.state.graph.edges ≡ Some l
 
 -- what it asks for
@@ -113,7 +145,7 @@ abbrev pub IsAct : Position → Act → Type 0
 IsAct p (Apply l) = IsAtFirst l p
 IsAct p EndSide = IsAtSide p
 IsAct p Code = IsAtCode p
-IsAct p Rest = Unit {0}
+IsAct p Rest = p.branches ≡ []
 
 -- a line advances it, where it is no side branch
 abbrev pub MayApply : Line → Position → Type 0
@@ -122,6 +154,12 @@ MayApply l p = (b : Path) (others : List Path) → p.branches ≡ b ∷ others �
 -- a line is no instance there
 abbrev pub IsNowhere : Flow → List Def → Line → Position → Type 0
 IsNowhere flow defs l p = (b : Path) (others next : List Path) → p.branches ≡ b ∷ others → IsInstance flow defs (setting_at p) l b next → ⊥
+
+-- a line is surely read there: it goes on, may be applied, and is an instance
+pub record IsSure (flow : Flow) (defs : List Def) (l : Line) (p : Position) : Type 0 where
+  pub goes : goes_on l ≡ true
+  pub may : MayApply l p
+  pub there : IsNowhere flow defs l p → ⊥
 
 -- its instruction is not unmet
 abbrev pub IsMet : Flow → List Def → Position → Type 0
@@ -132,3 +170,18 @@ abbrev pub IsCodeLine : Flow → List Def → Position → Option Line → Type 
 IsCodeLine flow defs p asked =
     (b : Path) (others : List Path) (know : Test) → p.branches ≡ b ∷ others → Tells know b.state
     → asked ≡ option_and_then (at_code know defs b.state) (code_at flow b.point)
+
+-- ---- what a line made of it
+
+-- a line was read at the first branch: it is an instance there, and what it gives comes in the branch's place
+pub record IsTurned (flow : Flow) (defs : List Def) (l : Line) (old new : Position) : Type 0 where
+  pub first : Path
+  pub others : List Path
+  pub branches_are : old.branches ≡ first ∷ others
+  pub next : List Path
+  pub instance : IsInstance flow defs (setting_at old) l first next
+  pub come : new.branches ≡ next ++ others
+
+-- the first branch is gone
+abbrev pub IsFirstGone : Position → Position → Type 0
+IsFirstGone old new = (b : Path) (others : List Path) → old.branches ≡ b ∷ others → new.branches ≡ others

@@ -1,12 +1,11 @@
 // Lines that are added to a chain.
 ghost use Rattle.std.specs.Prelude.{◌≡◌, ◌+◌, [], IfOk, OnOk, true, false};
-ghost use Rattle.mc_alarms.specs.declared.walk.Turn.TheVariants.{Lost};
-ghost use Rattle.mc_alarms.specs.Walks.{IsAtCode, IsMet, IsNowhere, IsWalk, MayApply, goes_on};
+ghost use Rattle.mc_alarms.specs.Walks.{AreCovered, IsAtCode, IsFirstGone, IsMet, IsNowhere, IsSure, IsTurned, IsWalk, MayApply, goes_on};
 ghost use Rattle.mc_flow.specs.Valid.{IsValid};
 
 use crate::laws::{branches_are_followed, documents_are_followed};
 use crate::lines::{ending, goes_on};
-use crate::walk::{Turn, Walk};
+use crate::walk::Walk;
 use mc_base::NoMemory;
 use mc_cert::Line;
 use mc_flow::{Defs, Flow};
@@ -30,7 +29,8 @@ impl<'f> Walk<'f> {
     pub fn start(alloc: Global, flow: &'f Flow, defs: &'f Defs) -> Result<Walk<'f>, NoMemory>
         requires valid { IsValid flow.now defs.now }
         requires no_loops { flow.now.heads ≡ [] }
-        ensures { IfOk result (IsWalk flow.now defs.now) }
+        ensures follows { IfOk result (IsWalk flow.now defs.now) }
+        ensures covered { IfOk result (λ walk. AreCovered defs.now walk.proof.branches) }
     {
         // For the proof alone: documents are read line by line.
         documents_are_followed();
@@ -60,6 +60,7 @@ impl<'f> Walk<'f> {
         ensures follows { OnOk result (IsWalk flow.now defs.now self.new) }
         ensures refused { IfOk result (λ applied. applied ≡ false
             → (self.new.proof ≡ self.old.proof) × (goes_on line ≡ true → IsNowhere flow.now defs.now line self.old.proof)) }
+        ensures turned { IfOk result (λ applied. applied ≡ true → IsTurned flow.now defs.now line self.old.proof self.new.proof) }
     {
         // For the proof alone: documents are read line by line.
         documents_are_followed();
@@ -79,18 +80,18 @@ impl<'f> Walk<'f> {
         }
     }
 
-    /// Goes on by a line.
-    pub fn turn(&mut self, flow: &Flow, defs: &Defs, line: Line) -> Result<Turn, NoMemory>
+    /// Goes on by a line that is surely read.
+    pub fn turn(&mut self, flow: &Flow, defs: &Defs, line: Line) -> Result<(), NoMemory>
         requires followed { IsWalk flow.now defs.now self.old }
-        requires may { MayApply line self.old.proof }
+        requires sure { IsSure flow.now defs.now line self.old.proof }
         ensures follows { OnOk result (IsWalk flow.now defs.now self.new) }
-        ensures lost { IfOk result (λ turn. turn ≡ Lost
-            → (self.new.proof ≡ self.old.proof) × (goes_on line ≡ true → IsNowhere flow.now defs.now line self.old.proof)) }
+        ensures turned { OnOk result (IsTurned flow.now defs.now line self.old.proof self.new.proof) }
     {
         if self.apply(flow, defs, line)? {
-            Ok(Turn::On)
+            Ok(())
         } else {
-            Ok(Turn::Lost)
+            // An instance is not refused.
+            unreachable!()
         }
     }
 
@@ -101,6 +102,7 @@ impl<'f> Walk<'f> {
         ensures follows { OnOk result (IsWalk flow.now defs.now self.new) }
         ensures met { IfOk result (λ stuck. stuck ≡ false
             → (self.new.proof ≡ self.old.proof) × IsMet flow.now defs.now self.old.proof) }
+        ensures gone { IfOk result (λ stuck. stuck ≡ true → IsFirstGone self.old.proof self.new.proof) }
     {
         // For the proof alone: documents are read line by line.
         documents_are_followed();

@@ -1,9 +1,9 @@
 // How branches are followed.
-ghost use Rattle.std.specs.Prelude.{◌≡◌, ◌<◌, ◌≤◌, true, false, IfOk, OnOk};
-ghost use Rattle.mc_alarms.specs.Walks.{IsAct, IsAtCode, IsAtFirst, IsAtSide, IsCodeLine, IsWalk};
-ghost use Rattle.mc_alarms.specs.declared.walk.Turn.TheVariants.{Lost, On};
+ghost use Rattle.std.specs.Prelude.{◌≡◌, ◌<◌, ◌≤◌, [], true, false, IfOk, OnOk};
+ghost use Rattle.mc_alarms.specs.Walks.{AreCovered, IsAct, IsAtCode, IsAtFirst, IsCodeLine, IsWalk};
+ghost use Rattle.mc_alarms.specs.declared.walk.Turn.TheVariants.{On, Whole};
 
-use crate::laws::{branches_are_followed, documents_are_followed};
+use crate::laws::{assertions_are_covered, branches_are_followed, documents_are_followed};
 use crate::walk::{Turn, Walk};
 use mc_base::NoMemory;
 use mc_cert::Line;
@@ -36,11 +36,11 @@ impl Walk<'_> {
         let Some(branch) = self.proof.current() else {
             return Act::Rest;
         };
-        if let Some(line) = false_or_null(&branch.state) {
-            return Act::Apply(line);
-        }
         if branch.goal.is_some() {
             return Act::EndSide;
+        }
+        if let Some(line) = false_or_null(&branch.state) {
+            return Act::Apply(line);
         }
         Act::Code
     }
@@ -59,47 +59,67 @@ impl Walk<'_> {
     }
 
     /// Goes on by the instruction of the first branch: it is stuck, or a line of it comes.
-    fn by_code(&mut self, flow: &Flow, defs: &Defs) -> Result<Turn, NoMemory>
+    fn by_code(&mut self, flow: &Flow, defs: &Defs) -> Result<(), NoMemory>
         requires followed { IsWalk flow.now defs.now self.old }
+        requires covered { AreCovered defs.now self.old.proof.branches }
         requires here { IsAtCode self.old.proof }
         ensures follows { OnOk result (IsWalk flow.now defs.now self.new) }
-        ensures never_lost { IfOk result (λ turn. turn ≡ Lost → ⊥) }
+        ensures covered { OnOk result (AreCovered defs.now self.new.proof.branches) }
     {
-        // For the proof alone: the line that is asked for is an instance.
+        // For the proof alone: the line that is asked for is an instance, and what it asserts has a cover.
         documents_are_followed();
         branches_are_followed();
+        assertions_are_covered();
         if self.stick(flow, defs)? {
-            return Ok(Turn::On);
+            return Ok(());
         }
         match self.next_line(flow, defs) {
-            Some(line) => self.turn(flow, defs, line),
-            None => Ok(Turn::Lost),
+            Some(line) => {
+                self.turn(flow, defs, line)?;
+                Ok(())
+            }
+            // What is not unmet has a line.
+            None => unreachable!(),
         }
     }
 
     /// Goes on by the line that ends the first branch as false, or unfolds an edge at null.
-    fn by_first(&mut self, flow: &Flow, defs: &Defs, line: Line) -> Result<Turn, NoMemory>
+    fn by_first(&mut self, flow: &Flow, defs: &Defs, line: Line) -> Result<(), NoMemory>
         requires followed { IsWalk flow.now defs.now self.old }
+        requires covered { AreCovered defs.now self.old.proof.branches }
         requires here { IsAtFirst line self.old.proof }
         ensures follows { OnOk result (IsWalk flow.now defs.now self.new) }
-        ensures never_lost { IfOk result (λ turn. turn ≡ Lost → ⊥) }
+        ensures covered { OnOk result (AreCovered defs.now self.new.proof.branches) }
     {
-        // For the proof alone: the line that is asked for is an instance.
+        // For the proof alone: the line that is asked for is an instance, and asserts nothing.
         documents_are_followed();
         branches_are_followed();
-        self.turn(flow, defs, line)
+        assertions_are_covered();
+        self.turn(flow, defs, line)?;
+        Ok(())
     }
 
-    /// Goes on along the first branch. Only side branches may be lost.
+    /// Goes on along the first branch.
     fn step(&mut self, flow: &Flow, defs: &Defs) -> Result<Turn, NoMemory>
-        requires { IsWalk flow.now defs.now self.old }
+        requires followed { IsWalk flow.now defs.now self.old }
+        requires covered { AreCovered defs.now self.old.proof.branches }
         ensures follows { OnOk result (IsWalk flow.now defs.now self.new) }
-        ensures lost { IfOk result (λ turn. turn ≡ Lost → IsAtSide self.new.proof) }
+        ensures covered { OnOk result (AreCovered defs.now self.new.proof.branches) }
+        ensures whole { IfOk result (λ turn. turn ≡ Whole → (self.new.proof.branches ≡ []) × (self.new.ended ≡ self.old.ended)) }
     {
         match self.next_act() {
-            Act::Apply(line) => self.by_first(flow, defs, line),
-            Act::EndSide => self.end_side(flow, defs),
-            Act::Code => self.by_code(flow, defs),
+            Act::Apply(line) => {
+                self.by_first(flow, defs, line)?;
+                Ok(Turn::On)
+            }
+            Act::EndSide => {
+                self.end_side(flow, defs)?;
+                Ok(Turn::On)
+            }
+            Act::Code => {
+                self.by_code(flow, defs)?;
+                Ok(Turn::On)
+            }
             Act::Rest => Ok(Turn::Whole),
         }
     }
@@ -112,19 +132,21 @@ impl Walk<'_> {
         self.ended > PATHS
     }
 
-    /// Follows all branches, until none is open, too many have ended, or no line is found for a side branch. No memory
-    /// where lines can't be counted.
+    /// Follows all branches, until none is open, or too many have ended. No memory where lines can't be counted.
     pub fn follow(&mut self, flow: &Flow, defs: &Defs) -> Result<Turn, NoMemory>
-        requires { IsWalk flow.now defs.now self.old }
+        requires followed { IsWalk flow.now defs.now self.old }
+        requires covered { AreCovered defs.now self.old.proof.branches }
         ensures follows { OnOk result (IsWalk flow.now defs.now self.new) }
-        ensures lost { IfOk result (λ turn. turn ≡ Lost → IsAtSide self.new.proof) }
         ensures over { IfOk result (λ turn. turn ≡ On → 65536 < self.new.ended) }
+        ensures whole { IfOk result (λ turn. turn ≡ Whole → (self.new.proof.branches ≡ []) × (self.new.ended ≤ 65536)) }
     {
         for number in 0..u64::MAX {
             let _number = number;
-            let turn = self.step(flow, defs)?;
-            if turn != Turn::On || self.is_over() {
-                return Ok(turn);
+            if self.is_over() {
+                return Ok(Turn::On);
+            }
+            if self.step(flow, defs)? == Turn::Whole {
+                return Ok(Turn::Whole);
             }
         }
         Err(AllocError)

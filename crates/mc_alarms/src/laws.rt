@@ -1,9 +1,11 @@
 // What the proofs of this crate stand on. The laws are what a function ensures that does nothing.
-ghost use Rattle.mc_alarms.specs.Laws.{BranchesAreFollowed, DocumentsAreFollowed};
+ghost use Rattle.mc_alarms.specs.Laws.{AssertionsAreCovered, BranchesAreFollowed, DocumentsAreFollowed};
 
+use mc_cover::{firsts_are_covers, none_is_missed};
 use mc_judges::judges_are_there;
 use mc_progress::{asked_lines_are_right, branches_stay_inside};
 use mc_reading::{documents_are_read, documents_go_on, lines_are_read};
+use mc_step::steps_are_well_made;
 
 /// Documents are read line by line, and the lines of a chain that has ended are one of one pass.
 pub fn documents_are_followed()
@@ -21,4 +23,13 @@ pub fn branches_are_followed()
 {
     asked_lines_are_right();
     branches_stay_inside();
+}
+
+/// What an instruction asserts fits the state of its side branch, and a cover of it is found there, if there is one.
+pub fn assertions_are_covered()
+    ensures { AssertionsAreCovered }
+{
+    steps_are_well_made();
+    firsts_are_covers();
+    none_is_missed();
 }

@@ -17,6 +17,4 @@ pub enum Outcome {
     Whole(Document),
     /// More branches have ended than may be followed: the lines so far.
     Paths(Vec<Line>),
-    /// No line was found for the first open branch, a side branch: the lines so far.
-    Lost(Vec<Line>),
 }

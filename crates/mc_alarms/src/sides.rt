@@ -1,26 +1,36 @@
 // Side branches.
-ghost use Rattle.std.specs.Prelude.{◌≡◌, true, IfOk, OnOk};
-ghost use Rattle.mc_alarms.specs.declared.walk.Turn.TheVariants.{Lost};
-ghost use Rattle.mc_alarms.specs.Walks.{IsAtSide, IsWalk};
+ghost use Rattle.std.specs.Prelude.{◌≡◌, ◌≤◌, ◌++◌, ◌∷◌, [], IfOk, MatchOption, OnOk, length, map, option_map, pos, reverse, true};
+ghost use Rattle.mc_alarms.specs.Sides.{AreMarksMet, AreMetsOf, HasMet, HasName, HaveNames, IsAtGoal, IsAtMark, IsAtMarks, IsCoverFound};
+ghost use Rattle.mc_alarms.specs.Sides.{IsKnownWritten, IsLastEdge, IsMarkMet, IsNextNode, IsSound, MayName, MayNameAll, PushesLast, TellsFalse, TellsSound};
+ghost use Rattle.mc_alarms.specs.Walks.{IsAtCovered, IsFirstGone, IsSure, IsTurned, IsWalk};
+ghost use Rattle.mc_cert.specs.declared.line.Line.TheVariants as line;
+ghost use Rattle.mc_cover.specs.declared.goals.Mark.TheVariants as mark;
+ghost use Rattle.mc_state.specs.Facts.{IsFalse};
+ghost use Rattle.mc_state.specs.Terms.{plain};
 
-use crate::walk::{Turn, Walk};
+use crate::laws::documents_are_followed;
+use crate::walk::Walk;
 use mc_base::{EdgeId, Items, Kind, NoMemory, NodeId};
 use mc_cert::Line;
-use mc_cover::{Goal, Mark};
+use mc_cover::{Goal, Mark, none_is_missed};
 use mc_covering::cover;
-use mc_ending::{Met, all_met, rule_of};
+use mc_ending::{Met, all_met, goals_are_made, rule_of};
 use mc_flow::{Defs, Flow};
-use mc_judging::Branch;
-use mc_state::Term;
+use mc_state::{Goal as SideGoal, Term};
+use mc_symbolic::State;
 use std::alloc::Global;
 
 // A node alone.
-fn plain(node: NodeId) -> Term {
+fn plain(node: NodeId) -> Term
+    ensures { result ≡ plain node }
+{
     Term { node, add: 0 }
 }
 
 // Nodes as terms.
-fn plain_terms(alloc: Global, nodes: &[NodeId]) -> Result<Vec<Term>, NoMemory> {
+fn plain_terms(alloc: Global, nodes: &[NodeId]) -> Result<Vec<Term>, NoMemory>
+    ensures { IfOk result (λ terms. terms.items ≡ map plain nodes.now) }
+{
     let mut terms = Vec::with_capacity(alloc, nodes.len())?;
     for node in nodes {
         terms.push(plain(*node))?;
@@ -28,15 +38,17 @@ fn plain_terms(alloc: Global, nodes: &[NodeId]) -> Result<Vec<Term>, NoMemory> {
     Ok(terms)
 }
 
-/// The goals that the marks of a cover of a side branch's goal meet, the last one first. None where there is no cover.
-fn met_at(alloc: Global, defs: &Defs, branch: &Branch) -> Result<Option<Vec<Met>>, NoMemory> {
-    let Some(goal) = &branch.goal else {
-        return Ok(None);
-    };
-    let state = &branch.state;
-    if state.is_false() {
-        return Ok(None);
-    }
+/// The goals that the marks of the first cover of a side branch's goal meet, in order. None where there is no cover. The
+/// state must not be false.
+fn mets_of(
+    alloc: Global,
+    defs: &Defs,
+    state: &State,
+    goal: &SideGoal,
+) -> Result<Option<Vec<Met>>, NoMemory>
+    requires sound { IsFalse state.now → ⊥ }
+    ensures { IfOk result (λ found. IsCoverFound defs.now state.now goal.now (option_map (λ mets. mets.items) found)) }
+{
     let args = plain_terms(alloc, goal.args.as_slice())?;
     let at = plain(goal.at);
     let Some(marks) = cover(alloc, state, defs, &[], goal.pred, at, args.as_slice())? else {
@@ -48,38 +60,82 @@ fn met_at(alloc: Global, defs: &Defs, branch: &Branch) -> Result<Option<Vec<Met>
         args: Items::of(args),
         stop: None,
     };
-    let mut mets = all_met(alloc, state, defs, first, marks.as_slice())?;
-    mets.reverse();
+    let mets = all_met(alloc, state, defs, first, marks.as_slice())?;
     Ok(Some(mets))
 }
 
-// The first edges from the top of a stack. None where there are less.
-fn take_edges(
-    alloc: Global,
-    made: &mut Vec<EdgeId>,
-    count: usize,
-) -> Result<Option<Vec<EdgeId>>, NoMemory> {
-    let mut edges = Vec::with_capacity(alloc, count)?;
+// Takes the edge on top of a stack.
+fn take_edge(made: &mut Vec<EdgeId>) -> Option<EdgeId>
+    ensures { MatchOption result (reverse made.old.items ≡ []) (λ edge. reverse made.old.items ≡ edge ∷ reverse made.new.items) }
+{
+    made.pop()
+}
+
+// Takes the last goal.
+fn take_met(mets: &mut Vec<Met>) -> Option<Met>
+    ensures { MatchOption result (reverse mets.old.items ≡ []) (λ met. reverse mets.old.items ≡ met ∷ reverse mets.new.items) }
+{
+    mets.pop()
+}
+
+// The first edges from the top of a stack, on which there are so many.
+fn take_edges(alloc: Global, made: &mut Vec<EdgeId>, count: usize) -> Result<Vec<EdgeId>, NoMemory>
+    requires { count ≤ length made.old.items }
+    ensures count { IfOk result (λ edges. length edges.items ≡ count) }
+    ensures taken { IfOk result (λ edges. reverse made.old.items ≡ edges.items ++ reverse made.new.items) }
+{
+    let mut edges = Vec::new(alloc);
     for _ in 0..count {
         match made.pop() {
             Some(edge) => edges.push(edge)?,
-            None => return Ok(None),
+            None => unreachable!(),
         }
     }
-    Ok(Some(edges))
+    Ok(edges)
+}
+
+// Whether a term is a node alone.
+fn is_alone(term: Term) -> bool
+    ensures { result ≡ true → term.add ≡ pos 0 }
+{
+    term.add == 0
+}
+
+// The line that names a term by a new node.
+fn naming(term: Term, kind: Kind) -> Line
+    ensures { result ≡ line.L8 term.node term.add kind }
+{
+    Line::L8(term.node, term.add, kind)
 }
 
 impl Walk<'_> {
-    /// The goals of the first branch's cover.
-    fn met_now(&self, defs: &Defs) -> Result<Option<Vec<Met>>, NoMemory> {
-        match self.proof.current() {
-            Some(branch) => met_at(self.alloc, defs, branch),
-            None => Ok(None),
+    /// The goals of the first branch's cover, in order.
+    fn met_now(&self, flow: &Flow, defs: &Defs) -> Result<Vec<Met>, NoMemory>
+        requires followed { IsWalk flow.now defs.now self.now }
+        requires here { IsAtCovered defs.now self.now.proof }
+        requires sound { IsSound self.now.proof }
+        ensures { IfOk result (λ mets. AreMetsOf defs.now self.now.proof (reverse mets.items)) }
+    {
+        // For the proof alone: the state is well made, and where there is a cover, there is a first one.
+        documents_are_followed();
+        none_is_missed();
+        let _points = flow.points.len();
+        let Some(branch) = self.proof.current() else {
+            unreachable!()
+        };
+        let Some(goal) = &branch.goal else {
+            unreachable!()
+        };
+        match mets_of(self.alloc, defs, &branch.state, goal)? {
+            Some(mets) => Ok(mets),
+            None => unreachable!(),
         }
     }
 
     /// The edge that was made last.
-    fn last_edge(&self) -> Option<EdgeId> {
+    fn last_edge(&self) -> Option<EdgeId>
+        ensures { IsLastEdge self.now.proof result }
+    {
         match self.proof.current() {
             Some(branch) => match branch.state.edges().last() {
                 Some(entry) => Some(entry.0),
@@ -90,7 +146,9 @@ impl Walk<'_> {
     }
 
     /// The node that would be the next new one.
-    fn next_node(&self) -> Option<NodeId> {
+    fn next_node(&self) -> Option<NodeId>
+        ensures { IsNextNode self.now.proof result }
+    {
         match self.proof.current() {
             Some(branch) => Some(branch.state.next_node()),
             None => None,
@@ -98,51 +156,49 @@ impl Walk<'_> {
     }
 
     /// Whether the first branch's state is false.
-    fn is_false(&self) -> bool {
+    fn is_false(&self) -> bool
+        ensures { TellsFalse self.now.proof result }
+    {
         match self.proof.current() {
             Some(branch) => branch.state.is_false(),
             None => false,
         }
     }
 
-    /// Whether the first branch is a side branch.
-    fn is_at_side(&self) -> bool
-        ensures { result ≡ true → IsAtSide self.now.proof }
-    {
-        match self.proof.current() {
-            Some(branch) => branch.goal.is_some(),
-            None => false,
-        }
-    }
-
-    /// Adds a line at the first branch, if that is a side branch; whether it is an instance there.
+    /// Goes on by a line of a side branch; whether its state is not false then.
     fn lay(&mut self, flow: &Flow, defs: &Defs, line: Line) -> Result<bool, NoMemory>
         requires followed { IsWalk flow.now defs.now self.old }
+        requires sure { IsSure flow.now defs.now line self.old.proof }
         ensures follows { OnOk result (IsWalk flow.now defs.now self.new) }
+        ensures turned { OnOk result (IsTurned flow.now defs.now line self.old.proof self.new.proof) }
+        ensures sound { IfOk result (TellsSound self.new.proof) }
     {
-        if !self.is_at_side() {
-            return Ok(false);
-        }
-        let laid = self.apply(flow, defs, line)?;
-        Ok(laid)
+        self.turn(flow, defs, line)?;
+        Ok(!self.is_false())
     }
 
     /// Writes all that is known on the first branch: a node for zero is named and forgotten, and what stays is written. A
-    /// fold may then take a block of which an atom of a rule above it speaks.
-    fn write_known(&mut self, flow: &Flow, defs: &Defs) -> Result<(), NoMemory>
-        requires { IsWalk flow.now defs.now self.old }
-        ensures { OnOk result (IsWalk flow.now defs.now self.new) }
+    /// fold may then take a block of which an atom of a rule above it speaks. Whether the state is not false then.
+    fn write_known(&mut self, flow: &Flow, defs: &Defs) -> Result<bool, NoMemory>
+        requires followed { IsWalk flow.now defs.now self.old }
+        requires here { IsAtGoal flow.now defs.now self.old.proof }
+        ensures follows { OnOk result (IsWalk flow.now defs.now self.new) }
+        ensures written { IfOk result (IsKnownWritten flow.now defs.now self.old.proof self.new.proof) }
     {
-        let Some(node) = self.next_node() else {
-            return Ok(());
+        // For the proof alone: both lines are instances.
+        goals_are_made();
+        let node = match self.next_node() {
+            Some(node) => node,
+            None => unreachable!(),
         };
-        if self.lay(flow, defs, Line::L8(NodeId(0), 0, Kind::Ptr))? {
-            self.lay(flow, defs, Line::L11(node))?;
+        if !self.lay(flow, defs, Line::L8(NodeId(0), 0, Kind::Ptr))? {
+            return Ok(false);
         }
-        Ok(())
+        let sound = self.lay(flow, defs, Line::L11(node))?;
+        Ok(sound)
     }
 
-    /// The node of a term: its own, or a new one.
+    /// The node of a term: its own, or a new one. None where the state is false then.
     fn name(
         &mut self,
         flow: &Flow,
@@ -150,21 +206,26 @@ impl Walk<'_> {
         kind: Kind,
         term: &Term,
     ) -> Result<Option<NodeId>, NoMemory>
-        requires { IsWalk flow.now defs.now self.old }
-        ensures { OnOk result (IsWalk flow.now defs.now self.new) }
+        requires followed { IsWalk flow.now defs.now self.old }
+        requires here { MayName self.old.proof kind term.now }
+        ensures follows { OnOk result (IsWalk flow.now defs.now self.new) }
+        ensures named { IfOk result (HasName self.old.proof self.new.proof kind term.now) }
     {
-        if term.add == 0 {
+        // For the proof alone: the line is an instance.
+        documents_are_followed();
+        goals_are_made();
+        if is_alone(*term) {
             return Ok(Some(term.node));
         }
         let node = self.next_node();
-        if self.lay(flow, defs, Line::L8(term.node, term.add, kind))? {
+        if self.lay(flow, defs, naming(*term, kind))? {
             Ok(node)
         } else {
             Ok(None)
         }
     }
 
-    /// The nodes of terms, of these kinds.
+    /// The nodes of terms, of these kinds. None where the state is false then.
     fn names(
         &mut self,
         flow: &Flow,
@@ -172,25 +233,47 @@ impl Walk<'_> {
         kinds: &[Kind],
         terms: &[Term],
     ) -> Result<Option<Vec<NodeId>>, NoMemory>
-        requires { IsWalk flow.now defs.now self.old }
-        ensures { OnOk result (IsWalk flow.now defs.now self.new) }
+        requires followed { IsWalk flow.now defs.now self.old }
+        requires here { MayNameAll self.old.proof kinds.now terms.now }
+        ensures follows { OnOk result (IsWalk flow.now defs.now self.new) }
+        ensures named { IfOk result (λ found. HaveNames self.old.proof self.new.proof kinds.now terms.now (option_map (λ nodes. nodes.items) found)) }
     {
         let mut nodes = Vec::new(self.alloc);
-        let mut place = 0;
-        for term in terms {
-            let Some(kind) = kinds.get(place) else {
-                return Ok(None);
-            };
-            let Some(node) = self.name(flow, defs, *kind, term)? else {
-                return Ok(None);
-            };
-            nodes.push(node)?;
-            place += 1;
+        for (i, kind) in kinds.iter().enumerate() {
+            match self.name(flow, defs, *kind, &terms[i])? {
+                Some(node) => nodes.push(node)?,
+                None => return Ok(None),
+            }
         }
         Ok(Some(nodes))
     }
 
-    /// Folds a rule whose calls are made; whether it could be.
+    /// Makes an edge by a line, and puts it on the stack; whether the state is not false then.
+    fn make(
+        &mut self,
+        flow: &Flow,
+        defs: &Defs,
+        line: Line,
+        made: &mut Vec<EdgeId>,
+    ) -> Result<bool, NoMemory>
+        requires followed { IsWalk flow.now defs.now self.old }
+        requires sure { IsSure flow.now defs.now line self.old.proof }
+        ensures follows { OnOk result (IsWalk flow.now defs.now self.new) }
+        ensures turned { OnOk result (IsTurned flow.now defs.now line self.old.proof self.new.proof) }
+        ensures sound { IfOk result (TellsSound self.new.proof) }
+        ensures pushed { OnOk result (PushesLast self.new.proof made.old.items made.new.items) }
+    {
+        let sound = self.lay(flow, defs, line)?;
+        match self.last_edge() {
+            Some(edge) => {
+                made.push(edge)?;
+                Ok(sound)
+            }
+            None => Ok(sound),
+        }
+    }
+
+    /// Folds a rule whose calls are made; whether the state is not false then.
     fn fold(
         &mut self,
         flow: &Flow,
@@ -200,20 +283,26 @@ impl Walk<'_> {
         block: Option<EdgeId>,
         made: &mut Vec<EdgeId>,
     ) -> Result<bool, NoMemory>
-        requires { IsWalk flow.now defs.now self.old }
-        ensures { OnOk result (IsWalk flow.now defs.now self.new) }
+        requires followed { IsWalk flow.now defs.now self.old }
+        requires mark { met.now.mark ≡ mark.ByRule place block }
+        requires here { IsAtMark flow.now defs.now self.old.proof met.now (reverse made.old.items) }
+        ensures follows { OnOk result (IsWalk flow.now defs.now self.new) }
+        ensures met { IfOk result (IsMarkMet flow.now defs.now met.now self.old.proof (reverse made.old.items) self.new.proof (reverse made.new.items)) }
     {
+        // For the proof alone: the rule is there, its names may be named, and it folds.
+        documents_are_followed();
+        goals_are_made();
         let pred = met.goal.pred;
-        let Some(rule) = rule_of(defs, pred, place) else {
-            return Ok(false);
+        let rule = match rule_of(defs, pred, place) {
+            Some(rule) => rule,
+            None => unreachable!(),
         };
         let kinds = rule.names.as_slice();
-        let Some(names) = self.names(flow, defs, kinds, met.names.as_slice())? else {
-            return Ok(false);
+        let names = match self.names(flow, defs, kinds, met.names.as_slice())? {
+            Some(names) => names,
+            None => return Ok(false),
         };
-        let Some(calls) = take_edges(self.alloc, made, rule.calls.len())? else {
-            return Ok(false);
-        };
+        let calls = take_edges(self.alloc, made, rule.calls.len())?;
         let line = Line::L3(
             pred,
             place as u64,
@@ -225,30 +314,34 @@ impl Walk<'_> {
         Ok(folded)
     }
 
-    /// Makes an edge by a line; whether it is an instance.
-    fn make(
+    /// Closes a segment by the edge that was made last; whether the state is not false then.
+    fn close(
         &mut self,
         flow: &Flow,
         defs: &Defs,
-        line: Line,
+        met: &Met,
+        seg: EdgeId,
         made: &mut Vec<EdgeId>,
     ) -> Result<bool, NoMemory>
-        requires { IsWalk flow.now defs.now self.old }
-        ensures { OnOk result (IsWalk flow.now defs.now self.new) }
+        requires followed { IsWalk flow.now defs.now self.old }
+        requires mark { met.now.mark ≡ mark.BySeg seg }
+        requires here { IsAtMark flow.now defs.now self.old.proof met.now (reverse made.old.items) }
+        ensures follows { OnOk result (IsWalk flow.now defs.now self.new) }
+        ensures met { IfOk result (IsMarkMet flow.now defs.now met.now self.old.proof (reverse made.old.items) self.new.proof (reverse made.new.items)) }
     {
-        if !self.lay(flow, defs, line)? {
-            return Ok(false);
-        }
-        match self.last_edge() {
-            Some(edge) => {
-                made.push(edge)?;
-                Ok(true)
+        // For the proof alone: what is behind the segment is made, and it closes.
+        documents_are_followed();
+        goals_are_made();
+        match take_edge(made) {
+            Some(rest) => {
+                let closed = self.make(flow, defs, Line::L5(seg, rest), made)?;
+                Ok(closed)
             }
-            None => Ok(false),
+            None => unreachable!(),
         }
     }
 
-    /// Makes the goal of a mark of what the mark leaves; whether it could be.
+    /// Makes the goal of a mark of what the mark leaves; whether the state is not false then.
     fn meet(
         &mut self,
         flow: &Flow,
@@ -256,58 +349,45 @@ impl Walk<'_> {
         met: &Met,
         made: &mut Vec<EdgeId>,
     ) -> Result<bool, NoMemory>
-        requires { IsWalk flow.now defs.now self.old }
-        ensures { OnOk result (IsWalk flow.now defs.now self.new) }
+        requires followed { IsWalk flow.now defs.now self.old }
+        requires here { IsAtMark flow.now defs.now self.old.proof met.now (reverse made.old.items) }
+        ensures follows { OnOk result (IsWalk flow.now defs.now self.new) }
+        ensures met { IfOk result (IsMarkMet flow.now defs.now met.now self.old.proof (reverse made.old.items) self.new.proof (reverse made.new.items)) }
     {
+        // For the proof alone: an Ind is there, and no mark is one of a segment.
+        goals_are_made();
         match met.mark {
             Mark::ByInd(edge) => {
                 made.push(edge)?;
                 Ok(true)
             }
-            Mark::BySeg(seg) => match made.pop() {
-                Some(rest) => {
-                    let closed = self.make(flow, defs, Line::L5(seg, rest), made)?;
-                    Ok(closed)
-                }
-                None => Ok(false),
-            },
+            Mark::BySeg(seg) => {
+                let closed = self.close(flow, defs, met, seg, made)?;
+                Ok(closed)
+            }
             Mark::ByRule { place, block } => {
                 let folded = self.fold(flow, defs, met, place, block, made)?;
                 Ok(folded)
             }
-            Mark::AtEnd => Ok(false),
-            Mark::ByCall { .. } => Ok(false),
+            Mark::AtEnd => unreachable!(),
+            Mark::ByCall { .. } => unreachable!(),
         }
     }
 
-    /// Ends the first branch, a side branch, as false, if it is. Else it is lost.
-    fn give_up(&mut self, flow: &Flow, defs: &Defs) -> Result<Turn, NoMemory>
-        requires followed { IsWalk flow.now defs.now self.old }
-        ensures follows { OnOk result (IsWalk flow.now defs.now self.new) }
-        ensures lost { IfOk result (λ turn. turn ≡ Lost → IsAtSide self.new.proof) }
-    {
-        if !self.is_at_side() {
-            return Ok(Turn::On);
-        }
-        if self.is_false() {
-            let turn = self.turn(flow, defs, Line::L12)?;
-            return Ok(turn);
-        }
-        Ok(Turn::Lost)
-    }
-
-    /// Makes the goals of a cover, the last one first; whether they could be.
+    /// Makes the goals of a cover, the last one first; whether the state is not false then.
     fn meet_all(
         &mut self,
         flow: &Flow,
         defs: &Defs,
-        mets: Vec<Met>,
+        mut mets: Vec<Met>,
         made: &mut Vec<EdgeId>,
     ) -> Result<bool, NoMemory>
-        requires { IsWalk flow.now defs.now self.old }
-        ensures { OnOk result (IsWalk flow.now defs.now self.new) }
+        requires followed { IsWalk flow.now defs.now self.old }
+        requires here { IsAtMarks flow.now defs.now self.old.proof (reverse mets.items) (reverse made.old.items) }
+        ensures follows { OnOk result (IsWalk flow.now defs.now self.new) }
+        ensures met { IfOk result (AreMarksMet flow.now defs.now (reverse mets.items) self.old.proof (reverse made.old.items) self.new.proof (reverse made.new.items)) }
     {
-        for met in mets {
+        while let Some(met) = take_met(&mut mets) {
             if !self.meet(flow, defs, &met, made)? {
                 return Ok(false);
             }
@@ -315,30 +395,41 @@ impl Walk<'_> {
         Ok(true)
     }
 
-    /// Ends the first branch, which is a side branch: all that is known is written, and an Ind of its goal is made of the
-    /// edges of a cover.
-    pub fn end_side(&mut self, flow: &Flow, defs: &Defs) -> Result<Turn, NoMemory>
+    /// An edge that meets the goal of the first branch, a side branch, made of the edges of a cover where all that is known
+    /// is written. None where the state is false.
+    fn met_by(&mut self, flow: &Flow, defs: &Defs) -> Result<Option<EdgeId>, NoMemory>
         requires followed { IsWalk flow.now defs.now self.old }
-        requires here { IsAtSide self.old.proof }
+        requires here { IsAtCovered defs.now self.old.proof }
         ensures follows { OnOk result (IsWalk flow.now defs.now self.new) }
-        ensures lost { IfOk result (λ turn. turn ≡ Lost → IsAtSide self.new.proof) }
+        ensures met { IfOk result (HasMet self.old.proof self.new.proof) }
     {
-        let Some(mets) = self.met_now(defs)? else {
-            let turn = self.give_up(flow, defs)?;
-            return Ok(turn);
-        };
-        self.write_known(flow, defs)?;
-        let mut made = Vec::new(self.alloc);
-        if !self.meet_all(flow, defs, mets, &mut made)? || !self.is_at_side() {
-            let turn = self.give_up(flow, defs)?;
-            return Ok(turn);
+        // For the proof alone: the goal may be made, and one edge is left at the end.
+        documents_are_followed();
+        goals_are_made();
+        if self.is_false() {
+            return Ok(None);
         }
-        match made.pop() {
-            Some(edge) => {
-                let turn = self.turn(flow, defs, Line::L14(edge))?;
-                Ok(turn)
-            }
-            None => Ok(Turn::Lost),
+        let mets = self.met_now(flow, defs)?;
+        if !self.write_known(flow, defs)? {
+            return Ok(None);
+        }
+        let mut made = Vec::new(self.alloc);
+        if !self.meet_all(flow, defs, mets, &mut made)? {
+            return Ok(None);
+        }
+        Ok(take_edge(&mut made))
+    }
+
+    /// Ends the first branch, which is a side branch: by an edge that meets its goal, or as false.
+    pub fn end_side(&mut self, flow: &Flow, defs: &Defs) -> Result<(), NoMemory>
+        requires followed { IsWalk flow.now defs.now self.old }
+        requires here { IsAtCovered defs.now self.old.proof }
+        ensures follows { OnOk result (IsWalk flow.now defs.now self.new) }
+        ensures ended { OnOk result (IsFirstGone self.old.proof self.new.proof) }
+    {
+        match self.met_by(flow, defs)? {
+            Some(edge) => self.turn(flow, defs, Line::L14(edge)),
+            None => self.turn(flow, defs, Line::L12),
         }
     }
 }

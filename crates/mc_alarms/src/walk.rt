@@ -22,6 +22,4 @@ pub enum Turn {
     On,
     /// No branch is open.
     Whole,
-    /// No line was found for the first branch, a side branch.
-    Lost,
 }

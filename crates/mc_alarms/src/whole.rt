@@ -1,7 +1,7 @@
 // The alarms of a program.
 ghost use Rattle.std.specs.Prelude.{◌≡◌, ◌≤◌, [], IfOk};
-ghost use Rattle.mc_alarms.specs.Outcomes.{IsFront, IsLost, IsOutcome};
-ghost use Rattle.mc_alarms.specs.Walks.{IsAtSide, IsWalk, ended_by};
+ghost use Rattle.mc_alarms.specs.Outcomes.{IsFront, IsOutcome};
+ghost use Rattle.mc_alarms.specs.Walks.{IsWalk, ended_by};
 ghost use Rattle.mc_flow.specs.Valid.{IsValid};
 
 use crate::laws::documents_are_followed;
@@ -10,6 +10,7 @@ use crate::walk::{Turn, Walk};
 use mc_base::NoMemory;
 use mc_cert::Line;
 use mc_flow::{Defs, Flow};
+use mc_proof::ApplyFault;
 use mc_report::push_count;
 use std::alloc::{AllocError, Global};
 
@@ -19,7 +20,6 @@ impl Walk<'_> {
         requires { IsWalk flow.now defs.now self }
         ensures front { IsFront flow.now defs.now result.items }
         ensures counted { self.entry.ended ≡ ended_by result.items }
-        ensures lost { IsAtSide self.entry.proof → IsLost flow.now defs.now result.items }
     {
         // For the proof alone: they are those of this program.
         let _points = flow.points.len();
@@ -30,6 +30,7 @@ impl Walk<'_> {
     /// The chain with its end, and its report.
     fn finish(self, flow: &Flow, defs: &Defs) -> Result<Outcome, NoMemory>
         requires followed { IsWalk flow.now defs.now self }
+        requires none_open { self.proof.branches ≡ [] }
         requires within { self.ended ≤ 65536 }
         ensures { IfOk result (IsOutcome flow.now defs.now) }
     {
@@ -56,7 +57,9 @@ impl Walk<'_> {
                 // A document that took its end has ended.
                 Err(_) => unreachable!(),
             },
-            Err(_) => Err(AllocError),
+            // Where no branch is open, the end is not refused.
+            Err(ApplyFault::Premise(_)) => unreachable!(),
+            Err(ApplyFault::NoMemory) => Err(AllocError),
         }
     }
 }
@@ -69,13 +72,8 @@ pub fn alarms(alloc: Global, flow: &Flow, defs: &Defs) -> Result<Outcome, NoMemo
     ensures { IfOk result (IsOutcome flow.now defs.now) }
 {
     let mut walk = Walk::start(alloc, flow, defs)?;
-    let turn = walk.follow(flow, defs)?;
-    if walk.is_over() {
-        return Ok(Outcome::Paths(walk.into_lines(flow, defs)));
-    }
-    match turn {
-        Turn::On => Ok(Outcome::Lost(walk.into_lines(flow, defs))),
-        Turn::Lost => Ok(Outcome::Lost(walk.into_lines(flow, defs))),
+    match walk.follow(flow, defs)? {
+        Turn::On => Ok(Outcome::Paths(walk.into_lines(flow, defs))),
         Turn::Whole => walk.finish(flow, defs),
     }
 }

@@ -1,5 +1,5 @@
 -- What is found of a flow graph.
-use Rattle.std.specs.Prelude.{◌≡◌, ◌<◌, ℕ, Bool, true, false, List, length}
+use Rattle.std.specs.Prelude.{◌≡◌, ◌<◌, ℕ, Bool, true, false, List, [], length}
 use Rattle.mc_cert.specs.declared.line.Line.{Line}
 use Rattle.mc_cert.specs.declared.line.Line.TheVariants as line
 use Rattle.mc_cert.specs.Lines.{lines_of}
@@ -46,9 +46,9 @@ stays (line.Header version form) = false
 stays line.Pass = false
 stays other = true
 
--- what is found; a search may give up
+-- what is found; where there are loops, a search may give up
 abbrev pub IsAnalysis : Flow → List Def → Analysis → Type 0
 IsAnalysis flow defs (Safe f) = IsProved flow defs f
 IsAnalysis flow defs (Alarms f count) = HasAlarms flow defs f count
 IsAnalysis flow defs (Paths document) = HasTooManyPaths flow defs document.items
-IsAnalysis flow defs Unknown = Unit {0}
+IsAnalysis flow defs Unknown = flow.heads ≡ [] → ⊥

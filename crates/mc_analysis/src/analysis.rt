@@ -16,6 +16,6 @@ pub enum Analysis {
     Alarms(Findings, u64),
     /// The front of a chain of one pass in which more than 65,536 branches are ended.
     Paths(Vec<u8>),
-    /// Nothing was found.
+    /// Nothing was found, of a flow graph with loops.
     Unknown,
 }

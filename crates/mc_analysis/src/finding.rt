@@ -110,13 +110,13 @@ fn without_loops(alloc: Global, flow: &Flow, defs: &Defs) -> Result<Analysis, No
             let text = crowded(alloc, flow, defs, lines.as_slice())?;
             Ok(Analysis::Paths(text))
         }
-        Outcome::Lost(_) => Ok(Analysis::Unknown),
     }
 }
 
 // Where there are loops, a certificate is searched for whose cuts have so many states at most.
 fn with_loops(alloc: Global, flow: &Flow, defs: &Defs, states: usize) -> Result<Analysis, NoMemory>
-    requires { IsValid flow.now defs.now }
+    requires valid { IsValid flow.now defs.now }
+    requires loops { flow.now.heads ≡ [] → ⊥ }
     ensures { IfOk result (IsAnalysis flow.now defs.now) }
 {
     let limits = Limits {

@@ -10,7 +10,7 @@ use Rattle.mc_lowered.specs.Graphs.{AreLong, IsGraphOf}
 use Rattle.mc_app.specs.declared.analysing.Analysed.{Analysed}
 use Rattle.mc_app.specs.declared.analysing.Analysed.TheVariants.{TooLong, Found}
 
--- each flow graph of the program is too long; or this is found of one that is not; a search may give up
+-- each flow graph of the program is too long; or this is found of one that is not; where that one has loops, a search may give up
 abbrev pub IsWhyAnalysed : Analyse → UnitTree → List Def → Analysed → Type 0
 IsWhyAnalysed a unit defs TooLong = AreLong a.start.now unit defs
 IsWhyAnalysed a unit defs (Found analysis) =

@@ -1,6 +1,6 @@
 -- The marks of a first cover lead from its goal to an end, and what a mark leaves is opened.
-use Rattle.std.proofs.Common.{◌≡◌, ℕ, zero, suc, Bool, true, false, not, ◌&&◌, ◌||◌, Option, Some, None, List, [], ◌∷◌, ◌++◌, drop, get_or, length, map, reverse, slice_get, refl, sym, ◌∙◌, ap, subst, append-nil, append_assoc, ◌<◌, ◌≤◌, arith, drop-cons, drop_of_length-le}
-use Rattle.std.specs.Prelude.{is_some, option_and_then, option_map}
+use Rattle.std.proofs.Common.{◌≡◌, ℕ, zero, suc, Bool, true, false, not, ◌||◌, Option, Some, None, List, [], ◌∷◌, ◌++◌, drop, get_or, length, map, reverse, slice_get, refl, sym, ◌∙◌, ap, subst, append-nil, append_assoc, ◌<◌, ◌≤◌, drop-cons, drop_of_length-le}
+use Rattle.std.specs.Prelude.{is_some}
 use Rattle.std.specs.List.{AllByRecursion}
 use Rattle.std.proofs.lemmas.List.{reverse-append}
 use Rattle.mc_base.specs.declared.ids.EdgeId.{EdgeId}
@@ -11,7 +11,10 @@ use Rattle.mc_defs.specs.declared.rules.Rule.{Rule}
 use Rattle.mc_graph.specs.declared.edge.Edge.{Edge}
 use Rattle.mc_graph.specs.declared.edge.Edge.TheVariants.{Block, Ind, Seg}
 use Rattle.mc_graph.specs.Graph.{edge_with}
+use Rattle.mc_premises.specs.Known.{Test, Tells}
 use Rattle.mc_premises.proofs.Tests.{and_both}
+use Rattle.mc_pure.specs.Classes.{EachIsDecided}
+use Rattle.mc_pure.specs.Pure.{IsWellFormed}
 use Rattle.mc_search.specs.Met.{Leads}
 use Rattle.mc_search.specs.Search.{is_free, is_unused, takes_this, uses}
 use Rattle.mc_search.proofs.Bound.{uses_more}
@@ -23,9 +26,12 @@ use Rattle.mc_cover.specs.First.{first_marks, limit}
 use Rattle.mc_cover.specs.Goals.{Setting, behind_seg, contents_by}
 use Rattle.mc_cover.specs.Marks.{Named, calls_of, calls_of_rule, fits, goal_of, names_at, rule_at, space, takes}
 use Rattle.mc_state.specs.declared.terms.Term.{Term}
+use Rattle.mc_state.specs.Fits.{IsBounded}
+use Rattle.mc_state.specs.State.{State, pure_of}
 use Rattle.mc_ending.specs.declared.met.Met.{Met}
-use Rattle.mc_ending.specs.Making.{AreNamesOf, HaveNoStop, IsOpenedBy, LeadsOn, Opened, marks_of}
-use Rattle.mc_ending.proofs.Fitted.{rule_parts, seg_parts}
+use Rattle.mc_ending.specs.Making.{HaveNoStop, IsOpenedBy, LeadsOn, Opened, marks_of}
+use Rattle.mc_ending.proofs.Fitted.{rule_parts}
+use Rattle.mc_ending.proofs.Forgetting.{made_fits, made_rises}
 use Rattle.mc_ending.proofs.Options.{same_some, there}
 
 or_turned : (a b : Bool) → (a || b) ≡ (b || a)
@@ -175,3 +181,31 @@ module _ (w : Setting) where
 
   pub opening_end : (g : Goal) (marks : List Mark) (place : ℕ) (mets : List Met) (open_goals : List Goal) → length marks ≤ place → AreOpening g mets (drop place marks) open_goals → Opened w g (reverse mets) []
   opening_end g marks place mets open_goals less a = opening_last g mets open_goals (subst (λ (ms : List Mark). AreOpening g mets ms open_goals) (drop_of_length-le marks less) a)
+
+  -- while marks are left, a goal is open
+  pub goal_open : (g : Goal) (marks : List Mark) (place : ℕ) (mets : List Met) (open_goals : List Goal) (d : Mark) → AreOpening g mets (drop place marks) open_goals → place < length marks → open_goals ≡ [] → ⊥
+  goal_open g marks place mets open_goals d a less none =
+      subst (λ (gs : List Goal). LeadsOn w (marks_of (reverse mets)) (get_or marks place d ∷ drop (suc place) marks) gs) none
+      (subst (λ (ms : List Mark). LeadsOn w (marks_of (reverse mets)) ms open_goals) (drop-cons marks place d less) a.leads)
+
+  -- which the next mark fits, and it has no stop
+  pub next_fits : (g : Goal) (marks : List Mark) (place : ℕ) (mets : List Met) (open_goals rest : List Goal) (h : Goal) (d : Mark) → AreOpening g mets (drop place marks) open_goals → place < length marks
+      → open_goals ≡ h ∷ rest → (fits w h (get_or marks place d) ≡ true) × (h.stop ≡ None)
+  next_fits g marks place mets open_goals rest h d a less is =
+      let leads = subst (λ (gs : List Goal). LeadsOn w (marks_of (reverse mets)) (get_or marks place d ∷ drop (suc place) marks) gs) is
+      (subst (λ (ms : List Mark). LeadsOn w (marks_of (reverse mets)) ms open_goals) (drop-cons marks place d less) a.leads) in
+      (leads.0, (subst HaveNoStop is a.stops).0)
+
+  -- the block of a rule that fits is there
+  pub contents_are_there : (h : Goal) (place : ℕ) (block : Option EdgeId) (def : Def) (rule : Rule) → fits w h (ByRule place block) ≡ true → slice_get w.defs h.pred.0 ≡ Some def
+      → slice_get def.rules place ≡ Some rule → (contents : List NodeId) × (contents_by w.know w.edges h.at rule.block block ≡ Some contents)
+  contents_are_there h place block def rule f defined listed =
+      let by = there (rule_at w h place block) (and_both (not (is_some h.stop)) (is_some (rule_at w h place block)) f).1 in
+      let p = rule_parts w h place block by.0 by.1 in
+      let one : def ≡ p.def = same_some def p.def (sym defined ∙ p.defined) in
+      let same : rule ≡ by.0.rule = same_some rule by.0.rule (sym listed ∙ (ap (λ (d : Def). slice_get d.rules place) one ∙ p.listed)) in
+      (p.contents, ap (λ (r : Rule). contents_by w.know w.edges h.at r.block block) same ∙ p.taken)
+
+-- a test tells what is derived in a state
+pub told : EachIsDecided → (s : State) → IsBounded s → AllByRecursion (IsWellFormed s.kinds) s.atoms → (know : Test) × Tells know s
+told decided s bounded atoms = decided (pure_of s) (made_rises s bounded) (made_fits s bounded atoms)

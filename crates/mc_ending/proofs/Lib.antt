@@ -11,3 +11,4 @@ pub mod Fixed
 pub mod Fitted
 pub mod Machine
 pub mod Leading
+pub mod Steps

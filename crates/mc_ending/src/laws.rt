@@ -1,7 +1,11 @@
-// Side branches can be ended, as a law: what a function with no body of its own ensures.
+// Side branches can be ended, as laws: what functions with no body of their own ensure.
 ghost use Rattle.mc_ending.specs.Laws.{SidesCanEnd};
+ghost use Rattle.mc_ending.specs.Steps.{GoalsAreMade};
 
-use mc_fold::{folding_makes_well, naming_makes_well, segments_make_well};
+use mc_fold::{
+    folding_is_determined, folding_makes_well, naming_is_determined, naming_makes_well,
+    segments_make_well,
+};
 use mc_listed::lists_are_there;
 use mc_pure::each_is_decided;
 
@@ -14,4 +18,15 @@ pub fn sides_can_end()
     folding_makes_well();
     segments_make_well();
     naming_makes_well();
+}
+
+/// The goals that the marks of a cover meet are made one by one, the last one first: each line can be read, and what comes
+/// of it is one step further.
+pub fn goals_are_made()
+    ensures { GoalsAreMade }
+{
+    lists_are_there();
+    naming_makes_well();
+    naming_is_determined();
+    folding_is_determined();
 }

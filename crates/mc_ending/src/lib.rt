@@ -6,6 +6,6 @@ mod met;
 mod names;
 mod opening;
 
-pub use laws::sides_can_end;
+pub use laws::{goals_are_made, sides_can_end};
 pub use met::Met;
 pub use opening::{all_met, rule_of};

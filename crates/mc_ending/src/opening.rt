@@ -2,7 +2,7 @@
 ghost use Rattle.std.specs.Prelude.{◌≡◌, ◌++◌, ◌∷◌, [], List, None, Some, IfOk, MatchOption, OnOk, map, reverse, slice_get, true};
 ghost use Rattle.std.specs.Option.{option_copied};
 ghost use Rattle.mc_cover.specs.First.{first_marks};
-ghost use Rattle.mc_cover.specs.Goals.{behind_seg};
+ghost use Rattle.mc_cover.specs.Goals.{behind_seg, is_seg};
 ghost use Rattle.mc_cover.specs.Marks.{fits, goal_of};
 ghost use Rattle.mc_cover.specs.declared.goals.Mark.TheVariants as mark;
 ghost use Rattle.mc_ending.specs.Making.{IsOpenedBy, Opened, setting_in};
@@ -16,9 +16,10 @@ use mc_base::{EdgeId, Items, NoMemory, NodeId, PredId};
 use mc_cover::{Goal, Mark};
 use mc_defs::{Call, Defs, Rule};
 use mc_graph::Edge;
+use mc_pure::each_is_decided;
 use mc_state::Term;
 use mc_symbolic::State;
-use std::alloc::{AllocError, Global};
+use std::alloc::Global;
 
 /// The rule of a predicate at a place.
 pub fn rule_of(defs: &Defs, pred: PredId, place: usize) -> Option<&Rule>
@@ -84,8 +85,9 @@ fn push_calls(
     Ok(())
 }
 
-// What is left to be made behind a segment. No memory where the edge is none, which it is at no mark that fits.
+// What is left to be made behind a segment.
 fn behind(alloc: Global, goal: &Goal, edge: Option<&Edge>) -> Result<Goal, NoMemory>
+    requires { (know : Test) × (is_seg know goal.now (option_copied edge) ≡ true) }
     ensures { IfOk result (λ next. behind_seg (record goal.now { stop = None }) (option_copied edge.entry) ≡ next ∷ []) }
 {
     match edge {
@@ -98,7 +100,9 @@ fn behind(alloc: Global, goal: &Goal, edge: Option<&Edge>) -> Result<Goal, NoMem
                 stop: None,
             })
         }
-        _ => Err(AllocError),
+        Some(Edge::Block { .. }) => unreachable!(),
+        Some(Edge::Ind { .. }) => unreachable!(),
+        None => unreachable!(),
     }
 }
 
@@ -117,6 +121,7 @@ fn open_seg(
     seg: EdgeId,
     open: &mut Vec<Goal>,
 ) -> Result<(), NoMemory>
+    requires { (know : Test) × (is_seg know goal.now (edge_with state.now.graph.edges seg) ≡ true) }
     ensures { OnOk result ((next : _) × (behind_seg (record goal.now { stop = None }) (edge_with state.now.graph.edges seg) ≡ next ∷ []) × (reverse open.new.items ≡ next ∷ reverse open.old.items)) }
 {
     let next = behind(alloc, goal, state.edge(seg))?;
@@ -124,8 +129,7 @@ fn open_seg(
     Ok(())
 }
 
-// Puts what a rule leaves on the stack: the terms of its names. No memory where the rule or its block is not there, which
-// they are at each mark that fits.
+// Puts what a rule leaves on the stack: the terms of its names.
 fn open_rule(
     alloc: Global,
     state: &State,
@@ -135,19 +139,22 @@ fn open_rule(
     block: Option<EdgeId>,
     open: &mut Vec<Goal>,
 ) -> Result<Vec<Term>, NoMemory>
+    requires { (know : Test) × (fits (setting_in know defs.now state.now) goal.now (mark.ByRule place block) ≡ true) }
     ensures { IfOk result (λ names. (know : Test) → fits (setting_in know defs.now state.now) goal.now (mark.ByRule place block) ≡ true → IsOpenedBy (setting_in know defs.now state.now) goal.now (mark.ByRule place block) names.items (reverse open.new.items) (reverse open.old.items)) }
 {
-    let Some(rule) = rule_of(defs, goal.pred, place) else {
-        return Err(AllocError);
+    let rule = match rule_of(defs, goal.pred, place) {
+        Some(rule) => rule,
+        None => unreachable!(),
     };
-    let Some(names) = rule_names(alloc, state, goal, rule, block)? else {
-        return Err(AllocError);
+    let names = match rule_names(alloc, state, goal, rule, block)? {
+        Some(names) => names,
+        None => unreachable!(),
     };
     push_calls(alloc, open, &names, rule.calls.as_slice())?;
     Ok(names)
 }
 
-// Puts what a mark leaves on the stack: the terms of the names of its rule. No memory at a mark of a segment's goal.
+// Puts what a mark leaves on the stack: the terms of the names of its rule.
 fn open_mark(
     alloc: Global,
     state: &State,
@@ -156,6 +163,8 @@ fn open_mark(
     mark: Mark,
     open: &mut Vec<Goal>,
 ) -> Result<Vec<Term>, NoMemory>
+    requires fits { (know : Test) × (fits (setting_in know defs.now state.now) goal.now mark ≡ true) }
+    requires plain { goal.now.stop ≡ None }
     ensures { IfOk result (λ names. (know : Test) → fits (setting_in know defs.now state.now) goal.now mark ≡ true → goal.now.stop ≡ None → IsOpenedBy (setting_in know defs.now state.now) goal.now mark names.items (reverse open.new.items) (reverse open.old.items)) }
 {
     match mark {
@@ -168,8 +177,8 @@ fn open_mark(
             let names = open_rule(alloc, state, defs, goal, place, block, open)?;
             Ok(names)
         }
-        Mark::AtEnd => Err(AllocError),
-        Mark::ByCall { .. } => Err(AllocError),
+        Mark::AtEnd => unreachable!(),
+        Mark::ByCall { .. } => unreachable!(),
     }
 }
 
@@ -185,12 +194,16 @@ pub fn all_met(
     requires marks { (know : Test) → Tells know state.now → first_marks (setting_in know defs.now state.now) first ≡ Some marks.now }
     ensures { IfOk result (λ mets. (know : Test) → Tells know state.now → Opened (setting_in know defs.now state.now) first (reverse mets.items) []) }
 {
+    // For the proof alone: a test tells what is derived in the state.
+    each_is_decided();
+    state.is_bounded();
     let mut open = Vec::new(alloc);
     open.push(first)?;
     let mut mets = Vec::new(alloc);
     for mark in marks {
-        let Some(goal) = take_goal(&mut open) else {
-            return Err(AllocError);
+        let goal = match take_goal(&mut open) {
+            Some(goal) => goal,
+            None => unreachable!(),
         };
         let names = open_mark(alloc, state, defs, &goal, *mark, &mut open)?;
         mets.push(Met {

@@ -12,9 +12,8 @@ use mc_live::{
     StoredFields, asks_for_empty, asserted_shapes, constant_variables, live_variables,
     wanted_predicates,
 };
-use mc_shrink::Step;
 use mc_sight::Sight;
-use mc_walks::{Attempt, Limits, Outcome, Style, Task};
+use mc_walks::{Attempt, Limits, Outcome, Step, Style, Task};
 use std::alloc::Global;
 
 /// How one attempt folds, and how many states a cut may have.

@@ -4,6 +4,8 @@
 
 mod cuts;
 mod finding;
+#[cfg(test)]
+mod tests;
 
 pub use finding::find;
 pub use mc_walks::Limits;

@@ -3,10 +3,9 @@ use crate::ground::Ground;
 use crate::{Fit, Part};
 use mc_base::{EdgeId, NoMemory, NodeId, PredId, StructId};
 use mc_graph::Edge;
-use mc_shrink::taken_by;
+use mc_shrink::{cover, taken_by};
 use mc_state::Term;
 use mc_symbolic::State;
-use mc_trail::cover;
 
 /// Gives the fields of a head's block the terms of another's; whether that could be.
 fn bind_fields(

@@ -3,8 +3,8 @@ use crate::{Fit, Part};
 use mc_base::{Args, EdgeId, Kind, NoMemory, NodeId, PredId};
 use mc_cert::Line;
 use mc_defs::Defs;
+use mc_shrink::{MadeOf, Trail, make};
 use mc_state::{NodeKind, Term};
-use mc_trail::{MadeOf, Trail, make};
 use std::alloc::Global;
 
 /// The kind of a node of a head.

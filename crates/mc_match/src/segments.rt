@@ -5,10 +5,9 @@ use crate::partial::are_equal;
 use crate::{Fit, Part};
 use mc_base::{Kind, NoMemory, NodeId, PredId, VarId};
 use mc_cover::Mark;
-use mc_shrink::{args_of, taken_by};
+use mc_shrink::{args_of, plain, seg_cover, taken_by};
 use mc_state::Term;
 use mc_symbolic::State;
-use mc_trail::{plain, seg_cover};
 
 /// A segment of a head.
 #[derive(Clone, Copy)]

@@ -1,9 +1,13 @@
 // The next line of a branch.
-ghost use Rattle.std.specs.Prelude.{◌≡◌};
+ghost use Rattle.std.specs.Prelude.{◌≡◌, ◌&&◌, ◌||◌, true, Some, None, IfOk, is_some, option_and_then};
+ghost use Rattle.mc_cert.specs.declared.line.Line.{Line as Written};
 ghost use Rattle.mc_flow.specs.Valid.{IsValid};
+ghost use Rattle.mc_judging.specs.Judging.{path};
 ghost use Rattle.mc_kernel.specs.Judges.{is_cut};
+ghost use Rattle.mc_next.specs.Next.{GoesOn, HasGap, IsAtCode, stuck};
 ghost use Rattle.mc_premises.specs.Known.{Test, Tells};
-ghost use Rattle.mc_progress.specs.Asked.{at_code};
+ghost use Rattle.mc_progress.specs.Asked.{at_code, false_or_null};
+ghost use Rattle.mc_step.specs.Operands.{code_at};
 
 use crate::access::accessed;
 use crate::stepping::instance;
@@ -32,7 +36,9 @@ fn is_cut(cuts: &[PointId], point: PointId) -> bool
 }
 
 /// The line that says that the instruction lacks something, which only a chain can.
-fn stuck(form: Form) -> Option<Line> {
+fn stuck(form: Form) -> Option<Line>
+    ensures { result ≡ stuck form }
+{
     match form {
         Form::Certificate => None,
         Form::Chain => Some(Line::C1),
@@ -61,6 +67,9 @@ fn at_instruction(
     branch: &Branch,
 ) -> Result<Option<Line>, NoMemory>
     requires { IsValid flow.now defs.now }
+    ensures gap { IfOk result (λ asked. HasGap flow.now defs.now (path branch.now) → asked ≡ stuck form) }
+    ensures none { IfOk result (λ asked. (know : Test) → Tells know branch.now.state → (HasGap flow.now defs.now (path branch.now) → ⊥)
+        → asked ≡ option_and_then (at_code know defs.now branch.now.state) (code_at flow.now branch.now.point)) }
 {
     let Some(code) = code_at(flow, branch.point) else {
         return Ok(None);
@@ -83,6 +92,16 @@ pub fn next_line(
     branch: &Branch,
 ) -> Result<Option<Line>, NoMemory>
     requires { IsValid flow.now defs.now }
+    ensures rests { IfOk result (λ asked. (GoesOn (path branch.now) → ⊥) → asked ≡ None) }
+    ensures first { IfOk result (λ asked. (know : Test) (line : Written) → Tells know branch.now.state → GoesOn (path branch.now)
+        → false_or_null know branch.now.state.graph.edges ≡ Some line → asked ≡ Some line) }
+    ensures at_cut { IfOk result (λ asked. (know : Test) → Tells know branch.now.state → false_or_null know branch.now.state.graph.edges ≡ None
+        → (branch.now.moved && is_cut cuts.now branch.now.point) ≡ true → asked ≡ None) }
+    ensures gap { IfOk result (λ asked. (know : Test) → Tells know branch.now.state → GoesOn (path branch.now)
+        → IsAtCode know cuts.now (path branch.now) → HasGap flow.now defs.now (path branch.now) → asked ≡ stuck form) }
+    ensures code { IfOk result (λ asked. (know : Test) → Tells know branch.now.state → GoesOn (path branch.now)
+        → IsAtCode know cuts.now (path branch.now) → (HasGap flow.now defs.now (path branch.now) → ⊥)
+        → asked ≡ option_and_then (at_code know defs.now branch.now.state) (code_at flow.now branch.now.point)) }
 {
     if branch.goal.is_some() || branch.closing {
         return Ok(None);

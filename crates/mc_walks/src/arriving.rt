@@ -5,10 +5,9 @@ use crate::walking::Way;
 use mc_base::{EdgeId, Items, NoMemory, NodeId, PointId};
 use mc_cert::Line;
 use mc_fits::fits;
-use mc_shrink::{Step, shrink};
+use mc_match::{Step, Trail, shrink};
 use mc_sight::{Seen, look};
 use mc_symbolic::State;
-use mc_trail::Trail;
 
 /// Where a branch lands: the head, the images of its nodes and the edges for its edges, and how the walk goes on.
 #[derive(Drop)]

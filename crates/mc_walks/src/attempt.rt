@@ -6,8 +6,7 @@ use crate::walking::Way;
 use mc_base::{NoMemory, PointId, PredId};
 use mc_cert::Line;
 use mc_live::Asserted;
-use mc_paths::Paths;
-use mc_shrink::{Manner, Step};
+use mc_match::{Manner, Paths, Step};
 use mc_sight::Sight;
 use std::alloc::Global;
 

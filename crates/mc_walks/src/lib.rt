@@ -12,3 +12,4 @@ mod sides;
 mod walking;
 
 pub use attempt::{Attempt, Limits, Outcome, Style, Task};
+pub use mc_match::Step;

@@ -3,11 +3,8 @@ use crate::Attempt;
 use crate::arriving::Landing;
 use crate::walking::Way;
 use mc_base::{NoMemory, PointId};
-use mc_match::find_fit;
-use mc_paths::Paths;
-use mc_shrink::{Step, note};
+use mc_match::{Paths, Step, Trail, find_fit, note};
 use mc_sight::{Seen, look};
-use mc_trail::Trail;
 
 impl<'a> Attempt<'a> {
     /// Lets a state fit a head, by folds that are added to the trail. None where it does not.

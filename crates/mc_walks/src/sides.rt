@@ -3,8 +3,8 @@ use crate::Attempt;
 use crate::walking::Way;
 use mc_base::{EdgeId, NoMemory, PredId};
 use mc_cert::Line;
+use mc_match::{MadeOf, Trail, cover, make, plain};
 use mc_state::{Goal, Term};
-use mc_trail::{MadeOf, Trail, cover, make, plain};
 
 impl Attempt<'_> {
     /// The arguments of a goal as terms.

@@ -1,6 +1,11 @@
 //! Reads the words of the command line, and ends with the status of what they ask for.
 #![tactic(auto)]
 
+#[cfg(test)]
+mod asking;
+#[cfg(test)]
+mod tests;
+
 use mc_app::{Status, memcad};
 use mc_outside::{HostFiles, HostSink};
 use std::process::ExitCode;

@@ -1,6 +1,7 @@
 use Rattle.std.proofs.Common.{reverse, refl, arith}
+use Rattle.mc_cover.specs.declared.goals.Mark.TheVariants.{AtEnd}
 use Rattle.mc_ending.specs.Making.{setting_in}
-use Rattle.mc_ending.proofs.Leading.{opening_end, opening_start, opening_step}
+use Rattle.mc_ending.proofs.Leading.{goal_open, next_fits, opening_end, opening_start, opening_step, told}
 use Rattle.mc_ending.proofs.opening.all_met.Goals as goal
 
 pub loop-mark-init : goal.loop-mark-init
@@ -18,3 +19,23 @@ pub returns : goal.returns
 returns c = λ know tells.
     opening_end (setting_in know c.args.defs.now c.args.state.now) c.args.first c.args.marks.now c.loop-mark.mark-index c.loop-mark.mets.items (reverse c.loop-mark.open.items) c.loop-mark-test.false
     (c.loop-mark.invariant know tells)
+
+pub unreachable-requires : goal.unreachable-requires
+unreachable-requires c =
+    let t = told c.each_is_decided.ensures.decided c.args.state.now c.is_bounded.ensures.bounded c.is_bounded.ensures.atoms in
+    goal_open (setting_in t.0 c.args.defs.now c.args.state.now) c.args.first c.args.marks.now c.loop-mark.mark-index c.loop-mark.mets.items (reverse c.loop-mark.open.items) AtEnd
+    (c.loop-mark.invariant t.0 t.1) c.loop-mark-test.true c.in-None.ensures
+
+pub open_mark-requires-clause-fits : goal.open_mark-requires-clause-fits
+open_mark-requires-clause-fits c =
+    let t = told c.each_is_decided.ensures.decided c.args.state.now c.is_bounded.ensures.bounded c.is_bounded.ensures.atoms in (
+      t.0,
+      (next_fits (setting_in t.0 c.args.defs.now c.args.state.now) c.args.first c.args.marks.now c.loop-mark.mark-index c.loop-mark.mets.items (reverse c.loop-mark.open.items)
+          (reverse c.take_goal.new.open.items) c.in-Some.goal _ (c.loop-mark.invariant t.0 t.1) c.loop-mark-test.true c.in-Some.ensures).0,
+    )
+
+pub open_mark-requires-clause-plain : goal.open_mark-requires-clause-plain
+open_mark-requires-clause-plain c =
+    let t = told c.each_is_decided.ensures.decided c.args.state.now c.is_bounded.ensures.bounded c.is_bounded.ensures.atoms in
+    (next_fits (setting_in t.0 c.args.defs.now c.args.state.now) c.args.first c.args.marks.now c.loop-mark.mark-index c.loop-mark.mets.items (reverse c.loop-mark.open.items)
+    (reverse c.take_goal.new.open.items) c.in-Some.goal AtEnd (c.loop-mark.invariant t.0 t.1) c.loop-mark-test.true c.in-Some.ensures).1

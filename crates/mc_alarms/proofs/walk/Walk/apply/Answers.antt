@@ -3,7 +3,7 @@ use Rattle.std.specs.Prelude.{Err}
 use Rattle.mc_proof.specs.declared.fault.ApplyFault.{ApplyFault}
 use Rattle.mc_proof.specs.Positions.{Applies}
 use Rattle.mc_alarms.specs.Walks.{goes_on}
-use Rattle.mc_alarms.proofs.Followed.{goes_further, refused_nowhere, refused_stays, same_followed}
+use Rattle.mc_alarms.proofs.Followed.{goes_further, refused_nowhere, refused_stays, same_followed, turns}
 use Rattle.mc_alarms.proofs.Going.{goes_by_rule}
 use Rattle.mc_alarms.proofs.walk.Walk.apply.Goals as goal
 
@@ -34,3 +34,10 @@ returns-in-Err-Premise-clause-refused c = λ e.
           refused_nowhere c.documents_are_followed.ensures c.args.flow.now c.args.defs.now old.lines.items old.proof old.text.items old.ended c.requires.followed
           c.args.line _ (goes_by_rule c.args.line goes) told.0,
     )
+
+pub returns-in-Ok-clause-turned : goal.returns-in-Ok-clause-turned
+returns-in-Ok-clause-turned c = λ e.
+    let old = c.args.self.now in
+    let goes : goes_on c.args.line ≡ true = sym c.goes_on.ensures ∙ c.if-not-goes_on.false in
+    turns c.documents_are_followed.ensures c.args.flow.now c.args.defs.now c.requires.followed.valid old.lines.items c.args.line old.proof c.apply.new.self old.text.items
+    old.ended (goes_by_rule c.args.line goes) c.requires.followed c.in-Ok.ensures

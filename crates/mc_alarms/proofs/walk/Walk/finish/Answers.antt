@@ -1,5 +1,9 @@
-use Rattle.std.proofs.Common.{refl}
-use Rattle.mc_alarms.proofs.Followed.{ends, whole_is}
+use Rattle.std.proofs.Common.{refl, subst}
+use Rattle.std.specs.Prelude.{Err}
+use Rattle.mc_cert.specs.declared.line.Line.TheVariants.{End}
+use Rattle.mc_proof.specs.declared.fault.ApplyFault.{ApplyFault}
+use Rattle.mc_proof.specs.Positions.{Applies}
+use Rattle.mc_alarms.proofs.Followed.{end_is_taken, ends, whole_is}
 use Rattle.mc_alarms.proofs.walk.Walk.finish.Goals as goal
 
 pub returns-in_ok-push_count-in-Ok-finish : goal.returns-in_ok-push_count-in-Ok-finish
@@ -14,4 +18,11 @@ unreachable-requires c =
     let old = c.args.self in
     let ended = ends c.documents_are_followed.ensures c.args.flow.now c.args.defs.now c.requires.followed.valid old.lines.items old.proof c.apply.new.self old.text.items old.ended
     c.requires.followed c.in-Ok.ensures in
-    c.in-Err-finish.ensures.err.1 ended.ended
+    c.in-Err.ensures.err.1 ended.ended
+
+pub unreachable-requires-in-Err-Premise : goal.unreachable-requires-in-Err-Premise
+unreachable-requires-in-Err-Premise c =
+    let old = c.args.self in
+    let told = subst (λ (f : ApplyFault). Applies End old.proof c.apply.new.self (Err f)) c.in-Err-Premise.field-0-is c.in-Err-Premise.ensures in
+    end_is_taken c.documents_are_followed.ensures c.args.flow.now c.args.defs.now c.requires.followed.valid old.lines.items old.proof old.text.items old.ended _
+    c.requires.followed c.requires.none_open told.0

@@ -1,7 +1,13 @@
+use Rattle.std.proofs.Common.{length, reverse}
 use Rattle.mc_alarms.specs.Walks.{IsWalk}
+use Rattle.mc_alarms.proofs.SideLines.{SoFar}
 use Rattle.mc_alarms.proofs.walk.Walk.meet_all.Given as goal
 
 abbrev pub invariant-loop-met : goal.invariant-loop-met
-invariant-loop-met l =
-    (goal.iterator-loop-met).can_next l.met-iterator ×
-    (goal.iterator-loop-met).is_finite l.met-iterator × IsWalk l.flow l.defs l.self
+invariant-loop-met l = record {
+  walk : IsWalk l.flow l.defs l.self;
+  far : SoFar l.flow l.defs l.fn.self.proof (reverse l.fn.mets.items) (reverse l.fn.made.items) l.self.proof (reverse l.mets.items) (reverse l.made.items);
+}
+
+abbrev pub decreases-loop-met : goal.decreases-loop-met
+decreases-loop-met l = length l.mets.items

@@ -1,9 +1,11 @@
-use Rattle.std.proofs.Common.{◌≤◌}
+use Rattle.std.proofs.Common.{◌≡◌, length}
 use Rattle.mc_alarms.specs.Walks.{IsWalk}
+use Rattle.mc_alarms.proofs.SideLines.{NamesSoFar}
 use Rattle.mc_alarms.proofs.walk.Walk.names.Given as goal
 
-abbrev pub invariant-loop-term : goal.invariant-loop-term
-invariant-loop-term l = record {
+abbrev pub invariant-loop-i : goal.invariant-loop-i
+invariant-loop-i l = record {
   walk : IsWalk l.flow l.defs l.self;
-  within : l.place ≤ l.term-index;
+  lengths : length l.kinds ≡ length l.terms;
+  named : NamesSoFar l.fn.self.proof l.self.proof l.kinds l.terms l.i l.nodes.items;
 }

@@ -3,15 +3,8 @@ use Rattle.std.specs.Prelude.{is_some, option_map}
 use Rattle.mc_judging.specs.Judging.{path}
 use Rattle.mc_kernel.specs.Branches.{Path}
 use Rattle.mc_kernel.specs.Readings.{first_branch}
-use Rattle.mc_alarms.proofs.Followed.{current_at, goal_there, no_goal}
+use Rattle.mc_alarms.proofs.Followed.{current_at, goal_there, no_goal, none_open}
 use Rattle.mc_alarms.proofs.walk.Walk.next_act.Goals as goal
-
-pub returns-in-Some-false_or_null : goal.returns-in-Some-false_or_null
-returns-in-Some-false_or_null c =
-    let branch : Path = path c.in-Some.branch.now in
-    let current : Some branch ≡ option_map (λ (d : Path × List Path). d.0) (first_branch c.args.self.now.proof.branches) = c.in-Some.ensures in
-    let at = current_at c.args.self.now.proof branch current in
-    record { first = branch; others = at.0; branches_are = at.1; asked = λ know tells. sym (c.in-Some-false_or_null.ensures know tells) }
 
 pub returns-then-is_some : goal.returns-then-is_some
 returns-then-is_some c =
@@ -21,6 +14,20 @@ returns-then-is_some c =
     let there : is_some branch.goal ≡ true = sym c.if-is_some.ensures in
     let own = goal_there branch.goal there in
     record { first = branch; others = at.0; branches_are = at.1; goal = own.0; side = own.1 }
+
+pub returns-in-Some-false_or_null : goal.returns-in-Some-false_or_null
+returns-in-Some-false_or_null c =
+    let branch : Path = path c.in-Some.branch.now in
+    let current : Some branch ≡ option_map (λ (d : Path × List Path). d.0) (first_branch c.args.self.now.proof.branches) = c.in-Some.ensures in
+    let at = current_at c.args.self.now.proof branch current in
+    let none : is_some branch.goal ≡ false = sym c.if-is_some.ensures in
+    record {
+      first = branch;
+      others = at.0;
+      branches_are = at.1;
+      plain = no_goal branch.goal none;
+      asked = λ know tells. sym (c.in-Some-false_or_null.ensures know tells);
+    }
 
 pub returns : goal.returns
 returns c =
@@ -35,3 +42,6 @@ returns c =
       plain = no_goal branch.goal none;
       nothing_first = λ know tells. sym (c.in_default-false_or_null.ensures know tells);
     }
+
+pub returns-in_default : goal.returns-in_default
+returns-in_default c = none_open c.args.self.now.proof c.in_default.ensures

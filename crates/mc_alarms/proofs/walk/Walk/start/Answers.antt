@@ -6,11 +6,12 @@ use Rattle.mc_proof.specs.declared.fault.ApplyFault.{ApplyFault}
 use Rattle.mc_proof.specs.Positions.{Applies}
 use Rattle.mc_state.specs.declared.line.Form.TheVariants.{Chain}
 use Rattle.mc_state.specs.declared.line.Version.TheVariants.{One}
-use Rattle.mc_alarms.proofs.Followed.{pass_is_taken, same_followed, starts}
+use Rattle.mc_alarms.proofs.Covered.{roots_covered}
+use Rattle.mc_alarms.proofs.Followed.{begins_with, pass_is_taken, same_followed, starts}
 use Rattle.mc_alarms.proofs.walk.Walk.start.Goals as goal
 
-pub returns-in-Ok : goal.returns-in-Ok
-returns-in-Ok c =
+pub returns-in-Ok-clause-follows : goal.returns-in-Ok-clause-follows
+returns-in-Ok-clause-follows c =
     let flow = c.args.flow.now in
     let defs = c.args.defs.now in
     same_followed flow defs (Header One Chain ∷ Pass ∷ []) c.push-2.new.self.items c.apply.new.self [] c.new.result.items 0
@@ -18,6 +19,13 @@ returns-in-Ok c =
     ∙ ap (λ (ls : List Line). ls ++ Pass ∷ []) (c.in_ok-push.ensures.items ∙ ap (λ (ls : List Line). ls ++ Header One Chain ∷ []) c.new-lines.ensures.items))
     c.new.ensures.items
     (starts c.documents_are_followed.ensures flow defs c.requires.valid c.start-proof.result c.apply.new.self c.start-proof.ensures c.in-Ok.ensures)
+
+pub returns-in-Ok-clause-covered : goal.returns-in-Ok-clause-covered
+returns-in-Ok-clause-covered c =
+    let flow = c.args.flow.now in
+    let defs = c.args.defs.now in
+    roots_covered flow defs c.apply.new.self
+    (begins_with c.documents_are_followed.ensures flow defs c.requires.valid c.start-proof.result c.apply.new.self c.start-proof.ensures c.in-Ok.ensures)
 
 pub unreachable-requires : goal.unreachable-requires
 unreachable-requires c =

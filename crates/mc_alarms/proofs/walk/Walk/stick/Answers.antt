@@ -5,11 +5,13 @@ use Rattle.mc_cert.specs.declared.line.Line.TheVariants.{C1}
 use Rattle.mc_judging.specs.declared.branch.Branch.{Branch}
 use Rattle.mc_judging.specs.Judging.{path}
 use Rattle.mc_kernel.specs.Branches.{Path}
+use Rattle.mc_kernel.specs.Instances.{IsStuck}
 use Rattle.mc_kernel.specs.Readings.{first_branch}
+use Rattle.mc_proof.specs.Lines.{setting_at}
 use Rattle.mc_step.specs.Unmet.{IsUnmet}
 use Rattle.mc_proof.specs.declared.fault.ApplyFault.{ApplyFault}
 use Rattle.mc_proof.specs.Positions.{Applies}
-use Rattle.mc_alarms.proofs.Followed.{current_is, refused_nowhere, refused_stays, same_followed, stuck_is_right, sticks}
+use Rattle.mc_alarms.proofs.Followed.{current_is, goes_away, refused_nowhere, refused_stays, same_followed, stuck_is_right, sticks, turns}
 use Rattle.mc_alarms.proofs.walk.Walk.stick.Goals as goal
 
 pub returns-in-Ok-clause-follows : goal.returns-in-Ok-clause-follows
@@ -55,3 +57,13 @@ returns-then-not-branch-clause-met c = λ e.
           met.1 gap
           (subst (λ (d : Path). IsUnmet c.args.flow.now c.args.defs.now d.point d.state gap) (sym (current_is old.proof (path c.in-Some.branch.now) b others is current)) unmet),
     )
+
+pub returns-in-Ok-clause-gone : goal.returns-in-Ok-clause-gone
+returns-in-Ok-clause-gone c = λ e.
+    let flow = c.args.flow.now in
+    let defs = c.args.defs.now in
+    let old = c.args.self.now in
+    let turned = turns c.documents_are_followed.ensures flow defs c.requires.followed.valid old.lines.items C1 old.proof c.apply.new.self old.text.items old.ended refl
+    c.requires.followed c.in-Ok.ensures in
+    let stuck : IsStuck flow defs (setting_at old.proof) turned.first turned.next = turned.instance in
+    goes_away flow defs C1 old.proof c.apply.new.self turned stuck.gives

@@ -1,7 +1,7 @@
 // Certificates of small programs are found.
+use crate::{Limits, find};
 use mc_base::{Args, Items, Kind, NoMemory, PointId, PredId, StructId, VarId, VarInfo};
 use mc_defs::{Call, Def, DefAtom, Defs, FieldInfo, Rule, StructInfo, Structs};
-use mc_find::{Limits, find};
 use mc_flow::{Flow, Instr, Operand, Point, valid};
 use mc_text::Place;
 use std::alloc::Global;
