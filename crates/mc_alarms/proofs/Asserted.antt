@@ -12,7 +12,7 @@ use Rattle.mc_flow.specs.declared.instr.Operand.TheVariants.{Var, Const}
 use Rattle.mc_flow.specs.declared.instr.Instr.TheVariants.{AssertShape}
 use Rattle.mc_flow.specs.Valid.{IsValid}
 use Rattle.mc_graph.specs.Graph.{Edges, Graph}
-use Rattle.mc_premises.specs.Known.{Test, Tells}
+use Rattle.mc_state.specs.Known.{Test, Tells}
 use Rattle.mc_state.specs.declared.goal.Goal.{Goal}
 use Rattle.mc_state.specs.Covers.{Cover}
 use Rattle.mc_state.specs.Fits.{IsWellMade}

@@ -12,7 +12,7 @@ use Rattle.mc_graph.specs.declared.edge.Edge.{Edge}
 use Rattle.mc_graph.specs.declared.edge.Edge.TheVariants.{Block, Ind, Seg}
 use Rattle.mc_graph.specs.Graph.{Edges}
 use Rattle.mc_kernel.specs.Branches.{IsPlain, Path, entry_path, roots}
-use Rattle.mc_premises.specs.Known.{Test, Tells, is_false}
+use Rattle.mc_state.specs.Known.{Test, Tells, is_false}
 use Rattle.mc_progress.specs.Asked.{at_start, false_or_null, from_start, starts_at}
 use Rattle.mc_proof.specs.Lines.{setting_at}
 use Rattle.mc_proof.specs.Positions.{Position}

@@ -8,7 +8,7 @@ use Rattle.mc_cert.specs.declared.line.Line.TheVariants as line
 use Rattle.mc_defs.specs.declared.rules.Def.{Def}
 use Rattle.mc_flow.specs.declared.graph.Flow.{Flow}
 use Rattle.mc_flow.specs.Valid.{IsValid}
-use Rattle.mc_premises.specs.Premises.{Judged, need, have}
+use Rattle.mc_state.specs.Premises.{Judged, need, have}
 use Rattle.mc_state.specs.declared.line.Form.TheVariants.{Chain}
 use Rattle.mc_state.specs.declared.line.Version.TheVariants.{One}
 use Rattle.mc_state.specs.declared.raw_state.RawState.{RawState}
@@ -17,7 +17,7 @@ use Rattle.mc_kernel.specs.Instances.{IsInstance, IsStuck}
 use Rattle.mc_kernel.specs.Judges.{Knowledge, is_cut}
 use Rattle.mc_kernel.specs.Readings.{Reading, Stage, begun, behind, cutting, finished, first_branch, heading, has_no_branch, marked, ready, reading_line, ruled, ruling, setting_of}
 use Rattle.mc_base.specs.declared.ids.PointId.{PointId}
-use Rattle.mc_premises.specs.Known.{Test, Tells}
+use Rattle.mc_state.specs.Known.{Test, Tells}
 use Rattle.mc_progress.specs.Asked.{IsRight, false_or_null}
 use Rattle.mc_progress.specs.Progress.{IsInside, advances}
 use Rattle.mc_proof.specs.Lines.{setting_at}

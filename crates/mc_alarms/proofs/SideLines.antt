@@ -25,7 +25,7 @@ use Rattle.mc_fold.specs.Goals.{MeetsGoal}
 use Rattle.mc_kernel.specs.Branches.{IsPlain, Path, closes_by, with_state}
 use Rattle.mc_kernel.specs.Instances.{EndsFalse, EndsSide, GoalNamesNot, IsInstance}
 use Rattle.mc_kernel.specs.Readings.{first_branch}
-use Rattle.mc_premises.specs.Known.{Test, Tells}
+use Rattle.mc_state.specs.Known.{Test, Tells}
 use Rattle.mc_proof.specs.Lines.{setting_at}
 use Rattle.mc_proof.specs.Positions.{Position}
 use Rattle.mc_state.specs.declared.goal.Goal.{Goal}

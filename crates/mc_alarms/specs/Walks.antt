@@ -22,7 +22,7 @@ use Rattle.mc_kernel.specs.Instances.{IsInstance}
 use Rattle.mc_kernel.specs.Judges.{Knowledge}
 use Rattle.mc_kernel.specs.Readings.{Reading, ruling}
 use Rattle.mc_reading.specs.Documents.{IsJudge, reading_document}
-use Rattle.mc_premises.specs.Known.{Test, Tells}
+use Rattle.mc_state.specs.Known.{Test, Tells}
 use Rattle.mc_progress.specs.Asked.{at_code, false_or_null}
 use Rattle.mc_progress.specs.Progress.{IsInside, advances}
 use Rattle.mc_proof.specs.Lines.{setting_at}

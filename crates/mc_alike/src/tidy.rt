@@ -13,7 +13,7 @@ fn are_of_one_kind(state: &State, a: NodeId, b: NodeId) -> bool
     ensures { IsTrue result ↔ AreOfOneKind state.now.kinds a b }
 {
     // for the proof alone
-    mc_premises::tests_tell();
+    mc_state::tests_tell();
     if state.has_kind(Kind::Int, a) && state.has_kind(Kind::Int, b) {
         return true;
     }

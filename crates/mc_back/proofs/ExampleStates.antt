@@ -10,9 +10,9 @@ use Rattle.mc_heap.specs.Parts.{Joins, Split, IsEmpty}
 use Rattle.mc_heap.specs.PartLaws.{SplitAddsEmpty}
 use Rattle.mc_defs.specs.Meaning as meaning
 use Rattle.mc_defs.specs.Meaning.{RuleValues, Sat}
-use Rattle.mc_premises.specs.Back.{IsBackPosition}
-use Rattle.mc_premises.specs.Known.{Test, Tells, is_false, equal}
-use Rattle.mc_premises.proofs.Tests.{is_sound}
+use Rattle.mc_state.specs.Back.{IsBackPosition}
+use Rattle.mc_state.specs.Known.{Test, Tells, is_false, equal}
+use Rattle.mc_state.proofs.Tests.{is_sound}
 use Rattle.mc_pure.specs.Derived as pure
 use Rattle.mc_pure.specs.Pure.{Base}
 use Rattle.mc_pure.specs.Examples.{node}

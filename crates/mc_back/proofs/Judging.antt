@@ -8,14 +8,14 @@ use Rattle.mc_defs.specs.declared.rules.Def.{Def}
 use Rattle.mc_graph.specs.declared.edge.Edge.{Edge}
 use Rattle.mc_graph.specs.declared.edge.Edge.TheVariants.{Block, Ind, Seg}
 use Rattle.mc_graph.specs.Graph.{edge_with}
-use Rattle.mc_premises.specs.Back.{IsBackPosition, is_back}
-use Rattle.mc_premises.specs.Known.{Test, Tells, is_false, equal}
-use Rattle.mc_premises.specs.Laws.{BackIsTold}
-use Rattle.mc_premises.specs.Lists.{on_some}
-use Rattle.mc_premises.specs.Named.{SegParts, seg_of}
-use Rattle.mc_premises.specs.Premises.{Judged}
-use Rattle.mc_premises.proofs.Numbered.{need_ok, have_ok}
-use Rattle.mc_premises.proofs.Tests.{and_both, and_yes, not_false, is_sound, equal_from, equal_to}
+use Rattle.mc_state.specs.Back.{IsBackPosition, is_back}
+use Rattle.mc_state.specs.Known.{Test, Tells, is_false, equal}
+use Rattle.mc_state.specs.Told.{BackIsTold}
+use Rattle.mc_state.specs.Lists.{on_some}
+use Rattle.mc_state.specs.Named.{SegParts, seg_of}
+use Rattle.mc_state.specs.Premises.{Judged}
+use Rattle.mc_state.proofs.Numbered.{need_ok, have_ok}
+use Rattle.mc_state.proofs.Tests.{and_both, and_yes, not_false, is_sound, equal_from, equal_to}
 use Rattle.mc_state.specs.State.{State}
 use Rattle.mc_unfold.specs.Judges.{rules_in, rules_of}
 use Rattle.mc_back.specs.Judges.{ends_back_at, is_reached_back, unfolding_back}

@@ -5,11 +5,11 @@ use Rattle.mc_base.specs.declared.ids.NodeId.{NodeId}
 use Rattle.mc_base.specs.declared.ids.PredId.{PredId}
 use Rattle.mc_defs.specs.declared.rules.Def.{Def}
 use Rattle.mc_graph.specs.Graph.{edge_with}
-use Rattle.mc_premises.specs.Back.{is_back}
-use Rattle.mc_premises.specs.Known.{Test, is_false, equal}
-use Rattle.mc_premises.specs.Lists.{on_some}
-use Rattle.mc_premises.specs.Named.{SegParts, seg_of}
-use Rattle.mc_premises.specs.Premises.{Judged, need, have}
+use Rattle.mc_state.specs.Back.{is_back}
+use Rattle.mc_state.specs.Known.{Test, is_false, equal}
+use Rattle.mc_state.specs.Lists.{on_some}
+use Rattle.mc_state.specs.Named.{SegParts, seg_of}
+use Rattle.mc_state.specs.Premises.{Judged, need, have}
 use Rattle.mc_state.specs.State.{State}
 use Rattle.mc_unfold.specs.Judges.{rules_of}
 use Rattle.mc_back.specs.Unfolded.{back_successors}

@@ -7,8 +7,8 @@ use Rattle.mc_base.specs.declared.plain.VarInfo.{VarInfo}
 use Rattle.mc_defs.specs.declared.rules.Def.{Def}
 use Rattle.mc_defs.specs.declared.shapes.StructInfo.{StructInfo}
 use Rattle.mc_defs.specs.Conditions.{DefsFit}
-use Rattle.mc_premises.specs.Known.{Test, Tells}
-use Rattle.mc_premises.specs.Premises.{IsJudged}
+use Rattle.mc_state.specs.Known.{Test, Tells}
+use Rattle.mc_state.specs.Premises.{IsJudged}
 use Rattle.mc_state.specs.Fits.{IsBounded, IsWellMade}
 use Rattle.mc_state.specs.Rules.{IsSound}
 use Rattle.mc_state.specs.State.{State}

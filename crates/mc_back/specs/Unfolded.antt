@@ -11,7 +11,7 @@ use Rattle.mc_defs.specs.Instances.{node_of, atom_of}
 use Rattle.mc_graph.specs.declared.edge.Edge.{Edge}
 use Rattle.mc_graph.specs.declared.edge.Edge.TheVariants.{Seg}
 use Rattle.mc_graph.specs.Graph.{edge_with, without}
-use Rattle.mc_premises.specs.Back.{IsBackPosition}
+use Rattle.mc_state.specs.Back.{IsBackPosition}
 use Rattle.mc_state.specs.Bodies.{body_edges}
 use Rattle.mc_state.specs.Facts.{IsFalse, AreEqual}
 use Rattle.mc_state.specs.State.{State, numbered_nodes, with_nodes, with_only_edges, with_edges, with_atoms}

@@ -3,7 +3,7 @@ ghost use Rattle.std.specs.Prelude.{◌≡◌, Some, None, Err, [], ◌∷◌};
 ghost use Rattle.mc_heap.specs.Heap.{IsAtAddresses};
 ghost use Rattle.mc_defs.specs.Conditions.{DefsFit};
 ghost use Rattle.mc_defs.specs.Examples.{blocks};
-ghost use Rattle.mc_premises.specs.Known.{Test, Tells};
+ghost use Rattle.mc_state.specs.Known.{Test, Tells};
 ghost use Rattle.mc_pure.specs.Examples.{node};
 ghost use Rattle.mc_state.specs.Fits.{IsWellMade};
 ghost use Rattle.mc_state.specs.Stands.{StandsBy};

@@ -4,9 +4,9 @@ ghost use Rattle.mc_back.specs.Laws.{LawOfBack, BackIsDetermined, BackIsJudged, 
 
 use mc_defs::segments_are_bodies;
 use mc_heap::parts_regroup;
-use mc_premises::back_is_told;
 use mc_state::{
-    bodies_are_edges, edges_come_and_go, new_nodes_are_free, nodes_are_there, numbers_stay_bounded,
+    back_is_told, bodies_are_edges, edges_come_and_go, new_nodes_are_free, nodes_are_there,
+    numbers_stay_bounded,
 };
 use mc_unfold::{
     own_places_are_calls, rules_are_made, rules_stand_at_nodes, states_stay_well_made,

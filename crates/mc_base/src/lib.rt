@@ -1,4 +1,4 @@
-//! What every other crate speaks of: typed numbers, kinds and atoms, short lists, and runs of machines.
+//! What every other crate speaks of: typed numbers, kinds and atoms, and short lists.
 #![tactic(auto)]
 
 mod ids;

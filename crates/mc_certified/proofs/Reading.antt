@@ -12,7 +12,7 @@ use Rattle.mc_kernel.specs.Branches.{Path}
 use Rattle.mc_kernel.specs.Certificates.{IsValidCertificate}
 use Rattle.mc_kernel.specs.Judges.{Knowledge}
 use Rattle.mc_kernel.specs.Readings.{Reading, begun, behind, finished, reading_line}
-use Rattle.mc_premises.specs.Premises.{Judged}
+use Rattle.mc_state.specs.Premises.{Judged}
 use Rattle.mc_proof.specs.declared.fault.ApplyFault.{ApplyFault}
 use Rattle.mc_proof.specs.declared.fault.ApplyFault.TheVariants.{Premise}
 use Rattle.mc_proof.specs.Positions.{Applies, IsApplied, IsRefusedHere, Position, Stands, position_of}

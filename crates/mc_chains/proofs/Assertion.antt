@@ -15,7 +15,7 @@ use Rattle.mc_base.specs.Nodes.{Valuation, null}
 use Rattle.mc_flow.specs.declared.instr.Instr.TheVariants as instr
 use Rattle.mc_flow.specs.Valid.{IsSkip}
 use Rattle.mc_graph.specs.Graph.{no_edges}
-use Rattle.mc_premises.specs.Known.{Test}
+use Rattle.mc_state.specs.Known.{Test}
 use Rattle.mc_pure.specs.Derived as derived
 use Rattle.mc_pure.specs.Derived.{IsFalse}
 use Rattle.mc_pure.specs.Examples.{node}

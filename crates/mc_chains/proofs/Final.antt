@@ -9,7 +9,7 @@ use Rattle.mc_cert.specs.declared.line.Line.TheVariants.{C2, C3}
 use Rattle.mc_defs.specs.declared.rules.Def.{Def}
 use Rattle.mc_flow.specs.declared.graph.Flow.{Flow}
 use Rattle.mc_flow.specs.Valid.{IsValid}
-use Rattle.mc_premises.specs.Known.{Test}
+use Rattle.mc_state.specs.Known.{Test}
 use Rattle.mc_pure.specs.Pure.{Kinds}
 use Rattle.mc_state.specs.Fits.{IsBounded, IsWellMade, MayHaveKinds}
 use Rattle.mc_state.specs.Laws.{UnknownIsBounded}

@@ -4,11 +4,11 @@ use Rattle.std.specs.Prelude.{◌&&◌, ◌==◌, not, is_some, is_none, option_
 use Rattle.std.specs.List.{AllByRecursion, AllZip, list_all}
 use Rattle.mc_defs.specs.declared.rules.Def.{Def}
 use Rattle.mc_flow.specs.declared.graph.Flow.{Flow}
-use Rattle.mc_premises.specs.Known.{is_false}
-use Rattle.mc_premises.specs.Laws.{FalseIsTold}
-use Rattle.mc_premises.specs.Lists.{all_both}
-use Rattle.mc_premises.specs.Premises.{Judged}
-use Rattle.mc_premises.proofs.Numbered.{need_ok, have_ok}
+use Rattle.mc_state.specs.Known.{is_false}
+use Rattle.mc_state.specs.Told.{FalseIsTold}
+use Rattle.mc_state.specs.Lists.{all_both}
+use Rattle.mc_state.specs.Premises.{Judged}
+use Rattle.mc_state.proofs.Numbered.{need_ok, have_ok}
 use Rattle.mc_state.specs.declared.line.JoinStep.{JoinStep}
 use Rattle.mc_state.specs.Facts.{IsTidy, IsFalse}
 use Rattle.mc_state.specs.State.{State}

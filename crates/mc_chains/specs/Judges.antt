@@ -8,9 +8,9 @@ use Rattle.mc_cert.specs.declared.line.Line.{Line}
 use Rattle.mc_cert.specs.declared.line.Line.TheVariants as line
 use Rattle.mc_defs.specs.declared.rules.Def.{Def}
 use Rattle.mc_flow.specs.declared.graph.Flow.{Flow}
-use Rattle.mc_premises.specs.Known.{is_false}
-use Rattle.mc_premises.specs.Lists.{all_both}
-use Rattle.mc_premises.specs.Premises.{Judged, need, have, then_give}
+use Rattle.mc_state.specs.Known.{is_false}
+use Rattle.mc_state.specs.Lists.{all_both}
+use Rattle.mc_state.specs.Premises.{Judged, need, have, then_give}
 use Rattle.mc_state.specs.declared.line.JoinStep.{JoinStep}
 use Rattle.mc_state.specs.State.{State}
 use Rattle.mc_step.specs.Operands.{code_at}

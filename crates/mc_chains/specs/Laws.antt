@@ -5,8 +5,8 @@ use Rattle.mc_cert.specs.declared.line.Line.{Line}
 use Rattle.mc_defs.specs.declared.rules.Def.{Def}
 use Rattle.mc_flow.specs.declared.graph.Flow.{Flow}
 use Rattle.mc_flow.specs.Valid.{IsValid}
-use Rattle.mc_premises.specs.Known.{Test}
-use Rattle.mc_premises.specs.Premises.{IsJudged}
+use Rattle.mc_state.specs.Known.{Test}
+use Rattle.mc_state.specs.Premises.{IsJudged}
 use Rattle.mc_state.specs.declared.line.JoinStep.{JoinStep}
 use Rattle.mc_state.specs.Facts.{IsTidy}
 use Rattle.mc_state.specs.Fits.{IsWellMade}

@@ -1,7 +1,7 @@
 // Chains of small programs, and lines that change the states of cuts, worked out by hand.
 ghost use Rattle.std.specs.Prelude.{◌≡◌, true, false, Ok, Err, [], ◌∷◌};
 ghost use Rattle.mc_defs.specs.Examples.{defs, list_id};
-ghost use Rattle.mc_premises.specs.Known.{Test};
+ghost use Rattle.mc_state.specs.Known.{Test};
 ghost use Rattle.mc_same.specs.Same.{anew};
 ghost use Rattle.mc_state.specs.declared.line.JoinStep.TheVariants.{J2, J4};
 ghost use Rattle.mc_state.specs.State.{State};

@@ -4,10 +4,9 @@ ghost use Rattle.mc_chains.specs.Laws.{AnewIsMade};
 
 use mc_joins::{joins_are_determined, joins_make_well};
 use mc_kernel::last_pass_finds_faults;
-use mc_premises::tests_tell;
 use mc_reading::lines_make_well_made;
 use mc_same::numbering_is_sound;
-use mc_state::numbers_stay_bounded;
+use mc_state::{numbers_stay_bounded, tests_tell};
 
 /// The last pass of a final legal chain changes nothing, so its faults are found at its stuck branches.
 pub fn final_chains_find_faults()

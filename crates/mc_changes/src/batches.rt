@@ -2,7 +2,7 @@
 ghost use Rattle.std.specs.Prelude.{◌≡◌, ◌∷◌, ◌++◌, [], IfOk, OnOk, length};
 ghost use Rattle.std.specs.List.{AllByRecursion};
 ghost use Rattle.mc_base.specs.declared.plain.Atom.TheVariants.{In};
-ghost use Rattle.mc_premises.specs.Named.{others};
+ghost use Rattle.mc_state.specs.Named.{others};
 ghost use Rattle.mc_pure.specs.Pure.{IsWellFormed, IsBound};
 ghost use Rattle.mc_state.specs.State.{next_node, numbered_nodes, with_atoms, with_nodes, with_number, with_only_edges, without_vars};
 

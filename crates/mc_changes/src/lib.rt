@@ -4,3 +4,4 @@
 mod batches;
 
 pub use batches::{add_nodes, add_number, assume_all, forget_vars, take_edges};
+pub use mc_symbolic::State;

@@ -2,7 +2,7 @@
 use Rattle.std.proofs.Common.{refl, Err}
 use Rattle.mc_state.specs.declared.rule.LogicFault.{LogicFault}
 use Rattle.mc_state.specs.declared.rule.LogicFault.TheVariants.{Premise, NoMemory}
-use Rattle.mc_premises.specs.Premises.{Judged, AnswersBy, Changes}
+use Rattle.mc_state.specs.Premises.{Judged, AnswersBy, Changes}
 use Rattle.mc_rule.specs.Answered.{AnswersWithMemory}
 
 -- where nothing was changed, the fault is as it was answered

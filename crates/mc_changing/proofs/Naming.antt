@@ -5,7 +5,7 @@ use Rattle.std.specs.List.{AllByRecursion}
 use Rattle.mc_base.specs.declared.ids.EdgeId.{EdgeId}
 use Rattle.mc_graph.specs.declared.edge.Edge.{Edge}
 use Rattle.mc_graph.specs.Graph.{Edges, edge_with}
-use Rattle.mc_premises.specs.Named.{other_edge}
+use Rattle.mc_state.specs.Named.{other_edge}
 
 -- what holds of every edge holds of the one with an id
 pub edge_fits : (P : Edge → Type 0) (es : Edges) (id : EdgeId) (e : Edge) → edge_with es id ≡ Some e → AllByRecursion (λ x. P x.1) es → P e

@@ -8,8 +8,8 @@ use Rattle.mc_base.specs.declared.plain.Kind.{Kind}
 use Rattle.mc_graph.specs.declared.edge.Edge.TheVariants.{Seg}
 use Rattle.mc_graph.specs.Edges.{nodes_of}
 use Rattle.mc_graph.specs.Graph.{Edges, edge_with}
-use Rattle.mc_premises.specs.Known.{has_kind}
-use Rattle.mc_premises.specs.Lists.{all_both}
+use Rattle.mc_state.specs.Known.{has_kind}
+use Rattle.mc_state.specs.Lists.{all_both}
 use Rattle.mc_pure.specs.Pure.{Kinds}
 use Rattle.mc_state.specs.Fits.{AreNodes}
 

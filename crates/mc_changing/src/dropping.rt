@@ -3,7 +3,7 @@ ghost use Rattle.std.specs.Prelude.{◌≡◌, ◌∷◌, [], IfOk, OnOk, OnErr}
 ghost use Rattle.mc_changing.specs.Dropped.{dropped};
 ghost use Rattle.mc_changing.specs.Lacking.{ChangesWithMemory};
 ghost use Rattle.mc_fold.specs.ChangeJudges.{dropping_edge, is_reached};
-ghost use Rattle.mc_premises.specs.Known.{Test, Tells};
+ghost use Rattle.mc_state.specs.Known.{Test, Tells};
 ghost use Rattle.mc_rule.specs.Answered.{AnswersWithMemory};
 
 use crate::single::single;

@@ -4,9 +4,9 @@ ghost use Rattle.mc_changing.specs.Named.{AreKindsThere};
 ghost use Rattle.mc_fold.specs.Judges.{making_seg};
 ghost use Rattle.mc_graph.specs.declared.edge.Edge.TheVariants.{Seg};
 ghost use Rattle.mc_graph.specs.Edges.{nodes_of};
-ghost use Rattle.mc_premises.specs.Known.{Test, Tells, has_kind};
-ghost use Rattle.mc_premises.specs.Lists.{all_both};
-ghost use Rattle.mc_premises.specs.Premises.{AnswersBy, Changes};
+ghost use Rattle.mc_state.specs.Known.{Test, Tells, has_kind};
+ghost use Rattle.mc_state.specs.Lists.{all_both};
+ghost use Rattle.mc_state.specs.Premises.{AnswersBy, Changes};
 ghost use Rattle.mc_base.specs.declared.plain.Kind.TheVariants.{Ptr};
 ghost use Rattle.mc_state.specs.Fits.{AreNodes};
 ghost use Rattle.mc_state.specs.State.{with_edges};
@@ -17,9 +17,8 @@ use mc_base::{Args, Kind, NoMemory, NodeId, PredId};
 use mc_defs::Defs;
 use mc_fold::{segments_are_closed, segments_are_judged};
 use mc_graph::Edge;
-use mc_premises::tests_tell;
 use mc_rule::LogicRule;
-use mc_state::LogicFault;
+use mc_state::{LogicFault, tests_tell};
 use mc_symbolic::State;
 use std::alloc::Global;
 
@@ -34,7 +33,7 @@ pub struct EmptySeg {
 }
 
 /// Whether there is one node for each kind, of that kind.
-#[tactic(auto, using(mc_premises::proofs::ListLemmas::all_both_steps))]
+#[tactic(auto, using(mc_state::proofs::ListLemmas::all_both_steps))]
 fn have_kinds(s: &State, kinds: &[Kind], nodes: &[NodeId]) -> bool
     ensures { result ≡ all_both (has_kind s.now.kinds) kinds.now nodes.now }
 {

@@ -5,8 +5,8 @@ ghost use Rattle.mc_base.specs.declared.plain.Atom.{Atom as Fact};
 ghost use Rattle.mc_fold.specs.Changed.{IsListWithout, left_over};
 ghost use Rattle.mc_fold.specs.ChangeJudges.{forgetting_node, is_there};
 ghost use Rattle.mc_forget.specs.Left.{IsMade};
-ghost use Rattle.mc_premises.specs.Known.{Test, Tells};
-ghost use Rattle.mc_premises.specs.Premises.{AnswersBy, Changes};
+ghost use Rattle.mc_state.specs.Known.{Test, Tells};
+ghost use Rattle.mc_state.specs.Premises.{AnswersBy, Changes};
 ghost use Rattle.mc_pure.specs.Pure.{IsNode};
 ghost use Rattle.mc_state.specs.Facts.{IsFalse, IsUnnamed};
 

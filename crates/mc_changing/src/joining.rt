@@ -2,8 +2,8 @@
 ghost use Rattle.std.specs.Prelude.{◌≡◌, ◌∷◌, [], IfOk};
 ghost use Rattle.mc_fold.specs.Judges.{joining_segs, with_fold};
 ghost use Rattle.mc_graph.specs.Edges.{nodes_of};
-ghost use Rattle.mc_premises.specs.Known.{Test, Tells};
-ghost use Rattle.mc_premises.specs.Premises.{AnswersBy, Changes};
+ghost use Rattle.mc_state.specs.Known.{Test, Tells};
+ghost use Rattle.mc_state.specs.Premises.{AnswersBy, Changes};
 ghost use Rattle.mc_state.specs.Fits.{AreNodes};
 
 use crate::segments::{named_edges_are_here, other_edge, put_for_two, seg, with_one};

@@ -1,8 +1,8 @@
 // One node in place of an equal one.
 ghost use Rattle.std.specs.Prelude.{◌≡◌, ◌&&◌, ◌∷◌, [], IfOk, OnOk, IsTrue, not};
 ghost use Rattle.mc_fold.specs.ChangeJudges.{may_merge, merging_nodes, of_one_kind};
-ghost use Rattle.mc_premises.specs.Known.{Test, Tells, has_kind};
-ghost use Rattle.mc_premises.specs.Premises.{AnswersBy, Changes};
+ghost use Rattle.mc_state.specs.Known.{Test, Tells, has_kind};
+ghost use Rattle.mc_state.specs.Premises.{AnswersBy, Changes};
 ghost use Rattle.mc_pure.specs.Pure.{AreOfOneKind, HasKind};
 ghost use Rattle.mc_state.specs.Facts.{CanMerge, merged};
 
@@ -10,9 +10,8 @@ use crate::single::{is_there, single};
 use mc_base::{Kind, NoMemory, NodeId};
 use mc_defs::Defs;
 use mc_fold::{naming_is_judged, naming_is_sound};
-use mc_premises::tests_tell;
 use mc_rule::LogicRule;
-use mc_state::LogicFault;
+use mc_state::{LogicFault, tests_tell};
 use mc_symbolic::State;
 use std::alloc::Global;
 

@@ -4,7 +4,7 @@ ghost use Rattle.mc_changing.specs.Named.{AreEdgesHere};
 ghost use Rattle.mc_fold.specs.Judges.{with_fold};
 ghost use Rattle.mc_graph.specs.Edges.{nodes_of};
 ghost use Rattle.mc_graph.specs.declared.edge.Edge.TheVariants.{Ind, Seg};
-ghost use Rattle.mc_premises.specs.Named.{other_edge};
+ghost use Rattle.mc_state.specs.Named.{other_edge};
 ghost use Rattle.mc_pure.specs.Pure.{Kinds};
 ghost use Rattle.mc_state.specs.Fits.{AreNodes};
 ghost use Rattle.std.specs.Option.{option_copied};

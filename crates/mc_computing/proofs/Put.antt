@@ -11,7 +11,7 @@ use Rattle.mc_defs.specs.declared.shapes.StructInfo.{StructInfo}
 use Rattle.mc_flow.specs.declared.instr.Instr.TheVariants.{TestLe}
 use Rattle.mc_flow.specs.declared.instr.Operand.{Operand}
 use Rattle.mc_flow.specs.Valid.{IsOperand}
-use Rattle.mc_premises.specs.Known.{Test, is_false}
+use Rattle.mc_state.specs.Known.{Test, is_false}
 use Rattle.mc_pure.specs.Derived.{HasRange}
 use Rattle.mc_pure.specs.Pure.{HasKind}
 use Rattle.mc_ranges.specs.declared.Range.{Range}

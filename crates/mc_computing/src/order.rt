@@ -3,7 +3,7 @@ ghost use Rattle.std.specs.Prelude.{◌≡◌, ◌+ℤ◌, ◌-ℤ◌, pos, Some
 ghost use Rattle.mc_base.specs.declared.plain.Atom.TheVariants.{Ne};
 ghost use Rattle.mc_base.specs.declared.plain.Kind.TheVariants.{Int};
 ghost use Rattle.mc_flow.specs.declared.instr.Instr.TheVariants.{TestLe};
-ghost use Rattle.mc_premises.specs.Known.{Test, Tells};
+ghost use Rattle.mc_state.specs.Known.{Test, Tells};
 ghost use Rattle.mc_pure.specs.Pure.{AreOfOneKind, HasKind};
 ghost use Rattle.mc_ranges.specs.Range.{IsIntRange};
 ghost use Rattle.mc_state.specs.Facts.{IsFalse};

@@ -1,7 +1,7 @@
 // Sums, differences and products of operands.
 ghost use Rattle.std.specs.Prelude.{◌≡◌, Some, OnOk};
 ghost use Rattle.mc_base.specs.declared.plain.Kind.TheVariants.{Int};
-ghost use Rattle.mc_premises.specs.Known.{Test, Tells};
+ghost use Rattle.mc_state.specs.Known.{Test, Tells};
 ghost use Rattle.mc_pure.specs.Pure.{HasKind};
 ghost use Rattle.mc_state.specs.Facts.{IsFalse};
 ghost use Rattle.mc_step.specs.Fitting.{FitsAt};

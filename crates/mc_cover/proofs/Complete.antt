@@ -16,9 +16,9 @@ use Rattle.mc_state.specs.declared.terms.Term.{Term}
 use Rattle.mc_state.specs.Covers.{Fixes, BlockIsTaken, RuleTerms, CallsAreFound, CallsAreFoundAt, IsByInd, IsBySeg, CoverAt, Cover, EndsThere, SegCoverAt, SegCover}
 use Rattle.mc_state.specs.State.{State}
 use Rattle.mc_state.specs.Terms.{plain, term_of}
-use Rattle.mc_premises.specs.Known.{Test, Tells}
-use Rattle.mc_premises.specs.Lists.{on_some}
-use Rattle.mc_premises.proofs.Tests.{and_yes}
+use Rattle.mc_state.specs.Known.{Test, Tells}
+use Rattle.mc_state.specs.Lists.{on_some}
+use Rattle.mc_state.proofs.Tests.{and_yes}
 use Rattle.mc_search.specs.Search.{is_free, first_try}
 use Rattle.mc_search.specs.Met.{IsIn}
 use Rattle.mc_search.proofs.Firsts.{none_on}

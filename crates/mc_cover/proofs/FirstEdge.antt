@@ -4,7 +4,7 @@ use Rattle.std.specs.Prelude.{◌==◌, option_map, if◌then◌else◌}
 use Rattle.mc_base.specs.declared.ids.EdgeId.{EdgeId}
 use Rattle.mc_graph.specs.declared.edge.Edge.{Edge}
 use Rattle.mc_graph.specs.Graph.{Edges, edge_with, without, IdsAscend}
-use Rattle.mc_premises.proofs.Named.{below_none}
+use Rattle.mc_state.proofs.Named.{below_none}
 use Rattle.mc_cover.specs.Guessed.{or_else, first_edge}
 use Rattle.mc_cover.proofs.Options.{same_some}
 

@@ -16,8 +16,8 @@ use Rattle.mc_state.specs.declared.terms.Term.{Term}
 use Rattle.mc_state.specs.Guess.{HasWholeBlock, HasSummary, Stops, BySummary, ByBlock, ByEmptyRule, FirstOf, GuessAt}
 use Rattle.mc_state.specs.State.{State}
 use Rattle.mc_state.specs.Terms.{plain, zero_term, AreEqualTerms}
-use Rattle.mc_premises.specs.Known.{Test, Tells}
-use Rattle.mc_premises.proofs.Tests.{and_both, and_yes}
+use Rattle.mc_state.specs.Known.{Test, Tells}
+use Rattle.mc_state.proofs.Tests.{and_both, and_yes}
 use Rattle.mc_cover.specs.Goals.{Stop, whole_block}
 use Rattle.mc_cover.specs.Guessed.{Guesses, or_else, first_edge, summary_of, BlockFor, block_of_rule, first_block, if_empty, first_empty, given_by_rule, by_summary, by_block, by_empty_rule, by_stop, guess_of, guess_at}
 use Rattle.mc_cover.specs.Laws.{GuessIsTheGuess, NoGuessUndefined}

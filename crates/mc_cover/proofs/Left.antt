@@ -4,9 +4,9 @@ use Rattle.std.specs.Prelude.{◌==◌, option_map, option_to_list, if◌then◌
 use Rattle.mc_base.specs.declared.ids.EdgeId.{EdgeId}
 use Rattle.mc_graph.specs.declared.edge.Edge.{Edge}
 use Rattle.mc_graph.specs.Graph.{Edges, edge_with, without, IdsAscend}
-use Rattle.mc_premises.specs.Named.{others, is_among}
-use Rattle.mc_premises.proofs.Named.{kept_other, gone}
-use Rattle.mc_premises.proofs.Tests.{not_no}
+use Rattle.mc_state.specs.Named.{others, is_among}
+use Rattle.mc_state.proofs.Named.{kept_other, gone}
+use Rattle.mc_state.proofs.Tests.{not_no}
 use Rattle.mc_search.specs.Search.{uses, takes_this, is_unused, is_free}
 use Rattle.mc_cover.specs.Goals.{Mark}
 use Rattle.mc_cover.specs.Marks.{edge_of, takes}

@@ -13,8 +13,8 @@ use Rattle.mc_defs.specs.Conditions.{IsDefs, numbers_from}
 use Rattle.mc_graph.specs.declared.edge.Edge.{Edge}
 use Rattle.mc_graph.specs.Graph.{Edges, edge_with}
 use Rattle.mc_state.specs.declared.terms.Term.{Term}
-use Rattle.mc_premises.specs.Lists.{on_some}
-use Rattle.mc_premises.proofs.Tests.{and_both}
+use Rattle.mc_state.specs.Lists.{on_some}
+use Rattle.mc_state.proofs.Tests.{and_both}
 use Rattle.mc_search.specs.Met.{IsIn, LeavesFew, AllLeaveFew}
 use Rattle.mc_search.proofs.Members.{in_left, in_right, in_map, in_flat_map}
 use Rattle.mc_cover.specs.Goals.{Stop, Goal, Mark, AtEnd, ByInd, BySeg, ByRule, ByCall, Setting, is_ind, behind_seg, whole_block, contents_by}

@@ -14,8 +14,8 @@ use Rattle.mc_graph.specs.declared.edge.Edge.TheVariants.{Block, Ind, Seg}
 use Rattle.mc_graph.specs.Edges.{start_of}
 use Rattle.mc_graph.specs.Graph.{Edges, edge_with, IdsAscend}
 use Rattle.mc_state.specs.Terms.{plain}
-use Rattle.mc_premises.specs.Lists.{on_some}
-use Rattle.mc_premises.proofs.Tests.{and_both}
+use Rattle.mc_state.specs.Lists.{on_some}
+use Rattle.mc_state.proofs.Tests.{and_both}
 use Rattle.mc_search.specs.Search.{applies, is_free, options, first_try}
 use Rattle.mc_search.specs.Met.{IsIn}
 use Rattle.mc_search.proofs.Members.{filter_yes, filter_no}

@@ -6,9 +6,9 @@ use Rattle.mc_base.specs.declared.ids.NodeId.{NodeId}
 use Rattle.mc_base.specs.declared.ids.StructId.{StructId}
 use Rattle.mc_graph.specs.Graph.{Edges, edge_with}
 use Rattle.mc_state.specs.declared.terms.Term.{Term}
-use Rattle.mc_premises.specs.Lists.{on_some}
-use Rattle.mc_premises.specs.Named.{others, are_there, is_among, are_distinct}
-use Rattle.mc_premises.proofs.Tests.{and_both, and_yes, not_no}
+use Rattle.mc_state.specs.Lists.{on_some}
+use Rattle.mc_state.specs.Named.{others, are_there, is_among, are_distinct}
+use Rattle.mc_state.proofs.Tests.{and_both, and_yes, not_no}
 use Rattle.mc_search.specs.Search.{uses, is_free, is_unused, first_try}
 use Rattle.mc_search.specs.Met.{Leads}
 use Rattle.mc_search.proofs.Firsts.{first_leads}

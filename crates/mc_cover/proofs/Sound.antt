@@ -16,9 +16,9 @@ use Rattle.mc_state.specs.declared.terms.Term.{Term}
 use Rattle.mc_state.specs.Covers.{BlockIsTaken, RuleTerms, CallsAreFound, CallsAreFoundAt, IsByInd, CoverAt, Cover, EndsThere, SegCoverAt}
 use Rattle.mc_state.specs.State.{State}
 use Rattle.mc_state.specs.Terms.{plain, term_of}
-use Rattle.mc_premises.specs.Known.{Tells}
-use Rattle.mc_premises.specs.Lists.{on_some}
-use Rattle.mc_premises.proofs.Tests.{and_both}
+use Rattle.mc_state.specs.Known.{Tells}
+use Rattle.mc_state.specs.Lists.{on_some}
+use Rattle.mc_state.proofs.Tests.{and_both}
 use Rattle.mc_search.specs.Search.{is_free, first_try}
 use Rattle.mc_search.specs.Met.{AreMetBy, IsMet}
 use Rattle.mc_search.proofs.Firsts.{first_meets}

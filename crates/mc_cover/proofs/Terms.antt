@@ -9,8 +9,8 @@ use Rattle.mc_state.specs.declared.terms.Term.{Term}
 use Rattle.mc_state.specs.Facts.{Derives}
 use Rattle.mc_state.specs.State.{State}
 use Rattle.mc_state.specs.Terms.{AreEqualTerms, AreAllEqualTerms, TermLiesIn, TermsLieIn, atom_on}
-use Rattle.mc_premises.specs.Known.{Test, Tells}
-use Rattle.mc_premises.proofs.Tests.{and_both, and_yes, each_from, each_to}
+use Rattle.mc_state.specs.Known.{Test, Tells}
+use Rattle.mc_state.proofs.Tests.{and_both, and_yes, each_from, each_to}
 use Rattle.mc_cover.specs.Terms.{equal_terms, all_equal_terms, lies_in, all_lie_in, atoms_known}
 
 module _ (know : Test) (s : State) (tells : Tells know s) where

@@ -15,7 +15,7 @@ use Rattle.mc_pure.specs.Examples.{node}
 use Rattle.mc_pure.specs.Pure.{Kinds, low_of, high_of}
 use Rattle.mc_state.specs.CoverExamples.{state_of, cell_and_length, fork_and_tree}
 use Rattle.mc_state.specs.State.{State}
-use Rattle.mc_premises.specs.Known.{Test}
+use Rattle.mc_state.specs.Known.{Test}
 use Rattle.mc_cover.specs.First.{Choice}
 
 -- one atom shows another: it is the same, or a range within the other

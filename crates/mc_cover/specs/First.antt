@@ -7,8 +7,8 @@ use Rattle.mc_defs.specs.declared.rules.Def.{Def}
 use Rattle.mc_defs.specs.declared.rules.Rule.{Rule}
 use Rattle.mc_graph.specs.Graph.{Edges}
 use Rattle.mc_state.specs.declared.terms.Term.{Term}
-use Rattle.mc_premises.specs.Known.{Test}
-use Rattle.mc_premises.specs.Named.{others}
+use Rattle.mc_state.specs.Known.{Test}
+use Rattle.mc_state.specs.Named.{others}
 use Rattle.mc_search.specs.Search.{first_try}
 use Rattle.mc_cover.specs.Goals.{Goal, Mark, Setting}
 use Rattle.mc_cover.specs.Marks.{edge_of, space}

@@ -14,7 +14,7 @@ use Rattle.mc_graph.specs.Graph.{Edges, without}
 use Rattle.mc_state.specs.declared.terms.Term.{Term}
 use Rattle.mc_state.specs.Terms.{plain, zero_term}
 use Rattle.mc_state.specs.Guess.{Partial, given, give_all, by_passes, begun, parameters_of}
-use Rattle.mc_premises.specs.Known.{Test}
+use Rattle.mc_state.specs.Known.{Test}
 use Rattle.mc_cover.specs.Goals.{Stop, whole_block}
 use Rattle.mc_cover.specs.Terms.{equal_terms}
 

@@ -8,8 +8,8 @@ use Rattle.mc_state.specs.declared.terms.Term.{Term}
 use Rattle.mc_state.specs.Covers.{Cover, SegCover}
 use Rattle.mc_state.specs.Guess.{Guess}
 use Rattle.mc_state.specs.State.{State}
-use Rattle.mc_premises.specs.Known.{Test, Tells}
-use Rattle.mc_premises.specs.Named.{others, are_there, are_distinct}
+use Rattle.mc_state.specs.Known.{Test, Tells}
+use Rattle.mc_state.specs.Named.{others, are_there, are_distinct}
 use Rattle.mc_search.specs.Search.{first_try}
 use Rattle.mc_cover.specs.First.{Choice, limit, first_marks, first_for, first_cover, first_seg_cover}
 use Rattle.mc_cover.specs.Goals.{Stop, Goal, Setting}

@@ -7,7 +7,7 @@ use Rattle.std.specs.Prelude.{List, Bool, true}
 use Rattle.mc_base.specs.declared.ids.EdgeId.{EdgeId}
 use Rattle.mc_state.specs.declared.terms.Term.{Term}
 use Rattle.mc_state.specs.Terms.{plain}
-use Rattle.mc_premises.specs.Known.{Test}
+use Rattle.mc_state.specs.Known.{Test}
 use Rattle.mc_search.specs.Search.{Space}
 use Rattle.mc_cover.specs.Goals.{Goal, Mark, Setting}
 use Rattle.mc_cover.specs.Marks.{def_at, ids_of, marks_on, fits, calls_of, takes}

@@ -8,8 +8,8 @@ use Rattle.mc_defs.specs.declared.rules.DefAtom.TheVariants.{Eq, Ne, In}
 use Rattle.mc_pure.specs.Pure.{low_of, high_of}
 use Rattle.mc_state.specs.declared.terms.Term.{Term}
 use Rattle.mc_state.specs.Terms.{plus, base_term, atom_on}
-use Rattle.mc_premises.specs.Known.{Test}
-use Rattle.mc_premises.specs.Lists.{all_both}
+use Rattle.mc_state.specs.Known.{Test}
+use Rattle.mc_state.specs.Lists.{all_both}
 
 -- the terms are known to be equal
 abbrev pub equal_terms : Test → Term → Term → Bool

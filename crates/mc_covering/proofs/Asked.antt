@@ -14,7 +14,7 @@ use Rattle.mc_pure.specs.Derived.{Follows, Derived, IsFalse}
 use Rattle.mc_pure.specs.Classes.{TellsDerived}
 use Rattle.mc_state.specs.declared.terms.Term.{Term}
 use Rattle.mc_state.specs.State.{State, pure_of}
-use Rattle.mc_premises.specs.Known.{Test, Tells}
+use Rattle.mc_state.specs.Known.{Test, Tells}
 use Rattle.mc_cover.specs.Terms.{equal_terms}
 use Rattle.mc_covering.specs.Told.{same_tests}
 

@@ -9,7 +9,7 @@ use Rattle.mc_defs.specs.declared.rules.DefAtom.TheVariants.{Eq, Ne, In}
 use Rattle.mc_state.specs.declared.terms.Term.{Term}
 use Rattle.mc_state.specs.Terms.{plus, term_of, base_term, atom_on}
 use Rattle.std.proofs.lemmas.List.{drop_more}
-use Rattle.mc_premises.specs.Known.{Test}
+use Rattle.mc_state.specs.Known.{Test}
 use Rattle.mc_cover.specs.Terms.{with_fixed, atoms_known}
 use Rattle.mc_covering.specs.Terms.{is_near, all_near, IntroducesFar, AddsSmall}
 

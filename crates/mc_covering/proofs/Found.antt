@@ -5,7 +5,7 @@ use Rattle.mc_defs.specs.declared.rules.Def.{Def}
 use Rattle.mc_defs.specs.Conditions.{IsDefs}
 use Rattle.mc_graph.specs.Graph.{IdsAscend}
 use Rattle.mc_state.specs.State.{State}
-use Rattle.mc_premises.specs.Known.{Test, Tells}
+use Rattle.mc_state.specs.Known.{Test, Tells}
 use Rattle.mc_search.specs.Search.{first_try}
 use Rattle.mc_tries.specs.Stack.{enough}
 use Rattle.mc_cover.specs.declared.goals.Goal.{Goal}

@@ -7,8 +7,8 @@ use Rattle.mc_base.specs.declared.ids.EdgeId.{EdgeId}
 use Rattle.mc_graph.specs.declared.edge.Edge.{Edge}
 use Rattle.mc_graph.specs.Graph.{Edges, edge_with, without, IdsAscend}
 use Rattle.mc_state.specs.declared.terms.Term.{Term}
-use Rattle.mc_premises.specs.Known.{Test}
-use Rattle.mc_premises.specs.Named.{others, is_among}
+use Rattle.mc_state.specs.Known.{Test}
+use Rattle.mc_state.specs.Named.{others, is_among}
 use Rattle.mc_search.proofs.Members.{filter_yes, filter_no}
 use Rattle.mc_cover.specs.Marks.{ids_of}
 use Rattle.mc_cover.specs.Near.{starts_at, near}

@@ -14,7 +14,7 @@ use Rattle.mc_pure.specs.Classes.{HasNormalForm, NormalSaysAll}
 use Rattle.mc_pure.specs.Normal.{low, high, Holds}
 use Rattle.mc_state.specs.declared.terms.Term.{Term}
 use Rattle.mc_state.specs.State.{State, pure_of}
-use Rattle.mc_premises.specs.Known.{Test, Tells}
+use Rattle.mc_state.specs.Known.{Test, Tells}
 use Rattle.mc_cover.specs.Terms.{lies_in, all_lie_in}
 use Rattle.mc_covering.specs.Terms.{is_near, all_near}
 

@@ -13,7 +13,7 @@ use Rattle.mc_base.specs.declared.ids.NodeId.{NodeId}
 use Rattle.mc_base.specs.declared.ids.PredId.{PredId}
 use Rattle.mc_defs.specs.declared.rules.Def.{Def}
 use Rattle.mc_defs.specs.declared.rules.Rule.{Rule}
-use Rattle.mc_premises.specs.Lists.{on_some}
+use Rattle.mc_state.specs.Lists.{on_some}
 use Rattle.mc_state.specs.Terms.{plain}
 use Rattle.mc_cover.specs.Goals.{Setting}
 use Rattle.mc_cover.specs.Marks.{Named, goal_of, goals_to, named_by, rule_at, has_call, calls_of_rule, calls_of_rule_to}

@@ -6,8 +6,8 @@ use Rattle.mc_defs.specs.declared.rules.Def.{Def}
 use Rattle.mc_graph.specs.declared.edge.Edge.{Edge}
 use Rattle.mc_graph.specs.Graph.{Edges}
 use Rattle.mc_state.specs.State.{State}
-use Rattle.mc_premises.specs.Known.{Test}
-use Rattle.mc_premises.specs.Named.{others, is_among}
+use Rattle.mc_state.specs.Known.{Test}
+use Rattle.mc_state.specs.Named.{others, is_among}
 use Rattle.mc_cover.specs.Goals.{Setting}
 
 -- the edges that may be taken: those of the state but for the used ones

@@ -6,7 +6,7 @@ use mathlib.Core.HLevel.{→_set, Σ_prop_path}
 use mathlib.Core.Logic.{∥∥₁_elim, ∥∥₁_prop}
 use mathlib.Core.Path.{fun_ext}
 use Rattle.mc_state.specs.State.{State}
-use Rattle.mc_premises.specs.Known.{Test, Tells}
+use Rattle.mc_state.specs.Known.{Test, Tells}
 
 -- a test, of which it is known that it tells what is derived in the state
 abbrev pub IsTold : State → Type 0

@@ -1,7 +1,7 @@
 // What the block of a rule holds.
 ghost use Rattle.std.specs.Prelude.{◌≡◌, ◌==◌, ◌&&◌, ◌++◌, Some, None, IfOk, map, option_map, if◌then◌else◌};
 ghost use Rattle.mc_state.specs.Terms.{plain};
-ghost use Rattle.mc_premises.specs.Known.{Test, Tells};
+ghost use Rattle.mc_state.specs.Known.{Test, Tells};
 ghost use Rattle.mc_cover.specs.Goals.{all_there, whole_block, contents_by};
 ghost use Rattle.mc_cover.specs.Terms.{equal_terms};
 ghost use Rattle.mc_covering.specs.Setting.{free_edges};

@@ -3,8 +3,8 @@ ghost use Rattle.std.specs.Prelude.{◌≡◌, ◌&&◌, not, ◌++◌, ◌∷�
 ghost use Rattle.std.specs.List.{filter};
 ghost use Rattle.std.specs.Option.{option_copied};
 ghost use Rattle.mc_graph.specs.Graph.{edge_with};
-ghost use Rattle.mc_premises.specs.Known.{Test, Tells};
-ghost use Rattle.mc_premises.specs.Named.{is_among};
+ghost use Rattle.mc_state.specs.Known.{Test, Tells};
+ghost use Rattle.mc_state.specs.Named.{is_among};
 ghost use Rattle.mc_cover.specs.Marks.{ids_of};
 ghost use Rattle.mc_cover.specs.Near.{near};
 ghost use Rattle.mc_cover.specs.Terms.{equal_terms};

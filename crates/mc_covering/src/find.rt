@@ -2,7 +2,7 @@
 ghost use Rattle.std.specs.Prelude.{◌≡◌, ◌∷◌, IfOk, Some, None, option_map};
 ghost use Rattle.mc_cover.specs.First.{first_marks, first_cover, first_seg_cover, choice_of};
 ghost use Rattle.mc_covering.specs.Setting.{free_edges, setting};
-ghost use Rattle.mc_premises.specs.Known.{Test, Tells};
+ghost use Rattle.mc_state.specs.Known.{Test, Tells};
 ghost use Rattle.mc_state.specs.Facts.{IsFalse};
 
 use crate::laws::is_told;

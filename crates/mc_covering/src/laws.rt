@@ -7,7 +7,7 @@ ghost use Rattle.mc_defs.specs.declared.rules.Def.{Def};
 ghost use Rattle.mc_defs.specs.declared.rules.Rule.{Rule};
 ghost use Rattle.mc_state.specs.declared.terms.Term.{Term as At};
 ghost use Rattle.mc_state.specs.Facts.{IsFalse};
-ghost use Rattle.mc_premises.specs.Known.{Test, Tells};
+ghost use Rattle.mc_state.specs.Known.{Test, Tells};
 ghost use Rattle.mc_cover.specs.Terms.{all_lie_in};
 ghost use Rattle.mc_covering.specs.Terms.{all_near, AddsSmall};
 

@@ -9,7 +9,7 @@ ghost use Rattle.mc_cover.specs.Marks.{fits, calls_of, takes};
 ghost use Rattle.mc_cover.specs.Near.{near_marks};
 ghost use Rattle.mc_covering.specs.Pushing.{IsPushed};
 ghost use Rattle.mc_covering.specs.Setting.{free_edges, setting};
-ghost use Rattle.mc_premises.specs.Known.{Test, Tells};
+ghost use Rattle.mc_state.specs.Known.{Test, Tells};
 ghost use Rattle.mc_state.specs.Facts.{IsFalse};
 ghost use Rattle.mc_tries.specs.Stack.{IsArena};
 

@@ -5,7 +5,7 @@ ghost use Rattle.mc_base.specs.declared.ids.NodeId.{NodeId as Node};
 ghost use Rattle.mc_defs.specs.declared.rules.DefAtom.{DefAtom as Statement};
 ghost use Rattle.mc_state.specs.Facts.{IsFalse};
 ghost use Rattle.mc_state.specs.Terms.{plain, plus, term_of, base_term, atom_on};
-ghost use Rattle.mc_premises.specs.Known.{Test, Tells};
+ghost use Rattle.mc_state.specs.Known.{Test, Tells};
 ghost use Rattle.mc_cover.specs.Terms.{atoms_known, with_fixed};
 ghost use Rattle.mc_cover.specs.Marks.{named_with};
 ghost use Rattle.mc_covering.specs.Terms.{is_near, all_near, IntroducesFar, IsSmall, AddsSmall};

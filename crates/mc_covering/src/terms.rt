@@ -2,7 +2,7 @@
 ghost use Rattle.std.specs.Prelude.{◌≡◌, ◌-ℤ◌, map};
 ghost use Rattle.mc_base.specs.declared.plain.Atom.TheVariants.{Ne, In};
 ghost use Rattle.mc_state.specs.Terms.{plain};
-ghost use Rattle.mc_premises.specs.Known.{Test, Tells};
+ghost use Rattle.mc_state.specs.Known.{Test, Tells};
 ghost use Rattle.mc_cover.specs.Terms.{equal_terms, all_equal_terms, lies_in, all_lie_in};
 
 use mc_base::{Kind, NodeId};
@@ -67,7 +67,7 @@ fn lies_in(state: &State, kind: Kind, term: &Term) -> bool
 }
 
 /// Whether there is one term for each kind, which lies in its range.
-#[tactic(auto, using(mc_premises::proofs::ListLemmas::all_both_steps))]
+#[tactic(auto, using(mc_state::proofs::ListLemmas::all_both_steps))]
 pub fn all_lie_in(state: &State, kinds: &[Kind], terms: &[Term]) -> bool
     ensures { (know : Test) → Tells know state.now → result ≡ all_lie_in know kinds.now terms.now }
 {
@@ -83,7 +83,7 @@ pub fn all_lie_in(state: &State, kinds: &[Kind], terms: &[Term]) -> bool
 }
 
 /// Whether the terms of two lists are derived equal one by one, and the lists are of one length.
-#[tactic(auto, using(mc_premises::proofs::ListLemmas::all_both_steps))]
+#[tactic(auto, using(mc_state::proofs::ListLemmas::all_both_steps))]
 pub fn are_all_equal(state: &State, left: &[Term], right: &[Term]) -> bool
     ensures { (know : Test) → Tells know state.now → result ≡ all_equal_terms know left.now right.now }
 {

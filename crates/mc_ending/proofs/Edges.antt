@@ -4,8 +4,8 @@ use Rattle.std.specs.Prelude.{◌==◌, if◌then◌else◌}
 use Rattle.mc_base.specs.declared.ids.EdgeId.{EdgeId}
 use Rattle.mc_graph.specs.declared.edge.Edge.{Edge}
 use Rattle.mc_graph.specs.Graph.{Edges, IdsAscend, edge_with, without}
-use Rattle.mc_premises.specs.Named.{others, is_among}
-use Rattle.mc_premises.proofs.Named.{kept_other}
+use Rattle.mc_state.specs.Named.{others, is_among}
+use Rattle.mc_state.proofs.Named.{kept_other}
 use Rattle.mc_state.proofs.Ids.{ids_without}
 
 or_parts : (a b : Bool) → (a || b) ≡ false → (a ≡ false) × (b ≡ false)

@@ -20,8 +20,8 @@ use Rattle.mc_defs.specs.Conditions.{DefsFit, RuleFitsStructs, CallFits, content
 use Rattle.mc_graph.specs.declared.edge.Edge.{Edge}
 use Rattle.mc_graph.specs.declared.edge.Edge.TheVariants.{Block, Ind, Seg}
 use Rattle.mc_graph.specs.Graph.{Edges, Graph, IdsAscend, edge_with, without}
-use Rattle.mc_premises.specs.Named.{are_distinct, is_among, others}
-use Rattle.mc_premises.proofs.Named.{gone, kept_other}
+use Rattle.mc_state.specs.Named.{are_distinct, is_among, others}
+use Rattle.mc_state.proofs.Named.{gone, kept_other}
 use Rattle.mc_pure.specs.Classes.{EachIsDecided, TellsDerived}
 use Rattle.mc_pure.specs.Derived as pure
 use Rattle.mc_pure.specs.Pure.{HasKind}

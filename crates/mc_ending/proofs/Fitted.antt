@@ -12,9 +12,9 @@ use Rattle.mc_graph.specs.declared.edge.Edge.{Edge}
 use Rattle.mc_graph.specs.declared.edge.Edge.TheVariants.{Block, Ind, Seg}
 use Rattle.mc_state.specs.declared.terms.Term.{Term}
 use Rattle.mc_state.specs.Terms.{plain}
-use Rattle.mc_premises.specs.Known.{Test}
-use Rattle.mc_premises.specs.Lists.{on_some}
-use Rattle.mc_premises.proofs.Tests.{and_both, and_yes}
+use Rattle.mc_state.specs.Known.{Test}
+use Rattle.mc_state.specs.Lists.{on_some}
+use Rattle.mc_state.proofs.Tests.{and_both, and_yes}
 use Rattle.mc_cover.specs.declared.goals.Goal.{Goal}
 use Rattle.mc_cover.specs.Goals.{Stop, Setting, all_there, whole_block, is_ind, is_seg, contents_by}
 use Rattle.mc_cover.specs.Marks.{Named, ends_here, names_at, names_fit, named_with, named_by, def_at, rule_at}

@@ -24,8 +24,8 @@ use Rattle.mc_graph.specs.declared.edge.Edge.{Edge}
 use Rattle.mc_graph.specs.declared.edge.Edge.TheVariants.{Block, Ind}
 use Rattle.mc_graph.specs.Graph.{Edges, edge_with}
 use Rattle.mc_pure.specs.Derived.{itself, turned, chained, shifted, differs, differs_along}
-use Rattle.mc_premises.specs.Named.{Looked, are_distinct, others}
-use Rattle.mc_premises.proofs.Named.{picks_from, looked_count}
+use Rattle.mc_state.specs.Named.{Looked, are_distinct, others}
+use Rattle.mc_state.proofs.Named.{picks_from, looked_count}
 use Rattle.mc_state.specs.declared.terms.Term.{Term}
 use Rattle.mc_state.specs.Covers.{RuleTerms}
 use Rattle.mc_state.specs.Facts.{IsFalse, Derives, AreEqual, AreAllEqual}

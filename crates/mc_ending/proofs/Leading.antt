@@ -11,8 +11,8 @@ use Rattle.mc_defs.specs.declared.rules.Rule.{Rule}
 use Rattle.mc_graph.specs.declared.edge.Edge.{Edge}
 use Rattle.mc_graph.specs.declared.edge.Edge.TheVariants.{Block, Ind, Seg}
 use Rattle.mc_graph.specs.Graph.{edge_with}
-use Rattle.mc_premises.specs.Known.{Test, Tells}
-use Rattle.mc_premises.proofs.Tests.{and_both}
+use Rattle.mc_state.specs.Known.{Test, Tells}
+use Rattle.mc_state.proofs.Tests.{and_both}
 use Rattle.mc_pure.specs.Classes.{EachIsDecided}
 use Rattle.mc_pure.specs.Pure.{IsWellFormed}
 use Rattle.mc_search.specs.Met.{Leads}

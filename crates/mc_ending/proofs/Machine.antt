@@ -17,9 +17,9 @@ use Rattle.mc_defs.specs.Conditions.{DefsFit, CallFits, RuleFitsStructs, content
 use Rattle.mc_graph.specs.declared.edge.Edge.{Edge}
 use Rattle.mc_graph.specs.declared.edge.Edge.TheVariants.{Block, Ind, Seg}
 use Rattle.mc_graph.specs.Graph.{Edges, Graph, edge_with}
-use Rattle.mc_premises.specs.Known.{Test, Tells}
-use Rattle.mc_premises.specs.Named.{are_distinct, is_among, others}
-use Rattle.mc_premises.proofs.Tests.{and_both}
+use Rattle.mc_state.specs.Known.{Test, Tells}
+use Rattle.mc_state.specs.Named.{are_distinct, is_among, others}
+use Rattle.mc_state.proofs.Tests.{and_both}
 use Rattle.mc_search.specs.Search.{is_free, is_unused, takes_this, uses}
 use Rattle.mc_cover.specs.declared.goals.Goal.{Goal}
 use Rattle.mc_cover.specs.declared.goals.Mark.{Mark}

@@ -9,8 +9,8 @@ use Rattle.mc_base.specs.declared.plain.Kind.{Kind}
 use Rattle.mc_graph.specs.declared.edge.Edge.TheVariants.{Ind, Seg}
 use Rattle.mc_graph.specs.Graph.{edge_with}
 use Rattle.mc_pure.specs.Pure.{HasKind, low_of, high_of}
-use Rattle.mc_premises.specs.Named.{Looked, are_distinct, others}
-use Rattle.mc_premises.proofs.Named.{picks_from}
+use Rattle.mc_state.specs.Named.{Looked, are_distinct, others}
+use Rattle.mc_state.proofs.Named.{picks_from}
 use Rattle.mc_state.specs.declared.terms.Term.{Term}
 use Rattle.mc_state.specs.Facts.{IsFalse, AreEqual, AreAllEqual}
 use Rattle.mc_state.specs.State.{State}

@@ -22,7 +22,7 @@ use Rattle.mc_fold.specs.Laws.{CloseSegIsDetermined, FoldIndIsDetermined, Forget
 use Rattle.mc_fold.specs.MadeLaws.{SpareStaysMade}
 use Rattle.mc_fold.proofs.Names.{kinds_there}
 use Rattle.mc_listed.specs.Lists.{ListsAreThere}
-use Rattle.mc_premises.specs.Named.{others}
+use Rattle.mc_state.specs.Named.{others}
 use Rattle.mc_state.specs.declared.terms.Term.{Term}
 use Rattle.mc_state.specs.Facts.{IsFalse}
 use Rattle.mc_state.specs.Fits.{IsBounded, IsWellMade}

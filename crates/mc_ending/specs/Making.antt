@@ -7,8 +7,8 @@ use Rattle.mc_defs.specs.declared.rules.Def.{Def}
 use Rattle.mc_graph.specs.declared.edge.Edge.{Edge}
 use Rattle.mc_graph.specs.declared.edge.Edge.TheVariants.{Block, Ind, Seg}
 use Rattle.mc_graph.specs.Graph.{edge_with}
-use Rattle.mc_premises.specs.Known.{Test}
-use Rattle.mc_premises.specs.Named.{are_distinct}
+use Rattle.mc_state.specs.Known.{Test}
+use Rattle.mc_state.specs.Named.{are_distinct}
 use Rattle.mc_search.specs.Search.{is_free, uses}
 use Rattle.mc_cover.specs.declared.goals.Goal.{Goal}
 use Rattle.mc_cover.specs.declared.goals.Mark.{Mark}

@@ -18,7 +18,7 @@ use Rattle.mc_fold.specs.Folded.{ClosesSeg, FoldsInd}
 use Rattle.mc_fold.specs.Goals.{MeetsGoal}
 use Rattle.mc_graph.specs.declared.edge.Edge.{Edge}
 use Rattle.mc_graph.specs.Graph.{Edges}
-use Rattle.mc_premises.specs.Known.{Test, Tells}
+use Rattle.mc_state.specs.Known.{Test, Tells}
 use Rattle.mc_pure.specs.Pure.{HasKind, high_of, low_of}
 use Rattle.mc_state.specs.declared.goal.Goal.{Goal}
 use Rattle.mc_state.specs.declared.terms.Term.{Term}

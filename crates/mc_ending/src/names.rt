@@ -6,7 +6,7 @@ ghost use Rattle.mc_cover.specs.Marks.{names_at};
 ghost use Rattle.mc_cover.specs.Terms.{with_fixed};
 ghost use Rattle.mc_defs.specs.declared.rules.DefAtom.{DefAtom as Statement};
 ghost use Rattle.mc_ending.specs.Making.{fields_of_block};
-ghost use Rattle.mc_premises.specs.Known.{Test};
+ghost use Rattle.mc_state.specs.Known.{Test};
 ghost use Rattle.mc_state.specs.Terms.{base_term, plain, plus, term_of};
 ghost use Rattle.std.specs.Option.{option_copied};
 

@@ -7,7 +7,7 @@ ghost use Rattle.mc_cover.specs.Marks.{fits, goal_of};
 ghost use Rattle.mc_cover.specs.declared.goals.Mark.TheVariants as mark;
 ghost use Rattle.mc_ending.specs.Making.{IsOpenedBy, Opened, setting_in};
 ghost use Rattle.mc_graph.specs.Graph.{edge_with};
-ghost use Rattle.mc_premises.specs.Known.{Test, Tells};
+ghost use Rattle.mc_state.specs.Known.{Test, Tells};
 ghost use Rattle.mc_state.specs.Terms.{plain, term_of};
 
 use crate::met::Met;

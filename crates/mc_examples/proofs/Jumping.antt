@@ -10,7 +10,7 @@ use Rattle.mc_pure.specs.Examples.{node}
 use Rattle.mc_pure.specs.Laws.{IsTrue, DerivedIsTrue, TrueIsNotFalse}
 use Rattle.mc_pure.specs.Pure as known
 use Rattle.mc_pure.specs.Pure.{kind_atom}
-use Rattle.mc_premises.specs.Known.{Test, Tells, is_false, has_kind}
+use Rattle.mc_state.specs.Known.{Test, Tells, is_false, has_kind}
 use Rattle.mc_state.specs.Examples.{two_names, no_number}
 use Rattle.mc_state.specs.State.{pure_of}
 use Rattle.mc_kernel.specs.Examples.{at, edge}

@@ -13,8 +13,8 @@ use Rattle.mc_base.specs.Nodes.{Valuation}
 use Rattle.mc_pure.specs.Laws.{IsTrue, DerivedIsTrue, TrueIsNotFalse}
 use Rattle.mc_pure.specs.Pure as known
 use Rattle.mc_pure.specs.Pure.{Pure, Base, kind_atom, address_atom}
-use Rattle.mc_premises.specs.Known.{Test, Tells, is_false}
-use Rattle.mc_premises.proofs.Tests.{is_sound}
+use Rattle.mc_state.specs.Known.{Test, Tells, is_false}
+use Rattle.mc_state.proofs.Tests.{is_sound}
 use Rattle.mc_state.specs.State.{State, pure_of}
 
 -- the nodes from 1 on have these values

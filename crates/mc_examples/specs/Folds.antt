@@ -7,7 +7,7 @@ use Rattle.mc_base.specs.Nodes.{null}
 use Rattle.mc_cert.specs.declared.line.Line.TheVariants.{L11}
 use Rattle.mc_defs.specs.Examples.{defs, lenlist_id}
 use Rattle.mc_graph.specs.declared.edge.Edge.TheVariants.{Seg}
-use Rattle.mc_premises.specs.Known.{Tells}
+use Rattle.mc_state.specs.Known.{Tells}
 use Rattle.mc_pure.specs.Examples.{node}
 use Rattle.mc_state.specs.declared.goal.Goal.{Goal}
 use Rattle.mc_state.specs.State.{State, with_atom}

@@ -9,7 +9,7 @@ use Rattle.mc_defs.specs.Examples.{defs, list_id}
 use Rattle.mc_flow.specs.declared.graph.Flow.{Flow}
 use Rattle.mc_flow.specs.declared.instr.Instr.TheVariants as instr
 use Rattle.mc_graph.specs.declared.edge.Edge.TheVariants.{Ind}
-use Rattle.mc_premises.specs.Known.{Tells}
+use Rattle.mc_state.specs.Known.{Tells}
 use Rattle.mc_pure.specs.Examples.{node}
 use Rattle.mc_state.specs.declared.line.Form.TheVariants.{Certificate}
 use Rattle.mc_state.specs.declared.goal.Goal.{Goal}

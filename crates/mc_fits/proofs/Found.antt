@@ -6,7 +6,7 @@ use Rattle.mc_base.specs.declared.ids.NodeId.{NodeId}
 use Rattle.mc_base.specs.declared.plain.Kind.{Kind}
 use Rattle.mc_pure.specs.Nodes.{RiseFrom}
 use Rattle.mc_pure.specs.Pure.{Kinds, kind_of}
-use Rattle.mc_premises.specs.Lists.{on_some}
+use Rattle.mc_state.specs.Lists.{on_some}
 
 -- numbers that differ are told apart
 apart : (b : Bool) → (b ≡ true → ⊥) → b ≡ false

@@ -2,10 +2,10 @@
 use Rattle.std.proofs.Common.{◌≡◌, ℕ, Bool, true, false, Option, Some, None, [], Ok, refl, sym, ap, ◌∙◌}
 use Rattle.std.specs.Prelude.{◌==◌, ◌&&◌, not, length, slice_get}
 use Rattle.std.specs.List.{list_all}
-use Rattle.mc_premises.specs.Known.{is_false}
-use Rattle.mc_premises.specs.Lists.{all_both}
-use Rattle.mc_premises.specs.Named.{are_distinct}
-use Rattle.mc_premises.specs.Premises.{Judged, need, have, then_give}
+use Rattle.mc_state.specs.Known.{is_false}
+use Rattle.mc_state.specs.Lists.{all_both}
+use Rattle.mc_state.specs.Named.{are_distinct}
+use Rattle.mc_state.specs.Premises.{Judged, need, have, then_give}
 use Rattle.mc_kernel.specs.Judges.{are_images, is_known_too, is_edge_at, knows_image, is_whole_too, ends}
 use Rattle.mc_fits.specs.Fitting.{fitting_to, JumpsAreFits}
 

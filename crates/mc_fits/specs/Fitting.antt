@@ -4,10 +4,10 @@ use Rattle.std.specs.List.{list_all}
 use Rattle.mc_base.specs.declared.ids.EdgeId.{EdgeId}
 use Rattle.mc_base.specs.declared.ids.NodeId.{NodeId}
 use Rattle.mc_pure.specs.Pure.{Kinds, kind_of}
-use Rattle.mc_premises.specs.Known.{Test, is_false}
-use Rattle.mc_premises.specs.Lists.{all_both, on_some}
-use Rattle.mc_premises.specs.Named.{are_distinct}
-use Rattle.mc_premises.specs.Premises.{Judged, need, have, then_give}
+use Rattle.mc_state.specs.Known.{Test, is_false}
+use Rattle.mc_state.specs.Lists.{all_both, on_some}
+use Rattle.mc_state.specs.Named.{are_distinct}
+use Rattle.mc_state.specs.Premises.{Judged, need, have, then_give}
 use Rattle.mc_state.specs.State.{State}
 use Rattle.mc_kernel.specs.Judges.{has_image, are_images, is_known_too, is_edge_at, knows_image, is_whole_too, jumping_to, ends}
 

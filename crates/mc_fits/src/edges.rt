@@ -1,8 +1,8 @@
 // Edges of an arrival that are as those of a target.
 ghost use Rattle.std.specs.Prelude.{◌≡◌, ◌&&◌};
 ghost use Rattle.mc_kernel.specs.Judges.{is_edge, is_edge_at};
-ghost use Rattle.mc_premises.specs.Known.{Test, Tells};
-ghost use Rattle.mc_premises.specs.Lists.{all_both};
+ghost use Rattle.mc_state.specs.Known.{Test, Tells};
+ghost use Rattle.mc_state.specs.Lists.{all_both};
 
 use crate::images::{are_all_images, are_known_too, is_image};
 use mc_base::{EdgeId, NodeId};
@@ -79,7 +79,7 @@ fn is_edge_at(s: &State, images: &[NodeId], there: &(EdgeId, Edge), id: EdgeId) 
 }
 
 /// Whether the edges with these ids are as those there, one by one.
-#[tactic(auto, using(mc_premises::proofs::ListLemmas::all_both_steps))]
+#[tactic(auto, using(mc_state::proofs::ListLemmas::all_both_steps))]
 pub fn are_edges(s: &State, images: &[NodeId], theres: &[(EdgeId, Edge)], ids: &[EdgeId]) -> bool
     ensures { (know : Test) → Tells know s.now
         → result ≡ all_both (is_edge_at know s.now.graph.edges images.now) theres.now ids.now }

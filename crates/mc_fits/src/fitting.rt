@@ -2,7 +2,7 @@
 ghost use Rattle.std.specs.Prelude.{◌≡◌};
 ghost use Rattle.mc_fits.specs.Fitting.{fitting_to, unmet};
 ghost use Rattle.mc_kernel.specs.Judges.{is_whole_too};
-ghost use Rattle.mc_premises.specs.Known.{Test, Tells};
+ghost use Rattle.mc_state.specs.Known.{Test, Tells};
 
 use crate::edges::are_edges;
 use crate::images::{are_images, are_known_too, know_images};

@@ -5,8 +5,8 @@ ghost use Rattle.mc_base.specs.Atoms.{moved_atom};
 ghost use Rattle.mc_fits.specs.Fitting.{has_kind_image};
 ghost use Rattle.mc_kernel.specs.Judges.{are_images, has_image, image, is_image, is_known_too, knows_image};
 ghost use Rattle.mc_kernel.specs.Jumps.{image_of};
-ghost use Rattle.mc_premises.specs.Known.{Test, Tells};
-ghost use Rattle.mc_premises.specs.Lists.{all_both};
+ghost use Rattle.mc_state.specs.Known.{Test, Tells};
+ghost use Rattle.mc_state.specs.Lists.{all_both};
 ghost use Rattle.mc_pure.specs.Pure.{kind_atom};
 
 use mc_base::{Atom, Kind, NodeId};
@@ -106,7 +106,7 @@ pub fn is_image(s: &State, images: &[NodeId], there: NodeId, here: NodeId) -> bo
 }
 
 /// Whether the images of nodes there are equal to nodes here, one by one.
-#[tactic(auto, using(mc_premises::proofs::ListLemmas::all_both_steps))]
+#[tactic(auto, using(mc_state::proofs::ListLemmas::all_both_steps))]
 pub fn are_all_images(s: &State, images: &[NodeId], theres: &[NodeId], heres: &[NodeId]) -> bool
     ensures { (know : Test) → Tells know s.now → result ≡ all_both (is_image know images.now) theres.now heres.now }
 {
@@ -135,7 +135,7 @@ fn is_known_too(s: &State, images: &[NodeId], there: Option<NodeId>, here: Optio
 }
 
 /// Whether what is known there is known here, at equal nodes, one by one.
-#[tactic(auto, using(mc_premises::proofs::ListLemmas::all_both_steps))]
+#[tactic(auto, using(mc_state::proofs::ListLemmas::all_both_steps))]
 pub fn are_known_too(
     s: &State,
     images: &[NodeId],

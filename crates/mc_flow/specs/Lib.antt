@@ -1,3 +1,4 @@
+pub mod Runs
 pub mod Values
 pub mod Steps
 pub mod Valid

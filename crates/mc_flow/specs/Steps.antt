@@ -12,7 +12,7 @@ use Rattle.mc_base.specs.declared.plain.FaultKind.TheVariants.{Null, Freed, Unin
 use Rattle.mc_base.specs.declared.plain.Kind.TheVariants.{Int}
 use Rattle.mc_text.specs.declared.place.Place.{Place}
 use Rattle.mc_base.specs.Kinds.{InKind}
-use Rattle.mc_base.specs.Runs.{Outcome, next, last, ended, fault, IsSafeFrom}
+use Rattle.mc_flow.specs.Runs.{Outcome, next, last, ended, fault, IsSafeFrom}
 use Rattle.mc_heap.specs.Heap.{Block, Heap, IsAddress, region_of}
 use Rattle.mc_heap.specs.Access.{block_field, field_at, fresh_block, with_field}
 use Rattle.mc_heap.specs.Adding.{AreFree, part_of, with_blocks}

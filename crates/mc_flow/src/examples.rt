@@ -1,7 +1,7 @@
 // Single steps: inputs, sums, shapes and empty heaps.
 ghost use Rattle.std.specs.Prelude.{pos, negsuc, Some, None, [], ◌∷◌};
 ghost use Rattle.mc_base.specs.declared.plain.FaultKind.TheVariants.{Uninit, Shape, NotEmpty};
-ghost use Rattle.mc_base.specs.Runs.{next, last, fault};
+ghost use Rattle.mc_flow.specs.Runs.{next, last, fault};
 ghost use Rattle.mc_heap.specs.Choices.{input, malloc, shape};
 ghost use Rattle.mc_defs.specs.Examples.{list_id, second_cell};
 ghost use Rattle.mc_flow.specs.declared.instr.Instr.TheVariants.{Input, Add, AssumeShape, AssertShape, AssertEmpty};

@@ -16,10 +16,10 @@ use Rattle.mc_pure.specs.Pure.{Kinds, HasKind, IsNode, AreOfOneKind, kind_of, lo
 use Rattle.mc_state.specs.State.{State, next_node, with_nodes, with_atoms, with_only_edges}
 use Rattle.mc_state.specs.Facts.{IsUnnamed, merged}
 use Rattle.mc_state.specs.Fits.{IsBounded}
-use Rattle.mc_premises.specs.Premises.{Judged}
-use Rattle.mc_premises.specs.Known.{Test, Tells, is_false, equal, has_kind}
-use Rattle.mc_premises.proofs.Numbered.{need_ok, have_ok}
-use Rattle.mc_premises.proofs.Tests.{and_both, and_yes, not_yes, not_false, is_sound, equal_from, equal_to, has_kind_from, has_kind_to}
+use Rattle.mc_state.specs.Premises.{Judged}
+use Rattle.mc_state.specs.Known.{Test, Tells, is_false, equal, has_kind}
+use Rattle.mc_state.proofs.Numbered.{need_ok, have_ok}
+use Rattle.mc_state.proofs.Tests.{and_both, and_yes, not_yes, not_false, is_sound, equal_from, equal_to, has_kind_from, has_kind_to}
 use Rattle.mc_fold.specs.Changed.{NamesSpare, MergesNodes, DropsEdge, ForgetsNode, IsListWithout, left_over}
 use Rattle.mc_fold.specs.ChangeJudges.{is_there, lies_in, naming_spare, may_merge, of_one_kind, merging_nodes, is_reached, dropping_edge, is_listed, is_unnamed, forgetting_node}
 use Rattle.mc_fold.specs.JudgedLaws.{SpareIsJudged, MergeIsJudged, ReachedIsTold, DropIsJudged, ForgetIsJudged}

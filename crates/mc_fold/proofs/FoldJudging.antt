@@ -16,14 +16,14 @@ use Rattle.mc_graph.specs.Graph.{Edges, edge_with}
 use Rattle.mc_state.specs.State.{State}
 use Rattle.mc_state.specs.Facts.{AreAllEqual, Derives}
 use Rattle.mc_state.specs.Fits.{IsBounded}
-use Rattle.mc_premises.specs.Premises.{then_give}
-use Rattle.mc_premises.specs.Lists.{all_both, on_some}
-use Rattle.mc_premises.specs.Known.{Test, Tells, is_false, has_kind}
-use Rattle.mc_premises.specs.Named.{others, named_ids, are_named, Looked}
-use Rattle.mc_premises.proofs.ListLemmas.{both_from, both_to}
-use Rattle.mc_premises.proofs.Numbered.{need_ok, have_ok, then_ok}
-use Rattle.mc_premises.proofs.Tests.{not_false, is_sound, equal_from, equal_to, and_both, and_yes, each_from, each_to}
-use Rattle.mc_premises.proofs.Named.{BlockIs, named_from, named_to, looked_count}
+use Rattle.mc_state.specs.Premises.{then_give}
+use Rattle.mc_state.specs.Lists.{all_both, on_some}
+use Rattle.mc_state.specs.Known.{Test, Tells, is_false, has_kind}
+use Rattle.mc_state.specs.Named.{others, named_ids, are_named, Looked}
+use Rattle.mc_state.proofs.ListLemmas.{both_from, both_to}
+use Rattle.mc_state.proofs.Numbered.{need_ok, have_ok, then_ok}
+use Rattle.mc_state.proofs.Tests.{not_false, is_sound, equal_from, equal_to, and_both, and_yes, each_from, each_to}
+use Rattle.mc_state.proofs.Named.{BlockIs, named_from, named_to, looked_count}
 use Rattle.mc_fold.specs.Folded.{FoldsInd, FoldsSeg, Matches, folded, FieldsMatch, BlockMatches, BlocksMatch, CallMatches, CallsMatch}
 use Rattle.mc_fold.specs.Judges.{with_fold, block_fits, fits_rule, is_named, is_named_too, is_body, body_fits, is_call, is_call_at, knows_rule, matching, arguments, nothing, own_call, folding_ind, folding_seg}
 use Rattle.mc_fold.specs.JudgedLaws.{FoldIndIsJudged, FoldSegIsJudged}

@@ -14,14 +14,14 @@ use Rattle.mc_pure.specs.Pure.{Kinds}
 use Rattle.mc_state.specs.declared.goal.Goal.{Goal}
 use Rattle.mc_state.specs.State.{State, with_edges}
 use Rattle.mc_state.specs.Fits.{IsBounded, HaveKinds}
-use Rattle.mc_premises.specs.Premises.{Judged}
-use Rattle.mc_premises.specs.Lists.{all_both}
-use Rattle.mc_premises.specs.Known.{Test, Tells, is_false, equal, all_equal, has_kind}
-use Rattle.mc_premises.specs.Named.{SegParts, IndParts, seg_of, ind_of, other_edge}
-use Rattle.mc_premises.proofs.ListLemmas.{both_from, both_to}
-use Rattle.mc_premises.proofs.Named.{kept_other, gone}
-use Rattle.mc_premises.proofs.Numbered.{need_ok, have_ok}
-use Rattle.mc_premises.proofs.Tests.{and_both, and_yes, not_false, is_sound, equal_from, equal_to, all_equal_from, all_equal_to, has_kind_from, has_kind_to}
+use Rattle.mc_state.specs.Premises.{Judged}
+use Rattle.mc_state.specs.Lists.{all_both}
+use Rattle.mc_state.specs.Known.{Test, Tells, is_false, equal, all_equal, has_kind}
+use Rattle.mc_state.specs.Named.{SegParts, IndParts, seg_of, ind_of, other_edge}
+use Rattle.mc_state.proofs.ListLemmas.{both_from, both_to}
+use Rattle.mc_state.proofs.Named.{kept_other, gone}
+use Rattle.mc_state.proofs.Numbered.{need_ok, have_ok}
+use Rattle.mc_state.proofs.Tests.{and_both, and_yes, not_false, is_sound, equal_from, equal_to, all_equal_from, all_equal_to, has_kind_from, has_kind_to}
 use Rattle.mc_fold.specs.Folded.{ClosesSeg, JoinsSegs, MakesEmptySeg, folded}
 use Rattle.mc_fold.specs.Goals.{MeetsGoal}
 use Rattle.mc_fold.specs.Judges.{closing_seg, joining_segs, making_seg, meeting_goal, with_fold}

@@ -31,7 +31,7 @@ use Rattle.mc_fold.specs.Changed.{alone, left_over, Forgets}
 use Rattle.mc_fold.specs.Laws.{LawOfForget}
 use Rattle.mc_fold.specs.MadeLaws.{ForgetStaysMade}
 use Rattle.mc_pure.specs.Whole.{IsInside}
-use Rattle.mc_premises.proofs.Tests.{not_no}
+use Rattle.mc_state.proofs.Tests.{not_no}
 use Rattle.mc_fold.proofs.ChangeJudging.{known_var, differ_to}
 use Rattle.mc_fold.proofs.KindsAgree.{Parted, IsNumber, KindsAgree, number_back, agree, base_agrees}
 use Rattle.mc_fold.proofs.Lists.{all_places, all_append}

@@ -13,8 +13,8 @@ use Rattle.mc_pure.specs.Pure.{IsNode}
 use Rattle.mc_state.specs.State.{State}
 use Rattle.mc_state.specs.Facts.{AreEqual, IsReached, from_null, from_var, along_equal, along_edge}
 use Rattle.mc_state.specs.Fits.{AreNodes, IsBounded}
-use Rattle.mc_premises.specs.Known.{Test, Tells, equal}
-use Rattle.mc_premises.proofs.Tests.{equal_from, equal_to}
+use Rattle.mc_state.specs.Known.{Test, Tells, equal}
+use Rattle.mc_state.proofs.Tests.{equal_from, equal_to}
 use Rattle.mc_fold.specs.ChangeJudges.{starts_at, reached_in, is_reached}
 use Rattle.mc_fold.proofs.Ordered.{among_cases, among_here, among_there, among_none}
 

@@ -19,8 +19,8 @@ use Rattle.mc_pure.specs.Pure as known
 use Rattle.mc_pure.specs.Pure.{Pure, Base, IsNode, kind_atom, address_atom}
 use Rattle.mc_state.specs.CoverExamples.{cell_and_list, segment_and_list, fork_and_tree, at_seven}
 use Rattle.mc_state.specs.State.{State, pure_of}
-use Rattle.mc_premises.specs.Known.{Test, Tells, is_false, equal, has_kind}
-use Rattle.mc_premises.proofs.Tests.{is_sound, equal_to}
+use Rattle.mc_state.specs.Known.{Test, Tells, is_false, equal, has_kind}
+use Rattle.mc_state.proofs.Tests.{is_sound, equal_to}
 use Rattle.mc_fold.specs.ChangeJudges.{is_there, naming_spare, merging_nodes, dropping_edge, forgetting_node}
 use Rattle.mc_fold.specs.Examples.{edge, valued, two_segments, pointer, small_number, named_twice, lost_list, other_length, list_apart, pointed_list, list_goal, null_goal, tree_goal, false_pointer, cell_unknown, other_defs, pointed_node}
 use Rattle.mc_fold.specs.Judges.{folding_ind, folding_seg, closing_seg, joining_segs, making_seg, meeting_goal}

@@ -14,8 +14,8 @@ use Rattle.mc_graph.specs.Graph.{Edges, edge_with, without}
 use Rattle.mc_pure.specs.Pure.{Kinds, kind_of, low_of, high_of}
 use Rattle.mc_state.specs.Facts.{merged}
 use Rattle.mc_state.specs.State.{State, next_node, with_nodes, with_atoms, with_only_edges}
-use Rattle.mc_premises.specs.Premises.{Judged, need, have}
-use Rattle.mc_premises.specs.Known.{Test, is_false, equal, has_kind}
+use Rattle.mc_state.specs.Premises.{Judged, need, have}
+use Rattle.mc_state.specs.Known.{Test, is_false, equal, has_kind}
 use Rattle.mc_fold.specs.Changed.{left_over}
 
 -- the node is there

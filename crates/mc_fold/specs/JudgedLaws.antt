@@ -10,8 +10,8 @@ use Rattle.mc_state.specs.declared.goal.Goal.{Goal}
 use Rattle.mc_state.specs.State.{State}
 use Rattle.mc_state.specs.Facts.{IsReached}
 use Rattle.mc_state.specs.Fits.{IsBounded}
-use Rattle.mc_premises.specs.Premises.{Judged, IsJudged}
-use Rattle.mc_premises.specs.Known.{Test, Tells}
+use Rattle.mc_state.specs.Premises.{Judged, IsJudged}
+use Rattle.mc_state.specs.Known.{Test, Tells}
 use Rattle.mc_fold.specs.Folded.{FoldsInd, FoldsSeg, ClosesSeg, JoinsSegs, MakesEmptySeg}
 use Rattle.mc_fold.specs.Changed.{NamesSpare, MergesNodes, DropsEdge, ForgetsNode, IsListWithout}
 use Rattle.mc_fold.specs.Goals.{MeetsGoal}

@@ -16,10 +16,10 @@ use Rattle.mc_graph.specs.Graph.{Edges, edge_with}
 use Rattle.mc_pure.specs.Pure.{Kinds}
 use Rattle.mc_state.specs.declared.goal.Goal.{Goal}
 use Rattle.mc_state.specs.State.{State, with_edges}
-use Rattle.mc_premises.specs.Premises.{Judged, need, have, then_give}
-use Rattle.mc_premises.specs.Lists.{all_both, on_some}
-use Rattle.mc_premises.specs.Known.{Test, is_false, equal, all_equal, has_kind}
-use Rattle.mc_premises.specs.Named.{others, seg_of, ind_of, other_edge, are_named, named_ids}
+use Rattle.mc_state.specs.Premises.{Judged, need, have, then_give}
+use Rattle.mc_state.specs.Lists.{all_both, on_some}
+use Rattle.mc_state.specs.Known.{Test, is_false, equal, all_equal, has_kind}
+use Rattle.mc_state.specs.Named.{others, seg_of, ind_of, other_edge, are_named, named_ids}
 use Rattle.mc_fold.specs.Folded.{folded}
 
 -- the state with one edge in place of those that are named

@@ -2,8 +2,8 @@
 use Rattle.std.proofs.Common.{◌≡◌, ◌<◌, ◌≤◌, ◌+◌, ◌-◌, ℕ, suc, Bool, true, false, List, [], ◌∷◌, ◌++◌, take, drop, length, refl, sym, ◌∙◌, ap, arith, ◌&&◌, get_or, remove, add-one}
 use Rattle.std.specs.List.{list_all}
 use Rattle.std.proofs.lemmas.List.{length-drop, length-take, drop_more}
-use Rattle.mc_premises.specs.Lists.{all_both}
-use Rattle.mc_premises.proofs.ListLemmas.{all_both_yes}
+use Rattle.mc_state.specs.Lists.{all_both}
+use Rattle.mc_state.proofs.ListLemmas.{all_both_yes}
 
 module _ {X : Type 0} where
   -- all of a list is taken, also behind a place

@@ -3,8 +3,8 @@ use Rattle.std.specs.Prelude.{◌≡◌, ℕ, true, List, drop, map, take}
 use Rattle.mc_base.specs.declared.ids.NodeId.{NodeId}
 use Rattle.mc_base.specs.declared.plain.Kind.{Kind}
 use Rattle.mc_defs.specs.Instances.{node_of}
-use Rattle.mc_premises.specs.Known.{has_kind}
-use Rattle.mc_premises.specs.Lists.{all_both}
+use Rattle.mc_state.specs.Known.{has_kind}
+use Rattle.mc_state.specs.Lists.{all_both}
 use Rattle.mc_pure.specs.Pure.{Kinds, IsNode}
 use Rattle.mc_state.specs.Fits.{AreNodes}
 

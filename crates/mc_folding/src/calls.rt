@@ -1,8 +1,8 @@
 // The calls of a rule.
 ghost use Rattle.std.specs.Prelude.{◌≡◌, ◌&&◌, ◌<◌, ◌≤◌, ◌+◌, drop, length, remove};
 ghost use Rattle.mc_fold.specs.Judges.{is_call, is_call_at, is_named};
-ghost use Rattle.mc_premises.specs.Known.{Test, Tells};
-ghost use Rattle.mc_premises.specs.Lists.{all_both};
+ghost use Rattle.mc_state.specs.Known.{Test, Tells};
+ghost use Rattle.mc_state.specs.Lists.{all_both};
 
 use crate::names::is_named;
 use mc_base::{EdgeId, NodeId};
@@ -11,7 +11,7 @@ use mc_graph::Edge;
 use mc_symbolic::State;
 
 /// Whether each name's node is equal to an argument.
-#[tactic(auto, using(mc_premises::proofs::ListLemmas::all_both_steps))]
+#[tactic(auto, using(mc_state::proofs::ListLemmas::all_both_steps))]
 fn are_args(s: &State, names: &[NodeId], args: &[u64], nodes: &[NodeId]) -> bool
     ensures { (know : Test) → Tells know s.now → result ≡ all_both (is_named know names.now) args.now nodes.now }
 {
@@ -52,7 +52,7 @@ fn is_call_at(s: &State, names: &[NodeId], call: &Call, id: EdgeId) -> bool
 }
 
 /// Whether the edges with these ids are the calls, one by one.
-#[tactic(auto, using(mc_premises::proofs::ListLemmas::all_both_steps))]
+#[tactic(auto, using(mc_state::proofs::ListLemmas::all_both_steps))]
 pub fn are_calls(s: &State, names: &[NodeId], calls: &[Call], ids: &[EdgeId]) -> bool
     ensures { (know : Test) → Tells know s.now → result ≡ all_both (is_call_at know s.now.graph.edges names.now) calls.now ids.now }
 {

@@ -1,8 +1,8 @@
 // The block of a rule.
 ghost use Rattle.std.specs.Prelude.{◌≡◌, ◌&&◌};
 ghost use Rattle.mc_fold.specs.Judges.{body_fits, is_body, is_named_too};
-ghost use Rattle.mc_premises.specs.Known.{Test, Tells};
-ghost use Rattle.mc_premises.specs.Lists.{all_both};
+ghost use Rattle.mc_state.specs.Known.{Test, Tells};
+ghost use Rattle.mc_state.specs.Lists.{all_both};
 
 use crate::names::{is_named, is_named_too};
 use mc_base::{EdgeId, NodeId, StructId};
@@ -11,7 +11,7 @@ use mc_graph::Edge;
 use mc_symbolic::State;
 
 /// Whether each field is known and equal to its name.
-#[tactic(auto, using(mc_premises::proofs::ListLemmas::all_both_steps))]
+#[tactic(auto, using(mc_state::proofs::ListLemmas::all_both_steps))]
 fn are_fields(s: &State, names: &[NodeId], contents: &[u64], fields: &[Option<NodeId>]) -> bool
     ensures { (know : Test) → Tells know s.now → result ≡ all_both (is_named_too know names.now) contents.now fields.now }
 {

@@ -1,8 +1,8 @@
 // The numbers of names and edges that fit a rule, and the kinds of names.
 ghost use Rattle.std.specs.Prelude.{◌≡◌, ◌&&◌, ◌==◌, ◌<◌, IsTrue, length, nat_lt, remove};
 ghost use Rattle.mc_fold.specs.Judges.{block_fits, fits_rule};
-ghost use Rattle.mc_premises.specs.Known.{has_kind};
-ghost use Rattle.mc_premises.specs.Lists.{all_both};
+ghost use Rattle.mc_state.specs.Known.{has_kind};
+ghost use Rattle.mc_state.specs.Lists.{all_both};
 ghost use Rattle.mc_state.specs.Fits.{AreNodes};
 
 use crate::laws::kinds_are_there;
@@ -21,7 +21,7 @@ fn block_fits(block: Option<EdgeId>, shape: Option<StructId>) -> bool
 }
 
 /// Whether there is one node for each kind, of that kind.
-#[tactic(auto, using(mc_premises::proofs::ListLemmas::all_both_steps))]
+#[tactic(auto, using(mc_state::proofs::ListLemmas::all_both_steps))]
 fn have_kinds(s: &State, kinds: &[Kind], nodes: &[NodeId]) -> bool
     ensures { result ≡ all_both (has_kind s.now.kinds) kinds.now nodes.now }
 {

@@ -1,7 +1,7 @@
 // How a side branch ends.
 ghost use Rattle.std.specs.Prelude.{◌≡◌};
 ghost use Rattle.mc_fold.specs.Judges.{meeting_goal};
-ghost use Rattle.mc_premises.specs.Known.{Test, Tells};
+ghost use Rattle.mc_state.specs.Known.{Test, Tells};
 
 use mc_base::EdgeId;
 use mc_graph::Edge;

@@ -1,7 +1,7 @@
 // What the rules that fold rest on. Each law is what a function ensures.
 ghost use Rattle.mc_folding.specs.Fitting.{AreKindsThere, AreNamesThere};
 
-use mc_premises::tests_tell;
+use mc_state::tests_tell;
 
 /// Nodes that are known to have kinds are there.
 pub fn kinds_are_there()

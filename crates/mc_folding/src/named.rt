@@ -1,6 +1,6 @@
 // Edges that a line names.
 ghost use Rattle.std.specs.Prelude.{◌≡◌};
-ghost use Rattle.mc_premises.specs.Named.{are_distinct, are_named, are_there, is_among, is_apart};
+ghost use Rattle.mc_state.specs.Named.{are_distinct, are_named, are_there, is_among, is_apart};
 
 use mc_base::EdgeId;
 use mc_symbolic::State;

@@ -3,7 +3,7 @@ ghost use Rattle.std.specs.Prelude.{◌≡◌, ◌&&◌};
 ghost use Rattle.std.specs.List.{list_all};
 ghost use Rattle.mc_defs.specs.Instances.{atom_of, base_node, node_of};
 ghost use Rattle.mc_fold.specs.Judges.{is_named, is_named_too, knows_rule};
-ghost use Rattle.mc_premises.specs.Known.{Test, Tells};
+ghost use Rattle.mc_state.specs.Known.{Test, Tells};
 
 use mc_base::{Atom, NodeId};
 use mc_defs::{DefAtom, Rule};

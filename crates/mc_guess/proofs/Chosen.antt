@@ -13,7 +13,7 @@ use Rattle.mc_state.specs.declared.terms.Term.{Term}
 use Rattle.mc_state.specs.State.{State}
 use Rattle.mc_state.specs.Terms.{zero_term}
 use Rattle.mc_state.specs.Guess.{Partial, by_passes, parameters_of}
-use Rattle.mc_premises.specs.Known.{Test}
+use Rattle.mc_state.specs.Known.{Test}
 use Rattle.mc_cover.specs.Goals.{Stop}
 use Rattle.mc_cover.specs.Guessed.{Guesses, BlockFor, after_calls, settled, first_block, first_empty, by_stop, by_summary, given_by_rule, guess_of, guess_at}
 use Rattle.mc_covering.specs.Setting.{free_edges}

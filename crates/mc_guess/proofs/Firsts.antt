@@ -6,7 +6,7 @@ use Rattle.std.proofs.lemmas.List.{drop_more}
 use Rattle.mc_base.specs.declared.ids.EdgeId.{EdgeId}
 use Rattle.mc_graph.specs.declared.edge.Edge.{Edge}
 use Rattle.mc_graph.specs.Graph.{Edges, IdsAscend, without}
-use Rattle.mc_premises.specs.Named.{others, is_among}
+use Rattle.mc_state.specs.Named.{others, is_among}
 use Rattle.mc_cover.specs.Guessed.{or_else, first_edge}
 use Rattle.mc_covering.specs.Setting.{is_unused}
 use Rattle.mc_covering.proofs.Left.{others_are}

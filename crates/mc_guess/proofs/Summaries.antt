@@ -10,8 +10,8 @@ use Rattle.mc_graph.specs.declared.edge.Edge.{Edge}
 use Rattle.mc_graph.specs.Graph.{Edges, IdsAscend}
 use Rattle.mc_state.specs.declared.terms.Term.{Term}
 use Rattle.mc_state.specs.Terms.{plain}
-use Rattle.mc_premises.specs.Known.{Test}
-use Rattle.mc_premises.specs.Named.{others, is_among}
+use Rattle.mc_state.specs.Known.{Test}
+use Rattle.mc_state.specs.Named.{others, is_among}
 use Rattle.mc_cover.specs.Guessed.{or_else, summary_of, by_summary}
 use Rattle.mc_covering.specs.Setting.{is_unused}
 use Rattle.mc_covering.proofs.Left.{others_are}

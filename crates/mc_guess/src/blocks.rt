@@ -1,7 +1,7 @@
 // Blocks of rules at a term, among edges of a state that are not used.
 ghost use Rattle.std.specs.Prelude.{◌≡◌, ◌==◌, ◌&&◌, ◌++◌, Some, None, IfOk, map, option_map, if◌then◌else◌};
 ghost use Rattle.mc_state.specs.Terms.{plain};
-ghost use Rattle.mc_premises.specs.Known.{Test, Tells};
+ghost use Rattle.mc_state.specs.Known.{Test, Tells};
 ghost use Rattle.mc_cover.specs.Terms.{equal_terms};
 ghost use Rattle.mc_cover.specs.Goals.{all_there, whole_block};
 ghost use Rattle.mc_cover.specs.Guessed.{first_edge};

@@ -2,8 +2,8 @@
 ghost use Rattle.std.specs.Prelude.{◌≡◌, ◌==◌, ◌&&◌, List, Some, None, IfOk, map, option_map, if◌then◌else◌};
 ghost use Rattle.mc_base.specs.declared.ids.NodeId.{NodeId as Node};
 ghost use Rattle.mc_state.specs.Terms.{plain};
-ghost use Rattle.mc_premises.specs.Known.{Test, Tells};
-ghost use Rattle.mc_premises.specs.Named.{is_among};
+ghost use Rattle.mc_state.specs.Known.{Test, Tells};
+ghost use Rattle.mc_state.specs.Named.{is_among};
 ghost use Rattle.mc_cover.specs.Terms.{equal_terms};
 ghost use Rattle.mc_cover.specs.Guessed.{summary_of, by_summary};
 ghost use Rattle.mc_covering.specs.Setting.{free_edges};

@@ -1,7 +1,7 @@
 // The guess of a predicate's arguments.
 ghost use Rattle.std.specs.Prelude.{◌≡◌, ◌++◌, ◌∷◌, [], suc, length, replicate, IfOk, option_map, Some, None};
 ghost use Rattle.mc_state.specs.Terms.{zero_term};
-ghost use Rattle.mc_premises.specs.Known.{Test, Tells};
+ghost use Rattle.mc_state.specs.Known.{Test, Tells};
 ghost use Rattle.mc_cover.specs.Guessed.{by_stop, guess, guess_at, given_by_rule};
 ghost use Rattle.mc_covering.specs.Setting.{free_edges};
 

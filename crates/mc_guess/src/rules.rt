@@ -1,7 +1,7 @@
 // The first rules of a predicate that give a guess.
 ghost use Rattle.std.specs.Prelude.{◌≡◌, Some, None, IfOk, option_map};
 ghost use Rattle.std.specs.Option.{option_copied};
-ghost use Rattle.mc_premises.specs.Known.{Test, Tells};
+ghost use Rattle.mc_state.specs.Known.{Test, Tells};
 ghost use Rattle.mc_cover.specs.Guessed.{block_of_rule, first_block, first_empty};
 ghost use Rattle.mc_covering.specs.Setting.{free_edges};
 

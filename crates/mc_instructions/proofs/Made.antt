@@ -8,7 +8,7 @@ use Rattle.mc_base.specs.declared.ids.VarId.{VarId}
 use Rattle.mc_base.specs.declared.plain.Kind.TheVariants.{Ptr}
 use Rattle.mc_flow.specs.declared.instr.Instr.TheVariants.{AssumeShape, AssertShape}
 use Rattle.mc_flow.specs.declared.instr.Operand.{Operand}
-use Rattle.mc_premises.specs.Known.{Test, is_false}
+use Rattle.mc_state.specs.Known.{Test, is_false}
 use Rattle.mc_pure.specs.Pure.{IsNode}
 use Rattle.mc_state.specs.Fits.{AreNodes, IsBounded}
 use Rattle.mc_state.specs.Laws.{NewNodesHaveKinds}

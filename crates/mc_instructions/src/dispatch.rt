@@ -2,7 +2,7 @@
 ghost use Rattle.std.specs.Prelude.{◌≡◌, Some};
 ghost use Rattle.std.specs.Option.{option_copied};
 ghost use Rattle.mc_flow.specs.Valid.{IsValid};
-ghost use Rattle.mc_premises.specs.Known.{Test, Tells};
+ghost use Rattle.mc_state.specs.Known.{Test, Tells};
 ghost use Rattle.mc_state.specs.Fits.{IsWellMade};
 ghost use Rattle.mc_step.specs.Fitting.{FitsAt};
 ghost use Rattle.mc_step.specs.Judges.{adding, allocating, asserting, assuming, copying, emptying, ending, forgetting, freeing, freeing_null, loading, multiplying, skipping, stepping, stepping_code, storing, subtracting, taking, testing_at_most, testing_equal};

@@ -3,7 +3,7 @@ ghost use Rattle.std.specs.Prelude.{◌≡◌, ◌∷◌, List, true, Some, IfOk
 ghost use Rattle.std.specs.List.{AllByRecursion};
 ghost use Rattle.mc_base.specs.declared.plain.VarInfo.{VarInfo};
 ghost use Rattle.mc_flow.specs.declared.instr.Instr.TheVariants.{AssumeShape, AssertShape};
-ghost use Rattle.mc_premises.specs.Known.{Test, Tells};
+ghost use Rattle.mc_state.specs.Known.{Test, Tells};
 ghost use Rattle.mc_state.specs.Fits.{AreNodes};
 ghost use Rattle.mc_state.specs.State.{next_node, with_var};
 ghost use Rattle.mc_step.specs.Fitting.{FitsAt};

@@ -1,6 +1,6 @@
 -- What a resolved program comes to its program comes to.
 use Rattle.std.proofs.Common.{◌≡◌, ◌++◌, ℕ, zero, suc, List, [], Option, Some, refl, subst}
-use Rattle.mc_base.specs.Runs.{Final, next, last, ended, stopped, fault}
+use Rattle.mc_flow.specs.Runs.{Final, next, last, ended, stopped, fault}
 use Rattle.mc_heap.specs.Choices.{Choice}
 use Rattle.mc_defs.specs.declared.rules.Def.{Def}
 use Rattle.mc_defs.specs.declared.shapes.StructInfo.{StructInfo}

@@ -21,9 +21,9 @@ use Rattle.mc_graph.specs.declared.edge.Edge.TheVariants.{Block, Ind, Seg}
 use Rattle.mc_graph.specs.Edges.{start_of, nodes_of, known_nodes}
 use Rattle.mc_graph.specs.Graph.{Graph, Edges, IdsAscend, numbered, without}
 use Rattle.mc_join.specs.Joint.{Pairs}
-use Rattle.mc_premises.specs.Known.{Test, has_kind}
-use Rattle.mc_premises.specs.Laws.{KindIsTold}
-use Rattle.mc_premises.specs.Named.{IndParts, SegParts, ind_of, seg_of, others}
+use Rattle.mc_state.specs.Known.{Test, has_kind}
+use Rattle.mc_state.specs.Told.{KindIsTold}
+use Rattle.mc_state.specs.Named.{IndParts, SegParts, ind_of, seg_of, others}
 use Rattle.mc_pure.specs.Pure.{Kinds, HasKind, IsNode, IsWellFormed, kind_of}
 use Rattle.mc_state.specs.declared.line.Side.{Side}
 use Rattle.mc_state.specs.declared.line.Side.TheVariants.{Left, Right}

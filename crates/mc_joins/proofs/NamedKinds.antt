@@ -14,8 +14,8 @@ use Rattle.mc_defs.specs.declared.shapes.StructInfo.{StructInfo}
 use Rattle.mc_graph.specs.declared.edge.Edge.{Edge}
 use Rattle.mc_graph.specs.declared.edge.Edge.TheVariants.{Block, Ind, Seg}
 use Rattle.mc_pure.specs.Pure.{Kinds, HasKind, kind_of}
-use Rattle.mc_premises.specs.Known.{Test, same_kind}
-use Rattle.mc_premises.specs.Premises.{Judged}
+use Rattle.mc_state.specs.Known.{Test, same_kind}
+use Rattle.mc_state.specs.Premises.{Judged}
 use Rattle.mc_state.specs.declared.terms.Term.{Term}
 use Rattle.mc_state.specs.Fits.{HaveKinds, MayHaveKinds, ArgsFit, EdgeFitsDefs, EdgeFitsStructs, NodesAscend, IsBounded, IsWellMade}
 use Rattle.mc_state.specs.Laws.{NewNodesHaveKinds}

@@ -15,8 +15,8 @@ use Rattle.mc_base.specs.Nodes.{Valuation, at_node}
 use Rattle.mc_heap.specs.Heap.{Region, IsAtAddresses}
 use Rattle.mc_defs.specs.declared.rules.Def.{Def}
 use Rattle.mc_defs.specs.declared.shapes.StructInfo.{StructInfo}
-use Rattle.mc_premises.specs.Known.{Test}
-use Rattle.mc_premises.specs.Premises.{Judged}
+use Rattle.mc_state.specs.Known.{Test}
+use Rattle.mc_state.specs.Premises.{Judged}
 use Rattle.mc_state.specs.declared.terms.Term.{Term}
 use Rattle.mc_state.specs.Fits.{IsWellMade}
 use Rattle.mc_state.specs.Laws.{DerivedIsTrue}

@@ -10,7 +10,7 @@ use Rattle.mc_heap.specs.Parts.{Split, IsEmpty, Star}
 use Rattle.mc_heap.specs.PartLaws.{SplitCommutes, SplitRegroupsLeft, SplitRegroupsRight, SplitDropsEmpty, SplitAddsEmpty}
 use Rattle.mc_graph.specs.declared.edge.Edge.{Edge}
 use Rattle.mc_graph.specs.Graph.{Edges, Picks, IdsAscend, edge_with, without, numbered}
-use Rattle.mc_premises.specs.Named.{others, are_there, Looked}
+use Rattle.mc_state.specs.Named.{others, are_there, Looked}
 use Rattle.mc_joins.proofs.Members.{Has}
 
 -- what holds of parts

@@ -20,9 +20,9 @@ use Rattle.mc_graph.specs.declared.edge.Edge.{Edge}
 use Rattle.mc_graph.specs.declared.edge.Edge.TheVariants.{Ind, Seg}
 use Rattle.mc_graph.specs.Graph.{Edges, Picks, IdsAscend}
 use Rattle.mc_pure.specs.Pure.{HasKind}
-use Rattle.mc_premises.specs.Known.{Test}
-use Rattle.mc_premises.specs.Laws.{PicksAreNamed, KindIsTold}
-use Rattle.mc_premises.specs.Named.{others, are_there, are_distinct}
+use Rattle.mc_state.specs.Known.{Test}
+use Rattle.mc_state.specs.Told.{PicksAreNamed, KindIsTold}
+use Rattle.mc_state.specs.Named.{others, are_there, are_distinct}
 use Rattle.mc_state.specs.declared.line.Side.{Side}
 use Rattle.mc_state.specs.declared.terms.Term.{Term}
 use Rattle.mc_state.specs.Fits.{IsWellMade}

@@ -17,7 +17,7 @@ use Rattle.mc_graph.specs.Edges.{start_of}
 use Rattle.mc_graph.specs.Graph.{IdsAscend}
 use Rattle.mc_join.specs.Joint.{Pairs}
 use Rattle.mc_pure.specs.Pure.{HasKind}
-use Rattle.mc_premises.specs.Known.{Test}
+use Rattle.mc_state.specs.Known.{Test}
 use Rattle.mc_state.specs.declared.line.JoinStep.{JoinStep}
 use Rattle.mc_state.specs.declared.line.Side.{Side}
 use Rattle.mc_state.specs.declared.line.Side.TheVariants.{Left, Right}

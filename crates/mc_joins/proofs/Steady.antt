@@ -13,9 +13,9 @@ use Rattle.mc_defs.specs.declared.rules.Def.{Def}
 use Rattle.mc_defs.specs.declared.shapes.StructInfo.{StructInfo}
 use Rattle.mc_graph.specs.declared.edge.Edge.{Edge}
 use Rattle.mc_graph.specs.declared.edge.Edge.TheVariants.{Ind, Seg}
-use Rattle.mc_premises.specs.Known.{Test}
-use Rattle.mc_premises.specs.Named.{SegParts, IndParts, seg_of, ind_of}
-use Rattle.mc_premises.specs.Premises.{Judged}
+use Rattle.mc_state.specs.Known.{Test}
+use Rattle.mc_state.specs.Named.{SegParts, IndParts, seg_of, ind_of}
+use Rattle.mc_state.specs.Premises.{Judged}
 use Rattle.mc_state.specs.declared.line.Side.{Side}
 use Rattle.mc_state.specs.declared.line.Side.TheVariants.{Left, Right}
 use Rattle.mc_state.specs.declared.line.JoinStep.{JoinStep}

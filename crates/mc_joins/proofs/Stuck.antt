@@ -15,7 +15,7 @@ use Rattle.mc_state.specs.declared.line.JoinStep.TheVariants.{J1, J2, J3, J4, J5
 use Rattle.mc_state.specs.declared.terms.Term.{Term}
 use Rattle.mc_state.specs.State.{State}
 use Rattle.mc_state.specs.Terms.{plain}
-use Rattle.mc_premises.specs.Named.{SegParts, IndParts, seg_of, ind_of}
+use Rattle.mc_state.specs.Named.{SegParts, IndParts, seg_of, ind_of}
 use Rattle.mc_cover.specs.First.{Choice, first_cover, first_seg_cover}
 use Rattle.mc_joins.specs.Joinings.{Joining, Pair, half, across, of_side, free_edges, edge_at, next_pair}
 use Rattle.mc_joins.specs.Laws.{StuckIsEvery}

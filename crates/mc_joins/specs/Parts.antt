@@ -11,8 +11,8 @@ use Rattle.mc_defs.specs.declared.rules.Def.{Def}
 use Rattle.mc_graph.specs.declared.edge.Edge.{Edge}
 use Rattle.mc_graph.specs.declared.edge.Edge.TheVariants.{Ind, Seg}
 use Rattle.mc_join.specs.Joint.{Pairs}
-use Rattle.mc_premises.specs.Known.{Test, same_kind}
-use Rattle.mc_premises.specs.Premises.{Judged}
+use Rattle.mc_state.specs.Known.{Test, same_kind}
+use Rattle.mc_state.specs.Premises.{Judged}
 use Rattle.mc_state.specs.declared.line.Side.{Side}
 use Rattle.mc_state.specs.declared.terms.Term.{Term}
 use Rattle.mc_state.specs.State.{State, next_node}

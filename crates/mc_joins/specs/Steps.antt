@@ -12,8 +12,8 @@ use Rattle.mc_graph.specs.declared.edge.Edge.{Edge}
 use Rattle.mc_graph.specs.declared.edge.Edge.TheVariants.{Block, Ind, Seg}
 use Rattle.mc_graph.specs.Edges.{has_shape}
 use Rattle.mc_join.specs.Joint.{Pairs}
-use Rattle.mc_premises.specs.Known.{has_kind}
-use Rattle.mc_premises.specs.Named.{SegParts, IndParts, others, seg_of, ind_of}
+use Rattle.mc_state.specs.Known.{has_kind}
+use Rattle.mc_state.specs.Named.{SegParts, IndParts, others, seg_of, ind_of}
 use Rattle.mc_state.specs.declared.line.Side.{Side}
 use Rattle.mc_state.specs.declared.line.Side.TheVariants.{Left, Right}
 use Rattle.mc_state.specs.declared.line.JoinStep.{JoinStep}

@@ -5,8 +5,10 @@ ghost use Rattle.mc_joins.specs.Laws.{JoinsMakeWell, StepsAreDetermined, StepsKe
 use mc_cover::firsts_are_covers;
 use mc_fold::{naming_is_judged, naming_is_sound, naming_makes_well};
 use mc_heap::parts_regroup;
-use mc_premises::{picks_are_named, tests_tell};
-use mc_state::{covers_are_sound, derived_is_true, new_nodes_are_free, nodes_are_there};
+use mc_state::{
+    covers_are_sound, derived_is_true, new_nodes_are_free, nodes_are_there, picks_are_named,
+    tests_tell,
+};
 
 /// A join is stuck exactly where there is a next pair and no step at all applies there.
 pub fn stuck_is_every()

@@ -9,7 +9,7 @@ use Rattle.mc_cert.specs.declared.line.Line.TheVariants.{Header}
 use Rattle.mc_cert.specs.Document.{ReadsAs, Spells}
 use Rattle.mc_defs.specs.declared.rules.Def.{Def}
 use Rattle.mc_flow.specs.declared.graph.Flow.{Flow}
-use Rattle.mc_premises.specs.Premises.{Judged}
+use Rattle.mc_state.specs.Premises.{Judged}
 use Rattle.mc_state.specs.declared.line.Form.{Form}
 use Rattle.mc_state.specs.declared.line.Version.TheVariants.{One}
 use Rattle.mc_state.specs.declared.raw_state.RawState.{RawState}

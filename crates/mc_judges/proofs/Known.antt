@@ -11,7 +11,7 @@ use Rattle.mc_graph.specs.declared.edge.Edge.TheVariants.{Block, Ind, Seg}
 use Rattle.mc_graph.specs.Edges.{nodes_of}
 use Rattle.mc_graph.specs.Graph.{Edges, block_starts}
 use Rattle.mc_listed.specs.Lists.{ListsAreThere}
-use Rattle.mc_premises.specs.Known.{Test, Tells}
+use Rattle.mc_state.specs.Known.{Test, Tells}
 use Rattle.mc_pure.specs.Classes.{EachIsDecided}
 use Rattle.mc_pure.specs.Known.{IsFit}
 use Rattle.mc_pure.specs.Nodes.{RiseFrom}

@@ -16,7 +16,7 @@ use Rattle.mc_flow.specs.declared.instr.Operand.{Operand}
 use Rattle.mc_flow.specs.declared.instr.Operand.TheVariants.{Var, Const}
 use Rattle.mc_flow.specs.Valid.{IsValid}
 use Rattle.mc_graph.specs.Graph.{Edges}
-use Rattle.mc_premises.specs.Known.{Test, Tells}
+use Rattle.mc_state.specs.Known.{Test, Tells}
 use Rattle.mc_pure.specs.Derived.{apart}
 use Rattle.mc_state.specs.Covers.{Cover}
 use Rattle.mc_state.specs.Facts.{IsFalse}

@@ -6,8 +6,8 @@ use Rattle.mc_base.specs.declared.ids.NodeId.{NodeId}
 use Rattle.mc_fits.specs.Fitting.{JumpsAreFits, fitting_to, unmet}
 use Rattle.mc_kernel.specs.Branches.{Path, Setting, closes_by, with_state}
 use Rattle.mc_kernel.specs.Judges.{and_need, by_folding, by_forgetting, by_logic, by_unfolding, ends, goal_is_free, jumping_to}
-use Rattle.mc_premises.specs.Known.{Test, is_false}
-use Rattle.mc_premises.specs.Premises.{Judged, have, need, then_give}
+use Rattle.mc_state.specs.Known.{Test, is_false}
+use Rattle.mc_state.specs.Premises.{Judged, have, need, then_give}
 use Rattle.mc_state.specs.State.{State}
 use Rattle.mc_judging.specs.declared.branch.Next.{Next}
 use Rattle.mc_judging.specs.declared.branch.Refused.{Refused}

@@ -1,6 +1,6 @@
 -- What a line answers, beside what is judged.
 use Rattle.std.specs.Prelude.{◌≡◌, List, [], ◌∷◌, Result, Ok, Err, map}
-use Rattle.mc_premises.specs.Premises.{Judged}
+use Rattle.mc_state.specs.Premises.{Judged}
 use Rattle.mc_kernel.specs.Branches.{Path, Setting, Head}
 use Rattle.mc_judging.specs.declared.branch.Branch.{Branch}
 use Rattle.mc_judging.specs.declared.branch.Head.{Head as HeadCode}

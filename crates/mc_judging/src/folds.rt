@@ -6,8 +6,8 @@ ghost use Rattle.mc_forget.specs.Left.{IsMade};
 ghost use Rattle.mc_judging.specs.Judging.{IsLineAnswer, path, setting_of};
 ghost use Rattle.mc_kernel.specs.Branches.{closes_by, with_state};
 ghost use Rattle.mc_kernel.specs.Judges.{by_folding};
-ghost use Rattle.mc_premises.specs.Known.{Test, Tells};
-ghost use Rattle.mc_premises.specs.Premises.{AnswersBy, Changes, Judged};
+ghost use Rattle.mc_state.specs.Known.{Test, Tells};
+ghost use Rattle.mc_state.specs.Premises.{AnswersBy, Changes, Judged};
 ghost use Rattle.mc_state.specs.State.{State as Symbolic};
 
 use crate::unfolds::with_states;

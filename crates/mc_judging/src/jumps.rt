@@ -5,8 +5,8 @@ ghost use Rattle.mc_fits.specs.Fitting.{unmet};
 ghost use Rattle.mc_judging.specs.Judging.{IsLineAnswer, head_of, path, setting_of};
 ghost use Rattle.mc_kernel.specs.Branches.{states_at};
 ghost use Rattle.mc_kernel.specs.Judges.{ends, jumping_to, may_cut};
-ghost use Rattle.mc_premises.specs.Known.{Test, Tells};
-ghost use Rattle.mc_premises.specs.Premises.{Judged, need, then_give};
+ghost use Rattle.mc_state.specs.Known.{Test, Tells};
+ghost use Rattle.mc_state.specs.Premises.{Judged, need, then_give};
 
 use crate::places::may_cut;
 use crate::{Branch, Head, Next, Refused, Setting};

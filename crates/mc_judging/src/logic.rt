@@ -11,8 +11,8 @@ ghost use Rattle.mc_forget.specs.Left.{IsMade};
 ghost use Rattle.mc_judging.specs.Judging.{IsLineAnswer, path};
 ghost use Rattle.mc_kernel.specs.Branches.{merged_goal, with_state};
 ghost use Rattle.mc_kernel.specs.Judges.{and_need, by_forgetting, by_logic, by_merging, ending_false, ends, goal_is_free, is_one_of};
-ghost use Rattle.mc_premises.specs.Known.{Test, Tells};
-ghost use Rattle.mc_premises.specs.Premises.{Changes, Judged, have, then_give};
+ghost use Rattle.mc_state.specs.Known.{Test, Tells};
+ghost use Rattle.mc_state.specs.Premises.{Changes, Judged, have, then_give};
 ghost use Rattle.mc_state.specs.Facts.{instead};
 ghost use Rattle.mc_state.specs.State.{State as Symbolic};
 

@@ -7,7 +7,7 @@ ghost use Rattle.mc_kernel.specs.Branches.{path_of};
 ghost use Rattle.mc_kernel.specs.JudgedLaws.{IsAsked};
 ghost use Rattle.mc_kernel.specs.Judges.{Knowledge, by_step};
 ghost use Rattle.mc_state.specs.Fits.{IsWellMade};
-ghost use Rattle.mc_premises.specs.Premises.{Judged, then_give};
+ghost use Rattle.mc_state.specs.Premises.{Judged, then_give};
 ghost use Rattle.mc_state.specs.State.{State as Symbolic};
 ghost use Rattle.mc_step.specs.Next.{Next as Step};
 ghost use Rattle.mc_stepping.specs.Stepped.{Steps, seen, successors};

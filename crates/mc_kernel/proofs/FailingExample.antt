@@ -2,7 +2,7 @@
 use Rattle.std.proofs.Common.{◌≡◌, List, [], ◌∷◌, refl, subst, arith, inl, inr, pos}
 use Rattle.mc_base.specs.declared.plain.FaultKind.TheVariants.{Assertion}
 use Rattle.mc_base.specs.Nodes.{Valuation, null}
-use Rattle.mc_base.specs.Runs.{Reaches, fault}
+use Rattle.mc_flow.specs.Runs.{Reaches, fault}
 use Rattle.mc_defs.specs.Conditions.{DefsFit}
 use Rattle.mc_defs.specs.Examples.{structs, defs}
 use Rattle.mc_flow.specs.declared.instr.Instr.TheVariants as instr

@@ -19,17 +19,17 @@ use Rattle.mc_state.specs.State.{State, pure_of}
 use Rattle.mc_state.specs.Facts.{Derives, IsFalse}
 use Rattle.mc_state.specs.Fits.{IsBounded}
 use Rattle.mc_kernel.specs.Jumps.{image_of, IsKnownToo, AreKnownToo, AreImages, EdgeMatches, EdgesMatch}
-use Rattle.mc_premises.specs.Premises.{Judged, IsJudged}
-use Rattle.mc_premises.specs.Lists.{all_both, on_some}
-use Rattle.mc_premises.specs.Known.{Test, Tells, is_false, has_kind}
-use Rattle.mc_premises.specs.Named.{others, are_distinct, Looked}
+use Rattle.mc_state.specs.Premises.{Judged, IsJudged}
+use Rattle.mc_state.specs.Lists.{all_both, on_some}
+use Rattle.mc_state.specs.Known.{Test, Tells, is_false, has_kind}
+use Rattle.mc_state.specs.Named.{others, are_distinct, Looked}
 use Rattle.mc_kernel.specs.Branches.{Path}
 use Rattle.mc_kernel.specs.Jumps.{Jumps}
 use Rattle.mc_kernel.specs.Judges.{image, has_image, are_images, is_image, is_known_too, is_edge, is_edge_at, knows_image, is_whole_too, jumping_to}
-use Rattle.mc_premises.proofs.ListLemmas.{both_from, both_to}
-use Rattle.mc_premises.proofs.Numbered.{need_ok, have_ok}
-use Rattle.mc_premises.proofs.Tests.{not_false, is_sound, equal_from, equal_to, and_both, and_yes, has_kind_from, has_kind_to, each_from, each_to}
-use Rattle.mc_premises.proofs.Named.{picks_from, picks_to, looked_count}
+use Rattle.mc_state.proofs.ListLemmas.{both_from, both_to}
+use Rattle.mc_state.proofs.Numbered.{need_ok, have_ok}
+use Rattle.mc_state.proofs.Tests.{not_false, is_sound, equal_from, equal_to, and_both, and_yes, has_kind_from, has_kind_to, each_from, each_to}
+use Rattle.mc_state.proofs.Named.{picks_from, picks_to, looked_count}
 
 -- an instance of L13, its premises from 2 on
 pub record JumpsIn (heads : List State) (j : ℕ) (images : List NodeId) (edges : List EdgeId) (s : State) (next : List Path) : Type 0 where

@@ -22,10 +22,10 @@ use Rattle.mc_back.specs.Unfolded.{UnfoldsBack}
 use Rattle.mc_step.specs.JudgedLaws as step
 use Rattle.mc_step.specs.JudgedLaws.{IsStepBy}
 use Rattle.mc_step.specs.Judges.{InstrRule, S1, S2, S3, S4, S5, S6, S7, S8, S9, S10, S11, S12, S13, S14, S15, S16, S17, S18, stepping}
-use Rattle.mc_premises.specs.Known.{Test, Tells, is_false}
-use Rattle.mc_premises.specs.Premises.{Judged, IsJudged, need, have, then_give}
-use Rattle.mc_premises.proofs.Numbered.{need_ok, need_yes, have_ok, have_yes, then_ok, given_once, given_not_unmet, given_or_unmet}
-use Rattle.mc_premises.proofs.Tests.{and_both, and_yes, not_yes, not_no, not_false, is_sound, false_told}
+use Rattle.mc_state.specs.Known.{Test, Tells, is_false}
+use Rattle.mc_state.specs.Premises.{Judged, IsJudged, need, have, then_give}
+use Rattle.mc_state.proofs.Numbered.{need_ok, need_yes, have_ok, have_yes, then_ok, given_once, given_not_unmet, given_or_unmet}
+use Rattle.mc_state.proofs.Tests.{and_both, and_yes, not_yes, not_no, not_false, is_sound, false_told}
 use Rattle.mc_state.specs.declared.goal.Goal.{Goal}
 use Rattle.mc_state.specs.declared.line.Form.{Form}
 use Rattle.mc_state.specs.declared.line.Form.TheVariants.{Certificate, Chain}

@@ -6,7 +6,7 @@ use Rattle.std.proofs.lemmas.Option.{slice_get-map}
 use Rattle.mc_base.specs.declared.ids.NodeId.{NodeId}
 use Rattle.mc_base.specs.declared.ids.PointId.{PointId}
 use Rattle.mc_base.specs.Nodes.{Valuation}
-use Rattle.mc_base.specs.Runs.{Final, next, last, fault}
+use Rattle.mc_flow.specs.Runs.{Final, next, last, fault}
 use Rattle.mc_heap.specs.Heap.{region_of}
 use Rattle.mc_defs.specs.declared.rules.Def.{Def}
 use Rattle.mc_flow.specs.declared.graph.Flow.{Flow}

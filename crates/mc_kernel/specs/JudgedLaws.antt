@@ -5,7 +5,7 @@ use Rattle.mc_cert.specs.declared.line.Line.{Line}
 use Rattle.mc_defs.specs.declared.rules.Def.{Def}
 use Rattle.mc_flow.specs.declared.graph.Flow.{Flow}
 use Rattle.mc_fold.specs.Changed.{IsListWithout}
-use Rattle.mc_premises.specs.Premises.{IsJudged}
+use Rattle.mc_state.specs.Premises.{IsJudged}
 use Rattle.mc_step.specs.declared.gap.Gap.{Gap}
 use Rattle.mc_step.specs.JudgedLaws.{AreGiven}
 use Rattle.mc_step.specs.Unmet.{IsUnmet}

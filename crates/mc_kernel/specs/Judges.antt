@@ -14,10 +14,10 @@ use Rattle.mc_graph.specs.declared.edge.Edge.{Edge}
 use Rattle.mc_graph.specs.declared.edge.Edge.TheVariants.{Block, Ind, Seg}
 use Rattle.mc_graph.specs.Graph.{Edges, edge_with}
 use Rattle.mc_pure.specs.Pure.{Kinds, kind_atom}
-use Rattle.mc_premises.specs.Known.{Test, is_false, equal, has_kind}
-use Rattle.mc_premises.specs.Lists.{all_both, on_some}
-use Rattle.mc_premises.specs.Named.{are_distinct}
-use Rattle.mc_premises.specs.Premises.{Judged, need, have, then_give}
+use Rattle.mc_state.specs.Known.{Test, is_false, equal, has_kind}
+use Rattle.mc_state.specs.Lists.{all_both, on_some}
+use Rattle.mc_state.specs.Named.{are_distinct}
+use Rattle.mc_state.specs.Premises.{Judged, need, have, then_give}
 use Rattle.mc_state.specs.declared.goal.Goal.{Goal}
 use Rattle.mc_state.specs.declared.line.Form.{Form}
 use Rattle.mc_state.specs.declared.line.Form.TheVariants.{Certificate, Chain}

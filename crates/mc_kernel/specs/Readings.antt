@@ -9,7 +9,7 @@ use Rattle.mc_flow.specs.declared.graph.Flow.{Flow}
 use Rattle.mc_flow.specs.declared.graph.Point.{Point}
 use Rattle.mc_flow.specs.declared.instr.Instr.{Instr}
 use Rattle.mc_flow.specs.declared.instr.Instr.TheVariants as instr
-use Rattle.mc_premises.specs.Premises.{Judged, need, have, then_give}
+use Rattle.mc_state.specs.Premises.{Judged, need, have, then_give}
 use Rattle.mc_state.specs.declared.line.Form.{Form}
 use Rattle.mc_state.specs.declared.line.Form.TheVariants.{Certificate, Chain}
 use Rattle.mc_state.specs.declared.raw_state.RawState.{RawState}

@@ -1,7 +1,7 @@
 // Documents of small programs.
 ghost use Rattle.std.specs.Prelude.{[], ◌∷◌};
 ghost use Rattle.mc_base.specs.declared.plain.FaultKind.TheVariants.{Assertion};
-ghost use Rattle.mc_base.specs.Runs.{Reaches, fault};
+ghost use Rattle.mc_flow.specs.Runs.{Reaches, fault};
 ghost use Rattle.mc_base.specs.Nodes.{null};
 ghost use Rattle.mc_defs.specs.Examples.{defs};
 ghost use Rattle.mc_flow.specs.Steps.{Step, start};

@@ -1,5 +1,5 @@
 // What is known of states. The law is what a function ensures that only looks.
-ghost use Rattle.mc_premises.specs.Known.{Test, Tells};
+ghost use Rattle.mc_state.specs.Known.{Test, Tells};
 
 use mc_symbolic::State;
 

@@ -5,7 +5,7 @@ use Rattle.mc_base.specs.declared.ids.PredId.{PredId}
 use Rattle.mc_base.specs.declared.ids.VarId.{VarId}
 use Rattle.mc_base.specs.declared.plain.FaultKind.{FaultKind}
 use Rattle.mc_base.specs.declared.plain.FaultKind.TheVariants.{Shape, NotEmpty}
-use Rattle.mc_base.specs.Runs.{next, last as finished_run, fault}
+use Rattle.mc_flow.specs.Runs.{next, last as finished_run, fault}
 use Rattle.mc_text.specs.declared.place.Place.{Place}
 use Rattle.mc_heap.specs.Heap.{Heap, region_of}
 use Rattle.mc_heap.specs.Adding.{with_blocks}

@@ -1,7 +1,7 @@
 -- Simple statements and declarators, with calls or without, go on together with their points.
 use Rattle.std.proofs.Common.{◌≤◌, ◌+◌, ◌≡◌, ℕ, suc, List, [], ◌∷◌, Some, None, length, refl, sym, subst, arith}
 use Rattle.mc_base.specs.declared.ids.VarId.{VarId}
-use Rattle.mc_base.specs.Runs.{next}
+use Rattle.mc_flow.specs.Runs.{next}
 use Rattle.mc_text.specs.declared.place.Place.{Place}
 use Rattle.mc_heap.specs.Heap.{Heap}
 use Rattle.mc_heap.specs.Choices.{Choice}

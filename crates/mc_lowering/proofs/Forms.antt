@@ -3,7 +3,7 @@ use Rattle.std.proofs.Common.{◌<◌, ◌≤◌, ◌≡◌, ◌++◌, ℕ, ℤ,
 use Rattle.std.specs.Prelude.{slice_get, slice_index_or}
 use Rattle.std.proofs.lemmas.Option.{slice_get_within}
 use Rattle.mc_base.specs.declared.ids.VarId.{VarId}
-use Rattle.mc_base.specs.Runs.{next, last as finished_run, ended}
+use Rattle.mc_flow.specs.Runs.{next, last as finished_run, ended}
 use Rattle.mc_text.specs.declared.place.Place.{Place}
 use Rattle.mc_heap.specs.Heap.{Heap}
 use Rattle.mc_heap.specs.Choices.{Choice}

@@ -1,7 +1,7 @@
 -- How a resolved program and its flow graph go on together: moves, Skips, what is left, and conditions.
 use Rattle.std.proofs.Common.{◌<◌, ◌≤◌, ◌≡◌, ◌++◌, ℕ, List, ◌∷◌, Option, Some, None, refl, sym, ap, ◌∙◌, subst, arith}
 use Rattle.mc_base.specs.declared.ids.VarId.{VarId}
-use Rattle.mc_base.specs.Runs.{next, last as finished_run, ended, stopped, fault}
+use Rattle.mc_flow.specs.Runs.{next, last as finished_run, ended, stopped, fault}
 use Rattle.mc_text.specs.declared.place.Place.{Place}
 use Rattle.mc_heap.specs.Heap.{Heap}
 use Rattle.mc_heap.specs.Choices.{Choice}

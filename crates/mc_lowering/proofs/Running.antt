@@ -1,7 +1,7 @@
 -- Runs of a program and of its flow graph match.
 use Rattle.std.proofs.Common.{◌<◌, ◌≤◌, ◌≡◌, ℕ, zero, suc, List, [], ◌∷◌, Option, None, length, refl, sym, ap, ◌∙◌, subst, arith}
 use Rattle.std.specs.Prelude.{◌↔◌, slice_index_or, replicate}
-use Rattle.mc_base.specs.Runs.{next, Reaches}
+use Rattle.mc_flow.specs.Runs.{next, Reaches}
 use Rattle.mc_flow.specs.Steps as flow
 use Rattle.mc_resolved.specs.Configs.{held}
 use Rattle.mc_resolved.specs.Programs.{Function, Local}

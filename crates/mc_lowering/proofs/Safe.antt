@@ -2,7 +2,7 @@
 use Rattle.std.proofs.Common.{◌≡◌, inl, inr, ℕ, zero, suc, List, Option, Some, None, sym, subst}
 use Rattle.std.specs.Prelude.{slice_get}
 use Rattle.mc_base.specs.declared.plain.FaultKind.{FaultKind}
-use Rattle.mc_base.specs.Runs.{next, last, ended, stopped, fault, Reaches}
+use Rattle.mc_flow.specs.Runs.{next, last, ended, stopped, fault, Reaches}
 use Rattle.mc_text.specs.declared.place.Place.{Place}
 use Rattle.mc_heap.specs.Choices.{Choice}
 use Rattle.mc_flow.specs.Steps as flow

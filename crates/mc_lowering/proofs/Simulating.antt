@@ -1,7 +1,7 @@
 -- Two machines run alike where each pair that matches goes on together: for any two machines of which each has one next step at most.
 use Rattle.std.proofs.Common.{◌≡◌, ◌<◌, inl, inr, ℕ, zero, suc, List, refl, sym, subst, arith}
 use Rattle.std.specs.Prelude.{◌↔◌}
-use Rattle.mc_base.specs.Runs.{Final, Outcome, next, last, Reaches}
+use Rattle.mc_flow.specs.Runs.{Final, Outcome, next, last, Reaches}
 use Rattle.mc_lowering.specs.Runs.{ComesTo}
 
 abbrev pub Machine : Type 0 → Type 0 → Type 1

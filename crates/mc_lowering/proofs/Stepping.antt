@@ -7,7 +7,7 @@ use Rattle.mc_base.specs.declared.plain.FaultKind.{FaultKind}
 use Rattle.mc_base.specs.declared.plain.FaultKind.TheVariants.{Uninit, Null, Freed}
 use Rattle.mc_base.specs.declared.plain.Kind.TheVariants.{Int}
 use Rattle.mc_base.specs.Kinds.{InKind}
-use Rattle.mc_base.specs.Runs.{Final, next, last, fault, Reaches}
+use Rattle.mc_flow.specs.Runs.{Final, next, last, fault, Reaches}
 use Rattle.mc_text.specs.declared.place.Place.{Place}
 use Rattle.mc_heap.specs.Heap.{Heap, region_of}
 use Rattle.mc_heap.specs.Access.{field_at}

@@ -5,7 +5,7 @@ use Rattle.std.specs.FinMap as map
 use Rattle.mc_base.specs.declared.ids.VarId.{VarId}
 use Rattle.mc_base.specs.declared.plain.FaultKind.{FaultKind}
 use Rattle.mc_base.specs.declared.plain.FaultKind.TheVariants.{Uninit, Null, Freed}
-use Rattle.mc_base.specs.Runs.{next, last as finished, fault}
+use Rattle.mc_flow.specs.Runs.{next, last as finished, fault}
 use Rattle.mc_text.specs.declared.place.Place.{Place}
 use Rattle.mc_heap.specs.Heap.{Block, Heap, region_of}
 use Rattle.mc_heap.specs.Access.{block_field, with_field}

@@ -1,6 +1,6 @@
 -- What runs of a program and of its flow graph have in common.
 use Rattle.std.specs.Prelude.{◌≡◌, ◌↔◌, ℕ, List, Option, Some, None, slice_get}
-use Rattle.mc_base.specs.Runs.{Final, Outcome, next, last, ended, stopped, fault, Reaches}
+use Rattle.mc_flow.specs.Runs.{Final, Outcome, next, last, ended, stopped, fault, Reaches}
 use Rattle.mc_heap.specs.Choices.{Choice}
 use Rattle.mc_flow.specs.Steps as flow
 use Rattle.mc_resolved.specs.Programs.{Function}

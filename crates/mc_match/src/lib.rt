@@ -10,5 +10,5 @@ mod partial;
 mod segments;
 
 pub use fitting::find_fit;
-pub use mc_shrink::{MadeOf, Manner, Paths, Step, Trail, cover, make, note, plain, shrink};
+pub use mc_shrink::{Branch, MadeOf, Manner, Paths, Step, Trail, cover, make, note, plain, shrink};
 pub use partial::{Fit, Part};

@@ -6,7 +6,7 @@ use Rattle.std.proofs.lemmas.Int.{ints}
 use Rattle.mc_base.specs.declared.plain.Kind.TheVariants.{Int}
 use Rattle.mc_base.specs.Kinds.{InKind}
 use Rattle.mc_heap.specs.Choices.{input as choose_input, malloc as choose_malloc}
-use Rattle.mc_base.specs.Runs.{ended, stopped, fault}
+use Rattle.mc_flow.specs.Runs.{ended, stopped, fault}
 use Rattle.mc_types.specs.Tables.{Tables}
 use Rattle.mc_meaning.specs.Configs.{Values, Tasks}
 use Rattle.mc_meaning.specs.Moves.{moved, Arrives, here, there}

@@ -2,7 +2,7 @@
 use Rattle.std.specs.Prelude.{ℤ, ◌==◌, ◌&&◌, Bool, List, Option, None, if◌then◌else◌}
 use Rattle.std.specs.List.{list_any}
 use Rattle.mc_text.specs.declared.place.Place.{Place}
-use Rattle.mc_base.specs.Runs.{Outcome}
+use Rattle.mc_flow.specs.Runs.{Outcome}
 use Rattle.mc_heap.specs.Heap.{Heap}
 use Rattle.mc_heap.specs.Choices.{Choice}
 use Rattle.mc_defs.specs.declared.rules.Def.{Def}

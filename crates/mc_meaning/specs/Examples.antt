@@ -1,7 +1,7 @@
 -- Small programs, and what their runs come to.
 use Rattle.std.specs.Prelude.{ℕ, List, [], ◌∷◌, Option, Some, None, codes}
 use Rattle.mc_text.specs.declared.place.Place.{Place}
-use Rattle.mc_base.specs.Runs.{Reaches, Final}
+use Rattle.mc_flow.specs.Runs.{Reaches, Final}
 use Rattle.mc_heap.specs.Choices.{Choice}
 use Rattle.mc_ast.specs.declared.trees.Name.{Name}
 use Rattle.mc_ast.specs.declared.trees.Base.{Base}

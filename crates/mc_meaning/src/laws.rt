@@ -1,5 +1,5 @@
 // Laws of steps.
-ghost use Rattle.mc_base.specs.Runs.{ended, stopped, fault};
+ghost use Rattle.mc_flow.specs.Runs.{ended, stopped, fault};
 ghost use Rattle.mc_base.specs.declared.plain.FaultKind.TheVariants.{Null, Uninit, Assertion};
 ghost use Rattle.mc_heap.specs.Choices.{Choice, input as choose_input, malloc as choose_malloc};
 ghost use Rattle.mc_meaning.specs.Examples.{at, Comes, assigning, undefined_value, choosing, stopping_early, assuming, whiling, doing, turning, calling, reading_first};

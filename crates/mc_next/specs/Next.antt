@@ -7,7 +7,7 @@ use Rattle.mc_defs.specs.declared.rules.Def.{Def}
 use Rattle.mc_flow.specs.declared.graph.Flow.{Flow}
 use Rattle.mc_kernel.specs.Branches.{IsPlain, Path}
 use Rattle.mc_kernel.specs.Judges.{is_cut}
-use Rattle.mc_premises.specs.Known.{Test}
+use Rattle.mc_state.specs.Known.{Test}
 use Rattle.mc_progress.specs.Asked.{false_or_null}
 use Rattle.mc_state.specs.declared.line.Form.{Form}
 use Rattle.mc_state.specs.declared.line.Form.TheVariants.{Certificate, Chain}

@@ -5,7 +5,7 @@ ghost use Rattle.mc_flow.specs.Valid.{IsValid};
 ghost use Rattle.mc_judging.specs.Judging.{path};
 ghost use Rattle.mc_kernel.specs.Judges.{is_cut};
 ghost use Rattle.mc_next.specs.Next.{GoesOn, HasGap, IsAtCode, stuck};
-ghost use Rattle.mc_premises.specs.Known.{Test, Tells};
+ghost use Rattle.mc_state.specs.Known.{Test, Tells};
 ghost use Rattle.mc_progress.specs.Asked.{at_code, false_or_null};
 ghost use Rattle.mc_step.specs.Operands.{code_at};
 

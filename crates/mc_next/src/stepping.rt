@@ -1,7 +1,7 @@
 // The line of an instruction.
 ghost use Rattle.std.specs.Prelude.{◌≡◌, option_and_then};
 ghost use Rattle.std.specs.List.{list_any};
-ghost use Rattle.mc_premises.specs.Known.{Test, Tells};
+ghost use Rattle.mc_state.specs.Known.{Test, Tells};
 ghost use Rattle.mc_progress.specs.Asked.{at_block, freed_node, freeing, instance};
 ghost use Rattle.mc_step.specs.Judges.{is_block, is_block_at, is_shaped_at};
 ghost use Rattle.mc_state.specs.State.{var_node};

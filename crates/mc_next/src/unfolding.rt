@@ -1,7 +1,7 @@
 // Which edge is to be unfolded.
 ghost use Rattle.std.specs.Prelude.{◌≡◌};
 ghost use Rattle.mc_base.specs.Nodes.{null};
-ghost use Rattle.mc_premises.specs.Known.{Test, Tells};
+ghost use Rattle.mc_state.specs.Known.{Test, Tells};
 ghost use Rattle.mc_progress.specs.Asked.{at_end, at_node, at_start, ends_at, false_or_null, from_start, is_summary, starts_at};
 
 use mc_base::{EdgeId, NodeId};

@@ -5,7 +5,7 @@ use Rattle.mc_cert.specs.declared.line.Line.{Line}
 use Rattle.mc_defs.specs.declared.rules.Def.{Def}
 use Rattle.mc_flow.specs.declared.graph.Flow.{Flow}
 use Rattle.mc_flow.specs.Valid.{IsValid}
-use Rattle.mc_premises.specs.Known.{Test}
+use Rattle.mc_state.specs.Known.{Test}
 use Rattle.mc_step.specs.declared.gap.Gap.{Gap}
 use Rattle.mc_step.specs.Operands.{code_at}
 use Rattle.mc_step.specs.Unmet.{IsUnmet}

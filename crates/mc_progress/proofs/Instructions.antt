@@ -25,7 +25,7 @@ use Rattle.mc_graph.specs.declared.edge.Edge.{Edge}
 use Rattle.mc_graph.specs.declared.edge.Edge.TheVariants.{Block, Ind, Seg}
 use Rattle.mc_graph.specs.Edges.{fields_of, start_of}
 use Rattle.mc_graph.specs.Graph.{Edges, block_starts, edge_with}
-use Rattle.mc_premises.specs.Known.{Test, Tells, equal, is_false}
+use Rattle.mc_state.specs.Known.{Test, Tells, equal, is_false}
 use Rattle.mc_pure.specs.Derived.{itself}
 use Rattle.mc_pure.specs.Laws.{BlockAtNull}
 use Rattle.mc_state.specs.Facts.{IsFalse}

@@ -2,7 +2,7 @@
 use Rattle.std.proofs.Common.{◌≡◌, ◌⊎◌, inl, inr, ℕ, zero, suc, ◌<◌, List, [], ◌∷◌, length, Bool, true, false, Option, Some, None, slice_get, refl, sym, ap, ◌∙◌, arith}
 use Rattle.std.specs.Prelude.{◌&&◌, ◌||◌, cond, Ok}
 use Rattle.std.specs.List.{find, list_any}
-use Rattle.mc_premises.specs.Premises.{Judged, need, have, then_give}
+use Rattle.mc_state.specs.Premises.{Judged, need, have, then_give}
 
 -- what is judged gives something
 abbrev pub Gives : {A : Type 0} → Judged A → Type 0

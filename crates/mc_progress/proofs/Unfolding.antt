@@ -15,8 +15,8 @@ use Rattle.mc_flow.specs.declared.graph.Flow.{Flow}
 use Rattle.mc_graph.specs.declared.edge.Edge.{Edge}
 use Rattle.mc_graph.specs.declared.edge.Edge.TheVariants.{Block, Ind, Seg}
 use Rattle.mc_graph.specs.Graph.{Edges, edge_with}
-use Rattle.mc_premises.specs.Known.{Test, Tells, equal, is_false}
-use Rattle.mc_premises.specs.Named.{SegParts, seg_of}
+use Rattle.mc_state.specs.Known.{Test, Tells, equal, is_false}
+use Rattle.mc_state.specs.Named.{SegParts, seg_of}
 use Rattle.mc_pure.specs.Derived.{apart, turned}
 use Rattle.mc_state.specs.Facts.{AreEqual}
 use Rattle.mc_state.specs.State.{State}

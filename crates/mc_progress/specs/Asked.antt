@@ -20,7 +20,7 @@ use Rattle.mc_graph.specs.declared.edge.Edge.{Edge}
 use Rattle.mc_graph.specs.declared.edge.Edge.TheVariants.{Block, Ind, Seg}
 use Rattle.mc_graph.specs.Edges.{start_of}
 use Rattle.mc_graph.specs.Graph.{Edges}
-use Rattle.mc_premises.specs.Known.{Test, Tells, equal, is_false}
+use Rattle.mc_state.specs.Known.{Test, Tells, equal, is_false}
 use Rattle.mc_state.specs.State.{State, var_node}
 use Rattle.mc_back.specs.Judges.{ends_back_at}
 use Rattle.mc_step.specs.declared.gap.Gap.{Gap}

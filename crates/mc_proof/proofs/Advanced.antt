@@ -5,7 +5,7 @@ use Rattle.mc_cert.specs.declared.line.Line.{Line}
 use Rattle.mc_defs.specs.declared.rules.Def.{Def}
 use Rattle.mc_flow.specs.declared.graph.Flow.{Flow}
 use Rattle.mc_flow.specs.Valid.{IsValid}
-use Rattle.mc_premises.specs.Premises.{then_give}
+use Rattle.mc_state.specs.Premises.{then_give}
 use Rattle.mc_kernel.specs.Branches.{Path, Setting}
 use Rattle.mc_kernel.specs.JudgedLaws.{IsAsked, LinesAreJudged}
 use Rattle.mc_kernel.specs.Judges.{Knowledge, judged_line}

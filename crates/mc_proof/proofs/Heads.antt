@@ -2,8 +2,8 @@
 use Rattle.std.proofs.Common.{◌≡◌, ◌∙◌, ◌++◌, ℕ, List, [], ◌∷◌, Bool, true, false, Option, Some, None, refl, ap, sym}
 use Rattle.std.specs.Prelude.{◌&&◌, Ok, Err, if◌then◌else◌}
 use Rattle.mc_base.specs.declared.ids.PointId.{PointId}
-use Rattle.mc_premises.specs.Premises.{Judged, need}
-use Rattle.mc_premises.proofs.Numbered.{need_yes}
+use Rattle.mc_state.specs.Premises.{Judged, need}
+use Rattle.mc_state.proofs.Numbered.{need_yes}
 use Rattle.mc_state.specs.declared.raw_state.RawState.{RawState}
 use Rattle.mc_state.specs.RawStates.{state_of}
 use Rattle.mc_state.specs.State.{State}

@@ -8,7 +8,7 @@ use Rattle.mc_state.specs.declared.line.Form.{Form}
 use Rattle.mc_judging.specs.declared.branch.Head.{Head as HeadCode}
 use Rattle.mc_judging.specs.Judging.{head_of}
 use Rattle.mc_cert.specs.declared.line.Line.{Line}
-use Rattle.mc_premises.specs.Premises.{then_give}
+use Rattle.mc_state.specs.Premises.{then_give}
 use Rattle.mc_kernel.specs.Branches.{Path}
 use Rattle.mc_kernel.specs.Judges.{Knowledge}
 use Rattle.mc_proof.specs.declared.fault.ApplyFault.{ApplyFault}

@@ -2,7 +2,7 @@
 use Rattle.std.proofs.Common.{◌≡◌, ℕ, List, Bool, true, false, refl, ap, sym, subst}
 use Rattle.std.specs.Prelude.{Result, Ok, Err}
 use Rattle.mc_cert.specs.declared.line.Line.{Line}
-use Rattle.mc_premises.specs.Premises.{Judged, need}
+use Rattle.mc_state.specs.Premises.{Judged, need}
 use Rattle.mc_kernel.specs.Branches.{roots}
 use Rattle.mc_kernel.specs.Judges.{Knowledge}
 use Rattle.mc_kernel.specs.Readings.{Stage, cutting, heading, ruling, finished, is_ruling, has_no_branch}

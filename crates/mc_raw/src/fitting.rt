@@ -15,7 +15,7 @@ fn has_kind(state: &State, kind: Kind, node: NodeId) -> bool
     ensures { IsTrue result ↔ HasKind state.now.kinds kind node }
 {
     // for the proof alone
-    mc_premises::tests_tell();
+    mc_state::tests_tell();
     state.has_kind(kind, node)
 }
 

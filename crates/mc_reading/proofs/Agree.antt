@@ -11,9 +11,9 @@ use Rattle.mc_cert.specs.declared.line.Line.TheVariants as line
 use Rattle.mc_defs.specs.declared.rules.Def.{Def}
 use Rattle.mc_flow.specs.declared.graph.Flow.{Flow}
 use Rattle.mc_flow.specs.Valid.{IsValid}
-use Rattle.mc_premises.specs.Known.{Test, Tells, is_false}
-use Rattle.mc_premises.specs.Premises.{Judged, IsJudged, need, have, then_give}
-use Rattle.mc_premises.proofs.Numbered.{given_or_unmet}
+use Rattle.mc_state.specs.Known.{Test, Tells, is_false}
+use Rattle.mc_state.specs.Premises.{Judged, IsJudged, need, have, then_give}
+use Rattle.mc_state.proofs.Numbered.{given_or_unmet}
 use Rattle.mc_state.specs.declared.raw_state.RawState.{RawState}
 use Rattle.mc_state.specs.State.{State, with_atoms}
 use Rattle.mc_fold.specs.ChangeJudges.{forgetting_node, naming_spare, merging_nodes, dropping_edge}

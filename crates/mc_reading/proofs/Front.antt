@@ -10,9 +10,9 @@ use Rattle.mc_flow.specs.declared.graph.Flow.{Flow}
 use Rattle.mc_flow.specs.declared.instr.Instr.{Instr}
 use Rattle.mc_flow.specs.declared.instr.Instr.TheVariants as instr
 use Rattle.mc_flow.specs.Valid.{IsSkip}
-use Rattle.mc_premises.specs.Premises.{Judged, need, have}
-use Rattle.mc_premises.proofs.Numbered.{need_ok, need_yes, have_ok}
-use Rattle.mc_premises.proofs.Tests.{and_both, and_yes}
+use Rattle.mc_state.specs.Premises.{Judged, need, have}
+use Rattle.mc_state.proofs.Numbered.{need_ok, need_yes, have_ok}
+use Rattle.mc_state.proofs.Tests.{and_both, and_yes}
 use Rattle.mc_state.specs.declared.line.Form.{Form}
 use Rattle.mc_state.specs.declared.line.Form.TheVariants.{Certificate}
 use Rattle.mc_state.specs.declared.raw_state.RawState.{RawState}

@@ -4,7 +4,7 @@ use Rattle.std.specs.Prelude.{Contains, nat_lt, ◌==◌, ◌||◌}
 use Rattle.std.specs.List.{AllByRecursion}
 use Rattle.mc_base.specs.declared.ids.PointId.{PointId}
 use Rattle.mc_flow.specs.declared.graph.Flow.{Flow}
-use Rattle.mc_premises.proofs.Tests.{each_from, each_to}
+use Rattle.mc_state.proofs.Tests.{each_from, each_to}
 use Rattle.mc_kernel.specs.Branches.{Ascend}
 use Rattle.mc_kernel.specs.Certificates.{WrittenHead, AreOrdered}
 use Rattle.mc_kernel.specs.Judges.{is_cut}

@@ -4,8 +4,8 @@ use Rattle.std.specs.Prelude.{Bool, Result, Ok, Err}
 use Rattle.mc_cert.specs.declared.line.Line.{Line}
 use Rattle.mc_defs.specs.declared.rules.Def.{Def}
 use Rattle.mc_flow.specs.declared.graph.Flow.{Flow}
-use Rattle.mc_premises.specs.Premises.{Judged}
-use Rattle.mc_premises.proofs.Numbered.{given_or_unmet}
+use Rattle.mc_state.specs.Premises.{Judged}
+use Rattle.mc_state.proofs.Numbered.{given_or_unmet}
 use Rattle.mc_state.specs.declared.line.Form.{Form}
 use Rattle.mc_state.specs.declared.line.Form.TheVariants.{Certificate}
 use Rattle.mc_state.specs.declared.raw_state.RawState.{RawState}

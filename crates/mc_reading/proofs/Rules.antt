@@ -8,8 +8,8 @@ use Rattle.mc_cert.specs.declared.line.Line.TheVariants as line
 use Rattle.mc_defs.specs.declared.rules.Def.{Def}
 use Rattle.mc_flow.specs.declared.graph.Flow.{Flow}
 use Rattle.mc_flow.specs.Valid.{IsValid}
-use Rattle.mc_premises.specs.Premises.{Judged, need, then_give}
-use Rattle.mc_premises.proofs.Numbered.{then_ok}
+use Rattle.mc_state.specs.Premises.{Judged, need, then_give}
+use Rattle.mc_state.proofs.Numbered.{then_ok}
 use Rattle.mc_state.specs.declared.line.Form.{Form}
 use Rattle.mc_state.specs.declared.line.Form.TheVariants.{Certificate, Chain}
 use Rattle.mc_state.specs.declared.raw_state.RawState.{RawState}

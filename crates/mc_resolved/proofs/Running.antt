@@ -5,7 +5,7 @@ use Rattle.std.specs.Option.{option_map_or}
 use Rattle.mc_base.specs.declared.plain.FaultKind.{FaultKind}
 use Rattle.mc_base.specs.declared.plain.FaultKind.TheVariants.{Shape, NotEmpty}
 use Rattle.mc_text.specs.declared.place.Place.{Place}
-use Rattle.mc_base.specs.Runs.{Final, next, last, fault, Reaches}
+use Rattle.mc_flow.specs.Runs.{Final, next, last, fault, Reaches}
 use Rattle.mc_heap.specs.Heap.{Heap, region_of}
 use Rattle.mc_heap.specs.Adding.{with_blocks}
 use Rattle.mc_heap.specs.Choices.{Choice, input as choose_input, malloc as choose_malloc, shape as choose_shape}

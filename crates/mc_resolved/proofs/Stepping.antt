@@ -3,7 +3,7 @@ use Rattle.std.proofs.Common.{◌≡◌, ℕ, zero, suc, ℤ, pos, ◌+ℤ◌, �
 use Rattle.std.specs.Prelude.{◌==◌, option_map}
 use Rattle.std.specs.FinMap as map
 use Rattle.mc_text.specs.declared.place.Place.{Place}
-use Rattle.mc_base.specs.Runs.{next}
+use Rattle.mc_flow.specs.Runs.{next}
 use Rattle.mc_heap.specs.Heap.{Block, Heap, region_of}
 use Rattle.mc_heap.specs.Access.{fresh_block}
 use Rattle.mc_heap.specs.Choices.{Choice, input as choose_input, malloc as choose_malloc, shape as choose_shape}

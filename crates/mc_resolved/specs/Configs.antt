@@ -1,7 +1,7 @@
 -- What is left to do of a resolved program, what its variables hold, and what is allocated.
 use Rattle.std.specs.Prelude.{ℕ, ℤ, List, [], ◌∷◌, Option, None, slice_index_or, slice_set}
 use Rattle.mc_text.specs.declared.place.Place.{Place}
-use Rattle.mc_base.specs.Runs.{Outcome}
+use Rattle.mc_flow.specs.Runs.{Outcome}
 use Rattle.mc_heap.specs.Heap.{Heap}
 use Rattle.mc_heap.specs.Choices.{Choice}
 use Rattle.mc_resolved.specs.Programs.{Left, Cond, Simple, Stmt}

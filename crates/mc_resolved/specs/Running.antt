@@ -1,7 +1,7 @@
 -- What a run of a program and a run of the resolved program have in common.
 use Rattle.std.specs.Prelude.{◌≡◌, ◌<◌, ◌↔◌, ℕ, ℤ, List, [], ◌∷◌, Option, Some, None, length, map, option_map, slice_get}
 use Rattle.mc_text.specs.declared.place.Place.{Place}
-use Rattle.mc_base.specs.Runs.{Final, next, last, Reaches}
+use Rattle.mc_flow.specs.Runs.{Final, next, last, Reaches}
 use Rattle.mc_heap.specs.Choices.{Choice}
 use Rattle.mc_heap.specs.Heap.{Heap}
 use Rattle.mc_defs.specs.declared.rules.Def.{Def}

@@ -6,7 +6,7 @@ use Rattle.mc_base.specs.declared.ids.PredId.{PredId}
 use Rattle.mc_base.specs.declared.plain.FaultKind.{FaultKind}
 use Rattle.mc_base.specs.declared.plain.FaultKind.TheVariants.{Uninit, BadFree, Assertion, Shape, NotEmpty}
 use Rattle.mc_text.specs.declared.place.Place.{Place}
-use Rattle.mc_base.specs.Runs.{next, last, ended, stopped, fault, IsSafeFrom}
+use Rattle.mc_flow.specs.Runs.{next, last, ended, stopped, fault, IsSafeFrom}
 use Rattle.mc_heap.specs.Heap.{Block, Heap, IsAddress, region_of}
 use Rattle.mc_heap.specs.Access.{fresh_block}
 use Rattle.mc_heap.specs.Adding.{AreFree, part_of, with_blocks}

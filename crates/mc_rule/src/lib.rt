@@ -4,8 +4,8 @@
 ghost use Rattle.std.specs.Prelude.{◌≡◌, List, Option, Ok};
 ghost use Rattle.mc_base.specs.declared.ids.NodeId.{NodeId as Node};
 ghost use Rattle.mc_defs.specs.declared.rules.Def.{Def};
-ghost use Rattle.mc_premises.specs.Known.{Test, Tells};
-ghost use Rattle.mc_premises.specs.Premises.{Judged};
+ghost use Rattle.mc_state.specs.Known.{Test, Tells};
+ghost use Rattle.mc_state.specs.Premises.{Judged};
 ghost use Rattle.mc_rule.specs.Answered.{AnswersWithMemory};
 ghost use Rattle.mc_rule.specs.Made.{IsMadeFor, Left, AreLeft};
 ghost use Rattle.mc_state.specs.Rules.{IsSound};

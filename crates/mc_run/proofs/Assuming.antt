@@ -4,7 +4,7 @@ use Rattle.std.specs.Prelude.{if◌then◌else◌, ◌==◌}
 use Rattle.std.specs.List.{list_any}
 use Rattle.mc_base.specs.declared.ids.PredId.{PredId}
 use Rattle.mc_base.specs.declared.plain.FaultKind.TheVariants.{Uninit, Shape}
-use Rattle.mc_base.specs.Runs.{next, last, fault}
+use Rattle.mc_flow.specs.Runs.{next, last, fault}
 use Rattle.mc_text.specs.declared.place.Place.{Place}
 use Rattle.mc_heap.specs.Choices.{Choice, shape}
 use Rattle.mc_heap.specs.Heap.{Block, Heap, Region, region_of}

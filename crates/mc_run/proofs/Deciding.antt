@@ -2,7 +2,7 @@
 use Rattle.std.proofs.Common.{◌≡◌, ap, refl, Bool, true, false, ℤ, List, Option, Some, None}
 use Rattle.std.specs.Prelude.{is_some, not}
 use Rattle.mc_base.specs.declared.plain.FaultKind.TheVariants.{Uninit}
-use Rattle.mc_base.specs.Runs.{next, last, fault}
+use Rattle.mc_flow.specs.Runs.{next, last, fault}
 use Rattle.mc_text.specs.declared.place.Place.{Place}
 use Rattle.mc_heap.specs.Choices.{Choice}
 use Rattle.mc_heap.specs.Heap.{Heap}

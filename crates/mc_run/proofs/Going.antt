@@ -1,6 +1,6 @@
 -- A run, step by step.
 use Rattle.std.proofs.Common.{◌≡◌, ◌∙◌, ◌⊎◌, ◌++◌, ◌+◌, ◌-◌, ◌≤◌, inl, inr, ℕ, zero, suc, List, [], ◌∷◌, length, refl, sym, ap, ap₂, subst, append_assoc, arith}
-use Rattle.mc_base.specs.Runs.{next, last, ended, stopped, fault}
+use Rattle.mc_flow.specs.Runs.{next, last, ended, stopped, fault}
 use Rattle.mc_heap.specs.Choices.{Choice}
 use Rattle.mc_defs.specs.declared.shapes.StructInfo.{StructInfo}
 use Rattle.mc_waiting.specs.Requests.{Request}

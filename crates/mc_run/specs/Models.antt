@@ -2,7 +2,7 @@
 use Rattle.std.specs.Prelude.{◌+◌, ℕ, [], Result, Ok, Err}
 use Rattle.mc_base.specs.declared.plain.FaultKind.{FaultKind}
 use Rattle.mc_text.specs.declared.place.Place.{Place}
-use Rattle.mc_base.specs.Runs.{Final, ended, stopped, fault}
+use Rattle.mc_flow.specs.Runs.{Final, ended, stopped, fault}
 use Rattle.mc_resolved.specs.Programs.{Left, Program}
 use Rattle.mc_resolved.specs.Configs.{Config}
 use Rattle.mc_resolved.specs.Steps.{Here}

@@ -1,6 +1,6 @@
 -- What a run comes to with a script and fuel.
 use Rattle.std.specs.Prelude.{◌≡◌, ◌++◌, ◌+◌, ◌<◌, ◌≤◌, ◌⊎◌, ℕ, List, [], Option, Some, None, length}
-use Rattle.mc_base.specs.Runs.{Final, ended, stopped, fault}
+use Rattle.mc_flow.specs.Runs.{Final, ended, stopped, fault}
 use Rattle.mc_heap.specs.Choices.{Choice}
 use Rattle.mc_defs.specs.declared.shapes.StructInfo.{StructInfo}
 use Rattle.mc_waiting.specs.Requests.{Request}

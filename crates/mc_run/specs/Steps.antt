@@ -1,6 +1,6 @@
 -- What comes of a step with the lines of a script.
 use Rattle.std.specs.Prelude.{ℕ, List}
-use Rattle.mc_base.specs.Runs.{next, last}
+use Rattle.mc_flow.specs.Runs.{next, last}
 use Rattle.mc_heap.specs.Choices.{Choice}
 use Rattle.mc_defs.specs.declared.shapes.StructInfo.{StructInfo}
 use Rattle.mc_waiting.specs.Requests.{Request, Waits}

@@ -2,7 +2,7 @@
 use Rattle.std.proofs.Common.{◌≡◌, ℕ, List, Some, sym, subst, ◌∙◌}
 use Rattle.std.specs.Prelude.{slice_get}
 use Rattle.std.proofs.lemmas.Option.{same_Some}
-use Rattle.mc_base.specs.Runs.{fault}
+use Rattle.mc_flow.specs.Runs.{fault}
 use Rattle.mc_ast.specs.Trees.{FunctionTree, UnitTree}
 use Rattle.mc_defs.specs.declared.rules.Def.{Def}
 use Rattle.mc_flow.specs.Steps.{IsSafeFlow}

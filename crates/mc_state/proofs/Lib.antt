@@ -1,3 +1,4 @@
+pub mod Back
 pub mod Beginning
 pub mod Bodies
 pub mod Bounds
@@ -9,14 +10,18 @@ pub mod CoversSound
 pub mod CoversTerms
 pub mod Ids
 pub mod Images
+pub mod ListLemmas
 pub mod Lists
 pub mod Merging
+pub mod Named
 pub mod Nodes
+pub mod Numbered
 pub mod OneCell
 pub mod Parts
 pub mod Renaming
 pub mod Standing
 pub mod Stars
+pub mod Tests
 pub mod Truth
 pub mod Variables
 pub mod Worked

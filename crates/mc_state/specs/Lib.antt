@@ -1,3 +1,5 @@
+pub mod Back
+pub mod BackExamples
 pub mod Bodies
 pub mod BodyLaws
 pub mod CoverExamples
@@ -6,9 +8,14 @@ pub mod Examples
 pub mod Facts
 pub mod Fits
 pub mod Guess
+pub mod Known
 pub mod Laws
+pub mod Lists
+pub mod Named
+pub mod Premises
 pub mod RawStates
 pub mod Rules
 pub mod Stands
 pub mod State
 pub mod Terms
+pub mod Told

@@ -1,4 +1,8 @@
-//! Symbolic states, and the lines of documents.
+//! Symbolic states, the lines of documents, and rules as premises with numbers, in order: what a rule gives, or the
+//! number of the first premise that is unmet.
+//!
+//! The lemmas on premises and lists in `proofs` speak of any type, which no contract can: the crates whose rules are
+//! judged cite them.
 #![tactic(auto)]
 
 mod covers;
@@ -6,9 +10,11 @@ mod examples;
 mod goal;
 mod laws;
 mod line;
+mod positions;
 mod raw_state;
 mod rule;
 mod terms;
+mod told;
 
 pub use covers::{
     bodies_are_edges, body_premises, covers_are_sound, example_covers, example_segment_covers,
@@ -22,6 +28,8 @@ pub use laws::{
 };
 pub use line::{Form, JoinStep, Side, Version};
 pub use mc_graph::Edge;
+pub use positions::example_back_positions;
 pub use raw_state::{NodeKind, RawState};
 pub use rule::LogicFault;
 pub use terms::Term;
+pub use told::{back_is_told, picks_are_named, tests_tell};

@@ -8,10 +8,10 @@ use Rattle.mc_base.specs.declared.plain.Kind.TheVariants.{Ptr}
 use Rattle.mc_base.specs.Nodes.{null}
 use Rattle.mc_heap.specs.Heap.{region_of}
 use Rattle.mc_defs.specs.Examples.{defs, cell_id}
-use Rattle.mc_premises.specs.BackExamples as back
-use Rattle.mc_premises.specs.Laws.{BackIsTold}
-use Rattle.mc_premises.specs.Known.{Test, Tells, is_false, equal}
-use Rattle.mc_premises.proofs.Tests.{is_sound, equal_from, equal_to}
+use Rattle.mc_state.specs.BackExamples as back
+use Rattle.mc_state.specs.Told.{BackIsTold}
+use Rattle.mc_state.specs.Known.{Test, Tells, is_false, equal}
+use Rattle.mc_state.proofs.Tests.{is_sound, equal_from, equal_to}
 use Rattle.mc_pure.specs.Derived.{itself}
 use Rattle.mc_pure.specs.Examples.{node}
 use Rattle.mc_state.specs.Laws.{DerivedIsTrue, NoneStandsForFalse}

@@ -5,7 +5,7 @@ use Rattle.std.specs.FinMap.{gets}
 use Rattle.std.proofs.lemmas.Bool.Decides.{nat_tests}
 use Rattle.std.proofs.lemmas.Int.{ints}
 use Rattle.mc_text.specs.declared.place.Place.{Place}
-use Rattle.mc_base.specs.Runs as runs
+use Rattle.mc_flow.specs.Runs as runs
 use Rattle.mc_heap.specs.Access.{field_at}
 use Rattle.mc_heap.specs.Choices as choice
 use Rattle.mc_heap.specs.Heap.{Block, region_of}

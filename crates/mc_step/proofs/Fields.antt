@@ -9,7 +9,7 @@ use Rattle.mc_base.specs.declared.ids.VarId.{VarId}
 use Rattle.mc_base.specs.declared.plain.FaultKind.TheVariants as faults
 use Rattle.mc_text.specs.declared.place.Place.{Place}
 use Rattle.mc_base.specs.Nodes.{Valuation}
-use Rattle.mc_base.specs.Runs.{next, last, fault}
+use Rattle.mc_flow.specs.Runs.{next, last, fault}
 use Rattle.mc_heap.specs.Access.{block_field, field_at, with_field}
 use Rattle.mc_heap.specs.Choices.{Choice}
 use Rattle.mc_heap.specs.Heap.{Block, region_of, IsAddress}

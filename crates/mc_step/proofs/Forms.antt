@@ -6,7 +6,7 @@ use Rattle.mc_base.specs.declared.ids.VarId.{VarId}
 use Rattle.mc_flow.specs.declared.instr.Operand.{Operand}
 use Rattle.mc_flow.specs.declared.instr.Instr.{Instr}
 use Rattle.mc_flow.specs.declared.instr.Instr.TheVariants as instr
-use Rattle.mc_premises.specs.Premises.{Judged}
+use Rattle.mc_state.specs.Premises.{Judged}
 use Rattle.mc_step.specs.Next.{Next}
 use Rattle.mc_step.specs.Instructions.{CopyParts, ResultParts, LoadParts, StoreParts, MallocParts, TestParts, AssumeParts, AssertParts, skip_of, copy_of, undef_of, input_of, add_of, sub_of, mul_of, load_of, store_of, malloc_of, free_of, test_eq_of, test_le_of, assume_of, assert_of, empty_of, is_end}
 

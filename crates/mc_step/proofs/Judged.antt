@@ -4,8 +4,8 @@ use Rattle.std.specs.Prelude.{Ok}
 use Rattle.mc_base.specs.declared.ids.PointId.{PointId}
 use Rattle.mc_defs.specs.declared.rules.Def.{Def}
 use Rattle.mc_flow.specs.declared.graph.Flow.{Flow}
-use Rattle.mc_premises.specs.Known.{Test}
-use Rattle.mc_premises.proofs.Numbered.{judged_unmet, given_or_unmet}
+use Rattle.mc_state.specs.Known.{Test}
+use Rattle.mc_state.proofs.Numbered.{judged_unmet, given_or_unmet}
 use Rattle.mc_pure.specs.Laws.{BlocksAtOneNode}
 use Rattle.mc_state.specs.State.{State}
 use Rattle.mc_step.specs.Next.{Next}

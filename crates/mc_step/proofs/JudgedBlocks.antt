@@ -23,9 +23,9 @@ use Rattle.mc_graph.specs.declared.edge.Edge.{Edge}
 use Rattle.mc_graph.specs.declared.edge.Edge.TheVariants.{Block, Ind, Seg}
 use Rattle.mc_graph.specs.Edges.{fields_of, with_field_node}
 use Rattle.mc_graph.specs.Graph.{Edges, edge_with, IdsAscend}
-use Rattle.mc_premises.specs.Known.{Test, Tells, is_false, equal}
-use Rattle.mc_premises.proofs.Numbered.{need_ok, have_ok}
-use Rattle.mc_premises.proofs.Tests.{not_false, is_sound, equal_from, equal_to, and_both, and_yes}
+use Rattle.mc_state.specs.Known.{Test, Tells, is_false, equal}
+use Rattle.mc_state.proofs.Numbered.{need_ok, have_ok}
+use Rattle.mc_state.proofs.Tests.{not_false, is_sound, equal_from, equal_to, and_both, and_yes}
 use Rattle.mc_pure.specs.Laws.{BlocksAtOneNode}
 use Rattle.mc_pure.specs.Pure.{Kinds}
 use Rattle.mc_state.specs.State.{State, var_node, with_number}

@@ -7,10 +7,10 @@ use Rattle.mc_base.specs.declared.plain.Atom.TheVariants.{Eq, Ne}
 use Rattle.mc_flow.specs.declared.graph.Flow.{Flow}
 use Rattle.mc_flow.specs.declared.instr.Operand.{Operand}
 use Rattle.mc_graph.specs.Graph.{Edges}
-use Rattle.mc_premises.specs.Known.{Test, Tells, is_false}
-use Rattle.mc_premises.specs.Premises.{Judged, need}
-use Rattle.mc_premises.proofs.Numbered.{need_ok, need_yes, have_ok}
-use Rattle.mc_premises.proofs.Tests.{not_false, is_sound}
+use Rattle.mc_state.specs.Known.{Test, Tells, is_false}
+use Rattle.mc_state.specs.Premises.{Judged, need}
+use Rattle.mc_state.proofs.Numbered.{need_ok, need_yes, have_ok}
+use Rattle.mc_state.proofs.Tests.{not_false, is_sound}
 use Rattle.mc_state.specs.State.{State, with_var, with_atom, next_node}
 use Rattle.mc_step.specs.Next.{Next}
 use Rattle.mc_step.specs.Instructions.{skip_of, copy_of, undef_of, input_of, malloc_of, test_eq_of, assume_of, assert_of, empty_of, is_end}

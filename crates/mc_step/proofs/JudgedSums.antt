@@ -15,9 +15,9 @@ use Rattle.mc_flow.specs.declared.instr.Instr.TheVariants as instr
 use Rattle.mc_flow.specs.declared.instr.Operand.{Operand}
 use Rattle.mc_flow.specs.Valid.{IsValid, IsOperand}
 use Rattle.mc_flow.specs.Values.{wrapped}
-use Rattle.mc_premises.specs.Known.{Test, Tells, is_false}
-use Rattle.mc_premises.proofs.Numbered.{need_ok, have_ok}
-use Rattle.mc_premises.proofs.Tests.{not_false, is_sound}
+use Rattle.mc_state.specs.Known.{Test, Tells, is_false}
+use Rattle.mc_state.proofs.Numbered.{need_ok, have_ok}
+use Rattle.mc_state.proofs.Tests.{not_false, is_sound}
 use Rattle.mc_pure.specs.Pure.{Pure}
 use Rattle.mc_pure.specs.Derived.{HasRange}
 use Rattle.mc_ranges.specs.declared.Range.{Range}

@@ -6,7 +6,7 @@ use Rattle.mc_base.specs.declared.ids.PointId.{PointId}
 use Rattle.mc_base.specs.declared.ids.VarId.{VarId}
 use Rattle.mc_text.specs.declared.place.Place.{Place}
 use Rattle.mc_base.specs.Nodes.{Valuation}
-use Rattle.mc_base.specs.Runs as runs
+use Rattle.mc_flow.specs.Runs as runs
 use Rattle.mc_heap.specs.Choices.{Choice}
 use Rattle.mc_heap.specs.Heap.{Region, HasAddresses, region_of}
 use Rattle.mc_defs.specs.declared.rules.Def.{Def}

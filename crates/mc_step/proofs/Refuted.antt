@@ -6,7 +6,7 @@ use Rattle.mc_base.specs.declared.ids.PointId.{PointId}
 use Rattle.mc_base.specs.declared.plain.FaultKind.TheVariants as faults
 use Rattle.mc_text.specs.declared.place.Place.{Place}
 use Rattle.mc_base.specs.Nodes.{Valuation}
-use Rattle.mc_base.specs.Runs as runs
+use Rattle.mc_flow.specs.Runs as runs
 use Rattle.mc_heap.specs.Access.{field_at}
 use Rattle.mc_heap.specs.Choices as choice
 use Rattle.mc_heap.specs.Heap.{Block, region_of}

@@ -12,7 +12,7 @@ use Rattle.mc_base.specs.declared.plain.Atom.TheVariants.{Eq, Ne, In}
 use Rattle.mc_base.specs.declared.plain.Kind.TheVariants.{Int}
 use Rattle.mc_base.specs.Atoms.{IsTrueAtom}
 use Rattle.mc_base.specs.Nodes.{Valuation}
-use Rattle.mc_base.specs.Runs as runs
+use Rattle.mc_flow.specs.Runs as runs
 use Rattle.mc_heap.specs.Choices.{Choice}
 use Rattle.mc_heap.specs.Heap.{HasAddresses, region_of}
 use Rattle.mc_defs.specs.declared.rules.Def.{Def}

@@ -8,7 +8,7 @@ use Rattle.mc_base.specs.declared.plain.Kind.{Kind}
 use Rattle.mc_base.specs.declared.plain.Kind.TheVariants.{Int, Ptr}
 use Rattle.mc_base.specs.declared.plain.VarInfo.{VarInfo}
 use Rattle.mc_base.specs.Nodes.{Valuation, null}
-use Rattle.mc_base.specs.Runs as runs
+use Rattle.mc_flow.specs.Runs as runs
 use Rattle.mc_heap.specs.Access.{fresh_block, with_field}
 use Rattle.mc_heap.specs.Choices.{Choice}
 use Rattle.mc_heap.specs.Heap.{Block, Heap}

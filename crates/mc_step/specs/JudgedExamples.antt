@@ -7,7 +7,7 @@ use Rattle.mc_base.specs.declared.plain.Kind.TheVariants.{Int, Ptr}
 use Rattle.mc_base.specs.declared.plain.Atom.{Atom}
 use Rattle.mc_base.specs.Nodes.{null}
 use Rattle.mc_graph.specs.declared.edge.Edge.TheVariants.{Seg}
-use Rattle.mc_premises.specs.Known.{Test, Tells}
+use Rattle.mc_state.specs.Known.{Test, Tells}
 use Rattle.mc_pure.specs.Examples.{node}
 use Rattle.mc_state.specs.State.{State}
 use Rattle.mc_step.specs.Next.{Next}

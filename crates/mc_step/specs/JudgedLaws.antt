@@ -13,8 +13,8 @@ use Rattle.mc_defs.specs.declared.rules.Def.{Def}
 use Rattle.mc_flow.specs.declared.graph.Flow.{Flow}
 use Rattle.mc_flow.specs.declared.instr.Operand.{Operand}
 use Rattle.mc_flow.specs.Valid.{IsValid, IsField, ArgsFit as OperandsFit}
-use Rattle.mc_premises.specs.Known.{Test, Tells}
-use Rattle.mc_premises.specs.Premises.{IsJudged}
+use Rattle.mc_state.specs.Known.{Test, Tells}
+use Rattle.mc_state.specs.Premises.{IsJudged}
 use Rattle.mc_pure.specs.Derived.{HasRange}
 use Rattle.mc_pure.specs.Pure.{Pure, HasKind}
 use Rattle.mc_state.specs.declared.goal.Goal.{Goal}

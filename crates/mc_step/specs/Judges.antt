@@ -17,8 +17,8 @@ use Rattle.mc_graph.specs.declared.edge.Edge.{Edge}
 use Rattle.mc_graph.specs.declared.edge.Edge.TheVariants.{Block, Ind, Seg}
 use Rattle.mc_graph.specs.Edges.{start_of, fields_of, has_shape, with_field_node}
 use Rattle.mc_graph.specs.Graph.{Edges, replaced, without, block_starts}
-use Rattle.mc_premises.specs.Known.{Test, is_false, equal}
-use Rattle.mc_premises.specs.Premises.{Judged, need, have}
+use Rattle.mc_state.specs.Known.{Test, is_false, equal}
+use Rattle.mc_state.specs.Premises.{Judged, need, have}
 use Rattle.mc_state.specs.State.{State, var_node, with_var, without_vars, next_node, with_nodes, with_atoms, with_atom, with_edges, with_only_edges, with_block}
 use Rattle.mc_step.specs.Next.{Next}
 use Rattle.mc_step.specs.Instructions.{ResultParts, skip_of, copy_of, undef_of, input_of, add_of, sub_of, mul_of, load_of, store_of, malloc_of, free_of, test_eq_of, test_le_of, assume_of, assert_of, empty_of, is_end}

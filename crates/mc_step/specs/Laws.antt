@@ -5,7 +5,7 @@ use Rattle.mc_base.specs.declared.ids.PointId.{PointId}
 use Rattle.mc_base.specs.declared.ids.PredId.{PredId}
 use Rattle.mc_base.specs.declared.ids.NodeId.{NodeId}
 use Rattle.mc_base.specs.Nodes.{Valuation}
-use Rattle.mc_base.specs.Runs as runs
+use Rattle.mc_flow.specs.Runs as runs
 use Rattle.mc_heap.specs.Choices.{Choice}
 use Rattle.mc_heap.specs.Heap.{HasAddresses, region_of}
 use Rattle.mc_defs.specs.declared.rules.Def.{Def}

@@ -4,7 +4,7 @@ ghost use Rattle.std.specs.Prelude.{ℤ, pos, negsuc, ◌≤ℤ◌, Some, [], �
 ghost use Rattle.std.specs.FinMap as map;
 ghost use Rattle.mc_base.specs.declared.ids.PointId.{PointId as Point};
 ghost use Rattle.mc_base.specs.Nodes.{null};
-ghost use Rattle.mc_base.specs.Runs as runs;
+ghost use Rattle.mc_flow.specs.Runs as runs;
 ghost use Rattle.mc_heap.specs.Choices as choice;
 ghost use Rattle.mc_defs.specs.Examples.{defs};
 ghost use Rattle.mc_flow.specs.Steps.{Step};

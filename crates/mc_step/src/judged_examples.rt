@@ -3,7 +3,7 @@ ghost use Rattle.std.specs.Prelude.{◌≡◌, pos, negsuc, Some, [], ◌∷◌}
 ghost use Rattle.mc_base.specs.declared.plain.Atom.TheVariants.{Eq, Ne, In};
 ghost use Rattle.mc_base.specs.Nodes.{null};
 ghost use Rattle.mc_defs.specs.Examples.{cell_id};
-ghost use Rattle.mc_premises.specs.BackExamples.{defs, predicate};
+ghost use Rattle.mc_state.specs.BackExamples.{defs, predicate};
 ghost use Rattle.mc_pure.specs.Examples.{node};
 ghost use Rattle.mc_state.specs.State.{with_var};
 ghost use Rattle.mc_step.specs.Examples as ex;
@@ -90,5 +90,5 @@ pub fn example_comparisons()
 pub fn example_of_back_position()
     ensures from_end { ¬ LacksBlock defs (with_segment (predicate 0)) (node 1) cell_id }
 {
-    mc_premises::back_is_told();
+    mc_state::back_is_told();
 }

@@ -13,7 +13,7 @@ use Rattle.mc_flow.specs.declared.instr.Instr.TheVariants.{Load, Store, Free, Te
 use Rattle.mc_flow.specs.declared.instr.Operand.{Operand}
 use Rattle.mc_graph.specs.declared.edge.Edge.{Edge}
 use Rattle.mc_graph.specs.Edges.{with_field_node}
-use Rattle.mc_premises.specs.Known.{Test, is_false, equal}
+use Rattle.mc_state.specs.Known.{Test, is_false, equal}
 use Rattle.mc_state.specs.State.{State, var_node, with_atom, with_var}
 use Rattle.mc_step.specs.Judges.{freeing, freeing_null, is_block_at, is_shaped_at, known_field, loading, storing, testing_equal, with_freed, with_replaced}
 use Rattle.mc_step.specs.Steps.{moved_to}

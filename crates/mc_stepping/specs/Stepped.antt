@@ -1,6 +1,6 @@
 -- What a step answers, beside what is judged.
 use Rattle.std.specs.Prelude.{◌≡◌, ℕ, true, List, [], ◌∷◌, Result, Ok, Err, is_ok}
-use Rattle.mc_premises.specs.Premises.{Judged}
+use Rattle.mc_state.specs.Premises.{Judged}
 use Rattle.mc_state.specs.State.{State}
 use Rattle.mc_step.specs.Next.{Next}
 use Rattle.mc_stepping.specs.declared.next.Next.{Next as Branch}

@@ -8,7 +8,7 @@ ghost use Rattle.mc_flow.specs.Steps.{field_count};
 ghost use Rattle.mc_graph.specs.declared.edge.Edge.TheVariants.{Block};
 ghost use Rattle.mc_graph.specs.Edges.{start_of, with_field_node};
 ghost use Rattle.mc_graph.specs.Graph.{block_starts, edge_with, without};
-ghost use Rattle.mc_premises.specs.Known.{Test, Tells};
+ghost use Rattle.mc_state.specs.Known.{Test, Tells};
 ghost use Rattle.mc_pure.specs.Pure.{IsNode, IsWellFormed};
 ghost use Rattle.mc_state.specs.State.{next_node, with_atoms, with_block, with_only_edges, with_var};
 ghost use Rattle.mc_step.specs.Judges.{allocating, freeing, freeing_null, is_block, is_block_at, is_shaped_at, known_field, loading, storing, with_replaced};
@@ -21,12 +21,11 @@ use crate::moves::{branched, moved_to};
 use crate::operands::{NULL, Value, node_of, put, read};
 use crate::{Refused, Stepped};
 use mc_base::{Atom, EdgeId, Items, Kind, NoMemory, NodeId, PointId, StructId, VarId};
-use mc_changes::assume_all;
+use mc_changes::{State, assume_all};
 use mc_flow::{Flow, Operand, Structs};
 use mc_graph::Edge;
 use mc_state::nodes_are_there;
 use mc_step::{blocks_are_there, operands_fit};
-use mc_symbolic::State;
 use std::alloc::Global;
 
 /// Whether the edge is a block of the struct at a node that is equal.

@@ -2,7 +2,7 @@
 ghost use Rattle.std.specs.Prelude.{◌≡◌, pos, Some, IfOk, OnOk};
 ghost use Rattle.mc_base.specs.declared.plain.Atom.TheVariants.{Eq, Ne};
 ghost use Rattle.mc_flow.specs.declared.instr.Instr.TheVariants.{TestEq};
-ghost use Rattle.mc_premises.specs.Known.{Test, Tells};
+ghost use Rattle.mc_state.specs.Known.{Test, Tells};
 ghost use Rattle.mc_pure.specs.Pure.{AreOfOneKind};
 ghost use Rattle.mc_state.specs.State.{with_atom};
 ghost use Rattle.mc_step.specs.Judges.{testing_equal};
@@ -14,9 +14,9 @@ use crate::moves::branched;
 use crate::operands::{Value, put, read};
 use crate::{Refused, Stepped};
 use mc_base::{Atom, NoMemory, NodeId, PointId};
+use mc_changes::State;
 use mc_flow::Operand;
 use mc_step::operands_fit;
-use mc_symbolic::State;
 use std::alloc::Global;
 
 /// Writes into a state that two nodes are equal, and answers the state where they differ. Without memory both are lost.

@@ -2,7 +2,7 @@
 ghost use Rattle.std.specs.Prelude.{◌≡◌, ◌∷◌, [], Some, OnOk};
 ghost use Rattle.mc_base.specs.declared.plain.Kind.TheVariants.{Int};
 ghost use Rattle.mc_flow.specs.declared.instr.Instr.TheVariants.{Skip, Copy, Undef, Input};
-ghost use Rattle.mc_premises.specs.Known.{Test, Tells};
+ghost use Rattle.mc_state.specs.Known.{Test, Tells};
 ghost use Rattle.mc_pure.specs.Pure.{IsNode};
 ghost use Rattle.mc_state.specs.State.{next_node, with_nodes, with_var};
 ghost use Rattle.mc_step.specs.Judges.{skipping, copying, forgetting, taking};
@@ -14,11 +14,10 @@ ghost use Rattle.mc_stepping.specs.Values.{CanPut, value_node, with_value};
 use crate::operands::{Value, put, read};
 use crate::{Next, Refused, Stepped};
 use mc_base::{Kind, NoMemory, PointId, VarId};
-use mc_changes::forget_vars;
+use mc_changes::{State, forget_vars};
 use mc_flow::Operand;
 use mc_state::nodes_are_there;
 use mc_step::operands_fit;
-use mc_symbolic::State;
 
 /// The branch that goes on at a point.
 pub fn next_at(point: PointId, state: State) -> Next

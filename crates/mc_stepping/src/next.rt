@@ -1,7 +1,7 @@
 // What comes of an instruction.
 use mc_base::PointId;
+use mc_changes::State;
 use mc_state::Goal;
-use mc_symbolic::State;
 
 /// A branch that comes of an instruction: where it goes on, what is known there, and what it has to show where it is a
 /// side branch.

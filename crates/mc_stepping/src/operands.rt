@@ -3,10 +3,9 @@ ghost use Rattle.std.specs.Prelude.{◌≡◌, IfOk, OnOk};
 ghost use Rattle.mc_stepping.specs.Values.{CanPut, FitsRead, IsRead, StaysRead, value_node, with_value};
 
 use mc_base::{NoMemory, NodeId};
-use mc_changes::add_number;
+use mc_changes::{State, add_number};
 use mc_flow::Operand;
 use mc_step::operands_fit;
-use mc_symbolic::State;
 
 pub const NULL: NodeId = NodeId(0);
 

@@ -1,14 +1,14 @@
 // Shapes that are assumed and asserted, and ends of runs.
 ghost use Rattle.std.specs.Prelude.{◌≡◌, ◌∷◌, [], Some, None, IfOk, OnOk};
 ghost use Rattle.mc_flow.specs.declared.instr.Instr.TheVariants.{AssertEmpty, End};
-ghost use Rattle.mc_premises.specs.Known.{Test, Tells};
+ghost use Rattle.mc_state.specs.Known.{Test, Tells};
 ghost use Rattle.mc_step.specs.Judges.{emptying, ending, has_none};
 ghost use Rattle.mc_stepping.specs.Stepped.{Steps};
 
 use crate::moves::moved_to;
 use crate::{Refused, Stepped};
 use mc_base::PointId;
-use mc_symbolic::State;
+use mc_changes::State;
 
 /// S17: an End ends the branch.
 pub fn end(s: State) -> Result<Stepped, Refused>

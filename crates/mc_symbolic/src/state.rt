@@ -13,7 +13,7 @@ ghost use Rattle.mc_pure.specs.Rows.{nodes_of as all_nodes};
 ghost use Rattle.mc_state.specs.State.{unknown, pure_of, var_node, next_node, with_var, with_nodes, with_atom, with_edges, with_only_edges};
 ghost use Rattle.mc_state.specs.Facts.{Derives, IsFalse, AreEqual, AreAllEqual, CanMerge, merged, instead};
 ghost use Rattle.mc_state.specs.Fits.{IsBounded, AreNodes};
-ghost use Rattle.mc_premises.specs.Known.{Test, Tells, is_false, equal, all_equal, same_kind, has_kind};
+ghost use Rattle.mc_state.specs.Known.{Test, Tells, is_false, equal, all_equal, same_kind, has_kind};
 ghost use Rattle.mc_symbolic.specs.Starts.{HaveSameNodes, block_start};
 
 use mc_base::{Atom, EdgeId, Items, Kind, NoMemory, NodeId, VarId};
@@ -109,7 +109,7 @@ impl State {
     }
 
     /// Whether the node is of the kind. Node 0 is of every kind.
-    #[tactic(auto, unfolding(mc_premises::specs::Known::has_kind))]
+    #[tactic(auto, unfolding(mc_state::specs::Known::has_kind))]
     pub fn has_kind(&self, kind: Kind, node: NodeId) -> bool
         ensures { result ≡ has_kind self.now.kinds kind node }
     {
@@ -193,7 +193,7 @@ impl State {
         ensures derived { IsTrue result ↔ IsFalse self.now }
     {
         mc_pure::derived_grows();
-        mc_premises::tests_tell();
+        mc_state::tests_tell();
         self.pure.is_false()
     }
 

@@ -9,6 +9,6 @@ mod trail;
 
 pub use finding::{cover, seg_cover};
 pub use making::{MadeOf, make};
-pub use mc_paths::Paths;
+pub use mc_paths::{Branch, Paths};
 pub use names::{own_node, plain};
 pub use trail::Trail;

@@ -7,8 +7,8 @@ use Rattle.mc_base.specs.declared.plain.Atom.TheVariants.{Eq, Ne}
 use Rattle.mc_base.specs.Nodes.{Valuation, null}
 use Rattle.mc_heap.specs.Heap.{Region, IsAtAddresses}
 use Rattle.mc_defs.specs.Examples.{defs}
-use Rattle.mc_premises.specs.Known.{Test, Tells, is_false, equal}
-use Rattle.mc_premises.proofs.Tests.{is_sound}
+use Rattle.mc_state.specs.Known.{Test, Tells, is_false, equal}
+use Rattle.mc_state.proofs.Tests.{is_sound}
 use Rattle.mc_pure.specs.Derived as pure
 use Rattle.mc_pure.specs.Pure.{Base}
 use Rattle.mc_pure.specs.Examples.{node}

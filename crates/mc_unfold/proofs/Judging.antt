@@ -9,11 +9,11 @@ use Rattle.mc_defs.specs.declared.rules.Def.{Def}
 use Rattle.mc_graph.specs.declared.edge.Edge.{Edge}
 use Rattle.mc_graph.specs.declared.edge.Edge.TheVariants.{Block, Ind, Seg}
 use Rattle.mc_graph.specs.Graph.{Edges, edge_with}
-use Rattle.mc_premises.specs.Known.{Test, Tells, is_false, equal}
-use Rattle.mc_premises.specs.Named.{SegParts, seg_of}
-use Rattle.mc_premises.specs.Premises.{Judged}
-use Rattle.mc_premises.proofs.Numbered.{need_ok, have_ok}
-use Rattle.mc_premises.proofs.Tests.{not_false, is_sound, equal_from, equal_to}
+use Rattle.mc_state.specs.Known.{Test, Tells, is_false, equal}
+use Rattle.mc_state.specs.Named.{SegParts, seg_of}
+use Rattle.mc_state.specs.Premises.{Judged}
+use Rattle.mc_state.proofs.Numbered.{need_ok, have_ok}
+use Rattle.mc_state.proofs.Tests.{not_false, is_sound, equal_from, equal_to}
 use Rattle.mc_state.specs.Fits.{EdgeFitsDefs, FitsDefs}
 use Rattle.mc_state.specs.Rules.{MayUnfold}
 use Rattle.mc_state.specs.State.{State}

@@ -3,8 +3,8 @@ use Rattle.std.specs.Prelude.{List, Option}
 use Rattle.mc_base.specs.declared.ids.EdgeId.{EdgeId}
 use Rattle.mc_base.specs.declared.ids.NodeId.{NodeId}
 use Rattle.mc_defs.specs.declared.rules.Def.{Def}
-use Rattle.mc_premises.specs.Known.{Test, Tells}
-use Rattle.mc_premises.specs.Premises.{IsJudged}
+use Rattle.mc_state.specs.Known.{Test, Tells}
+use Rattle.mc_state.specs.Premises.{IsJudged}
 use Rattle.mc_state.specs.Fits.{FitsDefs}
 use Rattle.mc_state.specs.State.{State}
 use Rattle.mc_unfold.specs.Judges.{unfolding_ind, unfolding_seg}

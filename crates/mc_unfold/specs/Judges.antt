@@ -10,9 +10,9 @@ use Rattle.mc_defs.specs.declared.rules.Rule.{Rule}
 use Rattle.mc_graph.specs.declared.edge.Edge.{Edge}
 use Rattle.mc_graph.specs.declared.edge.Edge.TheVariants.{Block, Ind, Seg}
 use Rattle.mc_graph.specs.Graph.{edge_with}
-use Rattle.mc_premises.specs.Known.{Test, is_false, equal}
-use Rattle.mc_premises.specs.Named.{SegParts, seg_of}
-use Rattle.mc_premises.specs.Premises.{Judged, need, have}
+use Rattle.mc_state.specs.Known.{Test, is_false, equal}
+use Rattle.mc_state.specs.Named.{SegParts, seg_of}
+use Rattle.mc_state.specs.Premises.{Judged, need, have}
 use Rattle.mc_state.specs.State.{State}
 use Rattle.mc_unfold.specs.Unfolded.{unfolded, unfolded_at, emptied, own_places}
 

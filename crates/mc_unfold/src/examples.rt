@@ -2,7 +2,7 @@
 ghost use Rattle.std.specs.Prelude.{◌≡◌, Some, None, Err, [], ◌∷◌};
 ghost use Rattle.mc_heap.specs.Heap.{IsAtAddresses};
 ghost use Rattle.mc_defs.specs.Examples.{defs, structs, blocks, two_cells, first_cell};
-ghost use Rattle.mc_premises.specs.Known.{Test, Tells};
+ghost use Rattle.mc_state.specs.Known.{Test, Tells};
 ghost use Rattle.mc_pure.specs.Examples.{node};
 ghost use Rattle.mc_state.specs.CoverExamples.{at_seven};
 ghost use Rattle.mc_state.specs.Fits.{IsWellMade};

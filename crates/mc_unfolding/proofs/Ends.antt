@@ -5,8 +5,8 @@ use Rattle.std.proofs.lemmas.List.{drop_more}
 use Rattle.mc_base.specs.declared.ids.NodeId.{NodeId}
 use Rattle.mc_base.specs.declared.ids.PredId.{PredId}
 use Rattle.mc_defs.specs.declared.rules.Def.{Def}
-use Rattle.mc_premises.specs.Back.{is_back}
-use Rattle.mc_premises.specs.Known.{Test, equal}
+use Rattle.mc_state.specs.Back.{is_back}
+use Rattle.mc_state.specs.Known.{Test, equal}
 use Rattle.mc_back.specs.Judges.{ends_back_at}
 
 module _ (know : Test) (defs : List Def) (pred : PredId) (node : NodeId) (ends : List NodeId) (i : ℕ) (d : NodeId) (inside : i < length ends) where

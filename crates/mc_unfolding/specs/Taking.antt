@@ -11,7 +11,7 @@ use Rattle.mc_defs.specs.declared.rules.Rule.{Rule}
 use Rattle.mc_defs.specs.Instances.{node_of, atom_of}
 use Rattle.mc_graph.specs.declared.edge.Edge.TheVariants.{Ind, Seg}
 use Rattle.mc_graph.specs.Graph.{edge_with}
-use Rattle.mc_premises.specs.Named.{SegParts}
+use Rattle.mc_state.specs.Named.{SegParts}
 use Rattle.mc_pure.specs.Pure.{IsWellFormed}
 use Rattle.mc_rule.specs.Made.{IsMadeFor}
 use Rattle.mc_state.specs.Fits.{AreNodes}

@@ -5,8 +5,8 @@ ghost use Rattle.mc_back.specs.Judges.{unfolding_back};
 ghost use Rattle.mc_back.specs.Unfolded.{atoms_behind, back_successors, body_behind, unfolded_back};
 ghost use Rattle.mc_defs.specs.Instances.{node_of, atom_of};
 ghost use Rattle.mc_graph.specs.declared.edge.Edge.TheVariants.{Seg};
-ghost use Rattle.mc_premises.specs.Known.{Test, Tells};
-ghost use Rattle.mc_premises.specs.Premises.{AnswersBy};
+ghost use Rattle.mc_state.specs.Known.{Test, Tells};
+ghost use Rattle.mc_state.specs.Premises.{AnswersBy};
 ghost use Rattle.mc_pure.specs.Pure.{IsWellFormed};
 ghost use Rattle.mc_rule.specs.Made.{IsMadeFor};
 ghost use Rattle.mc_state.specs.Bodies.{call_edge};
@@ -23,10 +23,10 @@ use crate::opening::{
 };
 use crate::positions::is_reached_back;
 use mc_base::{EdgeId, NoMemory, NodeId};
+use mc_changes::State;
 use mc_defs::{Call, Defs, Rule};
 use mc_graph::Edge;
 use mc_state::LogicFault;
-use mc_symbolic::State;
 use mc_unfold::rules_stand_at_nodes;
 use std::alloc::Global;
 

@@ -1,8 +1,8 @@
 // Unfolding an edge from its start.
 ghost use Rattle.std.specs.Prelude.{◌≡◌, ◌∷◌, ◌++◌, [], IfOk, OnOk, map};
 ghost use Rattle.std.specs.List.{AllByRecursion};
-ghost use Rattle.mc_premises.specs.Known.{Test, Tells};
-ghost use Rattle.mc_premises.specs.Premises.{AnswersBy};
+ghost use Rattle.mc_state.specs.Known.{Test, Tells};
+ghost use Rattle.mc_state.specs.Premises.{AnswersBy};
 ghost use Rattle.mc_pure.specs.Pure.{IsWellFormed};
 ghost use Rattle.mc_rule.specs.Made.{IsMadeFor};
 ghost use Rattle.mc_unfold.specs.Judges.{may_unfold, unfolding_ind, unfolding_seg, rules_of, seg_successors};
@@ -12,10 +12,10 @@ ghost use Rattle.mc_unfolding.specs.Taking.{TakesRule, TakesRuleTo, parts};
 use crate::laws::edges_take_rules;
 use crate::opening::{Segment, add_atoms, add_body, add_body_to, emptied, opened_at};
 use mc_base::{EdgeId, NoMemory, NodeId, PredId};
+use mc_changes::State;
 use mc_defs::{Call, Def, Defs, Rule};
 use mc_graph::Edge;
 use mc_state::LogicFault;
-use mc_symbolic::State;
 use std::alloc::Global;
 
 const NULL: NodeId = NodeId(0);

@@ -13,10 +13,9 @@ ghost use Rattle.mc_state.specs.State.{with_atoms, with_edges, with_nodes, with_
 ghost use Rattle.mc_unfold.specs.Unfolded.{emptied, equal_atoms, own_places, new_kinds, rule_nodes};
 
 use mc_base::{Args, Atom, EdgeId, Items, Kind, NoMemory, NodeId, PredId, StructId};
-use mc_changes::{add_nodes, assume_all};
+use mc_changes::{State, add_nodes, assume_all};
 use mc_defs::{Call, Rule, instantiate};
 use mc_graph::Edge;
-use mc_symbolic::State;
 use mc_unfold::rules_stand_at_nodes;
 use std::alloc::Global;
 

@@ -2,14 +2,14 @@
 ghost use Rattle.std.specs.Prelude.{◌≡◌, ◌&&◌};
 ghost use Rattle.std.specs.List.{list_all};
 ghost use Rattle.mc_back.specs.Judges.{ends_back_at, is_reached_back};
-ghost use Rattle.mc_premises.specs.Back.{is_back, is_back_call};
-ghost use Rattle.mc_premises.specs.Known.{Test, Tells, equal};
+ghost use Rattle.mc_state.specs.Back.{is_back, is_back_call};
+ghost use Rattle.mc_state.specs.Known.{Test, Tells, equal};
 ghost use Rattle.mc_unfolding.specs.Taking.{parts};
 
 use crate::opening::Segment;
 use mc_base::{NodeId, PredId};
+use mc_changes::State;
 use mc_defs::{Call, Def, Rule};
-use mc_symbolic::State;
 
 /// Whether a call, if it is one of the predicate, has `this` as its argument at a position.
 fn is_back_call(pred: PredId, position: usize, call: &Call) -> bool

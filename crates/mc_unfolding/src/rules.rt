@@ -6,10 +6,10 @@ use crate::backward::unfold_back;
 use crate::forward::{unfold_ind, unfold_seg};
 use mc_back::{back_is_judged, back_is_sound};
 use mc_base::{EdgeId, NodeId};
+use mc_changes::State;
 use mc_defs::Defs;
 use mc_rule::LogicRule;
 use mc_state::LogicFault;
-use mc_symbolic::State;
 use mc_unfold::{unfolding_is_judged, unfolding_is_sound};
 use std::alloc::Global;
 

@@ -4,9 +4,9 @@ use Rattle.std.specs.Prelude.{◌&&◌}
 use Rattle.mc_base.specs.declared.ids.NodeId.{NodeId}
 use Rattle.mc_base.specs.declared.ids.PredId.{PredId}
 use Rattle.mc_defs.specs.declared.rules.Def.{Def}
-use Rattle.mc_premises.specs.Back.{is_back}
-use Rattle.mc_premises.specs.Known.{Test, equal}
-use Rattle.mc_premises.proofs.Tests.{and_both, and_yes}
+use Rattle.mc_state.specs.Back.{is_back}
+use Rattle.mc_state.specs.Known.{Test, equal}
+use Rattle.mc_state.proofs.Tests.{and_both, and_yes}
 use Rattle.mc_back.specs.Judges.{ends_back_at}
 use Rattle.mc_unmet.proofs.Searching.{or_true, or_here, or_there}
 

@@ -12,7 +12,7 @@ use Rattle.mc_flow.specs.declared.instr.Operand.{Operand}
 use Rattle.mc_flow.specs.declared.instr.Instr.{Instr}
 use Rattle.mc_flow.specs.declared.instr.Instr.TheVariants as instr
 use Rattle.mc_flow.specs.Valid.{FitsKinds, IsOperand}
-use Rattle.mc_premises.specs.Known.{Test}
+use Rattle.mc_state.specs.Known.{Test}
 use Rattle.mc_state.specs.State.{State, var_node}
 use Rattle.mc_step.specs.declared.gap.Gap.{Gap}
 use Rattle.mc_step.specs.declared.gap.Gap.TheVariants.{Uninit, NoBlock, Reached, NoShape, UninitField, NotEmpty}

@@ -23,10 +23,10 @@ use Rattle.mc_graph.specs.declared.edge.Edge.{Edge}
 use Rattle.mc_graph.specs.declared.edge.Edge.TheVariants.{Block, Ind, Seg}
 use Rattle.mc_graph.specs.Edges.{start_of, fields_of}
 use Rattle.mc_graph.specs.Graph.{Edges, edge_with}
-use Rattle.mc_premises.specs.Back.{is_back}
-use Rattle.mc_premises.specs.Known.{Test, Tells, is_false, equal}
-use Rattle.mc_premises.specs.Laws.{BackIsTold}
-use Rattle.mc_premises.proofs.Tests.{and_both, and_yes, not_yes, not_no, equal_from, equal_to, is_sound, not_false}
+use Rattle.mc_state.specs.Back.{is_back}
+use Rattle.mc_state.specs.Known.{Test, Tells, is_false, equal}
+use Rattle.mc_state.specs.Told.{BackIsTold}
+use Rattle.mc_state.proofs.Tests.{and_both, and_yes, not_yes, not_no, equal_from, equal_to, is_sound, not_false}
 use Rattle.mc_pure.specs.Derived.{turned, itself}
 use Rattle.mc_state.specs.State.{State, var_node}
 use Rattle.mc_state.specs.Facts.{AreEqual}

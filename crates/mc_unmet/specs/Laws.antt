@@ -4,7 +4,7 @@ use Rattle.mc_base.specs.declared.ids.PointId.{PointId}
 use Rattle.mc_defs.specs.declared.rules.Def.{Def}
 use Rattle.mc_flow.specs.declared.graph.Flow.{Flow}
 use Rattle.mc_flow.specs.Valid.{IsValid}
-use Rattle.mc_premises.specs.Known.{Test, Tells}
+use Rattle.mc_state.specs.Known.{Test, Tells}
 use Rattle.mc_state.specs.Fits.{IsBounded}
 use Rattle.mc_state.specs.State.{State}
 use Rattle.mc_step.specs.declared.gap.Gap.{Gap}

@@ -1,6 +1,6 @@
 // What an instruction lacks.
 ghost use Rattle.std.specs.Prelude.{◌≡◌, option_and_then};
-ghost use Rattle.mc_premises.specs.Known.{Test, Tells};
+ghost use Rattle.mc_state.specs.Known.{Test, Tells};
 ghost use Rattle.mc_state.specs.State.{var_node};
 ghost use Rattle.mc_unmet.specs.Gaps.{block_gap, field_gap, free_gap, freed_gap, empty_gap, lacking, gap_of, gap_at};
 

@@ -6,5 +6,5 @@ ghost use Rattle.mc_unmet.specs.Laws.{GapsAreTold};
 pub fn gaps_are_told()
     ensures { GapsAreTold }
 {
-    mc_premises::back_is_told();
+    mc_state::back_is_told();
 }

@@ -3,7 +3,7 @@ ghost use Rattle.std.specs.Prelude.{◌≡◌, slice_get};
 ghost use Rattle.std.specs.List.{list_all, list_any};
 ghost use Rattle.mc_base.specs.Nodes.{null};
 ghost use Rattle.mc_graph.specs.Edges.{start_of, fields_of};
-ghost use Rattle.mc_premises.specs.Known.{Test, Tells, equal};
+ghost use Rattle.mc_state.specs.Known.{Test, Tells, equal};
 ghost use Rattle.mc_step.specs.Judges.{is_block, is_shaped_at, is_block_at};
 ghost use Rattle.mc_unmet.specs.Gaps.{may_unfold, is_unknown, lacks_field};
 

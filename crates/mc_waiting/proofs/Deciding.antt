@@ -1,6 +1,6 @@
 -- What is not decided is taken as decided where only absurdity is to follow.
 use Rattle.std.proofs.Common.{◌⊎◌, List, inl, inr}
-use Rattle.mc_base.specs.Runs.{Outcome, next, last, ended, stopped, fault}
+use Rattle.mc_flow.specs.Runs.{Outcome, next, last, ended, stopped, fault}
 use Rattle.mc_heap.specs.Choices.{Choice}
 use Rattle.mc_waiting.specs.Requests.{Request, Waits}
 use Rattle.mc_waiting.specs.Runs.{Machine, MakesStep, HasEnded}

@@ -12,7 +12,7 @@ use Rattle.mc_base.specs.declared.plain.Kind.TheVariants.{Int}
 use Rattle.mc_text.specs.declared.place.Place.{Place}
 use Rattle.mc_base.specs.Kinds.{InKind}
 use Rattle.mc_base.specs.declared.plain.FaultKind.TheVariants.{Null}
-use Rattle.mc_base.specs.Runs.{next, last, ended, fault}
+use Rattle.mc_flow.specs.Runs.{next, last, ended, fault}
 use Rattle.mc_heap.specs.Access.{field_at}
 use Rattle.mc_heap.specs.Adding.{AreFree, part_of}
 use Rattle.mc_heap.specs.Choices.{Choice, input, malloc, shape}

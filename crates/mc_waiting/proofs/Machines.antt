@@ -1,6 +1,6 @@
 -- The runs of any machine: in how many steps they come to what.
 use Rattle.std.proofs.Common.{◌≡◌, ℕ, zero, suc, List, refl, sym, ap, subst, inl, inr}
-use Rattle.mc_base.specs.Runs.{next, last, Final, ended, stopped, fault, Reaches}
+use Rattle.mc_flow.specs.Runs.{next, last, Final, ended, stopped, fault, Reaches}
 use Rattle.mc_waiting.specs.Runs.{Machine, Leads, ComesTo, IsDetermined}
 
 module _ (C K : Type 0) (Steps : Machine C K) where

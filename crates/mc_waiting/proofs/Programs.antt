@@ -1,7 +1,7 @@
 -- Runs of well typed programs never stop for want of a definition.
 use Rattle.std.proofs.Common.{◌≡◌, ◌<◌, ℕ, zero, suc, List, [], Option, Some, None, refl, subst, inl, inr, arith}
 use Rattle.std.specs.Prelude.{flat_map}
-use Rattle.mc_base.specs.Runs.{next, last, ended}
+use Rattle.mc_flow.specs.Runs.{next, last, ended}
 use Rattle.mc_heap.specs.Choices.{Choice}
 use Rattle.mc_defs.specs.declared.rules.Def.{Def}
 use Rattle.mc_ast.specs.Trees.{FunctionTree, UnitTree}

@@ -3,7 +3,7 @@ use Rattle.std.proofs.Common.{◌≡◌, ◌⊎◌, ℤ, List, [], ◌∷◌, Op
 use Rattle.mc_base.specs.declared.plain.Kind.TheVariants.{Int as int_kind}
 use Rattle.mc_text.specs.declared.place.Place.{Place}
 use Rattle.mc_base.specs.Kinds.{InKind}
-use Rattle.mc_base.specs.Runs.{last, fault}
+use Rattle.mc_flow.specs.Runs.{last, fault}
 use Rattle.mc_heap.specs.Choices.{Choice, input as choose_input, malloc as choose_malloc, shape as choose_shape}
 use Rattle.mc_ast.specs.Trees.{Expr, number, null, input, value, minus, parens, times, plus, difference}
 use Rattle.mc_meaning.specs.Configs.{Result}

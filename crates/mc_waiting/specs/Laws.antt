@@ -1,6 +1,6 @@
 -- What is known of all runs.
 use Rattle.std.specs.Prelude.{◌≡◌, ℕ, suc, List, Some}
-use Rattle.mc_base.specs.Runs.{Final, Reaches}
+use Rattle.mc_flow.specs.Runs.{Final, Reaches}
 use Rattle.mc_heap.specs.Choices.{Choice}
 use Rattle.mc_defs.specs.declared.rules.Def.{Def}
 use Rattle.mc_flow.specs.declared.graph.Flow.{Flow}

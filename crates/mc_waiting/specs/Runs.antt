@@ -1,6 +1,6 @@
 -- How far a run is, for any machine whose steps take choices from the front of a list.
 use Rattle.std.specs.Prelude.{◌≡◌, ℕ, zero, suc, List}
-use Rattle.mc_base.specs.Runs.{Outcome, next, last, Final, ended, stopped, fault}
+use Rattle.mc_flow.specs.Runs.{Outcome, next, last, Final, ended, stopped, fault}
 
 -- the steps of a machine
 abbrev pub Machine : Type 0 → Type 0 → Type 1

@@ -3,7 +3,7 @@ use crate::Attempt;
 use mc_base::NoMemory;
 use mc_cert::Line;
 use mc_flow::Instr;
-use mc_judging::Branch;
+use mc_match::Branch;
 use mc_next::{accessed, at_end, at_start, instance};
 
 impl Attempt<'_> {

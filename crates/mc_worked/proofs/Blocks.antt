@@ -2,7 +2,7 @@
 use Rattle.std.proofs.Common.{[], refl, inl, inr}
 use Rattle.std.specs.Int.{int_wrap}
 use Rattle.mc_base.specs.declared.plain.FaultKind.TheVariants.{Uninit}
-use Rattle.mc_base.specs.Runs.{ended, fault}
+use Rattle.mc_flow.specs.Runs.{ended, fault}
 use Rattle.mc_meaning.specs.Examples.{at, Comes}
 use Rattle.mc_worked.specs.Programs.{forgetting, going_on, deeply_returning, missing_result, ComesWithDeep}
 use Rattle.mc_worked.proofs.Running.{arrived}

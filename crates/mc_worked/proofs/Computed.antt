@@ -2,7 +2,7 @@
 use Rattle.std.proofs.Common.{◌≡◌, ℕ, zero, suc, ℤ, pos, ◌+ℤ◌, ◌-ℤ◌, ◌*ℤ◌, List, [], ◌∷◌, Option, Some, None, refl, inl, inr, subst}
 use Rattle.std.specs.Prelude.{option_map}
 use Rattle.mc_text.specs.declared.place.Place.{Place}
-use Rattle.mc_base.specs.Runs.{next, last, Final, fault, Reaches}
+use Rattle.mc_flow.specs.Runs.{next, last, Final, fault, Reaches}
 use Rattle.mc_heap.specs.Choices.{Choice}
 use Rattle.mc_heap.specs.Heap.{Heap}
 use Rattle.mc_defs.specs.declared.rules.Def.{Def}

@@ -2,7 +2,7 @@
 use Rattle.std.proofs.Common.{◌≡◌, ℕ, [], ◌∷◌, Some, None, refl, ap, inl, inr, arith, pos}
 use Rattle.std.specs.FinMap as map
 use Rattle.mc_base.specs.declared.plain.FaultKind.TheVariants.{Null, Freed, Uninit, BadFree, NotEmpty}
-use Rattle.mc_base.specs.Runs.{ended, fault}
+use Rattle.mc_flow.specs.Runs.{ended, fault}
 use Rattle.mc_heap.specs.Choices.{malloc as choose_malloc}
 use Rattle.mc_heap.specs.Heap.{Block, Region, region_of}
 use Rattle.mc_heap.specs.Parts.{IsEmpty}

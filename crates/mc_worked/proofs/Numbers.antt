@@ -2,7 +2,7 @@
 use Rattle.std.proofs.Common.{[], ◌∷◌, Some, refl, ap, inl, inr, arith, pos, ◌+ℤ◌, ◌-ℤ◌}
 use Rattle.std.specs.FinMap as map
 use Rattle.std.specs.Int.{int_wrap}
-use Rattle.mc_base.specs.Runs.{ended}
+use Rattle.mc_flow.specs.Runs.{ended}
 use Rattle.mc_heap.specs.Choices.{malloc as choose_malloc}
 use Rattle.mc_meaning.specs.Examples.{Comes}
 use Rattle.mc_worked.specs.Programs.{counting, wrapping, computing}

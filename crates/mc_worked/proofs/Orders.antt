@@ -6,7 +6,7 @@ use Rattle.std.specs.FinMap.{gets}
 use Rattle.std.proofs.lemmas.Bool.Decides.{nat_tests}
 use Rattle.mc_base.specs.declared.plain.FaultKind.TheVariants.{Null, Uninit}
 use Rattle.mc_text.specs.declared.place.Place.{Place}
-use Rattle.mc_base.specs.Runs.{ended, fault}
+use Rattle.mc_flow.specs.Runs.{ended, fault}
 use Rattle.mc_heap.specs.Access.{field_at, with_field}
 use Rattle.mc_heap.specs.Choices.{Choice, malloc as choose_malloc}
 use Rattle.mc_heap.specs.Heap.{Block, Heap, region_of}

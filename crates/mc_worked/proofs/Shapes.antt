@@ -3,7 +3,7 @@ use Rattle.std.proofs.Common.{◌≡◌, ℕ, zero, suc, ◌⊎◌, ℤ, pos, Li
 use Rattle.std.specs.FinMap as map
 use Rattle.std.specs.List.{AllByRecursion}
 use Rattle.mc_base.specs.declared.plain.FaultKind.TheVariants.{Shape}
-use Rattle.mc_base.specs.Runs.{ended, fault}
+use Rattle.mc_flow.specs.Runs.{ended, fault}
 use Rattle.mc_heap.specs.Access.{field_at}
 use Rattle.mc_heap.specs.Choices.{malloc as choose_malloc, shape as choose_shape}
 use Rattle.mc_heap.specs.Heap.{Block, Region, region_of}

@@ -1,6 +1,6 @@
 -- Small programs about memory, numbers, blocks and shapes.
 use Rattle.std.specs.Prelude.{ℕ, List, [], ◌∷◌, Some, None, codes}
-use Rattle.mc_base.specs.Runs.{Reaches, Final}
+use Rattle.mc_flow.specs.Runs.{Reaches, Final}
 use Rattle.mc_heap.specs.Choices.{Choice}
 use Rattle.mc_defs.specs.Examples.{defs}
 use Rattle.mc_ast.specs.declared.trees.Argument.TheVariants as Argument

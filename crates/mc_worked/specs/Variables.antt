@@ -1,6 +1,6 @@
 -- Small programs whose variables hide each other, outlive turns, and are left. The places are the columns of the texts.
 use Rattle.std.specs.Prelude.{ℕ, ◌+◌, List, [], ◌∷◌, ◌++◌, Option, Some, None, map, codes}
-use Rattle.mc_base.specs.Runs.{Reaches, Final}
+use Rattle.mc_flow.specs.Runs.{Reaches, Final}
 use Rattle.mc_ast.specs.declared.trees.Base.{Base}
 use Rattle.mc_ast.specs.declared.trees.Comparison.TheVariants as Comparison
 use Rattle.mc_ast.specs.declared.trees.Parameter.{Parameter}

@@ -1,6 +1,6 @@
 // Runs that were worked out by hand.
 ghost use Rattle.std.specs.Prelude.{[], ◌∷◌, pos};
-ghost use Rattle.mc_base.specs.Runs.{ended, stopped, fault};
+ghost use Rattle.mc_flow.specs.Runs.{ended, stopped, fault};
 ghost use Rattle.mc_base.specs.declared.plain.FaultKind.TheVariants.{Null, Freed, Uninit, BadFree, Assertion, Shape, NotEmpty};
 ghost use Rattle.mc_heap.specs.Choices.{malloc as choose_malloc, shape as choose_shape};
 ghost use Rattle.mc_defs.specs.Examples.{second_cell};

@@ -1,6 +1,6 @@
 use Rattle.std.proofs.Common.{refl}
 use Rattle.mc_search.specs.Search.{options, tries}
-use Rattle.mc_premises.specs.Known.{has_kind}
+use Rattle.mc_state.specs.Known.{has_kind}
 use Rattle.mc_fold.specs.ChangeJudges.{is_there}
 use Rattle.mc_chains.proofs.examples.tries_of_c2.Goals as goal
 

@@ -1,5 +1,5 @@
 use Rattle.std.proofs.Common.{◌≡◌, drop}
-use Rattle.mc_premises.specs.Named.{others}
+use Rattle.mc_state.specs.Named.{others}
 use Rattle.mc_state.specs.State.{with_only_edges}
 use Rattle.mc_changes.proofs.batches.take_edges.Given as goal
 

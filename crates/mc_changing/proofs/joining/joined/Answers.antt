@@ -2,7 +2,7 @@ use Rattle.std.proofs.Common.{rules, ◌≡◌, ◌∷◌, Some, List, subst, sy
 use Rattle.mc_base.specs.declared.ids.NodeId.{NodeId}
 use Rattle.mc_graph.specs.declared.edge.Edge.TheVariants.{Seg}
 use Rattle.mc_graph.specs.Graph.{edge_with}
-use Rattle.mc_premises.specs.Named.{other_edge}
+use Rattle.mc_state.specs.Named.{other_edge}
 use Rattle.mc_state.specs.Fits.{AreNodes}
 use Rattle.mc_changing.proofs.Naming.{other_there}
 use Rattle.mc_changing.proofs.joining.joined.Goals as goal

@@ -2,7 +2,7 @@ use Rattle.std.proofs.Common.{◌≡◌, [], ◌∷◌, true, false, subst}
 use Rattle.mc_base.specs.declared.plain.Kind.TheVariants.{Int}
 use Rattle.mc_flow.specs.declared.instr.Instr.TheVariants.{Add}
 use Rattle.mc_flow.specs.Valid.{FitsKinds, IsOperand}
-use Rattle.mc_premises.specs.Known.{is_false}
+use Rattle.mc_state.specs.Known.{is_false}
 use Rattle.mc_state.specs.Facts.{IsFalse}
 use Rattle.mc_state.specs.State.{State}
 use Rattle.mc_step.specs.Fitting.{FitsAt}

@@ -1,5 +1,5 @@
 use Rattle.std.proofs.Common.{◌≡◌, drop}
-use Rattle.mc_premises.specs.Named.{is_among}
+use Rattle.mc_state.specs.Named.{is_among}
 use Rattle.mc_covering.proofs.edges.is_used.Given as goal
 
 abbrev pub invariant-loop-other : goal.invariant-loop-other

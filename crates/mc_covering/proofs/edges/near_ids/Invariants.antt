@@ -1,6 +1,6 @@
 use Rattle.std.proofs.Common.{◌≡◌, take}
 use Rattle.std.specs.List.{filter}
-use Rattle.mc_premises.specs.Known.{Test, Tells}
+use Rattle.mc_state.specs.Known.{Test, Tells}
 use Rattle.mc_cover.specs.Marks.{ids_of}
 use Rattle.mc_cover.specs.Near.{near}
 use Rattle.mc_covering.specs.Setting.{is_unused}

@@ -1,5 +1,5 @@
 use Rattle.std.proofs.Common.{ap, refl, sym}
-use Rattle.mc_premises.specs.Lists.{on_some}
+use Rattle.mc_state.specs.Lists.{on_some}
 use Rattle.mc_cover.specs.Marks.{has_call}
 use Rattle.mc_covering.proofs.Pushed.{none_by, some_by, call_pushed}
 use Rattle.mc_covering.proofs.pushing.push_call.Goals as goal

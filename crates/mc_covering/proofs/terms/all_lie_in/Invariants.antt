@@ -1,5 +1,5 @@
 use Rattle.std.proofs.Common.{◌≡◌, drop, length}
-use Rattle.mc_premises.specs.Known.{Test, Tells}
+use Rattle.mc_state.specs.Known.{Test, Tells}
 use Rattle.mc_cover.specs.Terms.{all_lie_in}
 use Rattle.mc_covering.proofs.terms.all_lie_in.Given as goal
 

@@ -1,5 +1,5 @@
 use Rattle.std.proofs.Common.{◌≡◌, drop, length}
-use Rattle.mc_premises.specs.Known.{Test, Tells}
+use Rattle.mc_state.specs.Known.{Test, Tells}
 use Rattle.mc_cover.specs.Terms.{all_equal_terms}
 use Rattle.mc_covering.proofs.terms.are_all_equal.Given as goal
 

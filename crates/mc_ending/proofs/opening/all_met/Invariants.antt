@@ -1,5 +1,5 @@
 use Rattle.std.proofs.Common.{drop, reverse}
-use Rattle.mc_premises.specs.Known.{Test, Tells}
+use Rattle.mc_state.specs.Known.{Test, Tells}
 use Rattle.mc_ending.specs.Making.{setting_in}
 use Rattle.mc_ending.proofs.Leading.{AreOpening}
 use Rattle.mc_ending.proofs.opening.all_met.Given as goal

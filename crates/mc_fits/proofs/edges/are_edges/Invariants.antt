@@ -1,6 +1,6 @@
 use Rattle.std.proofs.Common.{◌≡◌, drop, length}
-use Rattle.mc_premises.specs.Known.{Test, Tells}
-use Rattle.mc_premises.specs.Lists.{all_both}
+use Rattle.mc_state.specs.Known.{Test, Tells}
+use Rattle.mc_state.specs.Lists.{all_both}
 use Rattle.mc_kernel.specs.Judges.{is_edge_at}
 use Rattle.mc_fits.proofs.edges.are_edges.Given as goal
 

@@ -1,6 +1,6 @@
 use Rattle.std.proofs.Common.{◌<◌, length, sym, ◌∙◌, arith}
 use Rattle.mc_kernel.specs.Judges.{is_image}
-use Rattle.mc_premises.proofs.ListLemmas.{all_both_no, all_both_yes}
+use Rattle.mc_state.proofs.ListLemmas.{all_both_no, all_both_yes}
 use Rattle.mc_fits.proofs.images.are_all_images.Goals as goal
 
 pub returns-then-not-is_image : goal.returns-then-not-is_image

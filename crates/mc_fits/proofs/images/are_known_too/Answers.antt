@@ -1,6 +1,6 @@
 use Rattle.std.proofs.Common.{◌<◌, length, sym, ◌∙◌, arith}
 use Rattle.mc_kernel.specs.Judges.{is_known_too}
-use Rattle.mc_premises.proofs.ListLemmas.{all_both_no, all_both_yes}
+use Rattle.mc_state.proofs.ListLemmas.{all_both_no, all_both_yes}
 use Rattle.mc_fits.proofs.images.are_known_too.Goals as goal
 
 pub returns-then-not-is_known_too : goal.returns-then-not-is_known_too

@@ -1,7 +1,7 @@
 use Rattle.std.proofs.Common.{◌≡◌, ℤ, pos, negsuc, Some, [], refl, ap, sym}
 use Rattle.std.specs.Prelude.{◌+ℤ◌}
 use Rattle.std.specs.Int.{int_wrap, w32}
-use Rattle.mc_base.specs.Runs.{next}
+use Rattle.mc_flow.specs.Runs.{next}
 use Rattle.mc_flow.specs.Examples.{config}
 use Rattle.mc_flow.proofs.examples.example_numbers.Goals as goal
 

@@ -1,6 +1,6 @@
 use Rattle.std.proofs.Common.{◌<◌, length, sym, ◌∙◌, arith}
 use Rattle.mc_fold.specs.Judges.{is_named}
-use Rattle.mc_premises.proofs.ListLemmas.{all_both_yes}
+use Rattle.mc_state.proofs.ListLemmas.{all_both_yes}
 use Rattle.mc_folding.proofs.calls.are_args.Goals as goal
 
 pub loop-i-preserved : goal.loop-i-preserved

@@ -1,6 +1,6 @@
 use Rattle.std.proofs.Common.{◌≡◌, drop, length}
-use Rattle.mc_premises.specs.Known.{Test, Tells}
-use Rattle.mc_premises.specs.Lists.{all_both}
+use Rattle.mc_state.specs.Known.{Test, Tells}
+use Rattle.mc_state.specs.Lists.{all_both}
 use Rattle.mc_fold.specs.Judges.{is_named}
 use Rattle.mc_folding.proofs.calls.are_args.Given as goal
 

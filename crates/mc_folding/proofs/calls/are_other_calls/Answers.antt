@@ -1,5 +1,5 @@
 use Rattle.std.proofs.Common.{◌≤◌, ◌+◌, length, drop, ap, ◌∙◌, arith}
-use Rattle.mc_premises.specs.Lists.{all_both}
+use Rattle.mc_state.specs.Lists.{all_both}
 use Rattle.mc_fold.specs.Judges.{is_call_at}
 use Rattle.mc_folding.proofs.Lists.{others_fail, others_rest}
 use Rattle.mc_folding.proofs.calls.are_other_calls.Goals as goal

@@ -1,6 +1,6 @@
 use Rattle.std.proofs.Common.{◌<◌, length, sym, ◌∙◌, arith}
 use Rattle.mc_fold.specs.Judges.{is_named_too}
-use Rattle.mc_premises.proofs.ListLemmas.{all_both_no, all_both_yes}
+use Rattle.mc_state.proofs.ListLemmas.{all_both_no, all_both_yes}
 use Rattle.mc_folding.proofs.contents.are_fields.Goals as goal
 
 pub returns-then-not-is_named_too : goal.returns-then-not-is_named_too

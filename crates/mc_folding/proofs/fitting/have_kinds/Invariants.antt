@@ -1,6 +1,6 @@
 use Rattle.std.proofs.Common.{◌≡◌, drop, length}
-use Rattle.mc_premises.specs.Known.{has_kind}
-use Rattle.mc_premises.specs.Lists.{all_both}
+use Rattle.mc_state.specs.Known.{has_kind}
+use Rattle.mc_state.specs.Lists.{all_both}
 use Rattle.mc_folding.proofs.fitting.have_kinds.Given as goal
 
 abbrev pub invariant-loop-i : goal.invariant-loop-i

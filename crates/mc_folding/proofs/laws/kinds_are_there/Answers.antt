@@ -1,5 +1,5 @@
-use Rattle.mc_premises.proofs.ListLemmas.{both_from}
-use Rattle.mc_premises.specs.Known.{has_kind}
+use Rattle.mc_state.proofs.ListLemmas.{both_from}
+use Rattle.mc_state.specs.Known.{has_kind}
 use Rattle.mc_state.specs.Fits.{AreNodes}
 use Rattle.mc_folding.proofs.laws.kinds_are_there.Goals as goal
 

@@ -1,5 +1,5 @@
 use Rattle.std.proofs.Common.{◌≡◌, drop}
-use Rattle.mc_premises.specs.Named.{are_there}
+use Rattle.mc_state.specs.Named.{are_there}
 use Rattle.mc_folding.proofs.named.are_there.Given as goal
 
 abbrev pub invariant-loop-id : goal.invariant-loop-id

@@ -1,7 +1,7 @@
 use Rattle.std.proofs.Common.{◌≡◌, drop}
 use Rattle.std.specs.List.{list_all}
 use Rattle.mc_defs.specs.Instances.{atom_of}
-use Rattle.mc_premises.specs.Known.{Test, Tells}
+use Rattle.mc_state.specs.Known.{Test, Tells}
 use Rattle.mc_folding.proofs.names.know_atoms.Given as goal
 
 abbrev pub invariant-loop-atom : goal.invariant-loop-atom

@@ -1,5 +1,5 @@
 use Rattle.std.proofs.Common.{◌≡◌, drop}
-use Rattle.mc_premises.specs.Known.{Test, Tells}
+use Rattle.mc_state.specs.Known.{Test, Tells}
 use Rattle.mc_cover.specs.Goals.{whole_block}
 use Rattle.mc_guess.proofs.Firsts.{first_free}
 use Rattle.mc_guess.proofs.blocks.block.Given as goal

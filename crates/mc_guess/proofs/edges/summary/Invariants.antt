@@ -1,6 +1,6 @@
 use Rattle.std.proofs.Common.{◌≡◌, drop}
 use Rattle.std.specs.List.{filter}
-use Rattle.mc_premises.specs.Known.{Test, Tells}
+use Rattle.mc_state.specs.Known.{Test, Tells}
 use Rattle.mc_cover.specs.Guessed.{by_summary}
 use Rattle.mc_covering.specs.Setting.{is_unused}
 use Rattle.mc_guess.proofs.edges.summary.Given as goal

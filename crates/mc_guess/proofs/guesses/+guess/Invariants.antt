@@ -1,6 +1,6 @@
 use Rattle.std.proofs.Common.{◌≡◌, ◌+◌, drop, length}
 use Rattle.mc_state.specs.Guess.{begun}
-use Rattle.mc_premises.specs.Known.{Test, Tells}
+use Rattle.mc_state.specs.Known.{Test, Tells}
 use Rattle.mc_cover.specs.Guessed.{guess_at, after_calls}
 use Rattle.mc_covering.specs.Setting.{free_edges}
 use Rattle.mc_guess.proofs.guesses.+guess.Given as goal

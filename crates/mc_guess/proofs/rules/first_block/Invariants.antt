@@ -1,5 +1,5 @@
 use Rattle.std.proofs.Common.{◌≡◌, drop}
-use Rattle.mc_premises.specs.Known.{Test, Tells}
+use Rattle.mc_state.specs.Known.{Test, Tells}
 use Rattle.mc_cover.specs.Guessed.{first_block}
 use Rattle.mc_covering.specs.Setting.{free_edges}
 use Rattle.mc_guess.proofs.rules.first_block.Given as goal

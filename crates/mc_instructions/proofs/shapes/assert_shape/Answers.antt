@@ -1,7 +1,7 @@
 use Rattle.std.proofs.Common.{◌≡◌, true, false, refl}
 use Rattle.std.specs.Prelude.{is_some}
 use Rattle.mc_base.specs.declared.plain.Kind.TheVariants.{Ptr}
-use Rattle.mc_premises.specs.Known.{is_false}
+use Rattle.mc_state.specs.Known.{is_false}
 use Rattle.mc_step.specs.Judges.{operand_nodes}
 use Rattle.mc_step.specs.Operands.{with_operand}
 use Rattle.mc_instructions.proofs.Knowing.{each_fits, known_alike, some_of, vars_stay}

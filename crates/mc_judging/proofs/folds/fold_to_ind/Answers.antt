@@ -3,7 +3,7 @@ use Rattle.mc_base.specs.declared.ids.EdgeId.{EdgeId}
 use Rattle.mc_base.specs.declared.ids.NodeId.{NodeId}
 use Rattle.mc_fold.specs.Judges.{folding_ind}
 use Rattle.mc_kernel.specs.Judges.{by_folding}
-use Rattle.mc_premises.specs.Premises.{Judged}
+use Rattle.mc_state.specs.Premises.{Judged}
 use Rattle.mc_state.specs.State.{State}
 use Rattle.mc_judging.specs.Judging.{IsLineAnswer, path, setting_of}
 use Rattle.mc_judging.proofs.folds.fold_to_ind.Goals as goal

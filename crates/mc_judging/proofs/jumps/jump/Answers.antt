@@ -1,6 +1,6 @@
 use Rattle.std.proofs.Common.{◌≡◌, false, sym}
 use Rattle.mc_kernel.specs.Branches.{states_at}
-use Rattle.mc_premises.specs.Known.{is_false}
+use Rattle.mc_state.specs.Known.{is_false}
 use Rattle.mc_judging.specs.Judging.{path, setting_of}
 use Rattle.mc_judging.proofs.Answered.{jumps_fit}
 use Rattle.mc_judging.proofs.jumps.jump.Goals as goal

@@ -3,7 +3,7 @@ use Rattle.mc_base.specs.declared.ids.EdgeId.{EdgeId}
 use Rattle.mc_base.specs.declared.ids.NodeId.{NodeId}
 use Rattle.mc_kernel.specs.Branches.{Path, states_at}
 use Rattle.mc_kernel.specs.Judges.{jumping_to, may_cut}
-use Rattle.mc_premises.specs.Premises.{Judged, need}
+use Rattle.mc_state.specs.Premises.{Judged, need}
 use Rattle.mc_judging.specs.Judging.{IsLineAnswer, path, setting_of}
 use Rattle.mc_judging.proofs.jumps.jump_to.Goals as goal
 

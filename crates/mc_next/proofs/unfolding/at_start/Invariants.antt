@@ -1,6 +1,6 @@
 use Rattle.std.proofs.Common.{◌≡◌, drop}
 use Rattle.std.specs.List.{find}
-use Rattle.mc_premises.specs.Known.{Test, Tells}
+use Rattle.mc_state.specs.Known.{Test, Tells}
 use Rattle.mc_progress.specs.Asked.{starts_at}
 use Rattle.mc_next.proofs.unfolding.at_start.Given as goal
 

@@ -7,7 +7,7 @@ use Rattle.mc_base.specs.declared.plain.Kind.TheVariants.{Ptr}
 use Rattle.mc_graph.specs.declared.edge.Edge.{Edge}
 use Rattle.mc_graph.specs.Edges.{start_of}
 use Rattle.mc_graph.specs.Graph.{block_starts, without}
-use Rattle.mc_premises.specs.Known.{is_false}
+use Rattle.mc_state.specs.Known.{is_false}
 use Rattle.mc_state.specs.State.{with_atoms, with_only_edges}
 use Rattle.mc_step.specs.Judges.{is_block_at}
 use Rattle.mc_step.specs.Steps.{freed_atoms}

@@ -1,6 +1,6 @@
 use Rattle.std.proofs.Common.{◌≡◌, true, false}
 use Rattle.mc_base.specs.Nodes.{null}
-use Rattle.mc_premises.specs.Known.{equal, is_false}
+use Rattle.mc_state.specs.Known.{equal, is_false}
 use Rattle.mc_stepping.specs.Values.{value_node}
 use Rattle.mc_stepping.proofs.Answered.{freed_null}
 use Rattle.mc_stepping.proofs.blocks.free_null.Goals as goal

@@ -2,7 +2,7 @@ use Rattle.std.proofs.Common.{◌≡◌, ◌∙◌, false, sym}
 use Rattle.mc_base.specs.declared.ids.NodeId.{NodeId}
 use Rattle.mc_pure.specs.Pure.{IsNode}
 use Rattle.std.proofs.Common.{subst}
-use Rattle.mc_premises.specs.Known.{is_false}
+use Rattle.mc_state.specs.Known.{is_false}
 use Rattle.mc_step.specs.Judges.{is_shaped_at}
 use Rattle.mc_stepping.proofs.Answered.{loaded}
 use Rattle.mc_stepping.proofs.There.{field_of, field_there, found}

@@ -1,5 +1,5 @@
 use Rattle.std.proofs.Common.{◌≡◌, false}
-use Rattle.mc_premises.specs.Known.{is_false}
+use Rattle.mc_state.specs.Known.{is_false}
 use Rattle.mc_stepping.proofs.blocks.malloc.Goals as goal
 
 pub returns-in-Ok-allocated : goal.returns-in-Ok-allocated

@@ -1,6 +1,6 @@
 use Rattle.std.proofs.Common.{◌≡◌, drop}
 use Rattle.std.specs.List.{find}
-use Rattle.mc_premises.specs.Known.{Test, Tells}
+use Rattle.mc_state.specs.Known.{Test, Tells}
 use Rattle.mc_step.specs.Judges.{is_shaped_at}
 use Rattle.mc_stepping.proofs.blocks.shaped_block.Given as goal
 

@@ -1,5 +1,5 @@
 use Rattle.std.proofs.Common.{◌≡◌, false, sym}
-use Rattle.mc_premises.specs.Known.{is_false}
+use Rattle.mc_state.specs.Known.{is_false}
 use Rattle.mc_step.specs.Judges.{is_shaped_at}
 use Rattle.mc_stepping.proofs.Answered.{stored}
 use Rattle.mc_stepping.proofs.There.{found, value_fits}

@@ -1,5 +1,5 @@
 use Rattle.std.proofs.Common.{◌≡◌, false, subst}
-use Rattle.mc_premises.specs.Known.{is_false}
+use Rattle.mc_state.specs.Known.{is_false}
 use Rattle.mc_pure.specs.Pure.{IsNode}
 use Rattle.mc_stepping.specs.Values.{value_node}
 use Rattle.mc_stepping.proofs.moves.copy.Goals as goal

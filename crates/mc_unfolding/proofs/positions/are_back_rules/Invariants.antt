@@ -1,6 +1,6 @@
 use Rattle.std.proofs.Common.{◌≡◌, drop}
 use Rattle.std.specs.List.{list_all}
-use Rattle.mc_premises.specs.Back.{is_back_call}
+use Rattle.mc_state.specs.Back.{is_back_call}
 use Rattle.mc_unfolding.proofs.positions.are_back_rules.Given as goal
 
 abbrev pub invariant-loop-rule : goal.invariant-loop-rule

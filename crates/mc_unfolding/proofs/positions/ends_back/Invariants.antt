@@ -1,6 +1,6 @@
 use Rattle.std.proofs.Common.{◌≡◌, drop}
 use Rattle.mc_back.specs.Judges.{ends_back_at}
-use Rattle.mc_premises.specs.Known.{Test, Tells}
+use Rattle.mc_state.specs.Known.{Test, Tells}
 use Rattle.mc_unfolding.proofs.positions.ends_back.Given as goal
 
 abbrev pub invariant-loop-i : goal.invariant-loop-i

@@ -2,7 +2,7 @@ use Rattle.std.proofs.Common.{◌≡◌, drop}
 use Rattle.std.specs.List.{list_all}
 use Rattle.mc_base.specs.Nodes.{null}
 use Rattle.mc_graph.specs.Edges.{start_of}
-use Rattle.mc_premises.specs.Known.{Test, Tells, equal}
+use Rattle.mc_state.specs.Known.{Test, Tells, equal}
 use Rattle.mc_unmet.proofs.searches.all_at_null.Given as goal
 
 abbrev pub invariant-loop-edge : goal.invariant-loop-edge

@@ -2,7 +2,7 @@ use Rattle.std.specs.Prelude.{[], ◌∷◌}
 use Rattle.std.proofs.Common.{refl}
 use Rattle.std.specs.Int.{int_wrap}
 use Rattle.mc_base.specs.declared.plain.FaultKind.TheVariants.{Null, Uninit}
-use Rattle.mc_base.specs.Runs.{ended, fault, stopped}
+use Rattle.mc_flow.specs.Runs.{ended, fault, stopped}
 use Rattle.mc_meaning.specs.Examples.{at}
 use Rattle.mc_worked.specs.Turns.{find_function, minus_function, none_function, spin_function, stop_function, result_in_order, argument_undefined, field_before_argument, returned_without, stopped_within, called_in_turns, returned_from_loops}
 use Rattle.mc_worked.proofs.Computed.{runs}

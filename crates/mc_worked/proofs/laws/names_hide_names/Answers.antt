@@ -1,7 +1,7 @@
 use Rattle.std.specs.Prelude.{[], ◌∷◌}
 use Rattle.std.proofs.Common.{refl}
 use Rattle.std.specs.Int.{int_wrap}
-use Rattle.mc_base.specs.Runs.{ended}
+use Rattle.mc_flow.specs.Runs.{ended}
 use Rattle.mc_worked.specs.Variables.{inner_function, hiding_outer, hiding_head, hiding_parameter}
 use Rattle.mc_worked.proofs.Computed.{runs}
 use Rattle.mc_worked.proofs.laws.names_hide_names.Goals as goal

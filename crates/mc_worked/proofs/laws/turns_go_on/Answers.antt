@@ -1,7 +1,7 @@
 use Rattle.std.specs.Prelude.{[]}
 use Rattle.std.proofs.Common.{refl}
 use Rattle.std.specs.Int.{int_wrap}
-use Rattle.mc_base.specs.Runs.{ended}
+use Rattle.mc_flow.specs.Runs.{ended}
 use Rattle.mc_worked.specs.Turns.{going_on_in_do, going_on_in_for, going_on_within, broken_within, without_condition}
 use Rattle.mc_worked.proofs.Computed.{runs}
 use Rattle.mc_worked.proofs.laws.turns_go_on.Goals as goal

@@ -2,7 +2,7 @@ use Rattle.std.specs.Prelude.{[], ◌∷◌}
 use Rattle.std.proofs.Common.{refl}
 use Rattle.std.specs.Int.{int_wrap}
 use Rattle.mc_base.specs.declared.plain.FaultKind.TheVariants.{Assertion, Uninit}
-use Rattle.mc_base.specs.Runs.{ended, fault}
+use Rattle.mc_flow.specs.Runs.{ended, fault}
 use Rattle.mc_meaning.specs.Examples.{at}
 use Rattle.mc_worked.specs.Variables.{same_function, hidden_by_head, hiding_ends, hidden_result, own_value, own_undefined, one_after_other}
 use Rattle.mc_worked.proofs.Computed.{runs}

@@ -2,7 +2,7 @@ use Rattle.std.specs.Prelude.{[], ◌∷◌}
 use Rattle.std.proofs.Common.{refl}
 use Rattle.std.specs.Int.{int_wrap}
 use Rattle.mc_base.specs.declared.plain.FaultKind.TheVariants.{Uninit}
-use Rattle.mc_base.specs.Runs.{fault}
+use Rattle.mc_flow.specs.Runs.{fault}
 use Rattle.mc_meaning.specs.Examples.{at}
 use Rattle.mc_worked.specs.Variables.{local_function, left_by_break, left_by_continue, left_at_end, left_by_return}
 use Rattle.mc_worked.proofs.Computed.{runs}

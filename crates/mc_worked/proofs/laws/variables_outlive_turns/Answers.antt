@@ -2,7 +2,7 @@ use Rattle.std.specs.Prelude.{[]}
 use Rattle.std.proofs.Common.{refl}
 use Rattle.std.specs.Int.{int_wrap}
 use Rattle.mc_base.specs.declared.plain.FaultKind.TheVariants.{Uninit}
-use Rattle.mc_base.specs.Runs.{ended, fault}
+use Rattle.mc_flow.specs.Runs.{ended, fault}
 use Rattle.mc_meaning.specs.Examples.{at}
 use Rattle.mc_worked.specs.Variables.{kept_in_turns, kept_for_condition, never_reached}
 use Rattle.mc_worked.proofs.Computed.{runs}

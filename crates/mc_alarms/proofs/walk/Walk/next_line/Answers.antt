@@ -3,7 +3,7 @@ use Rattle.std.specs.Prelude.{option_and_then, option_map}
 use Rattle.mc_judging.specs.Judging.{path}
 use Rattle.mc_kernel.specs.Branches.{Path}
 use Rattle.mc_kernel.specs.Readings.{first_branch}
-use Rattle.mc_premises.specs.Known.{Tells}
+use Rattle.mc_state.specs.Known.{Tells}
 use Rattle.mc_progress.specs.Asked.{at_code}
 use Rattle.mc_step.specs.Operands.{code_at}
 use Rattle.mc_alarms.proofs.Followed.{current_is}

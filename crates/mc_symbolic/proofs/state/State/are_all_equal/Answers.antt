@@ -1,7 +1,7 @@
 use Rattle.std.proofs.Common.{◌≡◌, ◌<◌, length, true, false, refl, sym, ◌∙◌, arith}
 use Rattle.mc_base.specs.Nodes.{null}
-use Rattle.mc_premises.specs.Known.{equal}
-use Rattle.mc_premises.proofs.ListLemmas.{all_both_yes}
+use Rattle.mc_state.specs.Known.{equal}
+use Rattle.mc_state.proofs.ListLemmas.{all_both_yes}
 use Rattle.mc_symbolic.proofs.Kept.{lengths_equal, equal_at, equal_before}
 use Rattle.mc_symbolic.proofs.state.State.are_all_equal.Goals as goal
 

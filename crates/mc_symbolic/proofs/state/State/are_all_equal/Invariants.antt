@@ -1,5 +1,5 @@
 use Rattle.std.proofs.Common.{◌≡◌, ℕ, drop, length}
-use Rattle.mc_premises.specs.Known.{Test, Tells, all_equal}
+use Rattle.mc_state.specs.Known.{Test, Tells, all_equal}
 use Rattle.mc_state.specs.Facts.{AreAllEqual}
 use Rattle.mc_symbolic.proofs.state.State.are_all_equal.Given as goal
 

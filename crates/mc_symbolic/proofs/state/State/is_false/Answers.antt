@@ -1,5 +1,5 @@
 use Rattle.mc_graph.specs.Graph.{block_starts}
-use Rattle.mc_premises.specs.Known.{is_false}
+use Rattle.mc_state.specs.Known.{is_false}
 use Rattle.mc_symbolic.proofs.Starts.{behind, false_same, told}
 use Rattle.mc_symbolic.specs.Kept.{seen}
 use Rattle.mc_symbolic.proofs.state.State.is_false.Goals as goal

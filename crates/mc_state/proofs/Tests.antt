@@ -11,8 +11,8 @@ use Rattle.mc_pure.specs.Pure.{Kinds, HasKind, kind_of}
 use Rattle.mc_pure.specs.Derived as pure
 use Rattle.mc_state.specs.State.{State}
 use Rattle.mc_state.specs.Facts.{IsFalse, AreEqual, AreAllEqual}
-use Rattle.mc_premises.specs.Known.{Test, Tells, is_false, equal, all_equal, same_kind, is_kind, has_kind}
-use Rattle.mc_premises.specs.Laws.{FalseIsTold, EqualIsTold, AllEqualIsTold, KindIsTold}
+use Rattle.mc_state.specs.Known.{Test, Tells, is_false, equal, all_equal, same_kind, is_kind, has_kind}
+use Rattle.mc_state.specs.Told.{FalseIsTold, EqualIsTold, AllEqualIsTold, KindIsTold}
 
 -- both tests of an `&&` hold
 pub and_both : (a b : Bool) → (a && b) ≡ true → (a ≡ true) × (b ≡ true)

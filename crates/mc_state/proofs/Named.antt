@@ -6,9 +6,9 @@ use Rattle.mc_graph.specs.declared.edge.Edge.{Edge}
 use Rattle.std.proofs.Common.{◌++◌, length, length-append}
 use Rattle.std.specs.Prelude.{◌||◌, is_some}
 use Rattle.mc_graph.specs.Graph.{Edges, Picks, edge_with, without, IdsAscend}
-use Rattle.mc_premises.specs.Named.{others, are_there, is_among, are_distinct, is_apart, are_named, named_ids, Looked}
-use Rattle.mc_premises.proofs.Tests.{and_both, and_yes, not_no}
-use Rattle.mc_premises.specs.Laws.{PicksAreNamed}
+use Rattle.mc_state.specs.Named.{others, are_there, is_among, are_distinct, is_apart, are_named, named_ids, Looked}
+use Rattle.mc_state.proofs.Tests.{and_both, and_yes, not_no}
+use Rattle.mc_state.specs.Told.{PicksAreNamed}
 
 -- ids ascend still where one has gone
 ids_lower : (low bound : ℕ) (es : Edges) (high : ℕ) → low ≤ bound → IdsAscend bound es high → IdsAscend low es high

@@ -10,9 +10,9 @@ use Rattle.mc_graph.specs.Graph.{Edges, Picks, IdsAscend}
 use Rattle.mc_pure.specs.Pure.{Kinds, HasKind}
 use Rattle.mc_state.specs.State.{State}
 use Rattle.mc_state.specs.Facts.{IsFalse, AreEqual, AreAllEqual}
-use Rattle.mc_premises.specs.Known.{Test, Tells, is_false, equal, all_equal, has_kind}
-use Rattle.mc_premises.specs.Named.{others, are_distinct, Looked}
-use Rattle.mc_premises.specs.Back.{IsBackPosition, is_back}
+use Rattle.mc_state.specs.Known.{Test, Tells, is_false, equal, all_equal, has_kind}
+use Rattle.mc_state.specs.Named.{others, are_distinct, Looked}
+use Rattle.mc_state.specs.Back.{IsBackPosition, is_back}
 
 -- edges picked by ids are those that distinct ids name, and all others are left
 abbrev pub PicksAreNamed : Type 0

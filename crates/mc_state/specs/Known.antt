@@ -10,7 +10,7 @@ use Rattle.mc_base.specs.Nodes.{null}
 use Rattle.mc_pure.specs.Pure.{Kinds, kind_of}
 use Rattle.mc_state.specs.State.{State}
 use Rattle.mc_state.specs.Facts.{Derives}
-use Rattle.mc_premises.specs.Lists.{all_both}
+use Rattle.mc_state.specs.Lists.{all_both}
 
 -- a test of atoms
 abbrev pub Test : Type 0

@@ -1,5 +1,5 @@
 // What tests tell, and what ids name. Each law is what a function with no body ensures.
-ghost use Rattle.mc_premises.specs.Laws.{PicksAreNamed, FalseIsTold, EqualIsTold, AllEqualIsTold, KindIsTold, BackIsTold};
+ghost use Rattle.mc_state.specs.Told.{PicksAreNamed, FalseIsTold, EqualIsTold, AllEqualIsTold, KindIsTold, BackIsTold};
 
 /// Edges are picked by ids exactly where the ids are distinct and name them, and all other edges are left.
 pub fn picks_are_named()

@@ -2,7 +2,7 @@
 use Rattle.std.proofs.Common.{◌≡◌, ◌≢◌, ◌<◌, ◌≤◌, ◌+◌, ℕ, suc, Bool, true, false, List, [], ◌∷◌, length, get_or, drop, refl, ap, ◌∙◌, arith, ◌&&◌}
 use Rattle.std.proofs.lemmas.List.{drop_more}
 use Rattle.std.proofs.Math.ListN.{drop_of_length-le}
-use Rattle.mc_premises.specs.Lists.{all_both}
+use Rattle.mc_state.specs.Lists.{all_both}
 
 module _ {A B : Type 0} (test : A → B → Bool) where
   -- one step on

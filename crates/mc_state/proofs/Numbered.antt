@@ -1,7 +1,7 @@
 -- Premises with numbers.
 use Rattle.std.proofs.Common.{◌≡◌, ◌⊎◌, inl, inr, ℕ, Bool, true, false, Option, Some, None, refl, ap}
 use Rattle.std.specs.Prelude.{Ok, Err}
-use Rattle.mc_premises.specs.Premises.{Judged, IsJudged, need, have, then_give}
+use Rattle.mc_state.specs.Premises.{Judged, IsJudged, need, have, then_give}
 
 module _ {A : Type 0} where
   -- what is given came past a test that held

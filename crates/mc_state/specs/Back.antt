@@ -4,7 +4,7 @@ use Rattle.std.specs.List.{list_all, AllByRecursion}
 use Rattle.mc_base.specs.declared.ids.PredId.{PredId}
 use Rattle.mc_defs.specs.declared.rules.Call.{Call}
 use Rattle.mc_defs.specs.declared.rules.Def.{Def}
-use Rattle.mc_premises.specs.Lists.{on_some}
+use Rattle.mc_state.specs.Lists.{on_some}
 
 -- a call, if it is one of the predicate, has `this`, which is name 0, as its argument at a position
 abbrev pub is_back_call : PredId → ℕ → Call → Bool

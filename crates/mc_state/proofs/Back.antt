@@ -6,10 +6,10 @@ use Rattle.mc_base.specs.declared.ids.PredId.{PredId}
 use Rattle.mc_defs.specs.declared.rules.Call.{Call}
 use Rattle.mc_defs.specs.declared.rules.Def.{Def}
 use Rattle.mc_defs.specs.declared.rules.Rule.{Rule}
-use Rattle.mc_premises.specs.Back.{is_back_call, IsBackPosition, is_back_of}
-use Rattle.mc_premises.specs.Lists.{on_some}
-use Rattle.mc_premises.specs.Laws.{BackIsTold}
-use Rattle.mc_premises.proofs.Tests.{and_both, and_yes, each_from, each_to}
+use Rattle.mc_state.specs.Back.{is_back_call, IsBackPosition, is_back_of}
+use Rattle.mc_state.specs.Lists.{on_some}
+use Rattle.mc_state.specs.Told.{BackIsTold}
+use Rattle.mc_state.proofs.Tests.{and_both, and_yes, each_from, each_to}
 
 -- a call has `this` there, if it is one of the predicate
 abbrev IsBackCall : PredId → ℕ → Call → Type 0

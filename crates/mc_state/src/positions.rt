@@ -1,7 +1,7 @@
 // Predicates with back positions and without.
 ghost use Rattle.std.specs.Prelude.{◌≡◌, true, false};
-ghost use Rattle.mc_premises.specs.Back.{is_back};
-ghost use Rattle.mc_premises.specs.BackExamples.{defs, predicate};
+ghost use Rattle.mc_state.specs.Back.{is_back};
+ghost use Rattle.mc_state.specs.BackExamples.{defs, predicate};
 
 /// `this` is passed on, a parameter is passed on, a predicate never calls itself; and positions and predicates that are
 /// not there.

@@ -1,5 +1,0 @@
-pub mod Numbered
-pub mod Tests
-pub mod ListLemmas
-pub mod Named
-pub mod Back
