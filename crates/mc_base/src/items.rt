@@ -113,9 +113,16 @@ impl<T: Eq> Eq for Items<T> {
 }
 
 /// A list that keeps up to four items in itself.
-#[derive(Drop)]
 pub struct Args<T> {
     items: SmallVec<T, 4>,
+}
+
+/// Lets go of the items. What holds such a list calls this.
+impl<T: Drop> Drop for Args<T> {
+    fn drop(self) {
+        let Args { items } = self;
+        drop(items);
+    }
 }
 
 impl<T> Model for Args<T> {

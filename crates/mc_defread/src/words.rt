@@ -19,9 +19,16 @@ pub enum Order<'a> {
 }
 
 /// Names in order, of which some may be the same.
-#[derive(Drop)]
 pub struct Words<'a> {
     order: Order<'a>,
+}
+
+/// Lets go of its parts. What holds one calls this.
+impl Drop for Words<'_> {
+    fn drop(self) {
+        let Words { order } = self;
+        drop(order);
+    }
 }
 
 impl<'a> Model for Words<'a> {

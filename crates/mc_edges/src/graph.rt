@@ -13,10 +13,17 @@ use std::alloc::{AllocError, Global};
 use std::marker::Model;
 
 /// The edges of a state in the order of their ids, and the least number that was the id of none yet.
-#[derive(Drop)]
 pub struct Graph {
     edges: Vec<(EdgeId, Edge)>,
     next: u64,
+}
+
+/// Lets go of the edges. What holds a graph calls this.
+impl Drop for Graph {
+    fn drop(self) {
+        let Graph { edges, next: _ } = self;
+        drop(edges);
+    }
 }
 
 impl Model for Graph {

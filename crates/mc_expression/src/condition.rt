@@ -21,12 +21,26 @@ use std::alloc::{AllocError, Global};
 use std::mem;
 
 /// Reads a condition, token by token.
-#[derive(Drop)]
 pub struct ConditionReader {
     alloc: Global,
     groups: Stack<ConditionGroup>,
     pending: ConditionPending,
     spot: ConditionSpot,
+}
+
+/// Lets go of what is read. What holds a reader calls this.
+impl Drop for ConditionReader {
+    fn drop(self) {
+        let ConditionReader {
+            alloc: _,
+            groups,
+            pending,
+            spot,
+        } = self;
+        drop(groups);
+        drop(pending);
+        drop(spot);
+    }
 }
 
 /// What a reader does with a token.
@@ -41,7 +55,6 @@ pub enum ConditionStep {
 }
 
 /// What waits for the operand that is read.
-#[derive(Drop)]
 struct ConditionPending {
     /// What stands before the last `||`.
     either: Option<Condition>,
@@ -49,6 +62,20 @@ struct ConditionPending {
     both: Option<Condition>,
     /// The places of the `!` signs before the operand.
     bangs: Stack<Place>,
+}
+
+/// Lets go of what waits. What replaces it calls this.
+impl Drop for ConditionPending {
+    fn drop(self) {
+        let ConditionPending {
+            either,
+            both,
+            bangs,
+        } = self;
+        drop(either);
+        drop(both);
+        drop(bangs);
+    }
 }
 
 /// A `(` that is open, and what waits for what it begins.

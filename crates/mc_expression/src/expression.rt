@@ -17,12 +17,26 @@ use std::alloc::{AllocError, Global};
 use std::mem;
 
 /// Reads an expression, token by token.
-#[derive(Drop)]
 pub struct ExpressionReader {
     alloc: Global,
     groups: Stack<Group>,
     pending: Pending,
     spot: Spot,
+}
+
+/// Lets go of what is read. What holds a reader calls this.
+impl Drop for ExpressionReader {
+    fn drop(self) {
+        let ExpressionReader {
+            alloc: _,
+            groups,
+            pending,
+            spot,
+        } = self;
+        drop(groups);
+        drop(pending);
+        drop(spot);
+    }
 }
 
 /// What a reader does with a token.
@@ -37,13 +51,26 @@ pub enum ExpressionStep {
 }
 
 /// What waits for the operand that is read.
-#[derive(Drop)]
 struct Pending {
     sum: Option<Summed>,
     /// What is multiplied.
     factor: Option<Expression>,
     /// The places of the `-` signs before the operand.
     minuses: Stack<Place>,
+}
+
+/// Lets go of what waits. What replaces it calls this.
+impl Drop for Pending {
+    fn drop(self) {
+        let Pending {
+            sum,
+            factor,
+            minuses,
+        } = self;
+        drop(sum);
+        drop(factor);
+        drop(minuses);
+    }
 }
 
 /// A sum with the `+` or `-` behind it.

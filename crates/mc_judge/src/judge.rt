@@ -27,7 +27,6 @@ use std::alloc::{AllocError, Global};
 use std::mem;
 
 /// A judge of a document, which comes in pieces: its whole lines are judged as they come, and only the open one is held.
-#[derive(Drop)]
 pub struct Judge<'f> {
     alloc: Global,
     flow: &'f Flow,
@@ -37,6 +36,22 @@ pub struct Judge<'f> {
     lines: u64,
     // The bytes behind the last line feed.
     open: Vec<u8>,
+}
+
+/// Lets go of its parts. What holds one calls this.
+impl Drop for Judge<'_> {
+    fn drop(self) {
+        let Judge {
+            alloc: _,
+            flow: _,
+            defs: _,
+            stage,
+            lines: _,
+            open,
+        } = self;
+        drop(stage);
+        drop(open);
+    }
 }
 
 impl<'f> Judge<'f> {

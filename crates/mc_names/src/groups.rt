@@ -30,11 +30,23 @@ fn add<'a, T: HasName>(
 }
 
 /// What has names, in order, and found by name in their order.
-#[derive(Drop)]
 pub struct Groups<'a, T: HasName> {
     items: Vec<&'a T>,
     groups: IndexMap<&'a [u8], Vec<&'a T>>,
     alloc: Global,
+}
+
+/// Lets go of its parts. What holds one calls this.
+impl<T: HasName> Drop for Groups<'_, T> {
+    fn drop(self) {
+        let Groups {
+            items,
+            groups,
+            alloc: _,
+        } = self;
+        drop(items);
+        drop(groups);
+    }
 }
 
 impl<'a, T: HasName> Model for Groups<'a, T> {

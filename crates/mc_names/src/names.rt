@@ -8,10 +8,18 @@ use std::alloc::{AllocError, Global};
 use std::marker::Model;
 
 /// Names in order, of which some may be the same.
-#[derive(Drop)]
 pub struct Names<'a> {
     names: Vec<&'a Text>,
     firsts: IndexMap<&'a [u8], usize>,
+}
+
+/// Lets go of its parts. What holds one calls this.
+impl Drop for Names<'_> {
+    fn drop(self) {
+        let Names { names, firsts } = self;
+        drop(names);
+        drop(firsts);
+    }
 }
 
 impl<'a> Model for Names<'a> {

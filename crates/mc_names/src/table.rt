@@ -35,10 +35,18 @@ impl HasName for Function {
 }
 
 /// What has names, in order, of which some may be the same.
-#[derive(Drop)]
 pub struct Table<'a, T: HasName> {
     items: Vec<&'a T>,
     names: Names<'a>,
+}
+
+/// Lets go of its parts. What holds one calls this.
+impl<T: HasName> Drop for Table<'_, T> {
+    fn drop(self) {
+        let Table { items, names } = self;
+        drop(items);
+        drop(names);
+    }
 }
 
 impl<'a, T: HasName> Model for Table<'a, T> {

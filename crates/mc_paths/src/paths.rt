@@ -17,13 +17,26 @@ use std::alloc::Global;
 use std::marker::Model;
 
 /// The open branches of a valid flow graph, with some cuts. The states of all of them are well made.
-#[derive(Drop)]
 pub struct Paths<'f> {
     alloc: Global,
     flow: &'f Flow,
     defs: &'f Defs,
     cuts: &'f [PointId],
     open: Stack,
+}
+
+/// Lets go of the branches. What holds them calls this.
+impl Drop for Paths<'_> {
+    fn drop(self) {
+        let Paths {
+            alloc: _,
+            flow: _,
+            defs: _,
+            cuts: _,
+            open,
+        } = self;
+        drop(open);
+    }
 }
 
 impl<'f> Model for Paths<'f> {

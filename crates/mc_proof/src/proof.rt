@@ -27,7 +27,6 @@ use std::alloc::{AllocError, Global};
 use std::marker::Model;
 
 /// A document that is being read: a certificate or a chain of a valid flow graph.
-#[derive(Drop)]
 pub struct Proof<'f> {
     alloc: Global,
     flow: &'f Flow,
@@ -38,6 +37,27 @@ pub struct Proof<'f> {
     heads: Vec<Head>,
     branches: Stack,
     stuck: u64,
+}
+
+/// Lets go of its parts. What holds one calls this.
+impl Drop for Proof<'_> {
+    fn drop(self) {
+        let Proof {
+            alloc: _,
+            flow: _,
+            defs: _,
+            form: _,
+            stage,
+            cuts,
+            heads,
+            branches,
+            stuck: _,
+        } = self;
+        drop(stage);
+        drop(cuts);
+        drop(heads);
+        drop(branches);
+    }
 }
 
 impl<'f> Model for Proof<'f> {

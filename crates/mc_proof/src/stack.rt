@@ -9,10 +9,17 @@ use std::alloc::Global;
 use std::marker::Model;
 
 /// Branches on a stack, the first of them at the top.
-#[derive(Drop)]
 pub struct Stack {
     // The first last.
     items: Vec<Branch>,
+}
+
+/// Lets go of its parts. What holds one calls this.
+impl Drop for Stack {
+    fn drop(self) {
+        let Stack { items } = self;
+        drop(items);
+    }
 }
 
 impl Model for Stack {

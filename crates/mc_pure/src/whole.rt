@@ -30,11 +30,23 @@ const GREATEST: i64 = 4_611_686_018_427_387_904;
 
 /// What is known of nodes: their kinds, atoms that are written down, and the nodes at which blocks start. What follows
 /// from it is worked out as it comes, so that questions are answered without a search.
-#[derive(Drop)]
 pub struct Pure {
     known: Known,
     rows: Vec<Row>,
     wrong: bool,
+}
+
+/// Lets go of what is known. What holds it calls this.
+impl Drop for Pure {
+    fn drop(self) {
+        let Pure {
+            known,
+            rows,
+            wrong: _,
+        } = self;
+        drop(known);
+        drop(rows);
+    }
 }
 
 impl Model for Pure {

@@ -6,9 +6,16 @@ use mc_types::NameTables;
 use std::alloc::{AllocError, Global};
 
 /// The names of the fields of each struct, by its number.
-#[derive(Drop)]
 pub struct FieldNames<'a> {
     structs: Vec<Names<'a>>,
+}
+
+/// Lets go of its parts. What holds one calls this.
+impl Drop for FieldNames<'_> {
+    fn drop(self) {
+        let FieldNames { structs } = self;
+        drop(structs);
+    }
 }
 
 ghost use Rattle.std.specs.Prelude.{◌≡◌, ◌++◌, IfOk, OnOk, List, ℕ, map, position, slice_get, option_map, option_and_then, unwrap_or};

@@ -11,9 +11,16 @@ use mc_types::NameTables;
 use std::alloc::{AllocError, Global};
 
 /// The names of the defined functions, in the order of the text.
-#[derive(Drop)]
 pub struct FunctionNames<'a> {
     names: Names<'a>,
+}
+
+/// Lets go of its parts. What holds one calls this.
+impl Drop for FunctionNames<'_> {
+    fn drop(self) {
+        let FunctionNames { names } = self;
+        drop(names);
+    }
 }
 
 impl<'a> FunctionNames<'a> {

@@ -42,10 +42,18 @@ fn key_of(place: Place) -> PlaceKey
 }
 
 /// Variables in order, and by hash the number of the first at each place.
-#[derive(Drop)]
 pub struct Locals<'a> {
     variables: Vec<Named<'a>>,
     numbers: IndexMap<PlaceKey, usize>,
+}
+
+/// Lets go of its parts. What holds one calls this.
+impl Drop for Locals<'_> {
+    fn drop(self) {
+        let Locals { variables, numbers } = self;
+        drop(variables);
+        drop(numbers);
+    }
 }
 
 impl<'a> Model for Locals<'a> {

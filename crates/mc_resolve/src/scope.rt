@@ -20,11 +20,22 @@ pub struct Marks {
 }
 
 /// The visible variables: those around the block, then those of the block, then those of the heads of `for`.
-#[derive(Drop)]
 pub struct Scope<'a> {
     variables: Visible<'a>,
     heads: usize,
     own: usize,
+}
+
+/// Lets go of its parts. What holds one calls this.
+impl Drop for Scope<'_> {
+    fn drop(self) {
+        let Scope {
+            variables,
+            heads: _,
+            own: _,
+        } = self;
+        drop(variables);
+    }
 }
 
 impl<'a> Model for Scope<'a> {

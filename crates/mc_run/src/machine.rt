@@ -22,12 +22,26 @@ pub struct Program<'a> {
 }
 
 /// Where a run is.
-#[derive(Drop)]
 pub struct Machine<'a> {
     pub work: Work<'a>,
     pub heap: Heap,
     pub evaluator: Evaluator<'a>,
     pub alloc: Global,
+}
+
+/// Lets go of its parts. What holds one calls this.
+impl Drop for Machine<'_> {
+    fn drop(self) {
+        let Machine {
+            work,
+            heap,
+            evaluator,
+            alloc: _,
+        } = self;
+        drop(work);
+        drop(heap);
+        drop(evaluator);
+    }
 }
 
 impl<'a> Machine<'a> {

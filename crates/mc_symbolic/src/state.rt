@@ -27,13 +27,28 @@ use std::marker::Model;
 /// What is known at a point of a run: the node of each variable, where it is known; the edges; the nodes with their
 /// kinds and the atoms that were written, closed; the least number that was no node yet; and whether the edges are all
 /// that is allocated. What is derived is asked without a search.
-#[derive(Drop)]
 pub struct State {
     env: Items<Option<NodeId>>,
     graph: Graph,
     pure: Pure,
     next: u64,
     whole: bool,
+}
+
+/// Lets go of the state. What holds one calls this.
+impl Drop for State {
+    fn drop(self) {
+        let State {
+            env,
+            graph,
+            pure,
+            next: _,
+            whole: _,
+        } = self;
+        drop(env);
+        drop(graph);
+        drop(pure);
+    }
 }
 
 impl Model for State {

@@ -12,11 +12,23 @@ use std::alloc::Global;
 use std::mem;
 
 /// What is left to do of a program, and what the variables hold of the function that runs.
-#[derive(Drop)]
 pub struct Work<'a> {
     tasks: Stack<Task<'a>>,
     values: Vec<Option<i64>>,
     alloc: Global,
+}
+
+/// Lets go of its parts. What holds one calls this.
+impl Drop for Work<'_> {
+    fn drop(self) {
+        let Work {
+            tasks,
+            values,
+            alloc: _,
+        } = self;
+        drop(tasks);
+        drop(values);
+    }
 }
 
 ghost use Rattle.std.specs.Prelude.{◌≡◌, IfOk, OnOk, [], map};

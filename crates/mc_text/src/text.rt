@@ -6,9 +6,16 @@ use std::alloc::{AllocError, Global};
 use std::marker::Model;
 
 /// The bytes of a token. Up to 16 of them need no memory of their own.
-#[derive(Drop)]
 pub struct Text {
     bytes: SmallVec<u8, 16>,
+}
+
+/// Lets go of the bytes. What holds a text calls this.
+impl Drop for Text {
+    fn drop(self) {
+        let Text { bytes } = self;
+        drop(bytes);
+    }
 }
 
 impl Model for Text {

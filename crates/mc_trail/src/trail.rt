@@ -6,10 +6,18 @@ use mc_symbolic::State;
 use std::alloc::Global;
 
 /// A branch, and the lines that led to it as it is.
-#[derive(Drop)]
 pub struct Trail<'f> {
     paths: Paths<'f>,
     lines: Vec<Line>,
+}
+
+/// Lets go of the branch and its lines. What holds a trail calls this.
+impl Drop for Trail<'_> {
+    fn drop(self) {
+        let Trail { paths, lines } = self;
+        drop(paths);
+        drop(lines);
+    }
 }
 
 impl<'f> Trail<'f> {

@@ -18,12 +18,20 @@ pub fn put(numbers: &mut [usize], place: usize, number: usize) {
 }
 
 /// Which calls each function has, each taken once. What is taken is tested by those who use it.
-#[derive(Drop)]
 pub struct Links {
     /// For each call the next one of its caller, or a number past all calls.
     nexts: Vec<usize>,
     /// For each function its first call that is not taken, or a number past all calls.
     firsts: Vec<usize>,
+}
+
+/// Lets go of its parts. What holds one calls this.
+impl Drop for Links {
+    fn drop(self) {
+        let Links { nexts, firsts } = self;
+        drop(nexts);
+        drop(firsts);
+    }
 }
 
 impl Links {

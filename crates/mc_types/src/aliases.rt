@@ -11,10 +11,18 @@ use std::alloc::{AllocError, Global};
 use std::marker::Model;
 
 /// What typedefs made of names, in order.
-#[derive(Drop)]
 pub struct Aliases<'a> {
     meanings: Vec<Meaning<'a>>,
     names: Names<'a>,
+}
+
+/// Lets go of its parts. What holds one calls this.
+impl Drop for Aliases<'_> {
+    fn drop(self) {
+        let Aliases { meanings, names } = self;
+        drop(meanings);
+        drop(names);
+    }
 }
 
 impl<'a> Model for Aliases<'a> {

@@ -12,10 +12,18 @@ use std::alloc::{AllocError, Global};
 use std::marker::Model;
 
 /// Functions and prototypes in order.
-#[derive(Drop)]
 pub struct Functions<'a> {
     all: Table<'a, Function>,
     defined: Table<'a, Function>,
+}
+
+/// Lets go of its parts. What holds one calls this.
+impl Drop for Functions<'_> {
+    fn drop(self) {
+        let Functions { all, defined } = self;
+        drop(all);
+        drop(defined);
+    }
 }
 
 impl<'a> Model for Functions<'a> {

@@ -18,10 +18,18 @@ pub struct Named<'a> {
 }
 
 /// Variables that are visible, of which later ones hide earlier ones of their name. They are found by name.
-#[derive(Drop)]
 pub struct Visible<'a> {
     variables: Vec<Named<'a>>,
     names: NameStack<'a>,
+}
+
+/// Lets go of its parts. What holds one calls this.
+impl Drop for Visible<'_> {
+    fn drop(self) {
+        let Visible { variables, names } = self;
+        drop(variables);
+        drop(names);
+    }
 }
 
 impl<'a> Model for Visible<'a> {

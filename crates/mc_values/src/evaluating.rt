@@ -155,10 +155,17 @@ fn run_turns<'a>(
 }
 
 /// Evaluates expressions of a program, one after the other. It keeps its memory for the next one.
-#[derive(Drop)]
 pub struct Evaluator<'a> {
     stack: Stack<Pending<'a>>,
     alloc: Global,
+}
+
+/// Lets go of its parts. What holds one calls this.
+impl Drop for Evaluator<'_> {
+    fn drop(self) {
+        let Evaluator { stack, alloc: _ } = self;
+        drop(stack);
+    }
 }
 
 impl<'a> Evaluator<'a> {

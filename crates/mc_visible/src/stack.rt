@@ -28,11 +28,23 @@ fn uncover<'a>(lasts: &mut IndexMap<&'a [u8], Option<usize>>, entry: Entry<'a>)
 }
 
 /// Names in order, of which later ones hide earlier ones that are the same.
-#[derive(Drop)]
 pub struct NameStack<'a> {
     entries: Vec<Entry<'a>>,
     lasts: IndexMap<&'a [u8], Option<usize>>,
     alloc: Global,
+}
+
+/// Lets go of its parts. What holds one calls this.
+impl Drop for NameStack<'_> {
+    fn drop(self) {
+        let NameStack {
+            entries,
+            lasts,
+            alloc: _,
+        } = self;
+        drop(entries);
+        drop(lasts);
+    }
 }
 
 impl<'a> Model for NameStack<'a> {

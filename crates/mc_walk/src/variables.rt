@@ -18,11 +18,22 @@ pub struct Marks {
 }
 
 /// The visible variables: those around the block, then those of the block, then those of the heads of `for`.
-#[derive(Drop)]
 pub struct Variables<'a> {
     variables: Visible<'a>,
     heads: usize,
     own: usize,
+}
+
+/// Lets go of its parts. What holds one calls this.
+impl Drop for Variables<'_> {
+    fn drop(self) {
+        let Variables {
+            variables,
+            heads: _,
+            own: _,
+        } = self;
+        drop(variables);
+    }
 }
 
 impl<'a> Model for Variables<'a> {

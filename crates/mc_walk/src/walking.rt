@@ -11,10 +11,18 @@ use mc_types::{NameTables, Named, Visible};
 use std::alloc::{AllocError, Global};
 
 /// A walk through the body of a function.
-#[derive(Drop)]
 pub struct Walk<'a> {
     scope: Variables<'a>,
     tasks: Stack<Task<'a>>,
+}
+
+/// Lets go of its parts. What holds one calls this.
+impl Drop for Walk<'_> {
+    fn drop(self) {
+        let Walk { scope, tasks } = self;
+        drop(scope);
+        drop(tasks);
+    }
 }
 
 ghost use Rattle.std.specs.Prelude.{◌≡◌, ◌++◌, IfOk, OnOk, [], map, reverse};
