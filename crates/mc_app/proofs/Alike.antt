@@ -1,44 +1,44 @@
 -- The document that an analysis has left is judged as the analysis ended.
 use Rattle.std.proofs.Common.{◌≡◌, ◌∙◌, ◌≤◌, ◌<◌, ◌⊎◌, ℕ, List, Some, inl, inr, refl, sym, ap, subst, length, arith}
 use Rattle.std.specs.Prelude.{None, Ok, Err}
-use Rattle.mc_analysis.specs.declared.analysis.Analysis.{Analysis}
-use Rattle.mc_analysis.specs.declared.analysis.Analysis.TheVariants as analysis
-use Rattle.mc_analysis.specs.Findings.{IsAnalysis}
-use Rattle.mc_ast.specs.Trees.{UnitTree}
-use Rattle.mc_defread.specs.Judging.{Judged as JudgedText}
-use Rattle.mc_defread.specs.Readings.{ReadsAs}
-use Rattle.mc_defs.specs.declared.rules.Def.{Def}
-use Rattle.mc_defs.specs.declared.shapes.StructInfo.{StructInfo}
-use Rattle.mc_defs.specs.declared.shapes.Structs.{Structs}
+use Rattle.mc_find.specs.declared.analysis.analysis.Analysis.{Analysis}
+use Rattle.mc_find.specs.declared.analysis.analysis.Analysis.TheVariants as analysis
+use Rattle.mc_find.specs.Analysis.Findings.{IsAnalysis}
+use Rattle.mc_c_syntax.specs.Ast.Trees.{UnitTree}
+use Rattle.mc_def_read.specs.Judging.{Judged as JudgedText}
+use Rattle.mc_def_read.specs.Readings.{ReadsAs}
+use Rattle.mc_flow.specs.declared.defs.rules.Def.{Def}
+use Rattle.mc_flow.specs.declared.defs.shapes.StructInfo.{StructInfo}
+use Rattle.mc_flow.specs.declared.defs.shapes.Structs.{Structs}
 use Rattle.mc_flow.specs.declared.graph.Flow.{Flow}
-use Rattle.mc_inputs.specs.Inputs.{AreInputs, Holds, IsRefused}
-use Rattle.mc_inputs.specs.Texts.{AreDefinitions, HasMisfit, IsProgramHere}
-use Rattle.mc_inputs.specs.declared.reading.Sources.{Sources}
-use Rattle.mc_inputs.specs.declared.refusal.NoDefinitions.TheVariants as no_definitions
-use Rattle.mc_inputs.specs.declared.refusal.NoProgram.TheVariants as no_program
-use Rattle.mc_inputs.specs.declared.refusal.Refusal.{Refusal}
-use Rattle.mc_inputs.specs.declared.refusal.Refusal.TheVariants.{Program, Definitions, Misfit}
-use Rattle.mc_judge.specs.declared.verdict.Verdict.{Verdict}
-use Rattle.mc_judge.specs.declared.verdict.Verdict.TheVariants.{Safe, Alarms}
-use Rattle.mc_judge.specs.Verdicts.{IsCertificate, IsChain, Tells}
-use Rattle.mc_lowering.specs.Graphs.{Graph}
-use Rattle.mc_lowering.specs.Lowering.{IsLowering}
-use Rattle.mc_read.specs.declared.cause.Refusal.{Refusal as ProgramFault}
-use Rattle.mc_read.specs.Programs.{IsProgramOf, IsReadAs}
-use Rattle.mc_read.specs.Refusals.{IsRefused as IsProgramRefused}
-use Rattle.mc_resolved.specs.Programs.{Function}
-use Rattle.mc_types.specs.First.{told_of}
-use Rattle.mc_types.specs.Shapes.{IsBound, bind_faults}
-use Rattle.mc_types.specs.Tables.{struct_infos}
-use Rattle.mc_words.specs.Commands.{analyse_app, check_app}
-use Rattle.mc_words.specs.declared.words.Analyse.{Analyse}
-use Rattle.mc_words.specs.declared.words.Check.{Check}
-use Rattle.mc_words.specs.declared.words.Request.{Request}
-use Rattle.mc_words.specs.declared.words.Request.TheVariants as request
-use Rattle.mc_words.specs.Words.{Asks, AsksAnalyse, AsksCheck}
+use Rattle.mc_load.specs.Inputs.Inputs.{AreInputs, Holds, IsRefused}
+use Rattle.mc_load.specs.Inputs.Texts.{AreDefinitions, HasMisfit, IsProgramHere}
+use Rattle.mc_load.specs.declared.inputs.reading.Sources.{Sources}
+use Rattle.mc_load.specs.declared.inputs.refusal.NoDefinitions.TheVariants as no_definitions
+use Rattle.mc_load.specs.declared.inputs.refusal.NoProgram.TheVariants as no_program
+use Rattle.mc_load.specs.declared.inputs.refusal.Refusal.{Refusal}
+use Rattle.mc_load.specs.declared.inputs.refusal.Refusal.TheVariants.{Program, Definitions, Misfit}
+use Rattle.mc_document.specs.declared.judge.verdict.Verdict.{Verdict}
+use Rattle.mc_document.specs.declared.judge.verdict.Verdict.TheVariants.{Safe, Alarms}
+use Rattle.mc_document.specs.Judge.Verdicts.{IsCertificate, IsChain, Tells}
+use Rattle.mc_lower_spec.specs.Graphs.{Graph}
+use Rattle.mc_lower_spec.specs.Lowering.{IsLowering}
+use Rattle.mc_load.specs.declared.read.cause.Refusal.{Refusal as ProgramFault}
+use Rattle.mc_load.specs.Read.Programs.{IsProgramOf, IsReadAs}
+use Rattle.mc_load.specs.Read.Refusals.{IsRefused as IsProgramRefused}
+use Rattle.mc_semantics.specs.Resolved.Programs.{Function}
+use Rattle.mc_c_types.specs.First.{told_of}
+use Rattle.mc_c_types.specs.Shapes.{IsBound, bind_faults}
+use Rattle.mc_c_types.specs.Tables.{struct_infos}
+use Rattle.mc_app.specs.Words.Commands.{analyse_app, check_app}
+use Rattle.mc_app.specs.declared.words.words.Analyse.{Analyse}
+use Rattle.mc_app.specs.declared.words.words.Check.{Check}
+use Rattle.mc_app.specs.declared.words.words.Request.{Request}
+use Rattle.mc_app.specs.declared.words.words.Request.TheVariants as request
+use Rattle.mc_app.specs.Words.Words.{Asks, AsksAnalyse, AsksCheck}
 use Rattle.mc_app.specs.Alike.{AreJudgedAlike, AreStill, IsFoundStatus, NamesSame}
 use Rattle.mc_app.specs.Answers.{IsWhyWords, analysed_document, analysed_status, checked_status, document_of, sources_of, status_of}
-use Rattle.mc_lowered.specs.Graphs.{AreLong, IsGraphOf}
+use Rattle.mc_load.specs.Lowered.Graphs.{AreLong, IsGraphOf}
 use Rattle.mc_app.specs.Checks.{IsWhyChecked}
 use Rattle.mc_app.specs.Documents.{IsVerdictOn}
 use Rattle.mc_app.specs.declared.answer.Answer.{Answer}

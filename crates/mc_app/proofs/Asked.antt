@@ -1,20 +1,20 @@
 -- What words ask for names the same files, however it is written down.
 use Rattle.std.proofs.Common.{◌≡◌, ◌∙◌, ◌∷◌, ℕ, List, Option, None, Some, codes, refl, sym, subst}
 use Rattle.clap.specs.Words.{App}
-use Rattle.mc_words.specs.declared.words.Analyse.{Analyse}
-use Rattle.mc_words.specs.declared.words.Check.{Check}
-use Rattle.mc_words.specs.declared.words.Request.{Request}
-use Rattle.mc_words.specs.declared.words.Request.TheVariants as request
-use Rattle.mc_words.specs.declared.words.Run.{Run}
-use Rattle.mc_words.specs.Commands.{analyse_app, check_app}
-use Rattle.mc_words.specs.Words.{Asks, AsksAnalyse, AsksCheck, AsksRun, Reads}
+use Rattle.mc_app.specs.declared.words.words.Analyse.{Analyse}
+use Rattle.mc_app.specs.declared.words.words.Check.{Check}
+use Rattle.mc_app.specs.declared.words.words.Request.{Request}
+use Rattle.mc_app.specs.declared.words.words.Request.TheVariants as request
+use Rattle.mc_app.specs.declared.words.words.Run.{Run}
+use Rattle.mc_app.specs.Words.Commands.{analyse_app, check_app}
+use Rattle.mc_app.specs.Words.Words.{Asks, AsksAnalyse, AsksCheck, AsksRun, Reads}
 use Rattle.mc_outside.specs.Outside.{WhereTold}
-use Rattle.mc_analysis.specs.declared.analysis.Analysis.TheVariants as analysis
-use Rattle.mc_analysis.specs.declared.analysis.Findings.{Findings}
-use Rattle.mc_inputs.specs.Inputs.{Holds}
-use Rattle.mc_inputs.specs.declared.reading.Sources.{Sources}
-use Rattle.mc_inputs.specs.declared.refusal.Refusal.TheVariants as refusals
-use Rattle.mc_judge.specs.declared.verdict.Verdict.TheVariants.{Safe, Alarms, Refused as Mistaken}
+use Rattle.mc_find.specs.declared.analysis.analysis.Analysis.TheVariants as analysis
+use Rattle.mc_find.specs.declared.analysis.analysis.Findings.{Findings}
+use Rattle.mc_load.specs.Inputs.Inputs.{Holds}
+use Rattle.mc_load.specs.declared.inputs.reading.Sources.{Sources}
+use Rattle.mc_load.specs.declared.inputs.refusal.Refusal.TheVariants as refusals
+use Rattle.mc_document.specs.declared.judge.verdict.Verdict.TheVariants.{Safe, Alarms, Refused as Mistaken}
 use Rattle.mc_app.specs.declared.analysing.Analysed.TheVariants as results
 use Rattle.mc_app.specs.declared.answer.Answer.{Answer}
 use Rattle.mc_app.specs.declared.answer.Answer.TheVariants.{Words, Refused, Checked, Ran, Analysed}

@@ -1,18 +1,18 @@
 -- What a judge has heard of a file.
 use Rattle.std.proofs.Common.{◌≡◌, ◌≤◌, ◌++◌, ◌+◌, ℕ, zero, suc, Bool, List, [], ◌∷◌, length, refl, ap, arith, take, drop, subst, sym, ap₂, ◌∙◌}
 use Rattle.std.proofs.Math.Seq.{take-add}
-use Rattle.mc_cert.specs.Lines.{lines_of}
-use Rattle.mc_defs.specs.declared.rules.Def.{Def}
+use Rattle.mc_lines.specs.Cert.Lines.{lines_of}
+use Rattle.mc_flow.specs.declared.defs.rules.Def.{Def}
 use Rattle.mc_flow.specs.declared.graph.Flow.{Flow}
-use Rattle.mc_judge.specs.declared.judge.Judge.{Judge}
+use Rattle.mc_document.specs.declared.judge.judge.Judge.{Judge}
 use Rattle.mc_flow.specs.Valid.{IsValid}
-use Rattle.mc_judge.specs.declared.verdict.Verdict.{Verdict}
-use Rattle.mc_judge.specs.declared.verdict.Verdict.TheVariants.{Safe, Alarms, Refused}
-use Rattle.mc_judge.specs.Stages.{HasHeard, Hears, StaysFor}
-use Rattle.mc_judge.specs.Verdicts.{IsVerdict, Tells}
+use Rattle.mc_document.specs.declared.judge.verdict.Verdict.{Verdict}
+use Rattle.mc_document.specs.declared.judge.verdict.Verdict.TheVariants.{Safe, Alarms, Refused}
+use Rattle.mc_document.specs.Judge.Stages.{HasHeard, Hears, StaysFor}
+use Rattle.mc_document.specs.Judge.Verdicts.{IsVerdict, Tells}
 use Rattle.mc_kernel.specs.Certificates.{CertificateIsSafe, LastPassFindsFaults}
 use Rattle.mc_kernel.specs.Judges.{Knowledge}
-use Rattle.mc_reading.specs.Documents.{IsJudge}
+use Rattle.mc_kernel.specs.Reading.Documents.{IsJudge}
 use Rattle.mc_state.specs.declared.raw_state.RawState.{RawState}
 use Rattle.mc_app.specs.Documents.{IsHeard, IsRightVerdict, MeansForRuns}
 

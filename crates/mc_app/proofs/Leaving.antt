@@ -2,7 +2,7 @@
 use Rattle.std.proofs.Common.{◌≡◌, ◌∙◌, ◌≤◌, ℕ, List, length, sym, ap, subst, arith, inl, inr}
 use Rattle.std.specs.Prelude.{IsSome, None, Option, Some, Result, Ok, Err, ⊤}
 use Rattle.std.proofs.lemmas.List.{take_all}
-use Rattle.mc_inputs.specs.Inputs.{Holds}
+use Rattle.mc_load.specs.Inputs.Inputs.{Holds}
 use Rattle.mc_outside.specs.declared.outside.FileFault.{FileFault}
 use Rattle.mc_outside.specs.declared.outside.FileFault.TheVariants.{Failed, NoMemory}
 use Rattle.mc_outside.specs.Outside.{AddsIfTold, Stays}

@@ -6,3 +6,4 @@ pub mod Printing
 pub mod Safe
 pub mod Whys
 pub mod Alike
+pub mod WordsLemmas

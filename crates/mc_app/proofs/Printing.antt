@@ -6,7 +6,7 @@ use Rattle.mc_outside.specs.declared.outside.FileFault.{FileFault}
 use Rattle.mc_outside.specs.Outside.{Adds, AddsIfTold}
 use Rattle.mc_app.specs.declared.answer.Answer.{Answer}
 use Rattle.mc_app.specs.Printing.{text_of}
-use Rattle.mc_inputs.specs.Inputs.{Holds}
+use Rattle.mc_load.specs.Inputs.Inputs.{Holds}
 use Rattle.mc_app.specs.Analyses.{IsTarget}
 use Rattle.mc_app.specs.Answers.{HoldsDocument, IsWhyWords, PrintsPart, document_of}
 

@@ -1,23 +1,23 @@
 -- A program whose flow graph is safe is safe itself.
 use Rattle.std.proofs.Common.{◌≡◌, ◌∙◌, ◌&&◌, ℕ, Bool, true, false, List, [], ◌∷◌, Some, refl, subst, sym}
 use Rattle.std.specs.List.{find, list_any}
-use Rattle.mc_ast.specs.Names.{is_same}
-use Rattle.mc_ast.specs.Trees.{FunctionTree, UnitTree}
-use Rattle.mc_defs.specs.declared.rules.Def.{Def}
+use Rattle.mc_c_syntax.specs.Ast.Names.{is_same}
+use Rattle.mc_c_syntax.specs.Ast.Trees.{FunctionTree, UnitTree}
+use Rattle.mc_flow.specs.declared.defs.rules.Def.{Def}
 use Rattle.mc_flow.specs.declared.graph.Flow.{Flow}
 use Rattle.mc_flow.specs.Steps.{IsSafeFlow}
-use Rattle.mc_lowering.specs.Graphs.{Graph}
-use Rattle.mc_lowering.specs.Lowering.{IsLowering}
-use Rattle.mc_meaning.specs.Steps.{IsSafeProgram, program_of}
-use Rattle.mc_places.specs.Places.{AreAscending, AreDistinct, HasDistinctPlaces, declared_places}
-use Rattle.mc_read.specs.Programs.{IsReadAs}
-use Rattle.mc_resolved.specs.Programs.{Function}
-use Rattle.mc_resolved.specs.Resolving.{resolved_program}
-use Rattle.mc_text.specs.declared.place.Place.{Place}
-use Rattle.mc_types.specs.Tables.{called_function, is_defined, tables_of}
-use Rattle.mc_types.specs.Typing.{IsWellTyped, is_entry}
-use Rattle.mc_inputs.specs.Texts.{IsWellFormed}
-use Rattle.mc_lowered.specs.Graphs.{IsGraphOf}
+use Rattle.mc_lower_spec.specs.Graphs.{Graph}
+use Rattle.mc_lower_spec.specs.Lowering.{IsLowering}
+use Rattle.mc_semantics.specs.Steps.{IsSafeProgram, program_of}
+use Rattle.mc_c_grammar.specs.Places.Places.{AreAscending, AreDistinct, HasDistinctPlaces, declared_places}
+use Rattle.mc_load.specs.Read.Programs.{IsReadAs}
+use Rattle.mc_semantics.specs.Resolved.Programs.{Function}
+use Rattle.mc_semantics.specs.Resolved.Resolving.{resolved_program}
+use Rattle.mc_base.specs.declared.text.place.Place.{Place}
+use Rattle.mc_c_types.specs.Tables.{called_function, is_defined, tables_of}
+use Rattle.mc_c_types.specs.Typing.{IsWellTyped, is_entry}
+use Rattle.mc_load.specs.Inputs.Texts.{IsWellFormed}
+use Rattle.mc_load.specs.Lowered.Graphs.{IsGraphOf}
 use Rattle.mc_app.specs.Checks.{IsSafeUnit}
 
 -- texts that are read declare variables at different places

@@ -1,12 +1,12 @@
 -- Causes, from those of the parts.
 use Rattle.std.proofs.Common.{◌≡◌, ◌∙◌, List, subst}
 use Rattle.std.specs.Prelude.{None, IfOk, MatchOption, MatchResult, Some, Option, Result, Ok, Err}
-use Rattle.mc_ast.specs.Trees.{UnitTree}
-use Rattle.mc_defs.specs.declared.rules.Def.{Def}
-use Rattle.mc_inputs.specs.Inputs.{Holds}
+use Rattle.mc_c_syntax.specs.Ast.Trees.{UnitTree}
+use Rattle.mc_flow.specs.declared.defs.rules.Def.{Def}
+use Rattle.mc_load.specs.Inputs.Inputs.{Holds}
 use Rattle.mc_outside.specs.Outside.{Stays}
-use Rattle.mc_words.specs.declared.words.Check.{Check}
-use Rattle.mc_words.specs.declared.words.Run.{Run}
+use Rattle.mc_app.specs.declared.words.words.Check.{Check}
+use Rattle.mc_app.specs.declared.words.words.Run.{Run}
 use Rattle.mc_app.specs.declared.checking.Checked.{Checked}
 use Rattle.mc_app.specs.declared.checking.Checked.TheVariants.{TooLong, Judged}
 use Rattle.mc_app.specs.declared.running.Ran.{Ran}

@@ -1,9 +1,9 @@
 -- The document that an analysis has left, where it is checked.
 use Rattle.std.specs.Prelude.{◌≡◌, ◌⊎◌, List, Some, ℕ}
-use Rattle.mc_inputs.specs.Inputs.{Holds}
-use Rattle.mc_words.specs.declared.words.Analyse.{Analyse}
-use Rattle.mc_words.specs.declared.words.Check.{Check}
-use Rattle.mc_words.specs.Words.{AsksAnalyse, AsksCheck}
+use Rattle.mc_load.specs.Inputs.Inputs.{Holds}
+use Rattle.mc_app.specs.declared.words.words.Analyse.{Analyse}
+use Rattle.mc_app.specs.declared.words.words.Check.{Check}
+use Rattle.mc_app.specs.Words.Words.{AsksAnalyse, AsksCheck}
 use Rattle.mc_app.specs.Answers.{IsWhyWords, document_of, status_of}
 use Rattle.mc_app.specs.declared.answer.Answer.{Answer}
 use Rattle.mc_app.specs.declared.answer.Status.{Status}

@@ -1,12 +1,12 @@
 -- Why the analysis of a program comes to what it does, and where its document goes.
 use Rattle.std.specs.Prelude.{◌≡◌, ◌≤◌, ℕ, List, Some, length, option_map}
-use Rattle.mc_ast.specs.Trees.{UnitTree}
-use Rattle.mc_analysis.specs.Findings.{IsAnalysis}
-use Rattle.mc_defs.specs.declared.rules.Def.{Def}
+use Rattle.mc_c_syntax.specs.Ast.Trees.{UnitTree}
+use Rattle.mc_find.specs.Analysis.Findings.{IsAnalysis}
+use Rattle.mc_flow.specs.declared.defs.rules.Def.{Def}
 use Rattle.mc_flow.specs.declared.graph.Flow.{Flow}
-use Rattle.mc_words.specs.declared.words.Analyse.{Analyse}
-use Rattle.mc_words.specs.Words.{AsksAnalyse}
-use Rattle.mc_lowered.specs.Graphs.{AreLong, IsGraphOf}
+use Rattle.mc_app.specs.declared.words.words.Analyse.{Analyse}
+use Rattle.mc_app.specs.Words.Words.{AsksAnalyse}
+use Rattle.mc_load.specs.Lowered.Graphs.{AreLong, IsGraphOf}
 use Rattle.mc_app.specs.declared.analysing.Analysed.{Analysed}
 use Rattle.mc_app.specs.declared.analysing.Analysed.TheVariants.{TooLong, Found}
 

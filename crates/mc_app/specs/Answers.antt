@@ -1,23 +1,23 @@
 -- Why a call of the program ends as it does.
 use Rattle.std.specs.Prelude.{◌≡◌, ◌++◌, ◌⊎◌, ◌↔◌, ℕ, List, Option, None, Some, Result, Ok, Err, option_map, take, ⊤}
-use Rattle.mc_ast.specs.Trees.{UnitTree}
-use Rattle.mc_defs.specs.declared.rules.Def.{Def}
-use Rattle.mc_inputs.specs.Inputs.{AreInputs, Holds, IsRefused}
-use Rattle.mc_inputs.specs.declared.reading.Sources.{Sources}
-use Rattle.mc_inputs.specs.declared.refusal.Refusal.{Refusal}
-use Rattle.mc_inputs.specs.declared.refusal.Refusal.TheVariants as refusals
-use Rattle.mc_interpret.specs.declared.ending.Ending.TheVariants as ending
-use Rattle.mc_judge.specs.declared.verdict.Verdict.TheVariants.{Safe, Alarms, Refused as Mistaken}
+use Rattle.mc_c_syntax.specs.Ast.Trees.{UnitTree}
+use Rattle.mc_flow.specs.declared.defs.rules.Def.{Def}
+use Rattle.mc_load.specs.Inputs.Inputs.{AreInputs, Holds, IsRefused}
+use Rattle.mc_load.specs.declared.inputs.reading.Sources.{Sources}
+use Rattle.mc_load.specs.declared.inputs.refusal.Refusal.{Refusal}
+use Rattle.mc_load.specs.declared.inputs.refusal.Refusal.TheVariants as refusals
+use Rattle.mc_run.specs.declared.interpret.ending.Ending.TheVariants as ending
+use Rattle.mc_document.specs.declared.judge.verdict.Verdict.TheVariants.{Safe, Alarms, Refused as Mistaken}
 use Rattle.mc_outside.specs.declared.outside.FileFault.{FileFault}
 use Rattle.mc_outside.specs.Outside.{WhereTold, AddsIfTold, OthersStay, Stays}
-use Rattle.mc_analysis.specs.declared.analysis.Analysis.TheVariants as analysis
-use Rattle.mc_words.specs.declared.words.Analyse.{Analyse}
-use Rattle.mc_words.specs.declared.words.Check.{Check}
-use Rattle.mc_words.specs.declared.words.Request.{Request}
-use Rattle.mc_words.specs.declared.words.Request.TheVariants as request
-use Rattle.mc_words.specs.declared.words.Run.{Run}
-use Rattle.mc_words.specs.Words.{Asks, AsksAnalyse, AsksCheck, AsksRun}
-use Rattle.mc_saving.specs.Saving.{IsFront, WhereAnyTold}
+use Rattle.mc_find.specs.declared.analysis.analysis.Analysis.TheVariants as analysis
+use Rattle.mc_app.specs.declared.words.words.Analyse.{Analyse}
+use Rattle.mc_app.specs.declared.words.words.Check.{Check}
+use Rattle.mc_app.specs.declared.words.words.Request.{Request}
+use Rattle.mc_app.specs.declared.words.words.Request.TheVariants as request
+use Rattle.mc_app.specs.declared.words.words.Run.{Run}
+use Rattle.mc_app.specs.Words.Words.{Asks, AsksAnalyse, AsksCheck, AsksRun}
+use Rattle.mc_outside.specs.Saving.Saving.{IsFront, WhereAnyTold}
 use Rattle.mc_app.specs.Analyses.{IsTarget, IsWhyAnalysed}
 use Rattle.mc_app.specs.Checks.{IsSafeWhereTold, IsWhyChecked}
 use Rattle.mc_app.specs.Printing.{text_of}

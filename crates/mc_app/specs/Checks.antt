@@ -1,17 +1,17 @@
 -- Why a check of a document comes to what it does, and what it means where all is well.
 use Rattle.std.specs.Prelude.{◌≡◌, ◌≤◌, ℕ, List, Some, length}
-use Rattle.mc_ast.specs.Trees.{FunctionTree, UnitTree}
-use Rattle.mc_types.specs.Tables.{called_function, tables_of}
-use Rattle.mc_defs.specs.declared.rules.Def.{Def}
+use Rattle.mc_c_syntax.specs.Ast.Trees.{FunctionTree, UnitTree}
+use Rattle.mc_c_types.specs.Tables.{called_function, tables_of}
+use Rattle.mc_flow.specs.declared.defs.rules.Def.{Def}
 use Rattle.mc_flow.specs.declared.graph.Flow.{Flow}
-use Rattle.mc_inputs.specs.Inputs.{Holds}
-use Rattle.mc_inputs.specs.declared.reading.Sources.{Sources}
-use Rattle.mc_inputs.specs.Texts.{AreDefinitions, IsProgramHere}
-use Rattle.mc_judge.specs.declared.verdict.Verdict.{Verdict}
-use Rattle.mc_lowered.specs.Graphs.{AreLong, IsGraphOf}
-use Rattle.mc_meaning.specs.Steps.{IsSafeProgram, program_of}
+use Rattle.mc_load.specs.Inputs.Inputs.{Holds}
+use Rattle.mc_load.specs.declared.inputs.reading.Sources.{Sources}
+use Rattle.mc_load.specs.Inputs.Texts.{AreDefinitions, IsProgramHere}
+use Rattle.mc_document.specs.declared.judge.verdict.Verdict.{Verdict}
+use Rattle.mc_load.specs.Lowered.Graphs.{AreLong, IsGraphOf}
+use Rattle.mc_semantics.specs.Steps.{IsSafeProgram, program_of}
 use Rattle.mc_outside.specs.Outside.{WhereTold}
-use Rattle.mc_words.specs.declared.words.Check.{Check}
+use Rattle.mc_app.specs.declared.words.words.Check.{Check}
 use Rattle.mc_app.specs.declared.checking.Checked.{Checked}
 use Rattle.mc_app.specs.declared.checking.Checked.TheVariants.{TooLong, Judged}
 use Rattle.mc_app.specs.Documents.{IsVerdictOn}

@@ -1,18 +1,18 @@
 -- What a document is for a flow graph, and what a judge has heard of it.
 use Rattle.std.specs.Prelude.{◌≡◌, ℕ, Bool, List, length}
-use Rattle.mc_cert.specs.Lines.{lines_of}
-use Rattle.mc_defs.specs.declared.rules.Def.{Def}
+use Rattle.mc_lines.specs.Cert.Lines.{lines_of}
+use Rattle.mc_flow.specs.declared.defs.rules.Def.{Def}
 use Rattle.mc_flow.specs.declared.graph.Flow.{Flow}
 use Rattle.mc_flow.specs.Steps.{IsSafeFlow}
-use Rattle.mc_judge.specs.declared.judge.Judge.{Judge}
-use Rattle.mc_judge.specs.declared.verdict.Verdict.{Verdict}
-use Rattle.mc_judge.specs.declared.verdict.Verdict.TheVariants.{Safe, Alarms, Refused}
-use Rattle.mc_judge.specs.Stages.{HasHeard}
-use Rattle.mc_judge.specs.Verdicts.{IsVerdict, Tells}
+use Rattle.mc_document.specs.declared.judge.judge.Judge.{Judge}
+use Rattle.mc_document.specs.declared.judge.verdict.Verdict.{Verdict}
+use Rattle.mc_document.specs.declared.judge.verdict.Verdict.TheVariants.{Safe, Alarms, Refused}
+use Rattle.mc_document.specs.Judge.Stages.{HasHeard}
+use Rattle.mc_document.specs.Judge.Verdicts.{IsVerdict, Tells}
 use Rattle.mc_kernel.specs.Branches.{Path}
 use Rattle.mc_kernel.specs.Certificates.{FaultsOnlyStuck}
 use Rattle.mc_kernel.specs.Judges.{Knowledge}
-use Rattle.mc_reading.specs.Documents.{IsJudge}
+use Rattle.mc_kernel.specs.Reading.Documents.{IsJudge}
 use Rattle.mc_state.specs.declared.raw_state.RawState.{RawState}
 
 -- by whatever judges rightly, this is the verdict on the document

@@ -3,17 +3,17 @@ use Rattle.std.specs.Prelude.{ℕ, List, ◌++◌, codes}
 use Rattle.std.specs.Fmt.{decimal}
 use Rattle.mc_base.specs.declared.plain.FaultKind.{FaultKind}
 use Rattle.mc_base.specs.declared.plain.FaultKind.TheVariants as kind
-use Rattle.mc_cert.specs.declared.fault.LineFault.{LineFault}
-use Rattle.mc_cert.specs.declared.fault.LineFault.TheVariants as line_fault
-use Rattle.mc_inputs.specs.Printing.{refusal_text}
-use Rattle.mc_interpret.specs.declared.ending.Ending.{Ending}
-use Rattle.mc_interpret.specs.declared.ending.Ending.TheVariants as ending
-use Rattle.mc_judge.specs.declared.verdict.Refusal.{Refusal as Mistake}
-use Rattle.mc_judge.specs.declared.verdict.Refusal.TheVariants as mistake
-use Rattle.mc_judge.specs.declared.verdict.Verdict.{Verdict}
-use Rattle.mc_judge.specs.declared.verdict.Verdict.TheVariants as verdict
-use Rattle.mc_read.specs.Printing.{place_text}
-use Rattle.mc_analysis.specs.declared.analysis.Analysis.TheVariants as analysis
+use Rattle.mc_lines.specs.declared.cert.fault.LineFault.{LineFault}
+use Rattle.mc_lines.specs.declared.cert.fault.LineFault.TheVariants as line_fault
+use Rattle.mc_load.specs.Inputs.Printing.{refusal_text}
+use Rattle.mc_run.specs.declared.interpret.ending.Ending.{Ending}
+use Rattle.mc_run.specs.declared.interpret.ending.Ending.TheVariants as ending
+use Rattle.mc_document.specs.declared.judge.verdict.Refusal.{Refusal as Mistake}
+use Rattle.mc_document.specs.declared.judge.verdict.Refusal.TheVariants as mistake
+use Rattle.mc_document.specs.declared.judge.verdict.Verdict.{Verdict}
+use Rattle.mc_document.specs.declared.judge.verdict.Verdict.TheVariants as verdict
+use Rattle.mc_load.specs.Read.Printing.{place_text}
+use Rattle.mc_find.specs.declared.analysis.analysis.Analysis.TheVariants as analysis
 use Rattle.mc_app.specs.declared.analysing.Analysed.{Analysed as Results}
 use Rattle.mc_app.specs.declared.analysing.Analysed.TheVariants as results
 use Rattle.mc_app.specs.declared.answer.Answer.{Answer}

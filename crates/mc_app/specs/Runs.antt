@@ -1,12 +1,12 @@
 -- Why the run of a program comes to what it does.
 use Rattle.std.specs.Prelude.{◌≤◌, ◌<◌, ◌^◌, List, length}
-use Rattle.mc_ast.specs.Trees.{UnitTree}
-use Rattle.mc_cert.specs.Lines.{lines_of}
-use Rattle.mc_defs.specs.declared.rules.Def.{Def}
-use Rattle.mc_inputs.specs.Inputs.{Holds}
-use Rattle.mc_interpret.specs.Programs.{ProgramRuns}
+use Rattle.mc_c_syntax.specs.Ast.Trees.{UnitTree}
+use Rattle.mc_lines.specs.Cert.Lines.{lines_of}
+use Rattle.mc_flow.specs.declared.defs.rules.Def.{Def}
+use Rattle.mc_load.specs.Inputs.Inputs.{Holds}
+use Rattle.mc_run.specs.Interpret.Programs.{ProgramRuns}
 use Rattle.mc_outside.specs.Outside.{WhereTold}
-use Rattle.mc_words.specs.declared.words.Run.{Run}
+use Rattle.mc_app.specs.declared.words.words.Run.{Run}
 use Rattle.mc_app.specs.declared.running.Ran.{Ran}
 use Rattle.mc_app.specs.declared.running.Ran.TheVariants.{TooBig, To}
 

@@ -1,27 +1,27 @@
 // Analyses a program.
 ghost use Rattle.std.specs.Prelude.{◌≡◌, List, IfOk, ℕ};
-ghost use Rattle.mc_analysis.specs.declared.analysis.Findings.{Findings};
-ghost use Rattle.mc_analysis.specs.declared.analysis.Analysis.TheVariants.{Safe};
-ghost use Rattle.mc_ast.specs.Views.{unit_of};
-ghost use Rattle.mc_inputs.specs.Texts.{IsWellFormed};
+ghost use Rattle.mc_find.specs.declared.analysis.analysis.Findings.{Findings};
+ghost use Rattle.mc_find.specs.declared.analysis.analysis.Analysis.TheVariants.{Safe};
+ghost use Rattle.mc_c_syntax.specs.Ast.Views.{unit_of};
+ghost use Rattle.mc_load.specs.Inputs.Texts.{IsWellFormed};
 ghost use Rattle.mc_outside.specs.Outside.{HasCause, Stays};
-ghost use Rattle.mc_words.specs.declared.words.Request.TheVariants as Meant;
-ghost use Rattle.mc_words.specs.Words.{AsksAnalyse};
+ghost use Rattle.mc_app.specs.declared.words.words.Request.TheVariants as Meant;
+ghost use Rattle.mc_app.specs.Words.Words.{AsksAnalyse};
 ghost use Rattle.mc_app.specs.Analyses.{IsWhyAnalysed};
 ghost use Rattle.mc_app.specs.Answers.{IsWhyWords, sources_of};
 ghost use Rattle.mc_app.specs.Checks.{IsSafeUnit, IsSafeWhereTold};
 
 use crate::Answer;
-use mc_analysis::{Analysis, analyse};
-use mc_inputs::{Sources, read};
+use crate::words::Analyse;
+use mc_c_check::Bound;
+use mc_c_grammar::places::ascending_places_differ;
+use mc_find::analysis::{Analysis, analyse};
 use mc_kernel::certificates_are_safe;
-use mc_lowered::graph;
+use mc_load::inputs::{Sources, read};
+use mc_load::lowered::graph;
+use mc_load::read::programs_have_distinct_places;
+use mc_lower_laws::scoped::safe_flow_graphs_mean_safe_trees;
 use mc_outside::{FileFault, Files};
-use mc_places::ascending_places_differ;
-use mc_read::programs_have_distinct_places;
-use mc_scoped::safe_flow_graphs_mean_safe_trees;
-use mc_typed::Bound;
-use mc_words::Analyse;
 use std::alloc::{AllocError, Global};
 
 /// What the analysis of a program comes to, where the program and its definitions fit.

@@ -5,7 +5,7 @@ ghost use Rattle.mc_app.specs.Printing.{analysed_text};
 
 use crate::Status;
 use crate::analysing::Analysed;
-use mc_analysis::Analysis;
+use mc_find::analysis::Analysis;
 use std::alloc::AllocError;
 
 impl Analysed {

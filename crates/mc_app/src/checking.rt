@@ -1,24 +1,24 @@
 // Checks a document.
 ghost use Rattle.std.specs.Prelude.{◌≡◌, List, IfOk, ℕ};
-ghost use Rattle.mc_ast.specs.Views.{unit_of};
-ghost use Rattle.mc_inputs.specs.Texts.{IsWellFormed};
+ghost use Rattle.mc_c_syntax.specs.Ast.Views.{unit_of};
+ghost use Rattle.mc_load.specs.Inputs.Texts.{IsWellFormed};
 ghost use Rattle.mc_outside.specs.Outside.{HasCause, Stays};
-ghost use Rattle.mc_words.specs.Words.{AsksCheck};
-ghost use Rattle.mc_words.specs.declared.words.Request.TheVariants as Meant;
+ghost use Rattle.mc_app.specs.Words.Words.{AsksCheck};
+ghost use Rattle.mc_app.specs.declared.words.words.Request.TheVariants as Meant;
 ghost use Rattle.mc_app.specs.Answers.{IsWhyWords, sources_of};
 ghost use Rattle.mc_app.specs.Checks.{IsSafeUnit, IsSafeWhereTold, IsWhyChecked};
 
 use crate::Answer;
 use crate::documents::verdict_in;
-use mc_inputs::{Sources, read};
-use mc_judge::Verdict;
-use mc_lowered::graph;
+use crate::words::Check;
+use mc_c_check::Bound;
+use mc_c_grammar::places::ascending_places_differ;
+use mc_document::judge::Verdict;
+use mc_load::inputs::{Sources, read};
+use mc_load::lowered::graph;
+use mc_load::read::programs_have_distinct_places;
+use mc_lower_laws::scoped::safe_flow_graphs_mean_safe_trees;
 use mc_outside::{FileFault, Files};
-use mc_places::ascending_places_differ;
-use mc_read::programs_have_distinct_places;
-use mc_scoped::safe_flow_graphs_mean_safe_trees;
-use mc_typed::Bound;
-use mc_words::Check;
 use std::alloc::Global;
 
 /// What the check of a document comes to, where the program and its definitions fit.

@@ -2,15 +2,15 @@
 ghost use Rattle.std.specs.Prelude.{◌≡◌, ◌≤◌, ◌<◌, ◌-◌, ◌+◌, [], ℕ, List, length, take, drop, IfOk, OnOk};
 ghost use Rattle.mc_flow.specs.Steps.{IsSafeFlow};
 ghost use Rattle.mc_flow.specs.Valid.{IsValid};
-ghost use Rattle.mc_judge.specs.Stages.{Hears, StaysFor};
+ghost use Rattle.mc_document.specs.Judge.Stages.{Hears, StaysFor};
 ghost use Rattle.mc_outside.specs.Outside.{HasCause, Stays, WhereTold};
 ghost use Rattle.mc_app.specs.Documents.{IsHeard, IsVerdictOn};
 
+use mc_document::judge::{Judge, Verdict};
 use mc_flow::{Defs, Flow};
-use mc_inputs::{PIECE, buffer};
-use mc_judge::{Judge, Verdict};
-use mc_judges::judges_are_there;
+use mc_kernel::oracle::judges_are_there;
 use mc_kernel::{certificates_are_safe, last_pass_finds_faults};
+use mc_load::inputs::{PIECE, buffer};
 use mc_outside::{FileFault, Files};
 use std::alloc::Global;
 

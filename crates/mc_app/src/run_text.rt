@@ -1,14 +1,14 @@
 // What is printed of runs.
 ghost use Rattle.std.specs.Fmt.{decimal};
 ghost use Rattle.std.specs.Prelude.{◌≡◌, ◌++◌, OnOk, codes};
-ghost use Rattle.mc_read.specs.Printing.{place_text};
+ghost use Rattle.mc_load.specs.Read.Printing.{place_text};
 ghost use Rattle.mc_app.specs.Printing.{ending_text, kind_text, ran_text};
 
 use crate::running::Ran;
 use crate::verdict_text::print_number;
 use mc_base::FaultKind;
-use mc_interpret::Ending;
-use mc_text::Place;
+use mc_base::text::Place;
+use mc_run::interpret::Ending;
 use std::alloc::{AllocError, Global};
 
 fn print_kind(out: &mut Vec<u8>, kind: FaultKind) -> Result<(), AllocError>

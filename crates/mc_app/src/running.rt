@@ -1,17 +1,17 @@
 // Runs a program on a script.
 ghost use Rattle.std.specs.Prelude.{◌≡◌, List, IfOk, ℕ};
-ghost use Rattle.mc_ast.specs.Views.{unit_of};
+ghost use Rattle.mc_c_syntax.specs.Ast.Views.{unit_of};
 ghost use Rattle.mc_outside.specs.Outside.{HasCause, Stays};
-ghost use Rattle.mc_words.specs.Words.{AsksRun};
+ghost use Rattle.mc_app.specs.Words.Words.{AsksRun};
 ghost use Rattle.mc_app.specs.Answers.{IsWhyWords};
 ghost use Rattle.mc_app.specs.Runs.{IsWhyRan};
 
 use crate::Answer;
-use mc_inputs::{Sources, read, text};
-use mc_interpret::{Ending, interpret};
+use crate::words::Run;
+use mc_c_check::Bound;
+use mc_load::inputs::{Sources, read, text};
 use mc_outside::{FileFault, Files};
-use mc_typed::Bound;
-use mc_words::Run;
+use mc_run::interpret::{Ending, interpret};
 use std::alloc::Global;
 
 // How many bytes a script may have.

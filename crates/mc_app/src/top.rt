@@ -1,6 +1,6 @@
 // The top call.
 ghost use Rattle.std.specs.Prelude.{◌≡◌, ◌<◌, ◌⊎◌, ℕ, List, IfOk, Some, map, option_map, string_bytes};
-ghost use Rattle.mc_words.specs.Words.{Asks};
+ghost use Rattle.mc_app.specs.Words.Words.{Asks};
 ghost use Rattle.mc_outside.specs.Outside.{HasCause, Stays, Rose, AddsIfTold};
 ghost use Rattle.mc_app.specs.Printing.{text_of};
 ghost use Rattle.mc_app.specs.Answers.{AsksForSafety, EndsWith, HasTarget, IsSafeForWords, IsWhyWords, Keeps, OnlyTargetChanges, PrintsPart, TargetHoldsPart, document_of, sources_of, status_of, target_of};
@@ -10,10 +10,10 @@ ghost use Rattle.mc_app.specs.Faults.{fault_status};
 use crate::analysing::answer_analysis;
 use crate::checking::answer_check;
 use crate::running::answer_run;
+use crate::words::{Request, asked};
 use crate::{Answer, Status};
+use mc_outside::saving::save;
 use mc_outside::{FileFault, Files, Sink};
-use mc_saving::save;
-use mc_words::{Request, asked};
 use std::alloc::Global;
 
 // An answer, and the file that its document goes into.

@@ -4,8 +4,8 @@ ghost use Rattle.std.specs.Prelude.{◌≡◌, ◌++◌, OnOk, codes};
 ghost use Rattle.mc_app.specs.Printing.{checked_text, line_text, line_fault_text, mistake_text, verdict_text};
 
 use crate::checking::Checked;
-use mc_cert::LineFault;
-use mc_judge::{Refusal, Verdict};
+use mc_document::judge::{Refusal, Verdict};
+use mc_lines::cert::LineFault;
 use std::alloc::{AllocError, Global};
 
 /// A number in decimal digits.

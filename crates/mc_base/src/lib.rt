@@ -1,9 +1,15 @@
-//! What every other crate speaks of: typed numbers, kinds and atoms, and short lists.
+//! What every other crate speaks of: numbers with types, kinds and atoms, short lists; in modules of their own texts
+//! and places, stacks, and ranges of whole numbers.
+//!
+//! Stands on nothing of this repository; called by every crate but `mc_outside`.
 #![tactic(auto)]
 
 mod ids;
 mod items;
 mod plain;
+pub mod ranges;
+pub mod stack;
+pub mod text;
 
 pub use ids::{EdgeId, NodeId, PointId, PredId, StructId, VarId};
 pub use items::{Args, Items};

@@ -7,11 +7,11 @@ use Rattle.mc_base.specs.declared.ids.EdgeId.{EdgeId}
 use Rattle.mc_base.specs.declared.ids.NodeId.{NodeId}
 use Rattle.mc_base.specs.declared.ids.PredId.{PredId}
 use Rattle.mc_base.specs.declared.ids.StructId.{StructId}
-use Rattle.mc_defs.specs.declared.rules.Call.{Call}
-use Rattle.mc_defs.specs.declared.rules.Def.{Def}
-use Rattle.mc_defs.specs.Conditions.{IsDefs}
-use Rattle.mc_graph.specs.declared.edge.Edge.TheVariants.{Block, Ind, Seg}
-use Rattle.mc_graph.specs.Graph.{Edges, edge_with, IdsAscend}
+use Rattle.mc_flow.specs.declared.defs.rules.Call.{Call}
+use Rattle.mc_flow.specs.declared.defs.rules.Def.{Def}
+use Rattle.mc_flow.specs.Defs.Conditions.{IsDefs}
+use Rattle.mc_state.specs.declared.graph.edge.Edge.TheVariants.{Block, Ind, Seg}
+use Rattle.mc_state.specs.Graph.Graph.{Edges, edge_with, IdsAscend}
 use Rattle.mc_state.specs.declared.terms.Term.{Term}
 use Rattle.mc_state.specs.Covers.{Fixes, BlockIsTaken, RuleTerms, CallsAreFound, CallsAreFoundAt, IsByInd, IsBySeg, CoverAt, Cover, EndsThere, SegCoverAt, SegCover}
 use Rattle.mc_state.specs.State.{State}
@@ -19,10 +19,10 @@ use Rattle.mc_state.specs.Terms.{plain, term_of}
 use Rattle.mc_state.specs.Known.{Test, Tells}
 use Rattle.mc_state.specs.Lists.{on_some}
 use Rattle.mc_state.proofs.Tests.{and_yes}
-use Rattle.mc_search.specs.Search.{is_free, first_try}
-use Rattle.mc_search.specs.Met.{IsIn}
-use Rattle.mc_search.proofs.Firsts.{none_on}
-use Rattle.mc_search.proofs.Tries.{LeadsOn, on_by_mark, on_none, on_both}
+use Rattle.mc_shape_search.specs.Search.Search.{is_free, first_try}
+use Rattle.mc_shape_search.specs.Search.Met.{IsIn}
+use Rattle.mc_shape_search.proofs.SearchLemmas.Firsts.{none_on}
+use Rattle.mc_shape_search.proofs.SearchLemmas.Tries.{LeadsOn, on_by_mark, on_none, on_both}
 use Rattle.mc_cover.specs.Goals.{Stop, Goal, Mark, AtEnd, ByInd, BySeg, ByRule, ByCall, Setting, is_ind, is_seg, behind_seg, whole_block, contents_by}
 use Rattle.mc_cover.specs.Marks.{ends_here, names_at, def_at, rule_at, has_call, fits, goal_of, goals_to, calls_of_rule, calls_of_rule_to, calls_of, edge_of, takes, ids_of, marks, space}
 use Rattle.mc_cover.specs.First.{all_calls, Choice, choice_of, limit, first_for, first_cover, first_seg_cover}

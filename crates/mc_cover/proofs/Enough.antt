@@ -1,11 +1,11 @@
 -- More marks than suffice change nothing, and what is first depends on the marks that apply alone.
 use Rattle.std.proofs.Common.{◌≡◌, ℕ, zero, suc, ◌+◌, ◌*◌, ◌≤◌, List, [], ◌∷◌, ◌++◌, inl, inr, Bool, true, false, Option, Some, None, length, refl, sym, ◌∙◌, ap, arith}
 use Rattle.std.specs.List.{flat_map, filter}
-use Rattle.mc_search.specs.Search.{Space, tries, options, applies, ended, first, first_try}
-use Rattle.mc_search.specs.Met.{IsIn, Leads, AllLeaveFew}
-use Rattle.mc_search.proofs.Bound.{bound}
-use Rattle.mc_search.proofs.Members.{from_filter, in_append, in_left, in_right}
-use Rattle.mc_search.proofs.Tries.{leads_by_try, try_by_leads, leads_longer, length_more}
+use Rattle.mc_shape_search.specs.Search.Search.{Space, tries, options, applies, ended, first, first_try}
+use Rattle.mc_shape_search.specs.Search.Met.{IsIn, Leads, AllLeaveFew}
+use Rattle.mc_shape_search.proofs.SearchLemmas.Bound.{bound}
+use Rattle.mc_shape_search.proofs.SearchLemmas.Members.{from_filter, in_append, in_left, in_right}
+use Rattle.mc_shape_search.proofs.SearchLemmas.Tries.{leads_by_try, try_by_leads, leads_longer, length_more}
 
 -- the first of two lists one after the other
 abbrev or_first : {X : Type 0} → Option X → Option X → Option X

@@ -3,9 +3,9 @@ use Rattle.std.proofs.Common.{◌≡◌, ◌<◌, ◌+◌, ℕ, zero, suc, true,
 use Rattle.std.specs.List.{AllByRecursion}
 use Rattle.std.proofs.lemmas.Option.{slice_get_within}
 use Rattle.mc_base.specs.declared.plain.Kind.{Kind}
-use Rattle.mc_defs.specs.declared.rules.DefAtom.{DefAtom}
-use Rattle.mc_defs.specs.declared.rules.DefAtom.TheVariants.{Eq, Ne, In}
-use Rattle.mc_defs.specs.Conditions.{AtomsFit, BaseFits}
+use Rattle.mc_flow.specs.declared.defs.rules.DefAtom.{DefAtom}
+use Rattle.mc_flow.specs.declared.defs.rules.DefAtom.TheVariants.{Eq, Ne, In}
+use Rattle.mc_flow.specs.Defs.Conditions.{AtomsFit, BaseFits}
 use Rattle.mc_state.specs.declared.terms.Term.{Term}
 use Rattle.mc_state.specs.State.{State}
 use Rattle.mc_state.specs.Covers.{Fixes}

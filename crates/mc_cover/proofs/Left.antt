@@ -2,12 +2,12 @@
 use Rattle.std.proofs.Common.{◌≡◌, ◌≤◌, ℕ, suc, Bool, true, false, not, ◌||◌, Option, Some, None, List, [], ◌∷◌, ◌++◌, refl, ap, sym, ◌∙◌, arith, eqb-true, eq-eqb, append-nil, append_assoc}
 use Rattle.std.specs.Prelude.{◌==◌, option_map, option_to_list, if◌then◌else◌}
 use Rattle.mc_base.specs.declared.ids.EdgeId.{EdgeId}
-use Rattle.mc_graph.specs.declared.edge.Edge.{Edge}
-use Rattle.mc_graph.specs.Graph.{Edges, edge_with, without, IdsAscend}
+use Rattle.mc_state.specs.declared.graph.edge.Edge.{Edge}
+use Rattle.mc_state.specs.Graph.Graph.{Edges, edge_with, without, IdsAscend}
 use Rattle.mc_state.specs.Named.{others, is_among}
 use Rattle.mc_state.proofs.Named.{kept_other, gone}
 use Rattle.mc_state.proofs.Tests.{not_no}
-use Rattle.mc_search.specs.Search.{uses, takes_this, is_unused, is_free}
+use Rattle.mc_shape_search.specs.Search.Search.{uses, takes_this, is_unused, is_free}
 use Rattle.mc_cover.specs.Goals.{Mark}
 use Rattle.mc_cover.specs.Marks.{edge_of, takes}
 use Rattle.mc_cover.specs.First.{taken}

@@ -13,3 +13,4 @@ mod Rules
 mod Guessing
 mod Enough
 mod Near
+pub mod SearchLemmas

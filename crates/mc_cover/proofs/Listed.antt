@@ -6,17 +6,17 @@ use Rattle.std.proofs.lemmas.List.{length-map}
 use Rattle.mc_base.specs.declared.ids.EdgeId.{EdgeId}
 use Rattle.mc_base.specs.declared.ids.NodeId.{NodeId}
 use Rattle.mc_base.specs.declared.ids.StructId.{StructId}
-use Rattle.mc_defs.specs.declared.rules.Call.{Call}
-use Rattle.mc_defs.specs.declared.rules.Def.{Def}
-use Rattle.mc_defs.specs.declared.rules.Rule.{Rule}
-use Rattle.mc_defs.specs.Conditions.{IsDefs, numbers_from}
-use Rattle.mc_graph.specs.declared.edge.Edge.{Edge}
-use Rattle.mc_graph.specs.Graph.{Edges, edge_with}
+use Rattle.mc_flow.specs.declared.defs.rules.Call.{Call}
+use Rattle.mc_flow.specs.declared.defs.rules.Def.{Def}
+use Rattle.mc_flow.specs.declared.defs.rules.Rule.{Rule}
+use Rattle.mc_flow.specs.Defs.Conditions.{IsDefs, numbers_from}
+use Rattle.mc_state.specs.declared.graph.edge.Edge.{Edge}
+use Rattle.mc_state.specs.Graph.Graph.{Edges, edge_with}
 use Rattle.mc_state.specs.declared.terms.Term.{Term}
 use Rattle.mc_state.specs.Lists.{on_some}
 use Rattle.mc_state.proofs.Tests.{and_both}
-use Rattle.mc_search.specs.Met.{IsIn, LeavesFew, AllLeaveFew}
-use Rattle.mc_search.proofs.Members.{in_left, in_right, in_map, in_flat_map}
+use Rattle.mc_shape_search.specs.Search.Met.{IsIn, LeavesFew, AllLeaveFew}
+use Rattle.mc_shape_search.proofs.SearchLemmas.Members.{in_left, in_right, in_map, in_flat_map}
 use Rattle.mc_cover.specs.Goals.{Stop, Goal, Mark, AtEnd, ByInd, BySeg, ByRule, ByCall, Setting, is_ind, behind_seg, whole_block, contents_by}
 use Rattle.mc_cover.specs.Marks.{Named, def_at, rule_at, has_call, goal_of, goals_to, calls_of_rule, calls_of_rule_to, ids_of, blocks_for, marks_with, marks_of_rules, rules_of, marks, space}
 use Rattle.mc_cover.specs.First.{calls_in, all_calls}

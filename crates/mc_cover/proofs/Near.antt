@@ -6,19 +6,19 @@ use Rattle.std.proofs.lemmas.List.{length-map}
 use Rattle.mc_base.specs.declared.ids.EdgeId.{EdgeId}
 use Rattle.mc_base.specs.declared.ids.NodeId.{NodeId}
 use Rattle.mc_base.specs.declared.ids.StructId.{StructId}
-use Rattle.mc_defs.specs.declared.rules.Def.{Def}
-use Rattle.mc_defs.specs.declared.rules.Rule.{Rule}
-use Rattle.mc_defs.specs.Conditions.{IsDefs, numbers_from}
-use Rattle.mc_graph.specs.declared.edge.Edge.{Edge}
-use Rattle.mc_graph.specs.declared.edge.Edge.TheVariants.{Block, Ind, Seg}
-use Rattle.mc_graph.specs.Edges.{start_of}
-use Rattle.mc_graph.specs.Graph.{Edges, edge_with, IdsAscend}
+use Rattle.mc_flow.specs.declared.defs.rules.Def.{Def}
+use Rattle.mc_flow.specs.declared.defs.rules.Rule.{Rule}
+use Rattle.mc_flow.specs.Defs.Conditions.{IsDefs, numbers_from}
+use Rattle.mc_state.specs.declared.graph.edge.Edge.{Edge}
+use Rattle.mc_state.specs.declared.graph.edge.Edge.TheVariants.{Block, Ind, Seg}
+use Rattle.mc_state.specs.Graph.Edges.{start_of}
+use Rattle.mc_state.specs.Graph.Graph.{Edges, edge_with, IdsAscend}
 use Rattle.mc_state.specs.Terms.{plain}
 use Rattle.mc_state.specs.Lists.{on_some}
 use Rattle.mc_state.proofs.Tests.{and_both}
-use Rattle.mc_search.specs.Search.{applies, is_free, options, first_try}
-use Rattle.mc_search.specs.Met.{IsIn}
-use Rattle.mc_search.proofs.Members.{filter_yes, filter_no}
+use Rattle.mc_shape_search.specs.Search.Search.{applies, is_free, options, first_try}
+use Rattle.mc_shape_search.specs.Search.Met.{IsIn}
+use Rattle.mc_shape_search.proofs.SearchLemmas.Members.{filter_yes, filter_no}
 use Rattle.mc_cover.specs.First.{all_calls, limit}
 use Rattle.mc_cover.specs.Goals.{Goal, Mark, AtEnd, ByInd, BySeg, ByRule, ByCall, Setting, is_ind, is_seg, whole_block, contents_by}
 use Rattle.mc_cover.specs.Marks.{def_at, rule_at, has_call, ids_of, blocks_for, marks_with, marks_of_rules, rules_of, marks_on, fits, takes, space}

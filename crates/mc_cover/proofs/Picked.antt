@@ -4,14 +4,14 @@ use Rattle.std.specs.Prelude.{◌==◌, is_some, option_map, option_to_list}
 use Rattle.mc_base.specs.declared.ids.EdgeId.{EdgeId}
 use Rattle.mc_base.specs.declared.ids.NodeId.{NodeId}
 use Rattle.mc_base.specs.declared.ids.StructId.{StructId}
-use Rattle.mc_graph.specs.Graph.{Edges, edge_with}
+use Rattle.mc_state.specs.Graph.Graph.{Edges, edge_with}
 use Rattle.mc_state.specs.declared.terms.Term.{Term}
 use Rattle.mc_state.specs.Lists.{on_some}
 use Rattle.mc_state.specs.Named.{others, are_there, is_among, are_distinct}
 use Rattle.mc_state.proofs.Tests.{and_both, and_yes, not_no}
-use Rattle.mc_search.specs.Search.{uses, is_free, is_unused, first_try}
-use Rattle.mc_search.specs.Met.{Leads}
-use Rattle.mc_search.proofs.Firsts.{first_leads}
+use Rattle.mc_shape_search.specs.Search.Search.{uses, is_free, is_unused, first_try}
+use Rattle.mc_shape_search.specs.Search.Met.{Leads}
+use Rattle.mc_shape_search.proofs.SearchLemmas.Firsts.{first_leads}
 use Rattle.mc_cover.specs.Goals.{Goal, Mark, AtEnd, ByInd, BySeg, ByRule, ByCall, Setting, is_ind, whole_block, contents_by}
 use Rattle.mc_cover.specs.Marks.{has_call, rule_at, fits, calls_of, edge_of, takes, space}
 use Rattle.mc_cover.specs.First.{taken, Choice, choice_of, limit, first_for}

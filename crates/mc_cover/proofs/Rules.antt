@@ -3,10 +3,10 @@ use Rattle.std.proofs.Common.{◌≡◌, ◌⊎◌, inl, inr, Bool, true, false,
 use Rattle.std.specs.Prelude.{◌==◌, ◌↔◌, if◌then◌else◌}
 use Rattle.mc_base.specs.declared.ids.NodeId.{NodeId}
 use Rattle.mc_base.specs.declared.ids.PredId.{PredId}
-use Rattle.mc_defs.specs.declared.rules.Call.{Call}
-use Rattle.mc_defs.specs.declared.rules.Def.{Def}
-use Rattle.mc_defs.specs.declared.rules.Rule.{Rule}
-use Rattle.mc_graph.specs.Graph.{Edges}
+use Rattle.mc_flow.specs.declared.defs.rules.Call.{Call}
+use Rattle.mc_flow.specs.declared.defs.rules.Def.{Def}
+use Rattle.mc_flow.specs.declared.defs.rules.Rule.{Rule}
+use Rattle.mc_state.specs.Graph.Graph.{Edges}
 use Rattle.mc_state.specs.declared.terms.Term.{Term}
 use Rattle.mc_state.specs.Guess.{Partial, given, give_all, begun, parameters_of, ByCall, ByCalls, ByRule}
 use Rattle.mc_cover.specs.Guessed.{Guesses, after_call, after_calls, settled, given_by_rule}

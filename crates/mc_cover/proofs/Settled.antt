@@ -1,8 +1,8 @@
 -- The equalities of atoms, taken again and again: they settle after as many passes as there are names, and in one way.
 use Rattle.std.proofs.Common.{◌≡◌, ◌⊎◌, ◌≤◌, ◌+◌, inl, inr, ℕ, zero, suc, pos, Option, Some, None, List, [], ◌∷◌, length, refl, ap, sym, ◌∙◌, arith}
 use Rattle.std.specs.Prelude.{◌-ℤ◌}
-use Rattle.mc_defs.specs.declared.rules.DefAtom.{DefAtom}
-use Rattle.mc_defs.specs.declared.rules.DefAtom.TheVariants.{Eq, Ne, In}
+use Rattle.mc_flow.specs.declared.defs.rules.DefAtom.{DefAtom}
+use Rattle.mc_flow.specs.declared.defs.rules.DefAtom.TheVariants.{Eq, Ne, In}
 use Rattle.mc_state.specs.declared.terms.Term.{Term}
 use Rattle.mc_state.specs.Guess.{Partial, given, give, moved_by, base_given, give_base, by_atom, by_atoms, by_passes, Settles}
 use Rattle.mc_cover.specs.Guessed.{settled}

@@ -3,7 +3,7 @@ use Rattle.std.proofs.Common.{◌≡◌, List, [], ◌∷◌, true, ◌-ℤ◌, 
 use Rattle.std.specs.List.{AllByRecursion}
 use Rattle.mc_base.specs.declared.plain.Kind.{Kind}
 use Rattle.mc_base.specs.declared.plain.Atom.TheVariants as atom
-use Rattle.mc_defs.specs.declared.rules.DefAtom.{DefAtom}
+use Rattle.mc_flow.specs.declared.defs.rules.DefAtom.{DefAtom}
 use Rattle.mc_pure.specs.Pure.{low_of, high_of}
 use Rattle.mc_state.specs.declared.terms.Term.{Term}
 use Rattle.mc_state.specs.Facts.{Derives}

@@ -7,10 +7,10 @@ use Rattle.mc_base.specs.declared.ids.NodeId.{NodeId}
 use Rattle.mc_base.specs.declared.plain.Kind.{Kind}
 use Rattle.mc_base.specs.declared.plain.Kind.TheVariants.{Ptr}
 use Rattle.mc_base.specs.Nodes.{null}
-use Rattle.mc_defs.specs.Examples.{list_id}
-use Rattle.mc_graph.specs.declared.edge.Edge.{Edge}
-use Rattle.mc_graph.specs.declared.edge.Edge.TheVariants.{Ind, Seg}
-use Rattle.mc_graph.specs.Graph.{Edges}
+use Rattle.mc_flow.specs.Defs.Examples.{list_id}
+use Rattle.mc_state.specs.declared.graph.edge.Edge.{Edge}
+use Rattle.mc_state.specs.declared.graph.edge.Edge.TheVariants.{Ind, Seg}
+use Rattle.mc_state.specs.Graph.Graph.{Edges}
 use Rattle.mc_pure.specs.Examples.{node}
 use Rattle.mc_pure.specs.Pure.{Kinds, low_of, high_of}
 use Rattle.mc_state.specs.CoverExamples.{state_of, cell_and_length, fork_and_tree}

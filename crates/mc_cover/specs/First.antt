@@ -3,13 +3,13 @@ use Rattle.std.specs.Prelude.{◌+◌, ◌*◌, ℕ, suc, List, [], ◌∷◌, O
 use Rattle.std.specs.List.{flat_map}
 use Rattle.mc_base.specs.declared.ids.EdgeId.{EdgeId}
 use Rattle.mc_base.specs.declared.ids.PredId.{PredId}
-use Rattle.mc_defs.specs.declared.rules.Def.{Def}
-use Rattle.mc_defs.specs.declared.rules.Rule.{Rule}
-use Rattle.mc_graph.specs.Graph.{Edges}
+use Rattle.mc_flow.specs.declared.defs.rules.Def.{Def}
+use Rattle.mc_flow.specs.declared.defs.rules.Rule.{Rule}
+use Rattle.mc_state.specs.Graph.Graph.{Edges}
 use Rattle.mc_state.specs.declared.terms.Term.{Term}
 use Rattle.mc_state.specs.Known.{Test}
 use Rattle.mc_state.specs.Named.{others}
-use Rattle.mc_search.specs.Search.{first_try}
+use Rattle.mc_shape_search.specs.Search.Search.{first_try}
 use Rattle.mc_cover.specs.Goals.{Goal, Mark, Setting}
 use Rattle.mc_cover.specs.Marks.{edge_of, space}
 

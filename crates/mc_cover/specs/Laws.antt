@@ -1,16 +1,16 @@
 -- What is first is a cover, there is none only where none exists, and the guess is the one that there is.
 use Rattle.std.specs.Prelude.{◌≡◌, ◌↔◌, ◌≤◌, ℕ, List, Option, Some, None, true, slice_get}
 use Rattle.mc_base.specs.declared.ids.PredId.{PredId}
-use Rattle.mc_defs.specs.declared.rules.Def.{Def}
-use Rattle.mc_defs.specs.Conditions.{IsDefs}
-use Rattle.mc_graph.specs.Graph.{Edges, IdsAscend}
+use Rattle.mc_flow.specs.declared.defs.rules.Def.{Def}
+use Rattle.mc_flow.specs.Defs.Conditions.{IsDefs}
+use Rattle.mc_state.specs.Graph.Graph.{Edges, IdsAscend}
 use Rattle.mc_state.specs.declared.terms.Term.{Term}
 use Rattle.mc_state.specs.Covers.{Cover, SegCover}
 use Rattle.mc_state.specs.Guess.{Guess}
 use Rattle.mc_state.specs.State.{State}
 use Rattle.mc_state.specs.Known.{Test, Tells}
 use Rattle.mc_state.specs.Named.{others, are_there, are_distinct}
-use Rattle.mc_search.specs.Search.{first_try}
+use Rattle.mc_shape_search.specs.Search.Search.{first_try}
 use Rattle.mc_cover.specs.First.{Choice, limit, first_marks, first_for, first_cover, first_seg_cover}
 use Rattle.mc_cover.specs.Goals.{Stop, Goal, Setting}
 use Rattle.mc_cover.specs.Guessed.{guess}

@@ -6,3 +6,4 @@ pub mod First
 pub mod Guessed
 pub mod Laws
 pub mod Examples
+pub mod Search

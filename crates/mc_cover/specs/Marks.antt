@@ -5,16 +5,16 @@ use Rattle.mc_base.specs.declared.ids.EdgeId.{EdgeId}
 use Rattle.mc_base.specs.declared.ids.NodeId.{NodeId}
 use Rattle.mc_base.specs.declared.ids.PredId.{PredId}
 use Rattle.mc_base.specs.declared.ids.StructId.{StructId}
-use Rattle.mc_defs.specs.declared.rules.Call.{Call}
-use Rattle.mc_defs.specs.declared.rules.Def.{Def}
-use Rattle.mc_defs.specs.declared.rules.Rule.{Rule}
-use Rattle.mc_defs.specs.Conditions.{numbers_from}
-use Rattle.mc_graph.specs.Graph.{Edges, edge_with}
+use Rattle.mc_flow.specs.declared.defs.rules.Call.{Call}
+use Rattle.mc_flow.specs.declared.defs.rules.Def.{Def}
+use Rattle.mc_flow.specs.declared.defs.rules.Rule.{Rule}
+use Rattle.mc_flow.specs.Defs.Conditions.{numbers_from}
+use Rattle.mc_state.specs.Graph.Graph.{Edges, edge_with}
 use Rattle.mc_state.specs.declared.terms.Term.{Term}
 use Rattle.mc_state.specs.Terms.{plain, term_of}
 use Rattle.mc_state.specs.Known.{Test}
 use Rattle.mc_state.specs.Lists.{on_some}
-use Rattle.mc_search.specs.Search.{Space}
+use Rattle.mc_shape_search.specs.Search.Search.{Space}
 use Rattle.mc_cover.specs.Goals.{Stop, Goal, Mark, AtEnd, ByInd, BySeg, ByRule, ByCall, Setting, is_ind, is_seg, behind_seg, contents_by}
 use Rattle.mc_cover.specs.Terms.{equal_terms, all_equal_terms, all_lie_in, atoms_known, with_fixed}
 

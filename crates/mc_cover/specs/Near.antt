@@ -1,14 +1,14 @@
 -- A search that looks only at edges that start where the goal stands.
 use Rattle.std.specs.List.{filter}
-use Rattle.mc_graph.specs.declared.edge.Edge.{Edge}
-use Rattle.mc_graph.specs.Edges.{start_of}
-use Rattle.mc_graph.specs.Graph.{Edges}
+use Rattle.mc_state.specs.declared.graph.edge.Edge.{Edge}
+use Rattle.mc_state.specs.Graph.Edges.{start_of}
+use Rattle.mc_state.specs.Graph.Graph.{Edges}
 use Rattle.std.specs.Prelude.{List, Bool, true}
 use Rattle.mc_base.specs.declared.ids.EdgeId.{EdgeId}
 use Rattle.mc_state.specs.declared.terms.Term.{Term}
 use Rattle.mc_state.specs.Terms.{plain}
 use Rattle.mc_state.specs.Known.{Test}
-use Rattle.mc_search.specs.Search.{Space}
+use Rattle.mc_shape_search.specs.Search.Search.{Space}
 use Rattle.mc_cover.specs.Goals.{Goal, Mark, Setting}
 use Rattle.mc_cover.specs.Marks.{def_at, ids_of, marks_on, fits, calls_of, takes}
 use Rattle.mc_cover.specs.Terms.{equal_terms}

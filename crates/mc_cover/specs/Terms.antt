@@ -3,8 +3,8 @@ use Rattle.std.specs.Prelude.{◌-ℤ◌, ◌++◌, List, [], ◌∷◌, Bool, t
 use Rattle.std.specs.List.{list_all}
 use Rattle.mc_base.specs.declared.plain.Atom.TheVariants as atom
 use Rattle.mc_base.specs.declared.plain.Kind.{Kind}
-use Rattle.mc_defs.specs.declared.rules.DefAtom.{DefAtom}
-use Rattle.mc_defs.specs.declared.rules.DefAtom.TheVariants.{Eq, Ne, In}
+use Rattle.mc_flow.specs.declared.defs.rules.DefAtom.{DefAtom}
+use Rattle.mc_flow.specs.declared.defs.rules.DefAtom.TheVariants.{Eq, Ne, In}
 use Rattle.mc_pure.specs.Pure.{low_of, high_of}
 use Rattle.mc_state.specs.declared.terms.Term.{Term}
 use Rattle.mc_state.specs.Terms.{plus, base_term, atom_on}

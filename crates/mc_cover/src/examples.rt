@@ -1,7 +1,7 @@
 // The first covers and guesses of small states, worked out by hand.
 ghost use Rattle.std.specs.Prelude.{◌≡◌, pos, Some, None, [], ◌∷◌};
-ghost use Rattle.mc_defs.specs.Examples.{defs, list_id, lenlist_id, tree_id};
-ghost use Rattle.mc_graph.specs.declared.edge.Edge.TheVariants.{Ind};
+ghost use Rattle.mc_flow.specs.Defs.Examples.{defs, list_id, lenlist_id, tree_id};
+ghost use Rattle.mc_state.specs.declared.graph.edge.Edge.TheVariants.{Ind};
 ghost use Rattle.mc_pure.specs.Examples.{node};
 ghost use Rattle.mc_state.specs.CoverExamples.{at, entry, other_list, rest_list, lone_pointer};
 ghost use Rattle.mc_state.specs.CoverExamples.{cell_and_list, cell_and_length, fork_and_tree, shared_tree};

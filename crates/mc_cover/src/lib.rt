@@ -1,10 +1,13 @@
-//! Covers: which edges make a predicate or a segment of it, the first of the ways to do so, and the guess of its
-//! arguments, as total functions over what is known.
+//! Covers: which edges of a state make a predicate or a segment of it, as total functions (the root), and found
+//! (`search`).
+//!
+//! Stands on `mc_symbolic` and `mc_shape_search`; called by `mc_gaps`, `mc_kernel` and the search.
 #![tactic(auto)]
 
 mod examples;
 mod goals;
 mod laws;
+pub mod search;
 
 pub use examples::{example_firsts, example_guesses, example_segments, no_firsts};
 pub use goals::{Goal, Mark};

@@ -4,16 +4,16 @@ ghost use Rattle.mc_flow.specs.Valid.{IsValid};
 ghost use Rattle.mc_kernel.specs.Certificates.{IsValidCertificate};
 
 use crate::cuts::loop_heads;
+use crate::walks::{Attempt, Limits, Outcome, Step, Style, Task};
 use mc_base::NoMemory;
-use mc_cert::Line;
-use mc_certified::is_certificate;
-use mc_flow::{Defs, Flow};
-use mc_live::{
+use mc_document::certified::is_certificate;
+use mc_find_view::live::{
     StoredFields, asks_for_empty, asserted_shapes, constant_variables, live_variables,
     wanted_predicates,
 };
-use mc_sight::Sight;
-use mc_walks::{Attempt, Limits, Outcome, Step, Style, Task};
+use mc_find_view::sight::Sight;
+use mc_flow::{Defs, Flow};
+use mc_lines::cert::Line;
 use std::alloc::Global;
 
 /// How one attempt folds, and how many states a cut may have.

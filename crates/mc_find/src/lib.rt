@@ -1,11 +1,16 @@
-//! Finds a certificate of a program, loops included: attempts are made one after the other, and what they find counts only
-//! where it is a valid certificate.
+//! Finds a certificate of a program, loops included, by attempts that count only where what they wrote is accepted; in
+//! `analysis`, what `analyse` answers of a flow graph.
+//!
+//! Stands on `mc_find_shrink` and `mc_follow`; called by `mc_app`.
 #![tactic(auto)]
 
+pub mod analysis;
 mod cuts;
 mod finding;
+pub mod matching;
 #[cfg(test)]
 mod tests;
+pub mod walks;
 
+pub use crate::walks::Limits;
 pub use finding::find;
-pub use mc_walks::Limits;

@@ -1,9 +1,9 @@
 // Certificates of small programs are found.
 use crate::{Limits, find};
+use mc_base::text::Place;
 use mc_base::{Args, Items, Kind, NoMemory, PointId, PredId, StructId, VarId, VarInfo};
-use mc_defs::{Call, Def, DefAtom, Defs, FieldInfo, Rule, StructInfo, Structs};
+use mc_flow::defs::{Call, Def, DefAtom, Defs, FieldInfo, Rule, StructInfo, Structs};
 use mc_flow::{Flow, Instr, Operand, Point, valid};
-use mc_text::Place;
 use std::alloc::Global;
 use std::test::Fail;
 

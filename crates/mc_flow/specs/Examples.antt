@@ -3,11 +3,11 @@ use Rattle.std.specs.Prelude.{ℕ, ℤ, pos, Option, List, [], ◌∷◌}
 use Rattle.std.specs.FinMap as map
 use Rattle.mc_base.specs.declared.ids.PointId.{PointId}
 use Rattle.mc_base.specs.declared.ids.VarId.{VarId}
-use Rattle.mc_text.specs.declared.place.Place.{Place}
-use Rattle.mc_heap.specs.Heap.{Block}
-use Rattle.mc_heap.specs.Adding.{with_blocks}
-use Rattle.mc_heap.specs.Choices.{Choice}
-use Rattle.mc_defs.specs.Examples.{structs, defs}
+use Rattle.mc_base.specs.declared.text.place.Place.{Place}
+use Rattle.mc_flow.specs.Heap.Heap.{Block}
+use Rattle.mc_flow.specs.Heap.Adding.{with_blocks}
+use Rattle.mc_flow.specs.Heap.Choices.{Choice}
+use Rattle.mc_flow.specs.Defs.Examples.{structs, defs}
 use Rattle.mc_flow.specs.declared.instr.Instr.{Instr}
 use Rattle.mc_flow.specs.declared.instr.Operand.{Operand}
 use Rattle.mc_flow.specs.declared.instr.Operand.TheVariants.{Const}

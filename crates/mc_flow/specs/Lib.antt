@@ -3,3 +3,5 @@ pub mod Values
 pub mod Steps
 pub mod Valid
 pub mod Examples
+pub mod Defs
+pub mod Heap

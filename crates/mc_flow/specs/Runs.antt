@@ -1,7 +1,7 @@
 -- Runs of any machine whose steps take choices from the front of a list.
 use Rattle.std.specs.Prelude.{ℕ, zero, suc, ◌⊎◌, List}
 use Rattle.mc_base.specs.declared.plain.FaultKind.{FaultKind}
-use Rattle.mc_text.specs.declared.place.Place.{Place}
+use Rattle.mc_base.specs.declared.text.place.Place.{Place}
 
 -- how a run can come to its end
 pub data Final : Type 0 where

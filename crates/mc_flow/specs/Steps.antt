@@ -10,17 +10,17 @@ use Rattle.mc_base.specs.declared.ids.VarId.{VarId}
 use Rattle.mc_base.specs.declared.plain.FaultKind.{FaultKind}
 use Rattle.mc_base.specs.declared.plain.FaultKind.TheVariants.{Null, Freed, Uninit, BadFree, Assertion, Shape, NotEmpty}
 use Rattle.mc_base.specs.declared.plain.Kind.TheVariants.{Int}
-use Rattle.mc_text.specs.declared.place.Place.{Place}
+use Rattle.mc_base.specs.declared.text.place.Place.{Place}
 use Rattle.mc_base.specs.Kinds.{InKind}
 use Rattle.mc_flow.specs.Runs.{Outcome, next, last, ended, fault, IsSafeFrom}
-use Rattle.mc_heap.specs.Heap.{Block, Heap, IsAddress, region_of}
-use Rattle.mc_heap.specs.Access.{block_field, field_at, fresh_block, with_field}
-use Rattle.mc_heap.specs.Adding.{AreFree, part_of, with_blocks}
-use Rattle.mc_heap.specs.Choices.{Choice, input, malloc, shape}
-use Rattle.mc_heap.specs.Parts.{IsEmpty}
-use Rattle.mc_defs.specs.declared.rules.Def.{Def}
-use Rattle.mc_defs.specs.declared.shapes.Structs.{Structs}
-use Rattle.mc_defs.specs.Meaning.{Sat, HoldsSomewhere}
+use Rattle.mc_flow.specs.Heap.Heap.{Block, Heap, IsAddress, region_of}
+use Rattle.mc_flow.specs.Heap.Access.{block_field, field_at, fresh_block, with_field}
+use Rattle.mc_flow.specs.Heap.Adding.{AreFree, part_of, with_blocks}
+use Rattle.mc_flow.specs.Heap.Choices.{Choice, input, malloc, shape}
+use Rattle.mc_flow.specs.Heap.Parts.{IsEmpty}
+use Rattle.mc_flow.specs.declared.defs.rules.Def.{Def}
+use Rattle.mc_flow.specs.declared.defs.shapes.Structs.{Structs}
+use Rattle.mc_flow.specs.Defs.Meaning.{Sat, HoldsSomewhere}
 use Rattle.mc_flow.specs.declared.instr.Instr.{Instr}
 use Rattle.mc_flow.specs.declared.instr.Instr.TheVariants.{Skip, Copy, Undef, Input, Add, Sub, Mul, Load, Store, Malloc, Free, TestEq, TestLe, AssumeShape, AssertShape, AssertEmpty, End, Fail}
 use Rattle.mc_flow.specs.declared.graph.Point.{Point}

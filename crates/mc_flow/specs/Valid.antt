@@ -9,9 +9,9 @@ use Rattle.mc_base.specs.declared.plain.Kind.{Kind}
 use Rattle.mc_base.specs.declared.plain.Kind.TheVariants.{Int, Ptr}
 use Rattle.mc_base.specs.declared.plain.VarInfo.{VarInfo}
 use Rattle.mc_base.specs.Kinds.{InKind}
-use Rattle.mc_defs.specs.declared.rules.Def.{Def}
-use Rattle.mc_defs.specs.declared.shapes.Structs.{Structs}
-use Rattle.mc_defs.specs.Conditions.{DefsFit}
+use Rattle.mc_flow.specs.declared.defs.rules.Def.{Def}
+use Rattle.mc_flow.specs.declared.defs.shapes.Structs.{Structs}
+use Rattle.mc_flow.specs.Defs.Conditions.{DefsFit}
 use Rattle.mc_flow.specs.declared.instr.Operand.{Operand}
 use Rattle.mc_flow.specs.declared.instr.Operand.TheVariants.{Var, Const}
 use Rattle.mc_flow.specs.declared.instr.Instr.{Instr}

@@ -2,14 +2,14 @@
 ghost use Rattle.std.specs.Prelude.{pos, negsuc, Some, None, [], ◌∷◌};
 ghost use Rattle.mc_base.specs.declared.plain.FaultKind.TheVariants.{Uninit, Shape, NotEmpty};
 ghost use Rattle.mc_flow.specs.Runs.{next, last, fault};
-ghost use Rattle.mc_heap.specs.Choices.{input, malloc, shape};
-ghost use Rattle.mc_defs.specs.Examples.{list_id, second_cell};
+ghost use Rattle.mc_flow.specs.Heap.Choices.{input, malloc, shape};
+ghost use Rattle.mc_flow.specs.Defs.Examples.{list_id, second_cell};
 ghost use Rattle.mc_flow.specs.declared.instr.Instr.TheVariants.{Input, Add, AssumeShape, AssertShape, AssertEmpty};
 ghost use Rattle.mc_flow.specs.declared.instr.Operand.TheVariants.{Var};
 ghost use Rattle.mc_flow.specs.Examples.{somewhere, behind, x, number, config, StepsTo, HasNoStep};
 
-use mc_defs::{example_predicates, example_premises, predicates_are_bodies};
-use mc_heap::{heaps_change_one_address, parts_regroup};
+use crate::defs::{example_predicates, example_premises, predicates_are_bodies};
+use crate::heap::{heaps_change_one_address, parts_regroup};
 
 /// An input is any number of an `int`, and nothing else. A sum wraps, and an undefined operand is a fault.
 pub fn example_numbers()

@@ -1,8 +1,8 @@
 // Flow graphs.
 use crate::Instr;
+use crate::defs::Structs;
+use mc_base::text::Place;
 use mc_base::{Items, PointId, VarInfo};
-use mc_defs::Structs;
-use mc_text::Place;
 
 /// A point of a flow graph: its instruction, and the place of the text that it comes from.
 #[derive(Drop)]

@@ -4,9 +4,9 @@ ghost use Rattle.mc_base.specs.declared.plain.Kind.{Kind as AnyKind};
 ghost use Rattle.mc_base.specs.Kinds.{InKind};
 ghost use Rattle.mc_flow.specs.Valid.{IsVar, IsOperand, IsStruct, field_kind, IsField, ArgsFit, FitsPredicate, FitsKinds, targets, IsSkip, GoesOn, PointFits, PointsFit, IsValid};
 
+use crate::defs::Def;
 use crate::{Defs, Flow, Instr, Operand, Point, Structs};
 use mc_base::{Kind, PointId, PredId, StructId, VarId, VarInfo};
-use mc_defs::Def;
 
 fn is_int(n: i64) -> bool
     ensures { IsTrue result ↔ InKind Kind.Int n }

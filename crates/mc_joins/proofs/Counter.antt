@@ -3,7 +3,7 @@ use Rattle.std.proofs.Common.{◌<◌, ℕ, zero, suc, ℤ, pos, [], ◌∷◌, 
 use Rattle.std.specs.Prelude.{◌≤ℤ◌, ◌<ℤ◌, ◌≤◌, slice_index_or}
 use Rattle.std.proofs.lemmas.Int.{ints}
 use Rattle.mc_base.specs.declared.plain.Kind.TheVariants.{Int}
-use Rattle.mc_join.specs.Joint.{IsJointRange, IsLate}
+use Rattle.mc_pure_ops.specs.Join.Joint.{IsJointRange, IsLate}
 
 early : IsLate Int 2 → ⊥
 early l = let three : 3 ≤ 2 = l in omega arith

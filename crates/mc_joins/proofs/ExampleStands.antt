@@ -4,14 +4,14 @@ use Rattle.std.proofs.lemmas.Int.{ints}
 use Rattle.mc_base.specs.declared.plain.Kind.TheVariants.{Ptr}
 use Rattle.mc_base.specs.Kinds.{InKind}
 use Rattle.mc_base.specs.Nodes.{Valuation}
-use Rattle.mc_heap.specs.Heap as heap
-use Rattle.mc_heap.specs.Heap.{Region, IsAtAddresses}
-use Rattle.mc_heap.specs.Instances.{nowhere}
-use Rattle.mc_heap.specs.Parts.{Joins}
-use Rattle.mc_defs.specs.Conditions.{IsDefs}
-use Rattle.mc_defs.specs.Examples.{defs, list_id, list_def, null_rule, blocks, two_cells}
-use Rattle.mc_defs.specs.Laws.{SatFolds}
-use Rattle.mc_defs.specs.Meaning.{Sat}
+use Rattle.mc_flow.specs.Heap.Heap as heap
+use Rattle.mc_flow.specs.Heap.Heap.{Region, IsAtAddresses}
+use Rattle.mc_flow.specs.Heap.Instances.{nowhere}
+use Rattle.mc_flow.specs.Heap.Parts.{Joins}
+use Rattle.mc_flow.specs.Defs.Conditions.{IsDefs}
+use Rattle.mc_flow.specs.Defs.Examples.{defs, list_id, list_def, null_rule, blocks, two_cells}
+use Rattle.mc_flow.specs.Defs.Laws.{SatFolds}
+use Rattle.mc_flow.specs.Defs.Meaning.{Sat}
 use Rattle.mc_state.specs.BodyLaws.{CoverMakesPredicate}
 use Rattle.mc_state.specs.CoverExamples.{at, at_seven, cell_and_list}
 use Rattle.mc_state.specs.Covers.{Cover}

@@ -13,14 +13,14 @@ use Rattle.mc_base.specs.declared.plain.Atom.{Atom}
 use Rattle.mc_base.specs.declared.plain.Atom.TheVariants.{Eq, Ne, In}
 use Rattle.mc_base.specs.Atoms.{nodes_of_atom}
 use Rattle.mc_base.specs.Nodes.{null}
-use Rattle.mc_canon.specs.Order.{Among}
-use Rattle.mc_defs.specs.declared.rules.Def.{Def}
-use Rattle.mc_defs.specs.declared.shapes.StructInfo.{StructInfo}
-use Rattle.mc_graph.specs.declared.edge.Edge.{Edge}
-use Rattle.mc_graph.specs.declared.edge.Edge.TheVariants.{Block, Ind, Seg}
-use Rattle.mc_graph.specs.Edges.{start_of, nodes_of, known_nodes}
-use Rattle.mc_graph.specs.Graph.{Graph, Edges, IdsAscend, numbered, without}
-use Rattle.mc_join.specs.Joint.{Pairs}
+use Rattle.mc_pure_ops.specs.Canon.Order.{Among}
+use Rattle.mc_flow.specs.declared.defs.rules.Def.{Def}
+use Rattle.mc_flow.specs.declared.defs.shapes.StructInfo.{StructInfo}
+use Rattle.mc_state.specs.declared.graph.edge.Edge.{Edge}
+use Rattle.mc_state.specs.declared.graph.edge.Edge.TheVariants.{Block, Ind, Seg}
+use Rattle.mc_state.specs.Graph.Edges.{start_of, nodes_of, known_nodes}
+use Rattle.mc_state.specs.Graph.Graph.{Graph, Edges, IdsAscend, numbered, without}
+use Rattle.mc_pure_ops.specs.Join.Joint.{Pairs}
 use Rattle.mc_state.specs.Known.{Test, has_kind}
 use Rattle.mc_state.specs.Told.{KindIsTold}
 use Rattle.mc_state.specs.Named.{IndParts, SegParts, ind_of, seg_of, others}
@@ -34,8 +34,8 @@ use Rattle.mc_state.specs.Fits.{AreNodes, HaveKinds, MayHaveKinds, ArgsFit, Edge
 use Rattle.mc_state.specs.Laws.{NewNodesHaveKinds}
 use Rattle.mc_state.specs.State.{State}
 use Rattle.mc_state.specs.Terms.{plain}
-use Rattle.mc_fold.specs.JudgedLaws.{SpareIsJudged}
-use Rattle.mc_fold.specs.MadeLaws.{SpareStaysMade}
+use Rattle.mc_rules_logic.specs.Fold.JudgedLaws.{SpareIsJudged}
+use Rattle.mc_rules_logic.specs.Fold.MadeLaws.{SpareStaysMade}
 use Rattle.mc_cover.specs.First.{first_cover, first_seg_cover}
 use Rattle.mc_cover.specs.Guessed.{first_edge, or_else, summary_of}
 use Rattle.mc_cover.specs.Terms.{equal_terms}

@@ -13,12 +13,12 @@ use Rattle.mc_base.specs.declared.plain.VarInfo.{VarInfo}
 use Rattle.mc_base.specs.Atoms.{IsTrueAtom}
 use Rattle.mc_base.specs.Kinds.{InKind}
 use Rattle.mc_base.specs.Nodes.{Valuation, null}
-use Rattle.mc_heap.specs.Heap.{Region, IsAtAddresses}
-use Rattle.mc_heap.specs.Parts.{Split, IsEmpty}
-use Rattle.mc_defs.specs.declared.rules.Def.{Def}
-use Rattle.mc_defs.specs.declared.shapes.StructInfo.{StructInfo}
-use Rattle.mc_graph.specs.Graph.{Edges, Graph, numbered}
-use Rattle.mc_join.specs.Joint.{Pairs, IsLate, IsJointRange, IsOfBoth, sides}
+use Rattle.mc_flow.specs.Heap.Heap.{Region, IsAtAddresses}
+use Rattle.mc_flow.specs.Heap.Parts.{Split, IsEmpty}
+use Rattle.mc_flow.specs.declared.defs.rules.Def.{Def}
+use Rattle.mc_flow.specs.declared.defs.shapes.StructInfo.{StructInfo}
+use Rattle.mc_state.specs.Graph.Graph.{Edges, Graph, numbered}
+use Rattle.mc_pure_ops.specs.Join.Joint.{Pairs, IsLate, IsJointRange, IsOfBoth, sides}
 use Rattle.mc_pure.specs.Derived.{Follows}
 use Rattle.mc_pure.specs.Pure.{Kinds, HasKind, kind_of}
 use Rattle.mc_state.specs.declared.line.Side.{Side}

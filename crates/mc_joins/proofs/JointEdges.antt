@@ -7,12 +7,12 @@ use Rattle.mc_base.specs.declared.ids.PredId.{PredId}
 use Rattle.mc_base.specs.declared.ids.StructId.{StructId}
 use Rattle.mc_base.specs.declared.plain.Kind.{Kind}
 use Rattle.mc_base.specs.declared.plain.Kind.TheVariants.{Ptr}
-use Rattle.mc_defs.specs.declared.rules.Def.{Def}
-use Rattle.mc_defs.specs.declared.shapes.StructInfo.{StructInfo}
-use Rattle.mc_graph.specs.declared.edge.Edge.{Edge}
-use Rattle.mc_graph.specs.declared.edge.Edge.TheVariants.{Block, Ind, Seg}
-use Rattle.mc_graph.specs.Edges.{start_of}
-use Rattle.mc_join.specs.Joint.{Pairs}
+use Rattle.mc_flow.specs.declared.defs.rules.Def.{Def}
+use Rattle.mc_flow.specs.declared.defs.shapes.StructInfo.{StructInfo}
+use Rattle.mc_state.specs.declared.graph.edge.Edge.{Edge}
+use Rattle.mc_state.specs.declared.graph.edge.Edge.TheVariants.{Block, Ind, Seg}
+use Rattle.mc_state.specs.Graph.Edges.{start_of}
+use Rattle.mc_pure_ops.specs.Join.Joint.{Pairs}
 use Rattle.mc_pure.specs.Pure.{Kinds, HasKind}
 use Rattle.mc_state.specs.Fits.{HaveKinds, MayHaveKinds, ArgsFit}
 use Rattle.mc_joins.specs.Joinings.{known_both}

@@ -7,7 +7,7 @@ use Rattle.std.proofs.lemmas.Bool.{ne_eqb}
 use Rattle.mc_base.specs.declared.ids.NodeId.{NodeId}
 use Rattle.mc_base.specs.declared.plain.Kind.{Kind}
 use Rattle.mc_base.specs.Nodes.{null}
-use Rattle.mc_join.specs.Joint.{Pairs}
+use Rattle.mc_pure_ops.specs.Join.Joint.{Pairs}
 use Rattle.mc_pure.specs.Pure.{Kinds, HasKind, kind_of}
 use Rattle.mc_state.specs.Fits.{NodesAscend}
 use Rattle.mc_joins.specs.Joinings.{Joining, Pair, same_pair, with_pairs}

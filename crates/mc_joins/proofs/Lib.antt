@@ -14,3 +14,8 @@ mod SideParts
 mod SideStands
 mod JoinsStand
 mod ExampleStands
+pub mod AlikeLemmas
+pub mod AnewLemmas
+pub mod ChainsLemmas
+pub mod RenameLemmas
+pub mod SameLemmas

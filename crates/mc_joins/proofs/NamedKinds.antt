@@ -9,10 +9,10 @@ use Rattle.mc_base.specs.declared.plain.Kind.{Kind}
 use Rattle.mc_base.specs.declared.plain.Kind.TheVariants.{Int, Ptr}
 use Rattle.mc_base.specs.declared.plain.Atom.TheVariants.{Eq}
 use Rattle.mc_base.specs.declared.plain.VarInfo.{VarInfo}
-use Rattle.mc_defs.specs.declared.rules.Def.{Def}
-use Rattle.mc_defs.specs.declared.shapes.StructInfo.{StructInfo}
-use Rattle.mc_graph.specs.declared.edge.Edge.{Edge}
-use Rattle.mc_graph.specs.declared.edge.Edge.TheVariants.{Block, Ind, Seg}
+use Rattle.mc_flow.specs.declared.defs.rules.Def.{Def}
+use Rattle.mc_flow.specs.declared.defs.shapes.StructInfo.{StructInfo}
+use Rattle.mc_state.specs.declared.graph.edge.Edge.{Edge}
+use Rattle.mc_state.specs.declared.graph.edge.Edge.TheVariants.{Block, Ind, Seg}
 use Rattle.mc_pure.specs.Pure.{Kinds, HasKind, kind_of}
 use Rattle.mc_state.specs.Known.{Test, same_kind}
 use Rattle.mc_state.specs.Premises.{Judged}
@@ -21,9 +21,9 @@ use Rattle.mc_state.specs.Fits.{HaveKinds, MayHaveKinds, ArgsFit, EdgeFitsDefs, 
 use Rattle.mc_state.specs.Laws.{NewNodesHaveKinds}
 use Rattle.mc_state.specs.State.{State, next_node, with_nodes, with_atoms}
 use Rattle.mc_state.specs.Terms.{plain}
-use Rattle.mc_fold.specs.ChangeJudges.{naming_spare}
-use Rattle.mc_fold.specs.JudgedLaws.{SpareIsJudged}
-use Rattle.mc_fold.specs.MadeLaws.{SpareStaysMade}
+use Rattle.mc_rules_logic.specs.Fold.ChangeJudges.{naming_spare}
+use Rattle.mc_rules_logic.specs.Fold.JudgedLaws.{SpareIsJudged}
+use Rattle.mc_rules_logic.specs.Fold.MadeLaws.{SpareStaysMade}
 use Rattle.mc_cover.specs.Terms.{equal_terms}
 use Rattle.mc_joins.specs.Laws.{KnowsMade}
 use Rattle.mc_joins.specs.Parts.{Basis, Named, nodes_of_kind, only_state, spare_node, own_node, node_of_term, behind, nodes_of_terms, nodes_of_args}

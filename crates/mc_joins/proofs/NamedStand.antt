@@ -12,9 +12,9 @@ use Rattle.mc_base.specs.declared.plain.VarInfo.{VarInfo}
 use Rattle.mc_base.specs.Atoms.{IsTrueAtom}
 use Rattle.mc_base.specs.Kinds.{InKind}
 use Rattle.mc_base.specs.Nodes.{Valuation, at_node}
-use Rattle.mc_heap.specs.Heap.{Region, IsAtAddresses}
-use Rattle.mc_defs.specs.declared.rules.Def.{Def}
-use Rattle.mc_defs.specs.declared.shapes.StructInfo.{StructInfo}
+use Rattle.mc_flow.specs.Heap.Heap.{Region, IsAtAddresses}
+use Rattle.mc_flow.specs.declared.defs.rules.Def.{Def}
+use Rattle.mc_flow.specs.declared.defs.shapes.StructInfo.{StructInfo}
 use Rattle.mc_state.specs.Known.{Test}
 use Rattle.mc_state.specs.Premises.{Judged}
 use Rattle.mc_state.specs.declared.terms.Term.{Term}
@@ -24,11 +24,11 @@ use Rattle.mc_state.specs.Rules.{StandsForSome}
 use Rattle.mc_state.specs.Stands.{StandsBy, AgreeBelow}
 use Rattle.mc_state.specs.State.{State, next_node, numbered_kinds, with_nodes, with_atoms}
 use Rattle.mc_state.specs.Terms.{plain, term_value}
-use Rattle.mc_fold.specs.Changed.{NamesSpare}
-use Rattle.mc_fold.specs.ChangeJudges.{naming_spare}
-use Rattle.mc_fold.specs.JudgedLaws.{SpareIsJudged}
-use Rattle.mc_fold.specs.Laws.{LawOfSpare}
-use Rattle.mc_fold.specs.MadeLaws.{SpareStaysMade}
+use Rattle.mc_rules_logic.specs.Fold.Changed.{NamesSpare}
+use Rattle.mc_rules_logic.specs.Fold.ChangeJudges.{naming_spare}
+use Rattle.mc_rules_logic.specs.Fold.JudgedLaws.{SpareIsJudged}
+use Rattle.mc_rules_logic.specs.Fold.Laws.{LawOfSpare}
+use Rattle.mc_rules_logic.specs.Fold.MadeLaws.{SpareStaysMade}
 use Rattle.mc_cover.specs.Terms.{equal_terms}
 use Rattle.mc_joins.specs.Laws.{KnowsMade}
 use Rattle.mc_joins.specs.Parts.{Basis, Named, nodes_of_kind, only_state, spare_node, own_node, node_of_term, behind, nodes_of_terms, nodes_of_args}

@@ -2,16 +2,16 @@
 use Rattle.std.proofs.Common.{◌≡◌, ℕ, ℤ, List, [], ◌++◌, Some, slice_get, refl, ap, ap₂, sym, ◌∙◌, subst, inl, inr}
 use Rattle.mc_base.specs.declared.ids.NodeId.{NodeId}
 use Rattle.mc_base.specs.declared.plain.Atom.{Atom}
-use Rattle.mc_join.specs.Joint.{Pairs, IsJoin, IsJoint, sides}
+use Rattle.mc_pure_ops.specs.Join.Joint.{Pairs, IsJoin, IsJoint, sides}
 use Rattle.mc_pure.specs.Pure as pure
 use Rattle.mc_pure.specs.Pure.{Kinds, Pure, Base, IsNode, kind_of}
 use Rattle.mc_pure.specs.Derived.{Follows, base}
 use Rattle.mc_pure.specs.Laws.{FollowsFromMore}
 use Rattle.mc_pure.specs.Canonical.{IsRangeAtom, IsClassAtom, IsDifference, IsListOf, IsCanonical, plainly}
 use Rattle.mc_state.specs.State.{State, pure_of}
-use Rattle.mc_fold.specs.Changed.{alone}
-use Rattle.mc_fold.proofs.Ordered.{same_listed}
-use Rattle.mc_fold.proofs.WrittenOnce.{one_written}
+use Rattle.mc_rules_logic.specs.Fold.Changed.{alone}
+use Rattle.mc_rules_logic.proofs.FoldLemmas.Ordered.{same_listed}
+use Rattle.mc_rules_logic.proofs.FoldLemmas.WrittenOnce.{one_written}
 use Rattle.mc_joins.specs.Joinings.{Joining}
 use Rattle.mc_joins.specs.Laws.{JoinsAreDetermined}
 use Rattle.mc_joins.specs.Whole.{AreJointAtoms, result_of}

@@ -4,12 +4,12 @@ use Rattle.std.specs.Prelude.{◌==◌, ◌&&◌, not, cond, is_some, filter, if
 use Rattle.std.specs.List.{list_all}
 use Rattle.std.proofs.lemmas.Bool.{ne_eqb}
 use Rattle.mc_base.specs.declared.ids.EdgeId.{EdgeId}
-use Rattle.mc_heap.specs.Heap.{Region}
-use Rattle.mc_heap.specs.Instances.{nowhere}
-use Rattle.mc_heap.specs.Parts.{Split, IsEmpty, Star}
-use Rattle.mc_heap.specs.PartLaws.{SplitCommutes, SplitRegroupsLeft, SplitRegroupsRight, SplitDropsEmpty, SplitAddsEmpty}
-use Rattle.mc_graph.specs.declared.edge.Edge.{Edge}
-use Rattle.mc_graph.specs.Graph.{Edges, Picks, IdsAscend, edge_with, without, numbered}
+use Rattle.mc_flow.specs.Heap.Heap.{Region}
+use Rattle.mc_flow.specs.Heap.Instances.{nowhere}
+use Rattle.mc_flow.specs.Heap.Parts.{Split, IsEmpty, Star}
+use Rattle.mc_flow.specs.Heap.PartLaws.{SplitCommutes, SplitRegroupsLeft, SplitRegroupsRight, SplitDropsEmpty, SplitAddsEmpty}
+use Rattle.mc_state.specs.declared.graph.edge.Edge.{Edge}
+use Rattle.mc_state.specs.Graph.Graph.{Edges, Picks, IdsAscend, edge_with, without, numbered}
 use Rattle.mc_state.specs.Named.{others, are_there, Looked}
 use Rattle.mc_joins.proofs.Members.{Has}
 

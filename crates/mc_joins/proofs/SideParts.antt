@@ -8,17 +8,17 @@ use Rattle.mc_base.specs.declared.ids.PredId.{PredId}
 use Rattle.mc_base.specs.declared.plain.Kind.{Kind}
 use Rattle.mc_base.specs.declared.plain.VarInfo.{VarInfo}
 use Rattle.mc_base.specs.Nodes.{Valuation, at_node}
-use Rattle.mc_heap.specs.Heap.{Region, IsAtAddresses}
-use Rattle.mc_heap.specs.Instances.{nowhere}
-use Rattle.mc_heap.specs.Parts.{Split}
-use Rattle.mc_defs.specs.Conditions.{IsDefs}
-use Rattle.mc_defs.specs.declared.rules.Def.{Def}
-use Rattle.mc_defs.specs.declared.shapes.StructInfo.{StructInfo}
-use Rattle.mc_defs.specs.Meaning as meaning
-use Rattle.mc_defs.specs.Meaning.{Sat}
-use Rattle.mc_graph.specs.declared.edge.Edge.{Edge}
-use Rattle.mc_graph.specs.declared.edge.Edge.TheVariants.{Ind, Seg}
-use Rattle.mc_graph.specs.Graph.{Edges, Picks, IdsAscend}
+use Rattle.mc_flow.specs.Heap.Heap.{Region, IsAtAddresses}
+use Rattle.mc_flow.specs.Heap.Instances.{nowhere}
+use Rattle.mc_flow.specs.Heap.Parts.{Split}
+use Rattle.mc_flow.specs.Defs.Conditions.{IsDefs}
+use Rattle.mc_flow.specs.declared.defs.rules.Def.{Def}
+use Rattle.mc_flow.specs.declared.defs.shapes.StructInfo.{StructInfo}
+use Rattle.mc_flow.specs.Defs.Meaning as meaning
+use Rattle.mc_flow.specs.Defs.Meaning.{Sat}
+use Rattle.mc_state.specs.declared.graph.edge.Edge.{Edge}
+use Rattle.mc_state.specs.declared.graph.edge.Edge.TheVariants.{Ind, Seg}
+use Rattle.mc_state.specs.Graph.Graph.{Edges, Picks, IdsAscend}
 use Rattle.mc_pure.specs.Pure.{HasKind}
 use Rattle.mc_state.specs.Known.{Test}
 use Rattle.mc_state.specs.Told.{PicksAreNamed, KindIsTold}
@@ -31,13 +31,13 @@ use Rattle.mc_state.specs.Laws.{DerivedIsTrue, NewNodesHaveKinds, NodesAreBelow}
 use Rattle.mc_state.specs.Stands.{EdgeMeets, EdgesMeet, StandsBy, AgreeBelow}
 use Rattle.mc_state.specs.State.{State}
 use Rattle.mc_state.specs.Terms.{plain, term_value}
-use Rattle.mc_fold.specs.JudgedLaws.{SpareIsJudged}
-use Rattle.mc_fold.specs.Laws.{LawOfSpare}
-use Rattle.mc_fold.specs.MadeLaws.{SpareStaysMade}
+use Rattle.mc_rules_logic.specs.Fold.JudgedLaws.{SpareIsJudged}
+use Rattle.mc_rules_logic.specs.Fold.Laws.{LawOfSpare}
+use Rattle.mc_rules_logic.specs.Fold.MadeLaws.{SpareStaysMade}
 use Rattle.mc_cover.specs.First.{Choice, first_cover, first_seg_cover}
 use Rattle.mc_cover.specs.Laws.{FirstIsCover, FirstIsSegCover, FirstTakesEdges}
 use Rattle.mc_joins.specs.Joinings.{Half, Joining, Pair, half, of_side, is_alone, free_edges, edge_at}
-use Rattle.mc_graph.specs.Edges.{start_of}
+use Rattle.mc_state.specs.Graph.Edges.{start_of}
 use Rattle.mc_joins.specs.Laws.{KnowsMade}
 use Rattle.mc_joins.specs.Parts.{Basis, Part, nodes_of_args, as_it_is, empty_seg, ind_part, folded_ind, ended_part, seg_part, folded_seg}
 use Rattle.mc_joins.proofs.JoinMade.{Inv, PartBy, as_is, of_none, by_fold, by_seg_fold, half_made, half_fit, edge_found}

@@ -9,10 +9,10 @@ use Rattle.mc_base.specs.declared.ids.NodeId.{NodeId}
 use Rattle.mc_base.specs.declared.ids.PredId.{PredId}
 use Rattle.mc_base.specs.declared.plain.Kind.{Kind}
 use Rattle.mc_base.specs.declared.plain.VarInfo.{VarInfo}
-use Rattle.mc_defs.specs.declared.rules.Def.{Def}
-use Rattle.mc_defs.specs.declared.shapes.StructInfo.{StructInfo}
-use Rattle.mc_graph.specs.declared.edge.Edge.{Edge}
-use Rattle.mc_graph.specs.declared.edge.Edge.TheVariants.{Ind, Seg}
+use Rattle.mc_flow.specs.declared.defs.rules.Def.{Def}
+use Rattle.mc_flow.specs.declared.defs.shapes.StructInfo.{StructInfo}
+use Rattle.mc_state.specs.declared.graph.edge.Edge.{Edge}
+use Rattle.mc_state.specs.declared.graph.edge.Edge.TheVariants.{Ind, Seg}
 use Rattle.mc_state.specs.Known.{Test}
 use Rattle.mc_state.specs.Named.{SegParts, IndParts, seg_of, ind_of}
 use Rattle.mc_state.specs.Premises.{Judged}
@@ -24,9 +24,9 @@ use Rattle.mc_state.specs.declared.terms.Term.{Term}
 use Rattle.mc_state.specs.Fits.{IsWellMade}
 use Rattle.mc_state.specs.State.{State, next_node}
 use Rattle.mc_state.specs.Terms.{plain}
-use Rattle.mc_fold.specs.ChangeJudges.{naming_spare}
-use Rattle.mc_fold.specs.JudgedLaws.{SpareIsJudged}
-use Rattle.mc_fold.specs.MadeLaws.{SpareStaysMade}
+use Rattle.mc_rules_logic.specs.Fold.ChangeJudges.{naming_spare}
+use Rattle.mc_rules_logic.specs.Fold.JudgedLaws.{SpareIsJudged}
+use Rattle.mc_rules_logic.specs.Fold.MadeLaws.{SpareStaysMade}
 use Rattle.mc_cover.specs.First.{Choice, first_cover, first_seg_cover}
 use Rattle.mc_cover.specs.Guessed.{first_edge, guess, summary_of}
 use Rattle.mc_cover.specs.Terms.{equal_terms}

@@ -4,3 +4,8 @@ pub mod Steps
 pub mod Whole
 pub mod Laws
 pub mod Examples
+pub mod Alike
+pub mod Anew
+pub mod Chains
+pub mod Rename
+pub mod Same

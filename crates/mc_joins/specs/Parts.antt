@@ -7,17 +7,17 @@ use Rattle.mc_base.specs.declared.ids.NodeId.{NodeId}
 use Rattle.mc_base.specs.declared.ids.PredId.{PredId}
 use Rattle.mc_base.specs.declared.plain.Kind.{Kind}
 use Rattle.mc_base.specs.Nodes.{null}
-use Rattle.mc_defs.specs.declared.rules.Def.{Def}
-use Rattle.mc_graph.specs.declared.edge.Edge.{Edge}
-use Rattle.mc_graph.specs.declared.edge.Edge.TheVariants.{Ind, Seg}
-use Rattle.mc_join.specs.Joint.{Pairs}
+use Rattle.mc_flow.specs.declared.defs.rules.Def.{Def}
+use Rattle.mc_state.specs.declared.graph.edge.Edge.{Edge}
+use Rattle.mc_state.specs.declared.graph.edge.Edge.TheVariants.{Ind, Seg}
+use Rattle.mc_pure_ops.specs.Join.Joint.{Pairs}
 use Rattle.mc_state.specs.Known.{Test, same_kind}
 use Rattle.mc_state.specs.Premises.{Judged}
 use Rattle.mc_state.specs.declared.line.Side.{Side}
 use Rattle.mc_state.specs.declared.terms.Term.{Term}
 use Rattle.mc_state.specs.State.{State, next_node}
 use Rattle.mc_state.specs.Terms.{plain}
-use Rattle.mc_fold.specs.ChangeJudges.{naming_spare}
+use Rattle.mc_rules_logic.specs.Fold.ChangeJudges.{naming_spare}
 use Rattle.mc_cover.specs.First.{Choice, first_cover, first_seg_cover}
 use Rattle.mc_cover.specs.Goals.{Stop}
 use Rattle.mc_cover.specs.Guessed.{first_edge, guess, summary_of}

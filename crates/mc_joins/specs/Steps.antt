@@ -8,10 +8,10 @@ use Rattle.mc_base.specs.declared.ids.EdgeId.{EdgeId}
 use Rattle.mc_base.specs.declared.ids.NodeId.{NodeId}
 use Rattle.mc_base.specs.declared.ids.PredId.{PredId}
 use Rattle.mc_base.specs.declared.plain.Kind.TheVariants.{Ptr}
-use Rattle.mc_graph.specs.declared.edge.Edge.{Edge}
-use Rattle.mc_graph.specs.declared.edge.Edge.TheVariants.{Block, Ind, Seg}
-use Rattle.mc_graph.specs.Edges.{has_shape}
-use Rattle.mc_join.specs.Joint.{Pairs}
+use Rattle.mc_state.specs.declared.graph.edge.Edge.{Edge}
+use Rattle.mc_state.specs.declared.graph.edge.Edge.TheVariants.{Block, Ind, Seg}
+use Rattle.mc_state.specs.Graph.Edges.{has_shape}
+use Rattle.mc_pure_ops.specs.Join.Joint.{Pairs}
 use Rattle.mc_state.specs.Known.{has_kind}
 use Rattle.mc_state.specs.Named.{SegParts, IndParts, others, seg_of, ind_of}
 use Rattle.mc_state.specs.declared.line.Side.{Side}

@@ -4,13 +4,13 @@ use Rattle.std.specs.Prelude.{option_map, option_to_list}
 use Rattle.std.specs.Option.{option_or}
 use Rattle.mc_base.specs.declared.plain.Atom.{Atom}
 use Rattle.mc_base.specs.declared.plain.Kind.{Kind}
-use Rattle.mc_graph.specs.Graph.{numbered}
-use Rattle.mc_join.specs.Joint.{Pairs, IsJoin}
+use Rattle.mc_state.specs.Graph.Graph.{numbered}
+use Rattle.mc_pure_ops.specs.Join.Joint.{Pairs, IsJoin}
 use Rattle.mc_pure.specs.Pure.{Kinds, kind_of}
 use Rattle.mc_pure.specs.Whole.{IsWholeList}
 use Rattle.mc_state.specs.declared.line.JoinStep.{JoinStep}
 use Rattle.mc_state.specs.State.{State, pure_of}
-use Rattle.mc_fold.specs.Changed.{alone}
+use Rattle.mc_rules_logic.specs.Fold.Changed.{alone}
 use Rattle.mc_joins.specs.Joinings.{Joining, Pair, begun, next_pair}
 use Rattle.mc_joins.specs.Parts.{Basis}
 use Rattle.mc_joins.specs.Steps.{known_for, after_steps, is_stuck}

@@ -2,10 +2,10 @@
 ghost use Rattle.std.specs.Prelude.{◌≡◌, pos, true, false, is_some, Some, None, [], ◌∷◌};
 ghost use Rattle.mc_base.specs.declared.plain.Atom.TheVariants.{In};
 ghost use Rattle.mc_base.specs.declared.plain.Kind.TheVariants.{Int};
-ghost use Rattle.mc_defs.specs.Examples.{defs, list_id, lenlist_id, tree_id, blocks, two_cells};
-ghost use Rattle.mc_graph.specs.declared.edge.Edge.TheVariants.{Ind};
-ghost use Rattle.mc_heap.specs.Instances.{nowhere};
-ghost use Rattle.mc_join.specs.Joint.{IsJointRange};
+ghost use Rattle.mc_flow.specs.Defs.Examples.{defs, list_id, lenlist_id, tree_id, blocks, two_cells};
+ghost use Rattle.mc_state.specs.declared.graph.edge.Edge.TheVariants.{Ind};
+ghost use Rattle.mc_flow.specs.Heap.Instances.{nowhere};
+ghost use Rattle.mc_pure_ops.specs.Join.Joint.{IsJointRange};
 ghost use Rattle.mc_pure.specs.Examples.{node};
 ghost use Rattle.mc_state.specs.CoverExamples.{at_seven};
 ghost use Rattle.mc_state.specs.declared.line.JoinStep.TheVariants.{J1, J2, J4, J5, J6, J7};
@@ -18,8 +18,8 @@ ghost use Rattle.mc_joins.specs.Joinings.{begun, next_pair};
 ghost use Rattle.mc_joins.specs.Steps.{after_step, after_steps, is_stuck};
 ghost use Rattle.mc_joins.specs.Whole.{result_of};
 
-use mc_defs::predicates_are_bodies;
-use mc_heap::parts_regroup;
+use mc_flow::defs::predicates_are_bodies;
+use mc_flow::heap::parts_regroup;
 use mc_state::{body_premises, covers_are_sound, example_covers};
 
 /// A list and a cell that points to a list are a list, from either side.

@@ -3,8 +3,8 @@ ghost use Rattle.mc_joins.specs.Laws.{StuckIsEvery, JoinsAreDetermined, JoinsAre
 ghost use Rattle.mc_joins.specs.Laws.{JoinsMakeWell, StepsAreDetermined, StepsKeepMade, PrefixesAreDetermined};
 
 use mc_cover::firsts_are_covers;
-use mc_fold::{naming_is_judged, naming_is_sound, naming_makes_well};
-use mc_heap::parts_regroup;
+use mc_flow::heap::parts_regroup;
+use mc_rules_logic::fold::{naming_is_judged, naming_is_sound, naming_makes_well};
 use mc_state::{
     covers_are_sound, derived_is_true, new_nodes_are_free, nodes_are_there, picks_are_named,
     tests_tell,

@@ -1,9 +1,16 @@
-//! Joins of two states: their steps, whole joins and what they give. There is no code here; each law is what a function
-//! with no body ensures.
+//! Joins of two states, states equal up to renaming, and chains of several passes, as definitions with their laws, and
+//! the first code over them.
+//!
+//! Stands on `mc_kernel`; called by no crate of the program yet.
 #![tactic(auto)]
 
+pub mod alike;
+pub mod anew;
+pub mod chains;
 mod examples;
 mod laws;
+pub mod rename;
+pub mod same;
 
 pub use examples::{
     cells_stand_for_join, counter_joins, empty_joins, folding_joins, naming_joins,

@@ -1,10 +1,10 @@
 -- The laws that the soundness of documents rests on.
-use Rattle.mc_heap.specs.PartLaws.{EmptyHeapIsEmpty}
+use Rattle.mc_flow.specs.Heap.PartLaws.{EmptyHeapIsEmpty}
 use Rattle.mc_state.specs.Laws.{NoneStandsForFalse, UnknownStands, UnknownIsBounded}
-use Rattle.mc_unfold.specs.Laws.{LawOfInd, LawOfSeg}
-use Rattle.mc_back.specs.Laws.{LawOfBack}
-use Rattle.mc_fold.specs.Laws.{LawOfFoldInd, LawOfFoldSeg, LawOfCloseSeg, LawOfJoinSegs, LawOfEmptySeg, LawOfSpare, LawOfMerge, LawOfDrop, LawOfForget, LawOfGoal}
-use Rattle.mc_step.specs.Laws.{StepsAreSound, StepsStayBounded}
+use Rattle.mc_rules_logic.specs.Unfold.Laws.{LawOfInd, LawOfSeg}
+use Rattle.mc_rules_logic.specs.Back.Laws.{LawOfBack}
+use Rattle.mc_rules_logic.specs.Fold.Laws.{LawOfFoldInd, LawOfFoldSeg, LawOfCloseSeg, LawOfJoinSegs, LawOfEmptySeg, LawOfSpare, LawOfMerge, LawOfDrop, LawOfForget, LawOfGoal}
+use Rattle.mc_rules_steps.specs.Laws.{StepsAreSound, StepsStayBounded}
 use Rattle.mc_kernel.specs.JumpLaws.{JumpsAreSound}
 
 pub record CalculusLaws : Type 0 where

@@ -5,8 +5,8 @@ use Rattle.std.specs.List.{AllByRecursion}
 use Rattle.mc_base.specs.declared.ids.NodeId.{NodeId}
 use Rattle.mc_base.specs.declared.ids.PointId.{PointId}
 use Rattle.mc_base.specs.Nodes.{Valuation}
-use Rattle.mc_heap.specs.Heap.{region_of}
-use Rattle.mc_defs.specs.declared.rules.Def.{Def}
+use Rattle.mc_flow.specs.Heap.Heap.{region_of}
+use Rattle.mc_flow.specs.declared.defs.rules.Def.{Def}
 use Rattle.mc_flow.specs.declared.graph.Flow.{Flow}
 use Rattle.mc_flow.specs.Steps.{Config}
 use Rattle.mc_state.specs.declared.goal.Goal.{Goal}
@@ -14,7 +14,7 @@ use Rattle.mc_state.specs.State.{State}
 use Rattle.mc_state.specs.Fits.{IsBounded}
 use Rattle.mc_state.specs.Stands.{StandsBy, AgreeBelow}
 use Rattle.mc_state.specs.Rules.{GoalHolds}
-use Rattle.mc_step.specs.Laws.{IsAt}
+use Rattle.mc_rules_steps.specs.Laws.{IsAt}
 use Rattle.mc_kernel.specs.Branches.{Path, Head, begins, path_to, states_at, merged_goal}
 use Rattle.mc_kernel.proofs.Visits.{SafeUpTo, shorter}
 use Rattle.mc_kernel.proofs.Goals.{GoalBelow, goal_agrees, merged_below, merged_holds}

@@ -6,11 +6,11 @@ use Rattle.mc_base.specs.declared.ids.EdgeId.{EdgeId}
 use Rattle.mc_base.specs.declared.ids.NodeId.{NodeId}
 use Rattle.mc_base.specs.declared.plain.Kind.TheVariants.{Ptr}
 use Rattle.mc_base.specs.Nodes.{null}
-use Rattle.mc_heap.specs.Heap.{Block, IsAtAddresses}
-use Rattle.mc_heap.specs.Parts.{Joins}
-use Rattle.mc_defs.specs.Examples.{defs, blocks, first_cell, cell_with, cell_id}
-use Rattle.mc_graph.specs.declared.edge.Edge.TheVariants as edge
-use Rattle.mc_graph.specs.Graph.{Picks}
+use Rattle.mc_flow.specs.Heap.Heap.{Block, IsAtAddresses}
+use Rattle.mc_flow.specs.Heap.Parts.{Joins}
+use Rattle.mc_flow.specs.Defs.Examples.{defs, blocks, first_cell, cell_with, cell_id}
+use Rattle.mc_state.specs.declared.graph.edge.Edge.TheVariants as edge
+use Rattle.mc_state.specs.Graph.Graph.{Picks}
 use Rattle.mc_pure.specs.Derived.{base, itself, turned}
 use Rattle.mc_pure.specs.Examples.{node}
 use Rattle.mc_pure.specs.Pure as known

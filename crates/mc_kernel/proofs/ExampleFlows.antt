@@ -7,8 +7,8 @@ use Rattle.mc_base.specs.declared.ids.VarId.{VarId}
 use Rattle.mc_base.specs.declared.plain.Kind.TheVariants.{Int}
 use Rattle.mc_base.specs.declared.plain.VarInfo.{VarInfo}
 use Rattle.mc_base.specs.Kinds.{InKind}
-use Rattle.mc_defs.specs.Conditions.{DefsFit}
-use Rattle.mc_defs.specs.Examples.{structs, defs, list_def}
+use Rattle.mc_flow.specs.Defs.Conditions.{DefsFit}
+use Rattle.mc_flow.specs.Defs.Examples.{structs, defs, list_def}
 use Rattle.mc_flow.specs.declared.graph.Flow.{Flow}
 use Rattle.mc_flow.specs.declared.graph.Point.{Point}
 use Rattle.mc_flow.specs.declared.instr.Instr.{Instr}

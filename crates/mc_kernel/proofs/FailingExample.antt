@@ -3,8 +3,8 @@ use Rattle.std.proofs.Common.{◌≡◌, List, [], ◌∷◌, refl, subst, arith
 use Rattle.mc_base.specs.declared.plain.FaultKind.TheVariants.{Assertion}
 use Rattle.mc_base.specs.Nodes.{Valuation, null}
 use Rattle.mc_flow.specs.Runs.{Reaches, fault}
-use Rattle.mc_defs.specs.Conditions.{DefsFit}
-use Rattle.mc_defs.specs.Examples.{structs, defs}
+use Rattle.mc_flow.specs.Defs.Conditions.{DefsFit}
+use Rattle.mc_flow.specs.Defs.Examples.{structs, defs}
 use Rattle.mc_flow.specs.declared.instr.Instr.TheVariants as instr
 use Rattle.mc_flow.specs.Steps.{Step, start}
 use Rattle.mc_flow.specs.Valid.{IsValid, IsSkip}
@@ -14,8 +14,8 @@ use Rattle.mc_state.specs.Facts.{IsFalse}
 use Rattle.mc_state.specs.Fits.{IsBounded}
 use Rattle.mc_state.specs.RawStates.{IsWellFormedRaw, state_of}
 use Rattle.mc_state.specs.State.{State, unknown}
-use Rattle.mc_step.specs.declared.gap.Gap.TheVariants.{Reached}
-use Rattle.mc_step.specs.Steps.{moved_to}
+use Rattle.mc_rules_steps.specs.declared.gap.Gap.TheVariants.{Reached}
+use Rattle.mc_rules_steps.specs.Steps.{moved_to}
 use Rattle.mc_kernel.specs.Branches.{Head, path_of, roots, AreCuts}
 use Rattle.mc_kernel.specs.Certificates.{IsLastPass}
 use Rattle.mc_kernel.specs.Examples as ex

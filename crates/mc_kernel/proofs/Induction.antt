@@ -6,18 +6,18 @@ use Rattle.std.specs.FinMap as map
 use Rattle.std.proofs.lemmas.List.{length-replicate}
 use Rattle.mc_base.specs.declared.ids.PointId.{PointId}
 use Rattle.mc_base.specs.Nodes.{Valuation}
-use Rattle.mc_heap.specs.Heap.{region_of}
-use Rattle.mc_heap.specs.Parts.{IsEmpty}
-use Rattle.mc_defs.specs.declared.rules.Def.{Def}
+use Rattle.mc_flow.specs.Heap.Heap.{region_of}
+use Rattle.mc_flow.specs.Heap.Parts.{IsEmpty}
+use Rattle.mc_flow.specs.declared.defs.rules.Def.{Def}
 use Rattle.mc_flow.specs.declared.graph.Flow.{Flow}
 use Rattle.mc_flow.specs.Steps.{Config, start}
 use Rattle.mc_flow.specs.Valid.{IsValid}
-use Rattle.mc_cert.specs.declared.line.Line.{Line}
-use Rattle.mc_cert.specs.declared.line.Line.TheVariants.{C1}
+use Rattle.mc_lines.specs.declared.cert.line.Line.{Line}
+use Rattle.mc_lines.specs.declared.cert.line.Line.TheVariants.{C1}
 use Rattle.mc_state.specs.State.{unknown}
 use Rattle.mc_state.specs.Fits.{IsBounded}
 use Rattle.mc_state.specs.Stands.{Stands}
-use Rattle.mc_step.specs.Laws.{IsAt}
+use Rattle.mc_rules_steps.specs.Laws.{IsAt}
 use Rattle.mc_kernel.specs.Branches.{Path, Head, Setting, begins, roots}
 use Rattle.mc_kernel.specs.Instances.{Reads, stuck_by}
 use Rattle.mc_kernel.specs.Certificates.{CertificateIsSafe, LastPassFindsFaults, IsAtStuck, WrittenHead, AreHeads, states_of}

@@ -3,15 +3,15 @@ use Rattle.std.proofs.Common.{◌≡◌, List, [], ◌∷◌, ◌++◌, map, ref
 use Rattle.std.specs.Prelude.{Contains}
 use Rattle.mc_base.specs.declared.ids.PointId.{PointId}
 use Rattle.mc_base.specs.Nodes.{null}
-use Rattle.mc_defs.specs.Examples.{defs}
+use Rattle.mc_flow.specs.Defs.Examples.{defs}
 use Rattle.mc_pure.specs.Laws.{TrueIsNotFalse}
 use Rattle.mc_state.specs.declared.line.Form.TheVariants.{Certificate}
-use Rattle.mc_cert.specs.declared.line.Line.{Line}
-use Rattle.mc_cert.specs.declared.line.Line.TheVariants.{Header, Cut, S1, L13}
+use Rattle.mc_lines.specs.declared.cert.line.Line.{Line}
+use Rattle.mc_lines.specs.declared.cert.line.Line.TheVariants.{Header, Cut, S1, L13}
 use Rattle.mc_state.specs.declared.line.Version.TheVariants.{One}
 use Rattle.mc_state.specs.RawStates.{state_of}
 use Rattle.mc_state.specs.State.{unknown}
-use Rattle.mc_step.specs.Steps.{moved_to}
+use Rattle.mc_rules_steps.specs.Steps.{moved_to}
 use Rattle.mc_kernel.specs.Branches.{Setting, path_of, roots}
 use Rattle.mc_kernel.specs.Certificates.{IsValidCertificate}
 use Rattle.mc_kernel.specs.Examples as ex

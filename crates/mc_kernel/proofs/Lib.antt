@@ -16,3 +16,7 @@ pub mod Soundness
 pub mod Visits
 pub mod JumpsJudged
 pub mod LinesJudged
+pub mod OracleLemmas
+pub mod ProgressLemmas
+pub mod ReadingLemmas
+pub mod ShownLemmas

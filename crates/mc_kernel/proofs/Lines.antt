@@ -7,26 +7,26 @@ use Rattle.mc_base.specs.declared.ids.NodeId.{NodeId}
 use Rattle.mc_base.specs.declared.ids.PointId.{PointId}
 use Rattle.mc_base.specs.declared.plain.Atom.TheVariants.{Eq}
 use Rattle.mc_base.specs.Nodes.{Valuation}
-use Rattle.mc_heap.specs.Heap.{region_of}
-use Rattle.mc_defs.specs.declared.rules.Def.{Def}
-use Rattle.mc_defs.specs.declared.rules.Rule.{Rule}
-use Rattle.mc_defs.specs.Instances.{node_of}
+use Rattle.mc_flow.specs.Heap.Heap.{region_of}
+use Rattle.mc_flow.specs.declared.defs.rules.Def.{Def}
+use Rattle.mc_flow.specs.declared.defs.rules.Rule.{Rule}
+use Rattle.mc_flow.specs.Defs.Instances.{node_of}
 use Rattle.mc_flow.specs.declared.graph.Flow.{Flow}
 use Rattle.mc_flow.specs.Valid.{IsValid}
-use Rattle.mc_cert.specs.declared.line.Line.{Line}
-use Rattle.mc_cert.specs.declared.line.Line.TheVariants.{S1, S2, S3, S4, S5, S6, S7, S8, S9, S10, S11, S12, S13, S14, S15, S16, S17, S18, L1, L2, L3, L4, L5, L6, L7, L8, L9, L10, L11, L12, L13, L14, L15, C1}
-use Rattle.mc_graph.specs.declared.edge.Edge.TheVariants.{Ind, Seg}
-use Rattle.mc_graph.specs.Graph.{without}
+use Rattle.mc_lines.specs.declared.cert.line.Line.{Line}
+use Rattle.mc_lines.specs.declared.cert.line.Line.TheVariants.{S1, S2, S3, S4, S5, S6, S7, S8, S9, S10, S11, S12, S13, S14, S15, S16, S17, S18, L1, L2, L3, L4, L5, L6, L7, L8, L9, L10, L11, L12, L13, L14, L15, C1}
+use Rattle.mc_state.specs.declared.graph.edge.Edge.TheVariants.{Ind, Seg}
+use Rattle.mc_state.specs.Graph.Graph.{without}
 use Rattle.mc_state.specs.State.{State, next_node, with_nodes, with_atoms, with_edges, with_only_edges}
 use Rattle.mc_state.specs.Fits.{IsBounded}
 use Rattle.mc_state.specs.Rules.{IsSound}
-use Rattle.mc_unfold.specs.Unfolded.{UnfoldsInd, UnfoldsSeg, unfolded, unfolded_at, own_places}
-use Rattle.mc_back.specs.Unfolded.{UnfoldsBack, unfolded_back}
-use Rattle.mc_fold.specs.Folded.{folded}
-use Rattle.mc_step.specs.Next.{Next}
-use Rattle.mc_step.specs.Steps.{S1Is, S2Is, S3Is, S4Is, S5Is, S6Is, S7Is, S8Is, S9Is, S10Is, S11Is, S12Is, S13Is, S14Is, S15Is, S16Is, S17Is, S18Is}
-use Rattle.mc_step.specs.Laws as step
-use Rattle.mc_step.specs.Laws.{IsAt}
+use Rattle.mc_rules_logic.specs.Unfold.Unfolded.{UnfoldsInd, UnfoldsSeg, unfolded, unfolded_at, own_places}
+use Rattle.mc_rules_logic.specs.Back.Unfolded.{UnfoldsBack, unfolded_back}
+use Rattle.mc_rules_logic.specs.Fold.Folded.{folded}
+use Rattle.mc_rules_steps.specs.Next.{Next}
+use Rattle.mc_rules_steps.specs.Steps.{S1Is, S2Is, S3Is, S4Is, S5Is, S6Is, S7Is, S8Is, S9Is, S10Is, S11Is, S12Is, S13Is, S14Is, S15Is, S16Is, S17Is, S18Is}
+use Rattle.mc_rules_steps.specs.Laws as step
+use Rattle.mc_rules_steps.specs.Laws.{IsAt}
 use Rattle.mc_kernel.specs.Branches.{Path, Setting, closes_by}
 use Rattle.mc_kernel.specs.Jumps.{image_of}
 use Rattle.mc_kernel.specs.Instances.{IsInstance, ByStep, accessed, stuck_by}

@@ -3,25 +3,25 @@ use Rattle.std.proofs.Common.{◌≡◌, ◌↔◌, ◌⊎◌, inl, inr, ℕ, ze
 use Rattle.std.specs.Prelude.{◌==◌, ◌||◌, Ok, Err, Contains, is_some, option_map, if◌then◌else◌}
 use Rattle.mc_base.specs.declared.ids.NodeId.{NodeId}
 use Rattle.mc_base.specs.declared.ids.PointId.{PointId}
-use Rattle.mc_cert.specs.declared.line.Line.{Line}
-use Rattle.mc_cert.specs.declared.line.Line.TheVariants as line
-use Rattle.mc_defs.specs.declared.rules.Def.{Def}
+use Rattle.mc_lines.specs.declared.cert.line.Line.{Line}
+use Rattle.mc_lines.specs.declared.cert.line.Line.TheVariants as line
+use Rattle.mc_flow.specs.declared.defs.rules.Def.{Def}
 use Rattle.mc_flow.specs.declared.graph.Flow.{Flow}
-use Rattle.mc_fold.specs.Goals.{MeetsGoal}
-use Rattle.mc_fold.specs.JudgedLaws as fold
-use Rattle.mc_fold.specs.Judges.{folding_ind, folding_seg, closing_seg, joining_segs, making_seg, meeting_goal}
-use Rattle.mc_fold.specs.ChangeJudges.{naming_spare, merging_nodes, dropping_edge, forgetting_node}
-use Rattle.mc_fold.specs.Folded.{FoldsInd, FoldsSeg, ClosesSeg, JoinsSegs, MakesEmptySeg}
-use Rattle.mc_fold.specs.Changed.{NamesSpare, MergesNodes, DropsEdge, ForgetsNode}
-use Rattle.mc_unfold.specs.JudgedLaws as opening
-use Rattle.mc_unfold.specs.Judges.{unfolding_ind, unfolding_seg}
-use Rattle.mc_unfold.specs.Unfolded.{UnfoldsInd, UnfoldsSeg}
-use Rattle.mc_back.specs.Laws as back
-use Rattle.mc_back.specs.Judges.{unfolding_back}
-use Rattle.mc_back.specs.Unfolded.{UnfoldsBack}
-use Rattle.mc_step.specs.JudgedLaws as step
-use Rattle.mc_step.specs.JudgedLaws.{IsStepBy}
-use Rattle.mc_step.specs.Judges.{InstrRule, S1, S2, S3, S4, S5, S6, S7, S8, S9, S10, S11, S12, S13, S14, S15, S16, S17, S18, stepping}
+use Rattle.mc_rules_logic.specs.Fold.Goals.{MeetsGoal}
+use Rattle.mc_rules_logic.specs.Fold.JudgedLaws as fold
+use Rattle.mc_rules_logic.specs.Fold.Judges.{folding_ind, folding_seg, closing_seg, joining_segs, making_seg, meeting_goal}
+use Rattle.mc_rules_logic.specs.Fold.ChangeJudges.{naming_spare, merging_nodes, dropping_edge, forgetting_node}
+use Rattle.mc_rules_logic.specs.Fold.Folded.{FoldsInd, FoldsSeg, ClosesSeg, JoinsSegs, MakesEmptySeg}
+use Rattle.mc_rules_logic.specs.Fold.Changed.{NamesSpare, MergesNodes, DropsEdge, ForgetsNode}
+use Rattle.mc_rules_logic.specs.Unfold.JudgedLaws as opening
+use Rattle.mc_rules_logic.specs.Unfold.Judges.{unfolding_ind, unfolding_seg}
+use Rattle.mc_rules_logic.specs.Unfold.Unfolded.{UnfoldsInd, UnfoldsSeg}
+use Rattle.mc_rules_logic.specs.Back.Laws as back
+use Rattle.mc_rules_logic.specs.Back.Judges.{unfolding_back}
+use Rattle.mc_rules_logic.specs.Back.Unfolded.{UnfoldsBack}
+use Rattle.mc_rules_steps.specs.JudgedLaws as step
+use Rattle.mc_rules_steps.specs.JudgedLaws.{IsStepBy}
+use Rattle.mc_rules_steps.specs.Judges.{InstrRule, S1, S2, S3, S4, S5, S6, S7, S8, S9, S10, S11, S12, S13, S14, S15, S16, S17, S18, stepping}
 use Rattle.mc_state.specs.Known.{Test, Tells, is_false}
 use Rattle.mc_state.specs.Premises.{Judged, IsJudged, need, have, then_give}
 use Rattle.mc_state.proofs.Numbered.{need_ok, need_yes, have_ok, have_yes, then_ok, given_once, given_not_unmet, given_or_unmet}

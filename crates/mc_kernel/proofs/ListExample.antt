@@ -3,8 +3,8 @@ use Rattle.std.proofs.Common.{ℕ, [], ◌∷◌, Some, None, true, refl, arith,
 use Rattle.std.proofs.lemmas.Int.{ints}
 use Rattle.mc_base.specs.declared.plain.Kind.TheVariants.{Ptr}
 use Rattle.mc_base.specs.Nodes.{Valuation, null}
-use Rattle.mc_defs.specs.Examples.{defs, list_id}
-use Rattle.mc_graph.specs.declared.edge.Edge.TheVariants.{Ind}
+use Rattle.mc_flow.specs.Defs.Examples.{defs, list_id}
+use Rattle.mc_state.specs.declared.graph.edge.Edge.TheVariants.{Ind}
 use Rattle.mc_pure.specs.Derived.{itself}
 use Rattle.mc_pure.specs.Examples.{node}
 use Rattle.mc_pure.specs.Laws.{TrueIsNotFalse}
@@ -12,8 +12,8 @@ use Rattle.mc_state.specs.declared.goal.Goal.{Goal}
 use Rattle.mc_state.specs.declared.line.Form.TheVariants.{Certificate}
 use Rattle.mc_state.specs.Facts.{IsFalse}
 use Rattle.mc_state.specs.State.{State, unknown}
-use Rattle.mc_step.specs.Next.{Next}
-use Rattle.mc_step.specs.Steps.{moved_to}
+use Rattle.mc_rules_steps.specs.Next.{Next}
+use Rattle.mc_rules_steps.specs.Steps.{moved_to}
 use Rattle.mc_kernel.specs.Branches.{Path, Setting, MayStep, path_of, roots, AreCuts}
 use Rattle.mc_kernel.specs.Certificates.{IsValidCertificate}
 use Rattle.mc_kernel.specs.Examples as ex

@@ -6,16 +6,16 @@ use Rattle.mc_base.specs.declared.ids.PointId.{PointId}
 use Rattle.mc_base.specs.declared.plain.Kind.TheVariants.{Int}
 use Rattle.mc_base.specs.declared.plain.Atom.TheVariants.{Eq, Ne}
 use Rattle.mc_base.specs.Nodes.{Valuation, null}
-use Rattle.mc_defs.specs.Examples.{structs, defs}
+use Rattle.mc_flow.specs.Defs.Examples.{structs, defs}
 use Rattle.mc_flow.specs.Valid.{IsSkip}
-use Rattle.mc_graph.specs.Graph.{no_edges}
+use Rattle.mc_state.specs.Graph.Graph.{no_edges}
 use Rattle.mc_pure.specs.Examples.{node}
 use Rattle.mc_pure.specs.Laws.{TrueIsNotFalse}
 use Rattle.mc_state.specs.declared.line.Form.TheVariants.{Certificate}
 use Rattle.mc_state.specs.RawStates.{IsWellFormedRaw, state_of}
 use Rattle.mc_state.specs.State.{State, unknown, with_atom}
 use Rattle.mc_state.specs.Facts.{IsFalse}
-use Rattle.mc_step.specs.Steps.{moved_to}
+use Rattle.mc_rules_steps.specs.Steps.{moved_to}
 use Rattle.mc_kernel.specs.Branches.{Path, Setting, MayStep, path_of, roots, AreCuts}
 use Rattle.mc_kernel.specs.Instances.{JumpsTo, Reads}
 use Rattle.mc_kernel.specs.Certificates.{IsValidCertificate}

@@ -7,8 +7,8 @@ use Rattle.mc_base.specs.declared.ids.NodeId.{NodeId}
 use Rattle.mc_base.specs.declared.ids.PointId.{PointId}
 use Rattle.mc_base.specs.Nodes.{Valuation}
 use Rattle.mc_flow.specs.Runs.{Final, next, last, fault}
-use Rattle.mc_heap.specs.Heap.{region_of}
-use Rattle.mc_defs.specs.declared.rules.Def.{Def}
+use Rattle.mc_flow.specs.Heap.Heap.{region_of}
+use Rattle.mc_flow.specs.declared.defs.rules.Def.{Def}
 use Rattle.mc_flow.specs.declared.graph.Flow.{Flow}
 use Rattle.mc_flow.specs.Steps.{Config, Result}
 use Rattle.mc_flow.specs.Valid.{IsValid}
@@ -16,9 +16,9 @@ use Rattle.mc_state.specs.declared.goal.Goal.{Goal}
 use Rattle.mc_state.specs.State.{State}
 use Rattle.mc_state.specs.Fits.{IsBounded}
 use Rattle.mc_state.specs.Rules.{IsSound, GoalHolds, GoalIsThere}
-use Rattle.mc_fold.specs.Changed.{MergesNodes}
-use Rattle.mc_step.specs.Next.{Next}
-use Rattle.mc_step.specs.Laws.{IsStep, IsAt, LeadsOn, SidesHold}
+use Rattle.mc_rules_logic.specs.Fold.Changed.{MergesNodes}
+use Rattle.mc_rules_steps.specs.Next.{Next}
+use Rattle.mc_rules_steps.specs.Laws.{IsStep, IsAt, LeadsOn, SidesHold}
 use Rattle.mc_kernel.specs.Branches.{Path, Setting, IsPlain, path_to, path_of, merged_goal, states_at}
 use Rattle.mc_kernel.proofs.Lists.{all_at, all_of_map, all_map, all_both}
 use Rattle.mc_kernel.proofs.Visits.{SafeUpTo, StepsSafely, safe_next, safe_here}

@@ -10,7 +10,7 @@ use Rattle.mc_state.specs.declared.line.Form.{Form}
 use Rattle.mc_state.specs.declared.line.Form.TheVariants.{Certificate, Chain}
 use Rattle.mc_state.specs.State.{State, unknown}
 use Rattle.mc_state.specs.Facts.{instead}
-use Rattle.mc_step.specs.Next.{Next}
+use Rattle.mc_rules_steps.specs.Next.{Next}
 
 -- a branch: where it has come to, what is known there, what it has to show where it is a side branch,
 -- whether the line of an instruction stands on it, and whether it is closing

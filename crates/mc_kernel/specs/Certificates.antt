@@ -3,22 +3,22 @@ use Rattle.std.specs.Prelude.{◌≡◌, ◌≤◌, ◌⊎◌, ℕ, zero, suc, L
 use Rattle.std.specs.List.{AllByRecursion}
 use Rattle.mc_base.specs.declared.ids.PointId.{PointId}
 use Rattle.mc_base.specs.declared.plain.FaultKind.{FaultKind}
-use Rattle.mc_text.specs.declared.place.Place.{Place}
+use Rattle.mc_base.specs.declared.text.place.Place.{Place}
 use Rattle.mc_base.specs.Nodes.{Valuation}
 use Rattle.mc_flow.specs.Runs.{next, fault, Reaches, Final}
-use Rattle.mc_heap.specs.Choices.{Choice}
-use Rattle.mc_defs.specs.declared.rules.Def.{Def}
+use Rattle.mc_flow.specs.Heap.Choices.{Choice}
+use Rattle.mc_flow.specs.declared.defs.rules.Def.{Def}
 use Rattle.mc_flow.specs.declared.graph.Flow.{Flow}
 use Rattle.mc_flow.specs.Steps.{Config, Step, start, IsSafeFlow}
 use Rattle.mc_flow.specs.Valid.{IsValid}
 use Rattle.mc_state.specs.declared.line.Form.TheVariants.{Certificate, Chain}
-use Rattle.mc_cert.specs.declared.line.Line.{Line}
-use Rattle.mc_cert.specs.declared.line.Line.TheVariants.{Header, Cut, Head, End}
+use Rattle.mc_lines.specs.declared.cert.line.Line.{Line}
+use Rattle.mc_lines.specs.declared.cert.line.Line.TheVariants.{Header, Cut, Head, End}
 use Rattle.mc_state.specs.declared.line.Version.TheVariants.{One}
 use Rattle.mc_state.specs.declared.raw_state.RawState.{RawState}
 use Rattle.mc_state.specs.Fits.{IsBounded}
 use Rattle.mc_state.specs.RawStates.{state_of, IsWellFormedRaw}
-use Rattle.mc_step.specs.Laws.{IsAt}
+use Rattle.mc_rules_steps.specs.Laws.{IsAt}
 use Rattle.mc_kernel.specs.Branches as branches
 use Rattle.mc_kernel.specs.Branches.{Path, AreCuts, roots}
 use Rattle.mc_kernel.specs.Instances.{Reads}

@@ -7,7 +7,7 @@ use Rattle.mc_base.specs.declared.plain.Kind.TheVariants.{Int, Ptr}
 use Rattle.mc_base.specs.declared.plain.Atom.TheVariants.{In}
 use Rattle.mc_base.specs.declared.plain.VarInfo.{VarInfo}
 use Rattle.mc_base.specs.Nodes.{null}
-use Rattle.mc_defs.specs.Examples.{structs, list_id}
+use Rattle.mc_flow.specs.Defs.Examples.{structs, list_id}
 use Rattle.mc_flow.specs.declared.graph.Flow.{Flow}
 use Rattle.mc_flow.specs.declared.graph.Point.{Point}
 use Rattle.mc_flow.specs.declared.instr.Instr.{Instr}
@@ -15,8 +15,8 @@ use Rattle.mc_flow.specs.declared.instr.Instr.TheVariants as instr
 use Rattle.mc_flow.specs.declared.instr.Operand.TheVariants.{Var, Const}
 use Rattle.mc_pure.specs.Examples.{node}
 use Rattle.mc_state.specs.declared.line.Form.TheVariants.{Certificate}
-use Rattle.mc_cert.specs.declared.line.Line.{Line}
-use Rattle.mc_cert.specs.declared.line.Line.TheVariants.{Header, Cut, Head, End, S1, S2, S3, S4, S13, S15, S16, S17, L13, L14, C1}
+use Rattle.mc_lines.specs.declared.cert.line.Line.{Line}
+use Rattle.mc_lines.specs.declared.cert.line.Line.TheVariants.{Header, Cut, Head, End, S1, S2, S3, S4, S13, S15, S16, S17, L13, L14, C1}
 use Rattle.mc_state.specs.declared.line.Version.TheVariants.{One}
 use Rattle.mc_state.specs.declared.raw_state.NodeKind.TheVariants.{Zero}
 use Rattle.mc_state.specs.declared.raw_state.RawState.{RawState}

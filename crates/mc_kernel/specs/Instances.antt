@@ -3,28 +3,28 @@ use Rattle.std.specs.Prelude.{◌≡◌, ℕ, List, [], ◌∷◌, ◌++◌, fal
 use Rattle.mc_base.specs.declared.ids.EdgeId.{EdgeId}
 use Rattle.mc_base.specs.declared.ids.NodeId.{NodeId}
 use Rattle.mc_base.specs.declared.ids.PointId.{PointId}
-use Rattle.mc_defs.specs.declared.rules.Def.{Def}
+use Rattle.mc_flow.specs.declared.defs.rules.Def.{Def}
 use Rattle.mc_flow.specs.declared.graph.Flow.{Flow}
 use Rattle.mc_flow.specs.declared.instr.Instr.{Instr}
 use Rattle.mc_flow.specs.declared.instr.Instr.TheVariants as instr
 use Rattle.mc_state.specs.declared.goal.Goal.{Goal}
-use Rattle.mc_cert.specs.declared.line.Line.{Line}
-use Rattle.mc_cert.specs.declared.line.Line.TheVariants.{Header, Cut, Head, Pass, End, S1, S2, S3, S4, S5, S6, S7}
-use Rattle.mc_cert.specs.declared.line.Line.TheVariants.{S8, S9, S10, S11, S12, S13, S14, S15, S16, S17, S18, L1}
-use Rattle.mc_cert.specs.declared.line.Line.TheVariants.{L2, L3, L4, L5, L6, L7, L8, L9, L10, L11, L12, L13, L14, L15}
-use Rattle.mc_cert.specs.declared.line.Line.TheVariants.{C1, C2, C3}
+use Rattle.mc_lines.specs.declared.cert.line.Line.{Line}
+use Rattle.mc_lines.specs.declared.cert.line.Line.TheVariants.{Header, Cut, Head, Pass, End, S1, S2, S3, S4, S5, S6, S7}
+use Rattle.mc_lines.specs.declared.cert.line.Line.TheVariants.{S8, S9, S10, S11, S12, S13, S14, S15, S16, S17, S18, L1}
+use Rattle.mc_lines.specs.declared.cert.line.Line.TheVariants.{L2, L3, L4, L5, L6, L7, L8, L9, L10, L11, L12, L13, L14, L15}
+use Rattle.mc_lines.specs.declared.cert.line.Line.TheVariants.{C1, C2, C3}
 use Rattle.mc_state.specs.State.{State, var_node}
 use Rattle.mc_state.specs.Facts.{IsFalse}
-use Rattle.mc_unfold.specs.Unfolded.{UnfoldsInd, UnfoldsSeg}
-use Rattle.mc_back.specs.Unfolded.{UnfoldsBack}
-use Rattle.mc_fold.specs.Folded.{FoldsInd, FoldsSeg, ClosesSeg, JoinsSegs, MakesEmptySeg}
-use Rattle.mc_fold.specs.Changed.{NamesSpare, MergesNodes, DropsEdge, ForgetsNode}
-use Rattle.mc_fold.specs.Goals.{MeetsGoal}
-use Rattle.mc_step.specs.declared.gap.Gap.{Gap}
-use Rattle.mc_step.specs.Next.{Next}
-use Rattle.mc_step.specs.Operands.{code_at, operand_node}
-use Rattle.mc_step.specs.Steps.{S1Is, S2Is, S3Is, S4Is, S5Is, S6Is, S7Is, S8Is, S9Is, S10Is, S11Is, S12Is, S13Is, S14Is, S15Is, S16Is, S17Is, S18Is}
-use Rattle.mc_step.specs.Unmet.{IsUnmet}
+use Rattle.mc_rules_logic.specs.Unfold.Unfolded.{UnfoldsInd, UnfoldsSeg}
+use Rattle.mc_rules_logic.specs.Back.Unfolded.{UnfoldsBack}
+use Rattle.mc_rules_logic.specs.Fold.Folded.{FoldsInd, FoldsSeg, ClosesSeg, JoinsSegs, MakesEmptySeg}
+use Rattle.mc_rules_logic.specs.Fold.Changed.{NamesSpare, MergesNodes, DropsEdge, ForgetsNode}
+use Rattle.mc_rules_logic.specs.Fold.Goals.{MeetsGoal}
+use Rattle.mc_rules_steps.specs.declared.gap.Gap.{Gap}
+use Rattle.mc_rules_steps.specs.Next.{Next}
+use Rattle.mc_rules_steps.specs.Operands.{code_at, operand_node}
+use Rattle.mc_rules_steps.specs.Steps.{S1Is, S2Is, S3Is, S4Is, S5Is, S6Is, S7Is, S8Is, S9Is, S10Is, S11Is, S12Is, S13Is, S14Is, S15Is, S16Is, S17Is, S18Is}
+use Rattle.mc_rules_steps.specs.Unmet.{IsUnmet}
 use Rattle.mc_kernel.specs.Branches.{Path, Setting, MayStep, MayCut, IsPlain, IsChain, closes_by, path_of, with_state, merged_goal, states_at}
 use Rattle.mc_kernel.specs.Jumps.{Jumps}
 

@@ -1,14 +1,14 @@
 -- Lines are judged by their instances.
 use Rattle.std.specs.Prelude.{◌≡◌, ◌↔◌, ◌⊎◌, ℕ, List, Some, Err}
 use Rattle.mc_base.specs.declared.ids.NodeId.{NodeId}
-use Rattle.mc_cert.specs.declared.line.Line.{Line}
-use Rattle.mc_defs.specs.declared.rules.Def.{Def}
+use Rattle.mc_lines.specs.declared.cert.line.Line.{Line}
+use Rattle.mc_flow.specs.declared.defs.rules.Def.{Def}
 use Rattle.mc_flow.specs.declared.graph.Flow.{Flow}
-use Rattle.mc_fold.specs.Changed.{IsListWithout}
+use Rattle.mc_rules_logic.specs.Fold.Changed.{IsListWithout}
 use Rattle.mc_state.specs.Premises.{IsJudged}
-use Rattle.mc_step.specs.declared.gap.Gap.{Gap}
-use Rattle.mc_step.specs.JudgedLaws.{AreGiven}
-use Rattle.mc_step.specs.Unmet.{IsUnmet}
+use Rattle.mc_rules_steps.specs.declared.gap.Gap.{Gap}
+use Rattle.mc_rules_steps.specs.JudgedLaws.{AreGiven}
+use Rattle.mc_rules_steps.specs.Unmet.{IsUnmet}
 use Rattle.mc_kernel.specs.Branches.{Path, Setting}
 use Rattle.mc_kernel.specs.Instances.{IsInstance}
 use Rattle.mc_kernel.specs.Judges.{Knowledge, judged_line}

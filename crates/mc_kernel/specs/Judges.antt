@@ -8,11 +8,11 @@ use Rattle.mc_base.specs.declared.plain.Kind.{Kind}
 use Rattle.mc_base.specs.declared.plain.Atom.{Atom}
 use Rattle.mc_base.specs.Atoms.{moved_atom}
 use Rattle.mc_base.specs.Nodes.{moved}
-use Rattle.mc_defs.specs.declared.rules.Def.{Def}
+use Rattle.mc_flow.specs.declared.defs.rules.Def.{Def}
 use Rattle.mc_flow.specs.declared.graph.Flow.{Flow}
-use Rattle.mc_graph.specs.declared.edge.Edge.{Edge}
-use Rattle.mc_graph.specs.declared.edge.Edge.TheVariants.{Block, Ind, Seg}
-use Rattle.mc_graph.specs.Graph.{Edges, edge_with}
+use Rattle.mc_state.specs.declared.graph.edge.Edge.{Edge}
+use Rattle.mc_state.specs.declared.graph.edge.Edge.TheVariants.{Block, Ind, Seg}
+use Rattle.mc_state.specs.Graph.Graph.{Edges, edge_with}
 use Rattle.mc_pure.specs.Pure.{Kinds, kind_atom}
 use Rattle.mc_state.specs.Known.{Test, is_false, equal, has_kind}
 use Rattle.mc_state.specs.Lists.{all_both, on_some}
@@ -21,16 +21,16 @@ use Rattle.mc_state.specs.Premises.{Judged, need, have, then_give}
 use Rattle.mc_state.specs.declared.goal.Goal.{Goal}
 use Rattle.mc_state.specs.declared.line.Form.{Form}
 use Rattle.mc_state.specs.declared.line.Form.TheVariants.{Certificate, Chain}
-use Rattle.mc_cert.specs.declared.line.Line.{Line}
-use Rattle.mc_cert.specs.declared.line.Line.TheVariants as line
+use Rattle.mc_lines.specs.declared.cert.line.Line.{Line}
+use Rattle.mc_lines.specs.declared.cert.line.Line.TheVariants as line
 use Rattle.mc_state.specs.State.{State}
-use Rattle.mc_unfold.specs.Judges.{unfolding_ind, unfolding_seg}
-use Rattle.mc_back.specs.Judges.{unfolding_back}
-use Rattle.mc_fold.specs.Judges.{folding_ind, folding_seg, closing_seg, joining_segs, making_seg, meeting_goal}
-use Rattle.mc_fold.specs.ChangeJudges.{naming_spare, merging_nodes, dropping_edge, forgetting_node}
-use Rattle.mc_step.specs.declared.gap.Gap.{Gap}
-use Rattle.mc_step.specs.Judges.{InstrRule, S1, S2, S3, S4, S5, S6, S7, S8, S9, S10, S11, S12, S13, S14, S15, S16, S17, S18, stepping}
-use Rattle.mc_step.specs.Sums.{Ranges}
+use Rattle.mc_rules_logic.specs.Unfold.Judges.{unfolding_ind, unfolding_seg}
+use Rattle.mc_rules_logic.specs.Back.Judges.{unfolding_back}
+use Rattle.mc_rules_logic.specs.Fold.Judges.{folding_ind, folding_seg, closing_seg, joining_segs, making_seg, meeting_goal}
+use Rattle.mc_rules_logic.specs.Fold.ChangeJudges.{naming_spare, merging_nodes, dropping_edge, forgetting_node}
+use Rattle.mc_rules_steps.specs.declared.gap.Gap.{Gap}
+use Rattle.mc_rules_steps.specs.Judges.{InstrRule, S1, S2, S3, S4, S5, S6, S7, S8, S9, S10, S11, S12, S13, S14, S15, S16, S17, S18, stepping}
+use Rattle.mc_rules_steps.specs.Sums.{Ranges}
 use Rattle.mc_kernel.specs.Branches.{Path, Setting, closes_by, path_of, with_state, merged_goal, states_at}
 use Rattle.mc_kernel.specs.Instances.{accessed}
 use Rattle.mc_kernel.specs.Jumps.{image_of}

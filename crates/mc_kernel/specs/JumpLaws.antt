@@ -3,8 +3,8 @@ use Rattle.std.specs.Prelude.{List, Option, ℤ}
 use Rattle.mc_base.specs.declared.ids.EdgeId.{EdgeId}
 use Rattle.mc_base.specs.declared.ids.NodeId.{NodeId}
 use Rattle.mc_base.specs.Nodes.{Valuation}
-use Rattle.mc_heap.specs.Heap.{Region, IsAtAddresses}
-use Rattle.mc_defs.specs.declared.rules.Def.{Def}
+use Rattle.mc_flow.specs.Heap.Heap.{Region, IsAtAddresses}
+use Rattle.mc_flow.specs.declared.defs.rules.Def.{Def}
 use Rattle.mc_state.specs.State.{State}
 use Rattle.mc_state.specs.Stands.{StandsBy}
 use Rattle.mc_kernel.specs.Jumps.{Jumps, image_of}

@@ -8,3 +8,7 @@ pub mod WrongJumps
 pub mod Judges
 pub mod JudgedLaws
 pub mod Readings
+pub mod Oracle
+pub mod Progress
+pub mod Reading
+pub mod Shown

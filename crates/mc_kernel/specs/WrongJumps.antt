@@ -7,18 +7,18 @@ use Rattle.mc_base.specs.declared.ids.PointId.{PointId}
 use Rattle.mc_base.specs.declared.plain.Kind.TheVariants.{Ptr}
 use Rattle.mc_base.specs.Atoms.{moved_atom}
 use Rattle.mc_base.specs.Nodes.{null, moved}
-use Rattle.mc_defs.specs.declared.rules.Def.{Def}
-use Rattle.mc_defs.specs.Examples.{cell_id}
+use Rattle.mc_flow.specs.declared.defs.rules.Def.{Def}
+use Rattle.mc_flow.specs.Defs.Examples.{cell_id}
 use Rattle.mc_flow.specs.declared.graph.Flow.{Flow}
-use Rattle.mc_graph.specs.declared.edge.Edge.{Edge}
-use Rattle.mc_graph.specs.declared.edge.Edge.TheVariants.{Block}
-use Rattle.mc_graph.specs.Graph.{Edges, edge_with}
+use Rattle.mc_state.specs.declared.graph.edge.Edge.{Edge}
+use Rattle.mc_state.specs.declared.graph.edge.Edge.TheVariants.{Block}
+use Rattle.mc_state.specs.Graph.Graph.{Edges, edge_with}
 use Rattle.mc_pure.specs.Examples.{node}
 use Rattle.mc_pure.specs.Pure.{HasKind}
 use Rattle.mc_pure.specs.Derived.{LiesIn}
 use Rattle.mc_state.specs.declared.line.Form.TheVariants.{Certificate}
-use Rattle.mc_cert.specs.declared.line.Line.{Line}
-use Rattle.mc_cert.specs.declared.line.Line.TheVariants.{Header, Cut, Head, End, S1, S2, S3, S4, S13, S17, L13}
+use Rattle.mc_lines.specs.declared.cert.line.Line.{Line}
+use Rattle.mc_lines.specs.declared.cert.line.Line.TheVariants.{Header, Cut, Head, End, S1, S2, S3, S4, S13, S17, L13}
 use Rattle.mc_state.specs.declared.line.Version.TheVariants.{One}
 use Rattle.mc_state.specs.State.{State, pure_of}
 use Rattle.mc_state.specs.Facts.{IsFalse, Derives}

@@ -3,7 +3,7 @@ ghost use Rattle.std.specs.Prelude.{[], ◌∷◌};
 ghost use Rattle.mc_base.specs.declared.plain.FaultKind.TheVariants.{Assertion};
 ghost use Rattle.mc_flow.specs.Runs.{Reaches, fault};
 ghost use Rattle.mc_base.specs.Nodes.{null};
-ghost use Rattle.mc_defs.specs.Examples.{defs};
+ghost use Rattle.mc_flow.specs.Defs.Examples.{defs};
 ghost use Rattle.mc_flow.specs.Steps.{Step, start};
 ghost use Rattle.mc_flow.specs.Valid.{IsValid};
 ghost use Rattle.mc_pure.specs.Examples.{node};
@@ -18,7 +18,7 @@ pub fn loop_is_certified()
     ensures valid { IsValid loop_flow defs }
     ensures certificate { IsValidCertificate loop_flow defs loop_document }
 {
-    mc_defs::examples_fit();
+    mc_flow::defs::examples_fit();
     mc_pure::derived_is_true();
 }
 
@@ -27,7 +27,7 @@ pub fn list_is_certified()
     ensures valid { IsValid list_flow defs }
     ensures certificate { IsValidCertificate list_flow defs list_document }
 {
-    mc_defs::examples_fit();
+    mc_flow::defs::examples_fit();
     mc_pure::derived_is_true();
 }
 
@@ -37,7 +37,7 @@ pub fn failing_is_stuck()
     ensures pass { IsLastPass failing_flow defs (at 1 ∷ []) ((at 1, state_of failing_state) ∷ []) failing_pass (failing_path ∷ []) }
     ensures faults { Reaches (Step failing_flow defs) 3 (start failing_flow) [] (fault Assertion (record { line = 1; column = 1 })) }
 {
-    mc_defs::examples_fit();
+    mc_flow::defs::examples_fit();
     mc_pure::derived_is_true();
 }
 

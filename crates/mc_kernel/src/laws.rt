@@ -2,12 +2,12 @@
 ghost use Rattle.mc_kernel.specs.Certificates.{CertificateIsSafe, LastPassFindsFaults};
 ghost use Rattle.mc_kernel.specs.JumpLaws.{JumpsAreSound};
 
-use mc_back::back_is_sound;
-use mc_fold::{folding_is_sound, goals_are_met, naming_is_sound, segments_are_closed};
-use mc_heap::heaps_change_one_address;
+use mc_flow::heap::heaps_change_one_address;
+use mc_rules_logic::back::back_is_sound;
+use mc_rules_logic::fold::{folding_is_sound, goals_are_met, naming_is_sound, segments_are_closed};
+use mc_rules_logic::unfold::unfolding_is_sound;
+use mc_rules_steps::{steps_are_sound, steps_stay_bounded};
 use mc_state::{derived_is_true, edges_come_and_go, nothing_is_allocated, numbers_stay_bounded};
-use mc_step::{steps_are_sound, steps_stay_bounded};
-use mc_unfold::unfolding_is_sound;
 
 /// What stands for a state stands for one that it jumps to.
 pub fn jumps_are_sound()

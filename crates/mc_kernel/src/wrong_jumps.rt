@@ -2,8 +2,8 @@
 ghost use Rattle.std.specs.Prelude.{◌↔◌, List};
 ghost use Rattle.mc_base.specs.declared.ids.EdgeId.{EdgeId as Edge};
 ghost use Rattle.mc_base.specs.declared.ids.NodeId.{NodeId as Node};
-ghost use Rattle.mc_defs.specs.Examples.{defs};
-ghost use Rattle.mc_graph.specs.Graph.{Picks};
+ghost use Rattle.mc_flow.specs.Defs.Examples.{defs};
+ghost use Rattle.mc_state.specs.Graph.Graph.{Picks};
 ghost use Rattle.mc_kernel.specs.Jumps.{Jumps};
 ghost use Rattle.mc_state.specs.State.{State};
 ghost use Rattle.mc_kernel.specs.Certificates.{IsValidCertificate};

@@ -4,11 +4,11 @@ use Rattle.std.proofs.lemmas.List.{append-nil}
 use Rattle.std.proofs.lemmas.Option.{slice_get-get_or}
 use Rattle.std.specs.Prelude.{slice_get}
 use Rattle.mc_base.specs.declared.ids.PointId.{PointId}
-use Rattle.mc_text.specs.declared.place.Place.{Place}
+use Rattle.mc_base.specs.declared.text.place.Place.{Place}
 use Rattle.mc_base.specs.declared.ids.VarId.{VarId}
 use Rattle.mc_flow.specs.declared.instr.Instr.{Instr}
 use Rattle.mc_flow.specs.declared.instr.Instr.TheVariants.{Undef}
-use Rattle.mc_lowering.specs.Graphs.{Graph, plain, Stage, stage, point, IsPoint, Appends, appends, Undefines, undefines, undefines_none}
+use Rattle.mc_lower_spec.specs.Graphs.{Graph, plain, Stage, stage, point, IsPoint, Appends, appends, Undefines, undefines, undefines_none}
 use Rattle.mc_lower.specs.declared.builder.Builder.{Builder}
 use Rattle.mc_lower.specs.declared.builder.Draft.{Draft}
 use Rattle.mc_lower.specs.declared.builder.Label.{Label}

@@ -3,15 +3,15 @@ use Rattle.std.proofs.Common.{◌≡◌, ℕ, List, [], ◌∷◌, refl, subst}
 use Rattle.mc_base.specs.declared.ids.VarId.{VarId}
 use Rattle.mc_base.specs.declared.plain.Kind.{Kind}
 use Rattle.mc_base.specs.declared.plain.Kind.TheVariants.{Int, Ptr}
-use Rattle.mc_text.specs.declared.place.Place.{Place}
+use Rattle.mc_base.specs.declared.text.place.Place.{Place}
 use Rattle.mc_flow.specs.declared.instr.Instr.TheVariants.{Copy, Malloc, Store}
 use Rattle.mc_flow.specs.Steps.{field_count}
 use Rattle.mc_flow.specs.declared.instr.Operand.{Operand}
 use Rattle.mc_flow.specs.declared.instr.Operand.TheVariants.{Var}
-use Rattle.mc_resolved.specs.Programs.{FieldAt, Expr, value as expression_value, expression, allocation}
-use Rattle.mc_lowering.specs.Graphs.{Graph, local, plain, Stage, Appends, Undefines, IsMade, Uses}
-use Rattle.mc_lowering.specs.Values.{Operation, a_field, sets, struct_at, Takes, IsOfKind, Walks, walks_none, walks, Evaluates, Computes, of_field, Puts, puts_field}
-use Rattle.mc_lowering.specs.Lowering.{SetsTo, sets_operand, sets_computed, Assigns, assigns_field, assigns_allocated, Changes, changes_field}
+use Rattle.mc_semantics.specs.Resolved.Programs.{FieldAt, Expr, value as expression_value, expression, allocation}
+use Rattle.mc_lower_spec.specs.Graphs.{Graph, local, plain, Stage, Appends, Undefines, IsMade, Uses}
+use Rattle.mc_lower_spec.specs.Values.{Operation, a_field, sets, struct_at, Takes, IsOfKind, Walks, walks_none, walks, Evaluates, Computes, of_field, Puts, puts_field}
+use Rattle.mc_lower_spec.specs.Lowering.{SetsTo, sets_operand, sets_computed, Assigns, assigns_field, assigns_allocated, Changes, changes_field}
 use Rattle.mc_lower.specs.declared.values.Operation.{Operation as OperationCode}
 use Rattle.mc_lower.specs.declared.values.Value.{Value}
 use Rattle.mc_lower.specs.Valued.{IsValue, operation_of}

@@ -2,13 +2,13 @@
 use Rattle.std.proofs.Common.{◌≡◌, ◌+◌, ℕ, suc, List, [], ◌∷◌, Option, Some, sym, subst, length, drop, arith}
 use Rattle.std.specs.Prelude.{slice_get}
 use Rattle.mc_base.specs.declared.ids.VarId.{VarId}
-use Rattle.mc_text.specs.declared.place.Place.{Place}
+use Rattle.mc_base.specs.declared.text.place.Place.{Place}
 use Rattle.mc_flow.specs.declared.instr.Instr.TheVariants.{Copy}
 use Rattle.mc_flow.specs.declared.instr.Operand.{Operand}
 use Rattle.mc_flow.specs.declared.instr.Operand.TheVariants.{Var}
-use Rattle.mc_resolved.specs.Programs.{Call, Function, assign, result_of, returns}
-use Rattle.mc_lowering.specs.Graphs.{Graph, result, plain, Stage, Appends, Undefines, IsMade}
-use Rattle.mc_lowering.specs.Lowering.{Around, in_body, Receives, receives, Passes, passes, Awaits, Calls, calls, Performs, performs_result, Lowers, LowersAll, returns_result}
+use Rattle.mc_semantics.specs.Resolved.Programs.{Call, Function, assign, result_of, returns}
+use Rattle.mc_lower_spec.specs.Graphs.{Graph, result, plain, Stage, Appends, Undefines, IsMade}
+use Rattle.mc_lower_spec.specs.Lowering.{Around, in_body, Receives, receives, Passes, passes, Awaits, Calls, calls, Performs, performs_result, Lowers, LowersAll, returns_result}
 use Rattle.mc_lower.specs.declared.values.Target.{Target}
 use Rattle.mc_lower.specs.Left.{EndsCall, ends_call, PassesAll, TakesResult, AnswersResult}
 use Rattle.mc_lower.specs.Owned.{CreatesLocal}

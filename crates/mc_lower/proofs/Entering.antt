@@ -1,9 +1,9 @@
 -- The entry of a program, in the finished flow graph.
 use Rattle.std.proofs.Common.{◌≡◌, ℕ, suc, refl, sym, ap, ◌∙◌, subst}
 use Rattle.mc_flow.specs.declared.instr.Instr.TheVariants.{End, Skip}
-use Rattle.mc_resolved.specs.Programs.{Function}
-use Rattle.mc_lowering.specs.Graphs.{Graph, plain, nowhere, Stage, stage, IsPoint, Appends}
-use Rattle.mc_lowering.specs.Lowering.{Answers, Falls, Makes, makes, LowersAll, in_body}
+use Rattle.mc_semantics.specs.Resolved.Programs.{Function}
+use Rattle.mc_lower_spec.specs.Graphs.{Graph, plain, nowhere, Stage, stage, IsPoint, Appends}
+use Rattle.mc_lower_spec.specs.Lowering.{Answers, Falls, Makes, makes, LowersAll, in_body}
 use Rattle.mc_lower.specs.Finished.{Ends, ends}
 use Rattle.mc_lower.specs.declared.builder.Label.{Label}
 use Rattle.mc_lower.specs.declared.builder.Role.{Role as RoleCode}

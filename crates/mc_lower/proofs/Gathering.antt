@@ -6,7 +6,7 @@ use Rattle.std.proofs.lemmas.List.Quantifiers.{all_pairs_push}
 use Rattle.std.proofs.lemmas.Option.{same_Some, slice_get_within, slice_get_cases}
 use Rattle.std.specs.Prelude.{All, AllPairs, Contains, slice_get}
 use Rattle.mc_base.specs.declared.ids.VarId.{VarId}
-use Rattle.mc_lowering.specs.Graphs.{Graph, Owner, local, stage, var, IsMade, is_made, AreMade}
+use Rattle.mc_lower_spec.specs.Graphs.{Graph, Owner, local, stage, var, IsMade, is_made, AreMade}
 use Rattle.mc_lower.specs.declared.builder.Builder.{Builder}
 use Rattle.mc_lower.specs.declared.variables.Owner.{Owner as OwnerCode}
 use Rattle.mc_lower.specs.declared.variables.Variable.{Variable}

@@ -5,24 +5,24 @@ use Rattle.std.proofs.lemmas.List.Elements.{Contains-append_cases, Contains-appe
 use Rattle.std.proofs.lemmas.Option.{same_Some}
 use Rattle.std.specs.Prelude.{Contains, slice_get}
 use Rattle.std.specs.List.{AllZip}
-use Rattle.mc_ast.specs.declared.trees.Comparison.{Comparison}
-use Rattle.mc_ast.specs.declared.trees.Comparison.TheVariants.{Equal, Unequal, Below, AtMost, Above, AtLeast}
+use Rattle.mc_c_syntax.specs.declared.ast.trees.Comparison.{Comparison}
+use Rattle.mc_c_syntax.specs.declared.ast.trees.Comparison.TheVariants.{Equal, Unequal, Below, AtMost, Above, AtLeast}
 use Rattle.mc_base.specs.declared.plain.Kind.{Kind}
-use Rattle.mc_defs.specs.declared.shapes.Structs.{Structs}
-use Rattle.mc_resolved.specs.declared.program.Argument.{Argument as ArgumentCode}
-use Rattle.mc_resolved.specs.declared.program.Expression.{Expression}
-use Rattle.mc_resolved.specs.declared.program.FieldAt.{FieldAt as FieldCode}
-use Rattle.mc_resolved.specs.Programs.{FieldAt, Expr, number, input, value, minus, times, plus, difference, Local, Program, Function}
-use Rattle.mc_resolved.specs.Programs.{Cond, plain, compare, negation, both, either, Argument, variable, constant}
-use Rattle.mc_resolved.specs.Views.{argument_of, condition_of, expression_of, field_of}
-use Rattle.mc_valid.specs.Kinds.{Here, LeadsTo, IsOf, AreCompared, IsCondition, IsConditionPerhaps}
+use Rattle.mc_flow.specs.declared.defs.shapes.Structs.{Structs}
+use Rattle.mc_semantics.specs.declared.resolved.program.Argument.{Argument as ArgumentCode}
+use Rattle.mc_semantics.specs.declared.resolved.program.Expression.{Expression}
+use Rattle.mc_semantics.specs.declared.resolved.program.FieldAt.{FieldAt as FieldCode}
+use Rattle.mc_semantics.specs.Resolved.Programs.{FieldAt, Expr, number, input, value, minus, times, plus, difference, Local, Program, Function}
+use Rattle.mc_semantics.specs.Resolved.Programs.{Cond, plain, compare, negation, both, either, Argument, variable, constant}
+use Rattle.mc_semantics.specs.Resolved.Views.{argument_of, condition_of, expression_of, field_of}
+use Rattle.mc_lower_laws.specs.Valid.Kinds.{Here, LeadsTo, IsOf, AreCompared, IsCondition, IsConditionPerhaps}
 use Rattle.mc_lower.specs.declared.builder.Builder.{Builder}
 use Rattle.mc_lower.specs.declared.builder.Label.{Label}
 use Rattle.mc_lower.specs.declared.conditions.Work.{Work as Tested}
 use Rattle.mc_lower.specs.declared.lines.Awaited.{Awaited}
 use Rattle.mc_lower.specs.declared.variables.Owner.{Owner as OwnerCode}
 use Rattle.mc_lower.specs.declared.variables.Variable.{Variable}
-use Rattle.mc_lowerable.specs.Lowerable.{NamesOnly, AllNameOnly, TestsOnly, TestsOnlyPerhaps, IsMadeArgument, AreMadeArguments}
+use Rattle.mc_lower_laws.specs.Lowerable.Lowerable.{NamesOnly, AllNameOnly, TestsOnly, TestsOnlyPerhaps, IsMadeArgument, AreMadeArguments}
 use Rattle.mc_lower.specs.Once.{IsNew}
 use Rattle.mc_lower.specs.Knowns.{Known, State, IsThere, known, lasting, owners_of, with_block, with_label, with_local, with_owners}
 use Rattle.mc_lower.specs.Ready.{HasKind, HaveKinds, IsReady, AreReady, IsTestReady, AreTestsReady, IsTestReadyPerhaps, IsArgumentReady, AreArgumentsReady, Still, in_state, locals_to}

@@ -1,9 +1,9 @@
 -- What the length of a program says of its flow graphs.
 use Rattle.std.proofs.Common.{◌<◌, ◌≤◌, ℕ, [], refl, length, arith}
-use Rattle.mc_defs.specs.declared.shapes.Structs.{Structs}
-use Rattle.mc_resolved.specs.declared.program.Resolved.{Resolved}
-use Rattle.mc_length.specs.Lengths.{IsLength}
-use Rattle.mc_resolved.specs.Views.{program_of}
+use Rattle.mc_flow.specs.declared.defs.shapes.Structs.{Structs}
+use Rattle.mc_semantics.specs.declared.resolved.program.Resolved.{Resolved}
+use Rattle.mc_lower_spec.specs.Length.Lengths.{IsLength}
+use Rattle.mc_semantics.specs.Resolved.Views.{program_of}
 use Rattle.mc_lower.specs.declared.lowering.Lowered.{Lowered}
 use Rattle.mc_lower.specs.Finished.{AreTooLong, IsFlowOf}
 

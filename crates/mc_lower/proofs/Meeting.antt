@@ -2,13 +2,13 @@
 use Rattle.std.proofs.Common.{◌≡◌, ℕ, suc, List, [], ◌∷◌, Some, None, refl, sym, ap, ◌∙◌, subst, length, map}
 use Rattle.mc_base.specs.declared.ids.PointId.{PointId}
 use Rattle.mc_base.specs.declared.ids.VarId.{VarId}
-use Rattle.mc_text.specs.declared.place.Place.{Place}
+use Rattle.mc_base.specs.declared.text.place.Place.{Place}
 use Rattle.mc_flow.specs.declared.instr.Instr.{Instr}
 use Rattle.mc_flow.specs.declared.instr.Instr.TheVariants.{End, Fail, Skip}
-use Rattle.mc_resolved.specs.Programs.{Cond, Head, Right, Stmt, assert, assume, break_loop, continue_loop, returns, if_only, if_else, while_loop, do_loop, for_loop}
-use Rattle.mc_lowering.specs.Graphs.{Graph, Role, plain, head, merge, stop, result, IsMade, Stage, stage, IsPoint, Appends, appends, Leaves}
-use Rattle.mc_lowering.specs.Values.{Tests}
-use Rattle.mc_lowering.specs.Lowering.{Around, Loop, SetsTo, breaks, continues, returns_nothing, returns_value, asserts, assumes, in_loop, Starts, Finishes, Lowers, ifs, ifs_else, whiles, dos, fors}
+use Rattle.mc_semantics.specs.Resolved.Programs.{Cond, Head, Right, Stmt, assert, assume, break_loop, continue_loop, returns, if_only, if_else, while_loop, do_loop, for_loop}
+use Rattle.mc_lower_spec.specs.Graphs.{Graph, Role, plain, head, merge, stop, result, IsMade, Stage, stage, IsPoint, Appends, appends, Leaves}
+use Rattle.mc_lower_spec.specs.Values.{Tests}
+use Rattle.mc_lower_spec.specs.Lowering.{Around, Loop, SetsTo, breaks, continues, returns_nothing, returns_value, asserts, assumes, in_loop, Starts, Finishes, Lowers, ifs, ifs_else, whiles, dos, fors}
 use Rattle.mc_lower.specs.Left.{EndsCall, ends_call, Checks, checks, Merges, merges, Otherwise, otherwise, ExitsTo, exits, EndsDo, ends_do, EndsFor, ends_for, TurnsFor, turns_for}
 use Rattle.mc_lower.specs.Owned.{Forgets}
 use Rattle.mc_lower.specs.Valued.{TestsOn, tests_on, TestsPerhapsOn, tests_perhaps_on}

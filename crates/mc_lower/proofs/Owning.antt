@@ -4,7 +4,7 @@ use Rattle.std.proofs.lemmas.Option.{slice_get_within}
 use Rattle.std.specs.Prelude.{slice_get}
 use Rattle.mc_base.specs.declared.plain.Kind.{Kind}
 use Rattle.mc_base.specs.declared.plain.VarInfo.{VarInfo}
-use Rattle.mc_lowering.specs.Graphs.{stage, var, Creates, creates, IsMade, is_made}
+use Rattle.mc_lower_spec.specs.Graphs.{stage, var, Creates, creates, IsMade, is_made}
 use Rattle.mc_lower.specs.declared.builder.Builder.{Builder}
 use Rattle.mc_lower.specs.declared.variables.Owner.{Owner as OwnerCode}
 use Rattle.mc_lower.specs.Owned.{IsFirst}

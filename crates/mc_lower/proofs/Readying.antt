@@ -7,21 +7,21 @@ use Rattle.std.proofs.lemmas.Slice.Zip.{AllZip-long}
 use Rattle.std.specs.Prelude.{Contains, IsSome, IsTrue, option_and_then, slice_get}
 use Rattle.mc_base.specs.declared.plain.Kind.{Kind}
 use Rattle.mc_base.specs.declared.ids.VarId.{VarId}
-use Rattle.mc_text.specs.declared.place.Place.{Place}
-use Rattle.mc_resolved.specs.declared.program.Condition.{Condition}
-use Rattle.mc_resolved.specs.declared.program.ForHead.{ForHead}
-use Rattle.mc_resolved.specs.declared.program.Initial.{Initial as InitialCode}
-use Rattle.mc_resolved.specs.declared.program.Simple.{Simple as SimpleCode}
-use Rattle.mc_resolved.specs.declared.program.Statement.{Statement}
+use Rattle.mc_base.specs.declared.text.place.Place.{Place}
+use Rattle.mc_semantics.specs.declared.resolved.program.Condition.{Condition}
+use Rattle.mc_semantics.specs.declared.resolved.program.ForHead.{ForHead}
+use Rattle.mc_semantics.specs.declared.resolved.program.Initial.{Initial as InitialCode}
+use Rattle.mc_semantics.specs.declared.resolved.program.Simple.{Simple as SimpleCode}
+use Rattle.mc_semantics.specs.declared.resolved.program.Statement.{Statement}
 use Rattle.mc_base.specs.declared.ids.PredId.{PredId}
-use Rattle.mc_resolved.specs.Programs.{Expr, Argument, Cond, Call, Right, expression, result_of, allocation, Action, assign, add, subtract, call, Simple, Initial}
-use Rattle.mc_resolved.specs.Programs.{declaration, empty, simple, free, assert, assume, assume_shape, assert_shape, assert_empty, break_loop, continue_loop, returns}
-use Rattle.mc_resolved.specs.Programs.{nothing, declares, performs, Head, Stmt, then, block, if_only, if_else, while_loop, do_loop, for_loop, Function}
-use Rattle.mc_resolved.specs.Views.{action_of, condition_of, function_of, head_of, initial_of, local_of, program_of, simple_of, statement_of, stmts_of}
-use Rattle.mc_length.specs.Lengths.{all_declared, below, declared, items_declared, start_declared}
-use Rattle.mc_lowering.specs.Lowering.{IsMain}
-use Rattle.mc_lowering.specs.Scopes.{AreScopedIn, DeclareIn, FinishesIn, IsScopedIn}
-use Rattle.mc_valid.specs.Kinds.{Here, AreDeclared, AreOfKinds, IsAction, IsCall, IsCondition, IsConditionPerhaps, IsLast, IsOf, IsOfKinds, IsRight}
+use Rattle.mc_semantics.specs.Resolved.Programs.{Expr, Argument, Cond, Call, Right, expression, result_of, allocation, Action, assign, add, subtract, call, Simple, Initial}
+use Rattle.mc_semantics.specs.Resolved.Programs.{declaration, empty, simple, free, assert, assume, assume_shape, assert_shape, assert_empty, break_loop, continue_loop, returns}
+use Rattle.mc_semantics.specs.Resolved.Programs.{nothing, declares, performs, Head, Stmt, then, block, if_only, if_else, while_loop, do_loop, for_loop, Function}
+use Rattle.mc_semantics.specs.Resolved.Views.{action_of, condition_of, function_of, head_of, initial_of, local_of, program_of, simple_of, statement_of, stmts_of}
+use Rattle.mc_lower_spec.specs.Length.Lengths.{all_declared, below, declared, items_declared, start_declared}
+use Rattle.mc_lower_spec.specs.Lowering.{IsMain}
+use Rattle.mc_lower_spec.specs.Scopes.{AreScopedIn, DeclareIn, FinishesIn, IsScopedIn}
+use Rattle.mc_lower_laws.specs.Valid.Kinds.{Here, AreDeclared, AreOfKinds, IsAction, IsCall, IsCondition, IsConditionPerhaps, IsLast, IsOf, IsOfKinds, IsRight}
 use Rattle.mc_lower.specs.declared.builder.Label.{Label}
 use Rattle.mc_lower.specs.declared.lines.Awaited.{Awaited}
 use Rattle.mc_lower.specs.declared.variables.Owner.{Owner as OwnerCode}
@@ -29,7 +29,7 @@ use Rattle.mc_lower.specs.declared.calls.Entered.{Entered}
 use Rattle.mc_lower.specs.declared.tasks.Context.{Context}
 use Rattle.mc_lower.specs.declared.tasks.Task.{Task}
 use Rattle.mc_lower.specs.declared.tasks.Turns.{Turns}
-use Rattle.mc_lowerable.specs.Lowerable.{IsOnce, AllNameOnly, AreLowerable, IsLowerableAction, IsLowerableLast, IsLowerableRight, IsLowerableStart, TestsOnly, TestsOnlyPerhaps}
+use Rattle.mc_lower_laws.specs.Lowerable.Lowerable.{IsOnce, AllNameOnly, AreLowerable, IsLowerableAction, IsLowerableLast, IsLowerableRight, IsLowerableStart, TestsOnly, TestsOnlyPerhaps}
 use Rattle.mc_lower.specs.Knowns.{Known, Source, State, IsAnswered, IsBounded, IsOpen, IsThere, IsWithin, with_label, with_local, with_next, with_occurrence, with_owners}
 use Rattle.mc_lower.specs.Ready.{Fits, FitsAll, FitsFor, FitsItems, FitsStatement, Grown, HasResult, Still, IsActionReady, IsArgumentReady, AreArgumentsReady, IsBegun, IsCallReady, IsEntered, IsLastReady, IsNamed, IsReady, IsReturnReady, IsRightReady, IsSound, IsTestReady, IsTestReadyPerhaps, Later, Ready, entry_result, functions_in, here, loops, locals_to, makes, with_awaited}
 use Rattle.mc_lower.specs.Left.{IsBehind, IsCommand}
@@ -385,8 +385,8 @@ pub ready_for_declaring : (src : Source) (ws : List Awaited) (s : State) (c : Co
     → Ready (at src ws s) (Task.Declare place items c ∷ Task.For h a c ∷ ts)
 ready_for_declaring src ws s c h a place items ts is fits later = (
   fits_on src ws _ s s c [] (head_of h.now).variables _ _ _ _ _ _ _ _ (grown_none s c.occurrence)
-      (λ o. subst (λ x. Part [] (start_declared x) (start_declared (head_of h.now).start ++ declared (statement_of a.now))) is (part_left (start_declared (head_of h.now).start) (declared (statement_of a.now)) o)) (λ made p. subst (λ x. IsLowerableStart src.structs made x) is p.0) (λ e q. subst (λ x. Rattle.mc_valid.specs.Kinds.IsStart e x) is q.0)
-      (λ n scope r. subst (λ x. Rattle.mc_lowering.specs.Scopes.StartsIn n ((head_of h.now).variables ++ scope) x) is r.1) fits,
+      (λ o. subst (λ x. Part [] (start_declared x) (start_declared (head_of h.now).start ++ declared (statement_of a.now))) is (part_left (start_declared (head_of h.now).start) (declared (statement_of a.now)) o)) (λ made p. subst (λ x. IsLowerableStart src.structs made x) is p.0) (λ e q. subst (λ x. Rattle.mc_lower_laws.specs.Valid.Kinds.IsStart e x) is q.0)
+      (λ n scope r. subst (λ x. Rattle.mc_lower_spec.specs.Scopes.StartsIn n ((head_of h.now).variables ++ scope) x) is r.1) fits,
   (at src ws s, refl, λ t f. ready_for src ws s t c h a ts (subst (λ x. Grown s c.occurrence (start_declared x) t) (sym is) f) fits later),
 )
 
@@ -396,7 +396,7 @@ pub ready_for_performing : (src : Source) (ws : List Awaited) (s : State) (c : C
     → Ready (at src ws s) (Task.Simple x c ∷ Task.For h a c ∷ ts)
 ready_for_performing src ws s c h a x ts is fits later = (
   action_fits src ws s c (action_of x.now.action) [] Any
-      (fits_on src ws _ s s c [] [] [] _ _ _ _ _ _ Any (grown_none s c.occurrence) (λ o. part_none _ _) (λ made p. subst (λ y. IsLowerableStart src.structs made y) is p.0) (λ e q. subst (λ y. Rattle.mc_valid.specs.Kinds.IsStart e y) is q.0) (λ n scope r. tt) fits),
+      (fits_on src ws _ s s c [] [] [] _ _ _ _ _ _ Any (grown_none s c.occurrence) (λ o. part_none _ _) (λ made p. subst (λ y. IsLowerableStart src.structs made y) is p.0) (λ e q. subst (λ y. Rattle.mc_lower_laws.specs.Valid.Kinds.IsStart e y) is q.0) (λ n scope r. tt) fits),
   (at src ws s, refl, λ t f. ready_for src ws s t c h a ts (subst (λ y. Grown s c.occurrence (start_declared y) t) (sym is) f) fits later),
 )
 

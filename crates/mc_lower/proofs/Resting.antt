@@ -1,9 +1,9 @@
 -- What is left to be lowered.
 use Rattle.std.proofs.Common.{◌≡◌, ◌++◌, ℕ, List, ◌∷◌, Bor, Option, None, Some, refl, ap, ◌∙◌, subst}
 use Rattle.std.specs.Prelude.{option_copied, option_map}
-use Rattle.mc_resolved.specs.Views.{function_of}
-use Rattle.mc_lowering.specs.Graphs.{Stage}
-use Rattle.mc_lowering.specs.Lowering.{in_block}
+use Rattle.mc_semantics.specs.Resolved.Views.{function_of}
+use Rattle.mc_lower_spec.specs.Graphs.{Stage}
+use Rattle.mc_lower_spec.specs.Lowering.{in_block}
 use Rattle.mc_lower.specs.declared.builder.Builder.{Builder}
 use Rattle.mc_lower.specs.declared.tasks.Context.{Context}
 use Rattle.mc_lower.specs.declared.tasks.Task.{Task}

@@ -1,31 +1,31 @@
 -- What the trees of the code are seen as.
 use Rattle.std.proofs.Common.{◌≡◌, ℕ, map, Option, ap, sym, ◌∙◌, Box, Vec, Global}
 use Rattle.std.specs.Prelude.{option_map}
-use Rattle.mc_ast.specs.declared.trees.Comparison.{Comparison}
-use Rattle.mc_text.specs.declared.place.Place.{Place}
-use Rattle.mc_resolved.specs.declared.program.AssertShape.{AssertShape}
-use Rattle.mc_resolved.specs.declared.program.AssumeShape.{AssumeShape}
-use Rattle.mc_resolved.specs.declared.program.Condition.{Condition}
-use Rattle.mc_resolved.specs.declared.program.Condition.TheVariants as Condition
-use Rattle.mc_resolved.specs.declared.program.Condition.TheFolds.{fold-roll-Condition}
-use Rattle.mc_resolved.specs.declared.program.Expression.{Expression}
-use Rattle.mc_resolved.specs.declared.program.Expression.TheVariants as Expression
-use Rattle.mc_resolved.specs.declared.program.Expression.TheFolds.{fold-roll-Expression}
-use Rattle.mc_resolved.specs.declared.program.ForHead.{ForHead}
-use Rattle.mc_resolved.specs.declared.program.Initial.{Initial}
-use Rattle.mc_resolved.specs.declared.program.LeftValue.{LeftValue}
-use Rattle.mc_resolved.specs.declared.program.RightSide.{RightSide}
-use Rattle.mc_resolved.specs.declared.program.Simple.{Simple}
-use Rattle.mc_resolved.specs.declared.program.Statement.{Statement}
-use Rattle.mc_resolved.specs.declared.program.Statement.TheVariants as Statement
-use Rattle.mc_resolved.specs.declared.program.Statement.TheFolds.{fold-roll-Statement}
-use Rattle.mc_resolved.specs.Programs.{Expr, number, input, value, minus, times, plus, difference}
-use Rattle.mc_resolved.specs.Programs.{Cond, plain, compare, negation, both, either}
-use Rattle.mc_resolved.specs.Programs.{Stmt, declaration, block, empty, simple, free, assert, assume, assume_shape}
-use Rattle.mc_resolved.specs.Programs.{assert_shape, assert_empty, if_only, if_else, while_loop, do_loop, for_loop}
-use Rattle.mc_resolved.specs.Programs.{break_loop, continue_loop, returns}
-use Rattle.mc_resolved.specs.Views.{argument_of, condition_of, condition_step, expression_of, expression_step, head_of}
-use Rattle.mc_resolved.specs.Views.{initial_of, left_of, right_of, simple_of, statement_of, statement_step, stmts_of}
+use Rattle.mc_c_syntax.specs.declared.ast.trees.Comparison.{Comparison}
+use Rattle.mc_base.specs.declared.text.place.Place.{Place}
+use Rattle.mc_semantics.specs.declared.resolved.program.AssertShape.{AssertShape}
+use Rattle.mc_semantics.specs.declared.resolved.program.AssumeShape.{AssumeShape}
+use Rattle.mc_semantics.specs.declared.resolved.program.Condition.{Condition}
+use Rattle.mc_semantics.specs.declared.resolved.program.Condition.TheVariants as Condition
+use Rattle.mc_semantics.specs.declared.resolved.program.Condition.TheFolds.{fold-roll-Condition}
+use Rattle.mc_semantics.specs.declared.resolved.program.Expression.{Expression}
+use Rattle.mc_semantics.specs.declared.resolved.program.Expression.TheVariants as Expression
+use Rattle.mc_semantics.specs.declared.resolved.program.Expression.TheFolds.{fold-roll-Expression}
+use Rattle.mc_semantics.specs.declared.resolved.program.ForHead.{ForHead}
+use Rattle.mc_semantics.specs.declared.resolved.program.Initial.{Initial}
+use Rattle.mc_semantics.specs.declared.resolved.program.LeftValue.{LeftValue}
+use Rattle.mc_semantics.specs.declared.resolved.program.RightSide.{RightSide}
+use Rattle.mc_semantics.specs.declared.resolved.program.Simple.{Simple}
+use Rattle.mc_semantics.specs.declared.resolved.program.Statement.{Statement}
+use Rattle.mc_semantics.specs.declared.resolved.program.Statement.TheVariants as Statement
+use Rattle.mc_semantics.specs.declared.resolved.program.Statement.TheFolds.{fold-roll-Statement}
+use Rattle.mc_semantics.specs.Resolved.Programs.{Expr, number, input, value, minus, times, plus, difference}
+use Rattle.mc_semantics.specs.Resolved.Programs.{Cond, plain, compare, negation, both, either}
+use Rattle.mc_semantics.specs.Resolved.Programs.{Stmt, declaration, block, empty, simple, free, assert, assume, assume_shape}
+use Rattle.mc_semantics.specs.Resolved.Programs.{assert_shape, assert_empty, if_only, if_else, while_loop, do_loop, for_loop}
+use Rattle.mc_semantics.specs.Resolved.Programs.{break_loop, continue_loop, returns}
+use Rattle.mc_semantics.specs.Resolved.Views.{argument_of, condition_of, condition_step, expression_of, expression_step, head_of}
+use Rattle.mc_semantics.specs.Resolved.Views.{initial_of, left_of, right_of, simple_of, statement_of, statement_step, stmts_of}
 
 -- ---- expressions
 pub number_seen : (n : ℕ) → expression_of (Expression.Number n) ≡ number n

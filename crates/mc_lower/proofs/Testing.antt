@@ -2,15 +2,15 @@
 use Rattle.std.proofs.Common.{◌≡◌, ℕ, suc, pos, List, [], ◌∷◌, Some, None, refl, sym, ap, ◌∙◌, subst, length}
 use Rattle.mc_base.specs.declared.ids.PointId.{PointId}
 use Rattle.mc_base.specs.declared.ids.VarId.{VarId}
-use Rattle.mc_text.specs.declared.place.Place.{Place}
-use Rattle.mc_ast.specs.declared.trees.Comparison.{Comparison}
+use Rattle.mc_base.specs.declared.text.place.Place.{Place}
+use Rattle.mc_c_syntax.specs.declared.ast.trees.Comparison.{Comparison}
 use Rattle.mc_flow.specs.declared.instr.Instr.{Instr}
 use Rattle.mc_flow.specs.declared.instr.Operand.{Operand}
 use Rattle.mc_flow.specs.declared.instr.Operand.TheVariants.{Const}
-use Rattle.mc_resolved.specs.Programs.{Expr, Cond, plain as plain_cond, compare, negation, both, either}
-use Rattle.mc_resolved.specs.Views.{condition_of}
-use Rattle.mc_lowering.specs.Graphs.{Graph, plain, Stage, stage, point, IsPoint, appends, Undefines, undefines, undefines_none}
-use Rattle.mc_lowering.specs.Values.{Evaluates, decides, Compares, compares, Tests, tests_plain, tests_compare, tests_negation, tests_both, tests_either, tests_always, tests_once}
+use Rattle.mc_semantics.specs.Resolved.Programs.{Expr, Cond, plain as plain_cond, compare, negation, both, either}
+use Rattle.mc_semantics.specs.Resolved.Views.{condition_of}
+use Rattle.mc_lower_spec.specs.Graphs.{Graph, plain, Stage, stage, point, IsPoint, appends, Undefines, undefines, undefines_none}
+use Rattle.mc_lower_spec.specs.Values.{Evaluates, decides, Compares, compares, Tests, tests_plain, tests_compare, tests_negation, tests_both, tests_either, tests_always, tests_once}
 use Rattle.mc_lower.specs.declared.builder.Builder.{Builder}
 use Rattle.mc_lower.specs.declared.builder.Label.{Label}
 use Rattle.mc_lower.specs.declared.builder.Role.{Role as RoleCode}

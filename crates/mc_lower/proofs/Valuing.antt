@@ -6,18 +6,18 @@ use Rattle.mc_base.specs.declared.ids.PointId.{PointId}
 use Rattle.mc_base.specs.declared.ids.VarId.{VarId}
 use Rattle.mc_base.specs.declared.plain.Kind.{Kind}
 use Rattle.mc_base.specs.declared.plain.Kind.TheVariants.{Int}
-use Rattle.mc_text.specs.declared.place.Place.{Place}
+use Rattle.mc_base.specs.declared.text.place.Place.{Place}
 use Rattle.mc_flow.specs.declared.instr.Operand.{Operand}
 use Rattle.mc_flow.specs.declared.instr.Operand.TheVariants.{Var, Const}
-use Rattle.mc_resolved.specs.declared.program.Argument.{Argument}
-use Rattle.mc_resolved.specs.declared.program.Expression.{Expression}
-use Rattle.mc_resolved.specs.declared.program.FieldAt.{FieldAt as FieldCode}
-use Rattle.mc_resolved.specs.Programs.{FieldAt, Expr, number, minus, times, plus, difference}
-use Rattle.mc_resolved.specs.Views.{argument_of, expression_of, field_of}
-use Rattle.mc_lowering.specs.Graphs.{Graph, plain, Stage, Appends, Uses}
-use Rattle.mc_lowering.specs.Values.{Operation, an_input, a_field, a_sum, a_difference, a_product, sets, Takes, takes, IsOfKind, Walks, walks_none, walks}
-use Rattle.mc_lowering.specs.Values.{Evaluates, of_number, of_operation, Computes, of_minus, of_times, of_plus, of_difference, EvaluatesAll, evaluates_next}
-use Rattle.mc_lowering.specs.Lowering.{IsArgument, AreArguments, are_arguments}
+use Rattle.mc_semantics.specs.declared.resolved.program.Argument.{Argument}
+use Rattle.mc_semantics.specs.declared.resolved.program.Expression.{Expression}
+use Rattle.mc_semantics.specs.declared.resolved.program.FieldAt.{FieldAt as FieldCode}
+use Rattle.mc_semantics.specs.Resolved.Programs.{FieldAt, Expr, number, minus, times, plus, difference}
+use Rattle.mc_semantics.specs.Resolved.Views.{argument_of, expression_of, field_of}
+use Rattle.mc_lower_spec.specs.Graphs.{Graph, plain, Stage, Appends, Uses}
+use Rattle.mc_lower_spec.specs.Values.{Operation, an_input, a_field, a_sum, a_difference, a_product, sets, Takes, takes, IsOfKind, Walks, walks_none, walks}
+use Rattle.mc_lower_spec.specs.Values.{Evaluates, of_number, of_operation, Computes, of_minus, of_times, of_plus, of_difference, EvaluatesAll, evaluates_next}
+use Rattle.mc_lower_spec.specs.Lowering.{IsArgument, AreArguments, are_arguments}
 use Rattle.mc_lower.specs.declared.values.How.{How}
 use Rattle.mc_lower.specs.declared.values.Value.{Value}
 use Rattle.mc_lower.specs.declared.values.Work.{Work}

@@ -5,16 +5,16 @@ use Rattle.std.proofs.lemmas.List.Elements.{All-weaker}
 use Rattle.std.proofs.lemmas.Option.{same_Some, slice_get-map, slice_get_cases}
 use Rattle.std.specs.Prelude.{slice_get}
 use Rattle.mc_base.specs.declared.ids.PointId.{PointId}
-use Rattle.mc_lowering.specs.Graphs.{Graph, Owner, Role, local}
-use Rattle.mc_defs.specs.declared.shapes.Structs.{Structs}
-use Rattle.mc_resolved.specs.declared.program.Function.{Function as FunctionCode}
-use Rattle.mc_resolved.specs.declared.program.Resolved.{Resolved}
+use Rattle.mc_lower_spec.specs.Graphs.{Graph, Owner, Role, local}
+use Rattle.mc_flow.specs.declared.defs.shapes.Structs.{Structs}
+use Rattle.mc_semantics.specs.declared.resolved.program.Function.{Function as FunctionCode}
+use Rattle.mc_semantics.specs.declared.resolved.program.Resolved.{Resolved}
 use Rattle.mc_flow.specs.Valid.{IsValid}
-use Rattle.mc_resolved.specs.Programs.{Function, Program}
-use Rattle.mc_resolved.specs.Views.{function_of, program_of}
-use Rattle.mc_valid.specs.Kinds.{IsWellMade}
-use Rattle.mc_lowering.specs.Graphs.{head, merge, stop}
-use Rattle.mc_lowering.specs.Lowering.{AreOfRole, IsLowering, Makes}
+use Rattle.mc_semantics.specs.Resolved.Programs.{Function, Program}
+use Rattle.mc_semantics.specs.Resolved.Views.{function_of, program_of}
+use Rattle.mc_lower_laws.specs.Valid.Kinds.{IsWellMade}
+use Rattle.mc_lower_spec.specs.Graphs.{head, merge, stop}
+use Rattle.mc_lower_spec.specs.Lowering.{AreOfRole, IsLowering, Makes}
 use Rattle.mc_lower.specs.declared.builder.Builder.{Builder}
 use Rattle.mc_lower.specs.declared.lowering.Lowered.{Lowered}
 use Rattle.mc_lower.specs.declared.builder.Draft.{Draft}

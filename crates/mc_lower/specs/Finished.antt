@@ -1,20 +1,20 @@
 -- Labels become points: the flow graph that the code answers.
 use Rattle.std.specs.Prelude.{◌≡◌, ℕ, suc, ℤ, List, map, Some, None, Option, filter_map, slice_get, slice_index_or}
 use Rattle.mc_base.specs.declared.ids.PointId.{PointId}
-use Rattle.mc_defs.specs.declared.rules.Def.{Def}
-use Rattle.mc_defs.specs.declared.shapes.Structs.{Structs}
+use Rattle.mc_flow.specs.declared.defs.rules.Def.{Def}
+use Rattle.mc_flow.specs.declared.defs.shapes.Structs.{Structs}
 use Rattle.mc_flow.specs.Valid.{IsValid}
-use Rattle.mc_resolved.specs.declared.program.Resolved.{Resolved}
-use Rattle.mc_resolved.specs.Programs.{Function}
-use Rattle.mc_resolved.specs.Views.{program_of}
-use Rattle.mc_lowering.specs.Graphs.{Graph, Owner, Role, plain, head, merge, stop, nowhere, Stage, stage, IsPoint}
-use Rattle.mc_lowering.specs.Lowering.{AreThresholds, IsLowering, IsTooLong, operands}
+use Rattle.mc_semantics.specs.declared.resolved.program.Resolved.{Resolved}
+use Rattle.mc_semantics.specs.Resolved.Programs.{Function}
+use Rattle.mc_semantics.specs.Resolved.Views.{program_of}
+use Rattle.mc_lower_spec.specs.Graphs.{Graph, Owner, Role, plain, head, merge, stop, nowhere, Stage, stage, IsPoint}
+use Rattle.mc_lower_spec.specs.Lowering.{AreThresholds, IsLowering, IsTooLong, operands}
 use Rattle.mc_flow.specs.declared.instr.Operand.{Operand}
 use Rattle.mc_flow.specs.declared.instr.Operand.TheVariants.{Var, Const}
 use Rattle.mc_flow.specs.declared.instr.Instr.TheVariants.{End}
 use Rattle.std.specs.Prelude.{◌<◌, AllPairs, All, Contains}
-use Rattle.mc_lowering.specs.Graphs.{point}
-use Rattle.mc_valid.specs.Kinds.{IsWellMade}
+use Rattle.mc_lower_spec.specs.Graphs.{point}
+use Rattle.mc_lower_laws.specs.Valid.Kinds.{IsWellMade}
 use Rattle.mc_lower.specs.declared.builder.Builder.{Builder}
 use Rattle.mc_lower.specs.declared.builder.Draft.{Draft}
 use Rattle.mc_lower.specs.declared.builder.Label.{Label}

@@ -1,7 +1,7 @@
 -- What the lowering of a statement rests on: the program, and what was made by then.
 use Rattle.std.specs.Prelude.{◌≡◌, ◌<◌, ◌++◌, ℕ, suc, List, [], ◌∷◌, Option, Some, None, Contains, length}
-use Rattle.mc_defs.specs.declared.shapes.Structs.{Structs}
-use Rattle.mc_resolved.specs.declared.program.Resolved.{Resolved}
+use Rattle.mc_flow.specs.declared.defs.shapes.Structs.{Structs}
+use Rattle.mc_semantics.specs.declared.resolved.program.Resolved.{Resolved}
 use Rattle.mc_lower.specs.declared.builder.Builder.{Builder}
 use Rattle.mc_lower.specs.declared.builder.Label.{Label}
 use Rattle.mc_lower.specs.declared.lines.Awaited.{Awaited}

@@ -1,22 +1,22 @@
 -- What is still to be lowered, and what it comes to in the finished flow graph.
 use Rattle.std.specs.Prelude.{◌≡◌, ℕ, suc, List, [], ◌∷◌, Option, Some, ⊤, map, option_map, length}
 use Rattle.mc_base.specs.declared.ids.VarId.{VarId}
-use Rattle.mc_text.specs.declared.place.Place.{Place}
+use Rattle.mc_base.specs.declared.text.place.Place.{Place}
 use Rattle.mc_flow.specs.declared.instr.Operand.{Operand}
 use Rattle.mc_flow.specs.declared.instr.Operand.TheVariants.{Var}
 use Rattle.mc_flow.specs.declared.instr.Instr.{Instr}
 use Rattle.mc_flow.specs.declared.instr.Instr.TheVariants.{Skip, Copy}
-use Rattle.mc_resolved.specs.Programs.{Expr, Cond, Call, Initial, Head, Stmt, declaration, block, empty}
-use Rattle.mc_resolved.specs.Programs.{simple, free, assert, assume, assume_shape, assert_shape, assert_empty}
-use Rattle.mc_resolved.specs.Programs.{if_only, if_else, while_loop, do_loop, for_loop, break_loop, continue_loop}
-use Rattle.mc_resolved.specs.Programs.{returns}
-use Rattle.mc_resolved.specs.Views.{action_of, condition_of, function_of, head_of, initial_of, statement_of}
-use Rattle.mc_resolved.specs.Views.{stmts_of}
-use Rattle.mc_lowering.specs.Graphs.{Graph, Role, plain, merge, nowhere, Stage, stage, IsPoint, Appends}
-use Rattle.mc_lowering.specs.Graphs.{Undefines, Leaves}
-use Rattle.mc_lowering.specs.Values.{EvaluatesAll, Tests, Puts}
-use Rattle.mc_lowering.specs.Lowering.{Around, in_body, Starts, Finishes, Calls, Performs, Declares, Lowers, LowersAll}
-use Rattle.mc_lowering.specs.Lowering.{Passes}
+use Rattle.mc_semantics.specs.Resolved.Programs.{Expr, Cond, Call, Initial, Head, Stmt, declaration, block, empty}
+use Rattle.mc_semantics.specs.Resolved.Programs.{simple, free, assert, assume, assume_shape, assert_shape, assert_empty}
+use Rattle.mc_semantics.specs.Resolved.Programs.{if_only, if_else, while_loop, do_loop, for_loop, break_loop, continue_loop}
+use Rattle.mc_semantics.specs.Resolved.Programs.{returns}
+use Rattle.mc_semantics.specs.Resolved.Views.{action_of, condition_of, function_of, head_of, initial_of, statement_of}
+use Rattle.mc_semantics.specs.Resolved.Views.{stmts_of}
+use Rattle.mc_lower_spec.specs.Graphs.{Graph, Role, plain, merge, nowhere, Stage, stage, IsPoint, Appends}
+use Rattle.mc_lower_spec.specs.Graphs.{Undefines, Leaves}
+use Rattle.mc_lower_spec.specs.Values.{EvaluatesAll, Tests, Puts}
+use Rattle.mc_lower_spec.specs.Lowering.{Around, in_body, Starts, Finishes, Calls, Performs, Declares, Lowers, LowersAll}
+use Rattle.mc_lower_spec.specs.Lowering.{Passes}
 use Rattle.mc_lower.specs.declared.builder.Builder.{Builder}
 use Rattle.mc_lower.specs.declared.calls.Entered.{Entered}
 use Rattle.mc_lower.specs.declared.tasks.Context.{Context}
@@ -28,7 +28,7 @@ use Rattle.mc_lower.specs.Owned.{Forgets}
 use Rattle.mc_lower.specs.Valued.{target_of}
 
 -- where a statement stands in the finished flow graph
-abbrev pub turns_in : World → Turns → Rattle.mc_lowering.specs.Lowering.Loop
+abbrev pub turns_in : World → Turns → Rattle.mc_lower_spec.specs.Lowering.Loop
 turns_in w t = record { exit = w.at t.exit.0; turn = w.at t.turn.0 }
 
 abbrev pub around_of : World → Context → Around

@@ -1,10 +1,10 @@
 -- Variables of a flow graph that is made, found by whose they are.
 use Rattle.std.specs.Prelude.{◌≡◌, ◌<◌, ◌≤◌, ℕ, List, Option, Some, None, slice_get}
 use Rattle.mc_base.specs.declared.ids.VarId.{VarId}
-use Rattle.mc_text.specs.declared.place.Place.{Place}
+use Rattle.mc_base.specs.declared.text.place.Place.{Place}
 use Rattle.mc_flow.specs.declared.instr.Instr.TheVariants.{Undef}
-use Rattle.mc_resolved.specs.Programs.{Function, Local}
-use Rattle.mc_lowering.specs.Graphs.{Graph, local, plain, Stage, Appends, Creates, AreMade}
+use Rattle.mc_semantics.specs.Resolved.Programs.{Function, Local}
+use Rattle.mc_lower_spec.specs.Graphs.{Graph, local, plain, Stage, Appends, Creates, AreMade}
 use Rattle.mc_lower.specs.declared.variables.Owner.{Owner as OwnerCode}
 use Rattle.mc_lower.specs.declared.variables.Variable.{Variable}
 

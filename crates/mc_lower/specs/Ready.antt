@@ -1,27 +1,27 @@
 -- What has to be known before something is lowered: what it names is there, and made by then.
 use Rattle.std.specs.Prelude.{◌≡◌, ◌<◌, ◌≤◌, ◌++◌, ◌⊎◌, ℕ, zero, suc, Bool, true, false, List, [], ◌∷◌, Option, Some, None, IsSome, option_and_then, map, Contains, length, slice_get}
 use Rattle.mc_base.specs.declared.plain.Kind.{Kind}
-use Rattle.mc_defs.specs.declared.rules.Def.{Def}
-use Rattle.mc_defs.specs.declared.shapes.Structs.{Structs}
+use Rattle.mc_flow.specs.declared.defs.rules.Def.{Def}
+use Rattle.mc_flow.specs.declared.defs.shapes.Structs.{Structs}
 use Rattle.mc_flow.specs.Steps.{field_count}
 use Rattle.mc_flow.specs.Valid.{field_kind}
-use Rattle.mc_resolved.specs.Programs.{FieldAt, Left, Expr, number, input, value, minus, times, plus, difference}
-use Rattle.mc_resolved.specs.Programs.{Cond, plain, compare, negation, both, either, Call, Right, expression, result_of}
-use Rattle.mc_resolved.specs.Programs.{allocation, Action, assign, add, subtract, call, Simple, Initial, Argument}
-use Rattle.mc_resolved.specs.Programs.{variable, constant, Head, Stmt, Stmts, Function}
-use Rattle.mc_resolved.specs.Views.{action_of, condition_of, function_of, head_of, initial_of, program_of}
-use Rattle.mc_resolved.specs.Views.{statement_of, stmts_of}
-use Rattle.mc_lowering.specs.Values.{struct_at}
-use Rattle.mc_lowering.specs.Scopes.{AreScoped, AreScopedIn, DeclareIn, FinishesIn, IsScopedIn}
-use Rattle.mc_valid.specs.Kinds.{Here, AreDeclared, AreOfKinds, IsConditionPerhaps, IsLast, IsOfKinds, IsWellMade}
-use Rattle.mc_length.specs.Lengths.{all_declared, declared, items_declared}
-use Rattle.mc_lowerable.specs.Lowerable.{AreLowerable, AreLowerableItems, IsLowerable, IsLowerableLast, IsLowerableProgram, IsOnce, TestsOnlyPerhaps}
+use Rattle.mc_semantics.specs.Resolved.Programs.{FieldAt, Left, Expr, number, input, value, minus, times, plus, difference}
+use Rattle.mc_semantics.specs.Resolved.Programs.{Cond, plain, compare, negation, both, either, Call, Right, expression, result_of}
+use Rattle.mc_semantics.specs.Resolved.Programs.{allocation, Action, assign, add, subtract, call, Simple, Initial, Argument}
+use Rattle.mc_semantics.specs.Resolved.Programs.{variable, constant, Head, Stmt, Stmts, Function}
+use Rattle.mc_semantics.specs.Resolved.Views.{action_of, condition_of, function_of, head_of, initial_of, program_of}
+use Rattle.mc_semantics.specs.Resolved.Views.{statement_of, stmts_of}
+use Rattle.mc_lower_spec.specs.Values.{struct_at}
+use Rattle.mc_lower_spec.specs.Scopes.{AreScoped, AreScopedIn, DeclareIn, FinishesIn, IsScopedIn}
+use Rattle.mc_lower_laws.specs.Valid.Kinds.{Here, AreDeclared, AreOfKinds, IsConditionPerhaps, IsLast, IsOfKinds, IsWellMade}
+use Rattle.mc_lower_spec.specs.Length.Lengths.{all_declared, declared, items_declared}
+use Rattle.mc_lower_laws.specs.Lowerable.Lowerable.{AreLowerable, AreLowerableItems, IsLowerable, IsLowerableLast, IsLowerableProgram, IsOnce, TestsOnlyPerhaps}
 use Rattle.mc_lower.specs.declared.variables.Owner.{Owner as OwnerCode}
 use Rattle.mc_lower.specs.declared.tasks.Context.{Context}
 use Rattle.mc_lower.specs.declared.tasks.Task.{Task}
 use Rattle.mc_lower.specs.declared.tasks.Turns.{Turns}
 use Rattle.mc_lower.specs.declared.values.Work.{Work}
-use Rattle.mc_resolved.specs.Views.{expression_of}
+use Rattle.mc_semantics.specs.Resolved.Views.{expression_of}
 use Rattle.mc_lower.specs.declared.conditions.Work.{Work as Tested}
 use Rattle.mc_lower.specs.declared.calls.Entered.{Entered}
 use Rattle.mc_lower.specs.declared.lines.Awaited.{Awaited}

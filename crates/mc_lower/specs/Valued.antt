@@ -2,15 +2,15 @@
 use Rattle.std.specs.Prelude.{◌≡◌, ℕ, pos, List, [], ◌∷◌, Option, map, length}
 use Rattle.mc_base.specs.declared.ids.VarId.{VarId}
 use Rattle.mc_base.specs.declared.plain.Kind.TheVariants.{Int}
-use Rattle.mc_text.specs.declared.place.Place.{Place}
+use Rattle.mc_base.specs.declared.text.place.Place.{Place}
 use Rattle.mc_flow.specs.declared.instr.Operand.{Operand}
 use Rattle.mc_flow.specs.declared.instr.Operand.TheVariants.{Var, Const}
 use Rattle.mc_flow.specs.declared.instr.Instr.TheVariants.{Free}
-use Rattle.mc_resolved.specs.Programs.{Left, Expr, Cond}
-use Rattle.mc_resolved.specs.Views.{field_of, expression_of, condition_of}
-use Rattle.mc_lowering.specs.Graphs.{Graph, plain, Stage, stage, Appends, Undefines}
-use Rattle.mc_lowering.specs.Values.{Operation, an_input, a_field, a_sum, a_difference, a_product, Takes, Evaluates}
-use Rattle.mc_lowering.specs.Values.{Computes, Tests, TestsPerhaps, Puts}
+use Rattle.mc_semantics.specs.Resolved.Programs.{Left, Expr, Cond}
+use Rattle.mc_semantics.specs.Resolved.Views.{field_of, expression_of, condition_of}
+use Rattle.mc_lower_spec.specs.Graphs.{Graph, plain, Stage, stage, Appends, Undefines}
+use Rattle.mc_lower_spec.specs.Values.{Operation, an_input, a_field, a_sum, a_difference, a_product, Takes, Evaluates}
+use Rattle.mc_lower_spec.specs.Values.{Computes, Tests, TestsPerhaps, Puts}
 use Rattle.mc_lower.specs.declared.builder.Builder.{Builder}
 use Rattle.mc_lower.specs.declared.conditions.Ways.{Ways}
 use Rattle.mc_lower.specs.declared.conditions.Work.{Work as Tested}

@@ -1,15 +1,15 @@
 -- A flow graph while it is made, seen from the finished one.
 use Rattle.std.specs.Prelude.{◌≡◌, ℕ, suc, List, [], map, Option, Some, None, length, slice_get}
 use Rattle.mc_base.specs.declared.ids.PointId.{PointId}
-use Rattle.mc_text.specs.declared.place.Place.{Place}
+use Rattle.mc_base.specs.declared.text.place.Place.{Place}
 use Rattle.mc_flow.specs.declared.graph.Point.{Point}
 use Rattle.mc_flow.specs.declared.instr.Instr.{Instr}
 use Rattle.mc_flow.specs.declared.instr.Instr.TheVariants.{Skip, Copy, Undef, Input, Add, Sub, Mul, Load, Store}
 use Rattle.mc_flow.specs.declared.instr.Instr.TheVariants.{Malloc, Free, TestEq, TestLe, AssumeShape, AssertShape}
 use Rattle.mc_flow.specs.declared.instr.Instr.TheVariants.{AssertEmpty, End, Fail}
-use Rattle.mc_resolved.specs.Views.{function_of}
-use Rattle.mc_lowering.specs.Graphs.{Graph, Owner, local, result, temporary, Role, plain, head, merge, stop}
-use Rattle.mc_lowering.specs.Graphs.{Stage, stage, point, IsPoint}
+use Rattle.mc_semantics.specs.Resolved.Views.{function_of}
+use Rattle.mc_lower_spec.specs.Graphs.{Graph, Owner, local, result, temporary, Role, plain, head, merge, stop}
+use Rattle.mc_lower_spec.specs.Graphs.{Stage, stage, point, IsPoint}
 use Rattle.mc_lower.specs.declared.builder.Builder.{Builder}
 use Rattle.mc_lower.specs.declared.builder.Draft.{Draft}
 use Rattle.mc_lower.specs.declared.builder.Label.{Label}

@@ -2,11 +2,11 @@
 ghost use Rattle.std.specs.Prelude.{[], ℕ, ◌≡◌, ◌<◌, OnOk, length, map};
 ghost use Rattle.mc_flow.specs.declared.instr.Instr.TheVariants.{Free, Malloc, Store};
 ghost use Rattle.mc_flow.specs.declared.instr.Operand.TheVariants.{Var};
-ghost use Rattle.mc_lowering.specs.Graphs.{Appends, Stage, plain};
-ghost use Rattle.mc_lowering.specs.Lowering.{Assigns, Changes, SetsTo};
-ghost use Rattle.mc_lowering.specs.Values.{Evaluates, Puts};
-ghost use Rattle.mc_resolved.specs.Programs.{Expr, allocation, expression as value_of};
-ghost use Rattle.mc_resolved.specs.Views.{expression_of, left_of, right_of};
+ghost use Rattle.mc_lower_spec.specs.Graphs.{Appends, Stage, plain};
+ghost use Rattle.mc_lower_spec.specs.Lowering.{Assigns, Changes, SetsTo};
+ghost use Rattle.mc_lower_spec.specs.Values.{Evaluates, Puts};
+ghost use Rattle.mc_semantics.specs.Resolved.Programs.{Expr, allocation, expression as value_of};
+ghost use Rattle.mc_semantics.specs.Resolved.Views.{expression_of, left_of, right_of};
 ghost use Rattle.mc_flow.specs.Steps.{field_count};
 ghost use Rattle.mc_lower.specs.Knowns.{IsThere, Keeps, known};
 ghost use Rattle.mc_lower.specs.Ready.{HaveKinds, IsNamed, IsPlainReady, IsReady};
@@ -15,10 +15,10 @@ ghost use Rattle.mc_lower.specs.Worlds.{Agrees, Leads, World, stage_of};
 
 use crate::builder::{BuildFault, Builder, Role};
 use crate::values::{How, Operation, Site, Target, Value};
+use mc_base::text::Place;
 use mc_base::{Kind, StructId, VarId};
 use mc_flow::{Instr, Operand};
-use mc_resolved::{Expression, FieldAt, LeftValue, RightSide};
-use mc_text::Place;
+use mc_semantics::resolved::{Expression, FieldAt, LeftValue, RightSide};
 
 impl<'a> Builder<'a> {
     // A variable gets new memory.

@@ -1,6 +1,6 @@
 // A flow graph while it is made: its points go on to labels, which become points at the end.
 ghost use Rattle.std.specs.Prelude.{[], ◌≡◌, ◌<◌, ◌++◌, OnOk, IfOk};
-ghost use Rattle.mc_lowering.specs.Graphs.{Appends, Undefines, plain, point};
+ghost use Rattle.mc_lower_spec.specs.Graphs.{Appends, Undefines, plain, point};
 ghost use Rattle.mc_flow.specs.declared.instr.Instr.TheVariants.{Skip, Copy, Undef};
 ghost use Rattle.mc_lower.specs.declared.lines.Awaited.{Awaited};
 ghost use Rattle.mc_lower.specs.Knowns.{IsOpen, Keeps, Known, Waits, known, nothing_known, with_block, with_label, with_next, with_occurrence};
@@ -9,11 +9,11 @@ ghost use Rattle.mc_lower.specs.Worlds.{GoesTo, World, Agrees, IsPut, Lands, Lay
 
 use crate::lines::Lines;
 use crate::variables::Variables;
+use mc_base::text::Place;
 use mc_base::{Items, PointId, VarId};
-use mc_defs::Structs;
+use mc_flow::defs::Structs;
 use mc_flow::{Instr, Operand};
-use mc_resolved::Resolved;
-use mc_text::Place;
+use mc_semantics::resolved::Resolved;
 use std::alloc::{AllocError, AllocFailed, Global};
 
 /// The most points that a flow graph has.

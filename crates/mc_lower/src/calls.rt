@@ -1,11 +1,11 @@
 // Calls, simple statements and declarations are lowered, or what they are made of is next.
 ghost use Rattle.std.specs.Prelude.{ℕ, Some, ◌≡◌, ◌<◌, ◌≤◌, [], ◌∷◌, Option, IfOk, IsSome, OnOk, length, map, slice_get};
 ghost use Rattle.mc_base.specs.declared.plain.Kind.{Kind};
-ghost use Rattle.mc_length.specs.Lengths.{all_declared, items_declared};
-ghost use Rattle.mc_lowering.specs.Graphs.{Stage};
-ghost use Rattle.mc_lowering.specs.Lowering.{Awaits, Declares, LowersAll, Lowers, Passes, Performs, Receives};
-ghost use Rattle.mc_resolved.specs.Programs.{assign, call as performs_call, result_of, returns};
-ghost use Rattle.mc_resolved.specs.Views.{action_of, call_of, expression_of, function_of, initial_of, right_of};
+ghost use Rattle.mc_lower_spec.specs.Length.Lengths.{all_declared, items_declared};
+ghost use Rattle.mc_lower_spec.specs.Graphs.{Stage};
+ghost use Rattle.mc_lower_spec.specs.Lowering.{Awaits, Declares, LowersAll, Lowers, Passes, Performs, Receives};
+ghost use Rattle.mc_semantics.specs.Resolved.Programs.{assign, call as performs_call, result_of, returns};
+ghost use Rattle.mc_semantics.specs.Resolved.Views.{action_of, call_of, expression_of, function_of, initial_of, right_of};
 ghost use Rattle.mc_lower.specs.Left.{AnswersResult, Begins, DeclaresFirst, EndsCall, IsEntered, PassesAll, Rest, TakesResult, around_of};
 ghost use Rattle.mc_lower.specs.Knowns.{IsAnswered, IsThere, Keeps, Known, known, with_next, with_owners};
 ghost use Rattle.mc_lower.specs.Ready.{AreReady, FitsAll, FitsItems, IsActionReady, IsBegun, IsCallReady, IsNamed, IsRightReady, Later, Needs, Ready, functions_in, locals_to, with_awaited};
@@ -17,11 +17,11 @@ ghost use Rattle.mc_lower.specs.Worlds.{Agrees, GoesTo, Leads, World, stage_of};
 use crate::builder::{BuildFault, Builder, Role};
 use crate::tasks::{Context, Task, push};
 use crate::values::{How, Site, Target};
+use mc_base::stack::Stack;
+use mc_base::text::Place;
 use mc_base::{Items, VarId};
 use mc_flow::{Instr, Operand};
-use mc_resolved::{Action, Call, Function, Initial, RightSide, Simple};
-use mc_stack::Stack;
-use mc_text::Place;
+use mc_semantics::resolved::{Action, Call, Function, Initial, RightSide, Simple};
 
 /// A call whose body is next: where the body stands, and the variable for its result.
 #[derive(Clone, Copy)]

@@ -1,9 +1,9 @@
 // The points that test conditions.
 ghost use Rattle.std.specs.Prelude.{ℕ, ◌≡◌, ◌∷◌, OnOk, length, option_map};
-ghost use Rattle.mc_lowering.specs.Graphs.{Undefines, plain, point, stage};
-ghost use Rattle.mc_lowering.specs.Values.{Compares, decides};
-ghost use Rattle.mc_resolved.specs.Programs.{compare, plain as plain_condition};
-ghost use Rattle.mc_resolved.specs.Views.{condition_of, expression_of};
+ghost use Rattle.mc_lower_spec.specs.Graphs.{Undefines, plain, point, stage};
+ghost use Rattle.mc_lower_spec.specs.Values.{Compares, decides};
+ghost use Rattle.mc_semantics.specs.Resolved.Programs.{compare, plain as plain_condition};
+ghost use Rattle.mc_semantics.specs.Resolved.Views.{condition_of, expression_of};
 ghost use Rattle.mc_lower.specs.Knowns.{Keeps, Known, Waits, known, with_all, with_label};
 ghost use Rattle.mc_lower.specs.Ready.{AreTestsReady, IsReady, IsTestReady, IsTestReadyPerhaps};
 ghost use Rattle.mc_lower.specs.Valued.{Testing, TestsOn, TestsPerhapsOn, TestsTo, froms};
@@ -11,12 +11,12 @@ ghost use Rattle.mc_lower.specs.Worlds.{Agrees, Leads, World, stage_of};
 
 use crate::builder::{BuildFault, Builder, Label, Role};
 use crate::values::{Site, nothing};
-use mc_ast::Comparison;
 use mc_base::VarId;
+use mc_base::stack::Stack;
+use mc_base::text::Place;
+use mc_c_syntax::ast::Comparison;
 use mc_flow::{Instr, Operand};
-use mc_resolved::{Condition, Expression};
-use mc_stack::Stack;
-use mc_text::Place;
+use mc_semantics::resolved::{Condition, Expression};
 
 /// Where a condition goes to where it is true, and where it is false.
 #[derive(Clone, Copy)]

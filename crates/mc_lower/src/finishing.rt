@@ -1,7 +1,7 @@
 // Labels become points, and the lists of a flow graph are made.
 ghost use Rattle.std.specs.Prelude.{ℕ, ◌≡◌, ◌↔◌, ◌++◌, ◌∷◌, [], IfOk, OnOk, IsTrue, map};
 ghost use Rattle.mc_flow.specs.declared.graph.Point.{Point};
-ghost use Rattle.mc_lowering.specs.Lowering.{AreThresholds, operands};
+ghost use Rattle.mc_lower_spec.specs.Lowering.{AreThresholds, operands};
 ghost use Rattle.mc_lower.specs.Finished.{AreConstants, AreThose, IsFinished, constants, point_at};
 ghost use Rattle.mc_lower.specs.Worlds.{point_in, role_of, settled, target as point_of_target};
 
@@ -10,7 +10,7 @@ use crate::lowering::Lowered;
 use crate::settling::settle_labels;
 use crate::variables::Variable;
 use mc_base::{Items, PointId, VarInfo};
-use mc_defs::{FieldInfo, StructInfo, Structs};
+use mc_flow::defs::{FieldInfo, StructInfo, Structs};
 use mc_flow::{Flow, Instr, Operand, Point};
 use std::alloc::Global;
 

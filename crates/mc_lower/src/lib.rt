@@ -1,4 +1,6 @@
-//! From resolved programs to their flow graphs, calls inlined.
+//! Lowers resolved programs to their flow graphs, calls inlined.
+//!
+//! Stands on `mc_lower_laws`; called by `mc_load`.
 #![tactic(auto)]
 
 mod assignments;

@@ -5,7 +5,7 @@ ghost use Rattle.mc_lower.specs.declared.lines.Awaited.{Awaited};
 ghost use Rattle.mc_lower.specs.Lines.{AreLined, label_of};
 
 use crate::builder::{BuildFault, Draft, Label, Mark};
-use mc_stack::Stack;
+use mc_base::stack::Stack;
 use std::alloc::Global;
 
 /// A label that waits: a label whose points come later, or where the `return` of an occurrence of a function goes.

@@ -1,7 +1,7 @@
 // A program is lowered: a loop over what is left, with a stack of its own.
 ghost use Rattle.std.specs.Prelude.{[], ◌∷◌, ℕ, ◌≡◌, ◌<◌, ◌≤◌, ◌↔◌, IfErr, IfOk, OnOk, IsTrue, length, slice_get, suc};
-ghost use Rattle.mc_lowering.specs.Lowering.{Answers, Falls, IsMain, LowersAll, Makes, in_body};
-ghost use Rattle.mc_resolved.specs.Views.{function_of};
+ghost use Rattle.mc_lower_spec.specs.Lowering.{Answers, Falls, IsMain, LowersAll, Makes, in_body};
+ghost use Rattle.mc_semantics.specs.Resolved.Views.{function_of};
 ghost use Rattle.mc_lower.specs.Finished.{AreTooLong, Ends, IsFlowOf, IsValidFlow};
 ghost use Rattle.mc_lower.specs.declared.lines.Awaited.TheVariants.{Out};
 ghost use Rattle.mc_lower.specs.declared.lowering.LowerFault.TheVariants.{TooLong};
@@ -14,13 +14,13 @@ use crate::builder::{BuildFault, Builder, MAX_POINTS, NOWHERE, Role};
 use crate::finishing::finish;
 use crate::tasks::{Context, Task, push};
 use crate::values::nothing;
+use mc_base::stack::Stack;
 use mc_base::{Items, Kind, PointId};
-use mc_defs::Structs;
+use mc_flow::defs::Structs;
 use mc_flow::{Flow, Instr};
-use mc_length::length;
-use mc_resolved::{Function, Resolved};
-use mc_stack::Stack;
-use mc_valid::lowerings_are_valid;
+use mc_lower_laws::valid::lowerings_are_valid;
+use mc_lower_spec::length::length;
+use mc_semantics::resolved::{Function, Resolved};
 use std::alloc::Global;
 
 /// The flow graph of a program, and its points whose End counts as a stop.

@@ -1,8 +1,8 @@
 // The variables of a flow graph, found by whose they are.
 ghost use Rattle.std.specs.Prelude.{◌≡◌, ◌<◌, ◌↔◌, IfOk, IfSome, OnOk, IsTrue, Contains, length};
-ghost use Rattle.mc_lowering.specs.Graphs.{Creates, IsMade, AreMade, Leaves, Uses, local, result as result_of};
-ghost use Rattle.mc_lowering.specs.Lowering.{result_info};
-ghost use Rattle.mc_resolved.specs.Views.{function_of};
+ghost use Rattle.mc_lower_spec.specs.Graphs.{Creates, IsMade, AreMade, Leaves, Uses, local, result as result_of};
+ghost use Rattle.mc_lower_spec.specs.Lowering.{result_info};
+ghost use Rattle.mc_semantics.specs.Resolved.Views.{function_of};
 ghost use Rattle.mc_lower.specs.Knowns.{IsAnswered, IsOpen, IsThere, Keeps, known, lasting, owners_of, with_local, with_owners, with_result};
 ghost use Rattle.mc_lower.specs.Once.{IsNew};
 ghost use Rattle.mc_lower.specs.Owned.{CreatesLocal, IsFirst, IsLocalOf};
@@ -10,9 +10,9 @@ ghost use Rattle.mc_lower.specs.Worlds.{Agrees, Leads, World, blocks_in, owner_o
 
 use crate::builder::{BuildFault, Builder};
 use crate::variables::{Owner, Variable};
+use mc_base::text::Place;
 use mc_base::{Items, Kind, VarId, VarInfo};
-use mc_resolved::{Function, Local};
-use mc_text::Place;
+use mc_semantics::resolved::{Function, Local};
 use std::alloc::Global;
 
 /// The number of the variable of this owner.

@@ -1,11 +1,11 @@
 // Statements are lowered, or what they are made of is next.
 ghost use Rattle.std.specs.Prelude.{Some, ◌≡◌, ◌<◌, [], ◌∷◌, IfOk, IsSome, OnOk, map, option_map};
-ghost use Rattle.mc_length.specs.Lengths.{all_declared, declared};
+ghost use Rattle.mc_lower_spec.specs.Length.Lengths.{all_declared, declared};
 ghost use Rattle.mc_flow.specs.declared.instr.Instr.TheVariants.{AssertEmpty as EmptinessAsserted};
-ghost use Rattle.mc_lowering.specs.Graphs.{Appends, Leaves, plain};
-ghost use Rattle.mc_lowering.specs.Lowering.{AreArguments, Lowers, LowersAll};
-ghost use Rattle.mc_resolved.specs.Programs.{assert_shape, assume_shape, block, break_loop, continue_loop, do_loop, for_loop, if_else, if_only, returns, while_loop};
-ghost use Rattle.mc_resolved.specs.Views.{argument_of, condition_of, function_of, head_of, right_of, statement_of, stmts_of};
+ghost use Rattle.mc_lower_spec.specs.Graphs.{Appends, Leaves, plain};
+ghost use Rattle.mc_lower_spec.specs.Lowering.{AreArguments, Lowers, LowersAll};
+ghost use Rattle.mc_semantics.specs.Resolved.Programs.{assert_shape, assume_shape, block, break_loop, continue_loop, do_loop, for_loop, if_else, if_only, returns, while_loop};
+ghost use Rattle.mc_semantics.specs.Resolved.Views.{argument_of, condition_of, function_of, head_of, right_of, statement_of, stmts_of};
 ghost use Rattle.mc_lower.specs.Left.{Begins, Checks, EndsDo, EndsFor, EntersFor, ExitsTo, HasParts, IsBehind, IsCommand, Merges, Met, Otherwise, TurnsFor, around_of};
 ghost use Rattle.mc_lower.specs.Knowns.{IsAnswered, IsOpen, IsThere, Keeps, Known, known, with_all, with_label};
 ghost use Rattle.mc_lower.specs.Ready.{AreArgumentsReady, FitsAll, FitsFor, FitsStatement, IsArgumentReady, IsLastReady, IsPlainReady, IsReturnReady, IsRightReady, IsTestReady, Later, Needs, Ready, makes, takes};
@@ -16,12 +16,12 @@ use crate::conditions::Ways;
 use crate::tasks::{Context, Task, Turns, push};
 use crate::values::Site;
 use mc_base::Items;
+use mc_base::stack::Stack;
+use mc_base::text::Place;
 use mc_flow::{Instr, Operand};
-use mc_resolved::{
+use mc_semantics::resolved::{
     Argument, AssertShape, AssumeShape, Condition, ForHead, ForStart, RightSide, Statement,
 };
-use mc_stack::Stack;
-use mc_text::Place;
 
 impl<'a> Builder<'a> {
     // ---- commands

@@ -4,9 +4,9 @@ ghost use Rattle.std.specs.Prelude.{None, Some, ◌≡◌, ◌∷◌, OnOk};
 use crate::builder::{BuildFault, Label};
 use crate::values::Target;
 use mc_base::VarId;
-use mc_resolved::{Condition, ForHead, Function, Initial, Simple, Statement};
-use mc_stack::Stack;
-use mc_text::Place;
+use mc_base::stack::Stack;
+use mc_base::text::Place;
+use mc_semantics::resolved::{Condition, ForHead, Function, Initial, Simple, Statement};
 
 /// Where `break` and `continue` of a loop go.
 #[derive(Clone, Copy)]

@@ -6,22 +6,22 @@ ghost use Rattle.mc_lower.specs.Ready.{AreReady, HasKind, HaveKinds, IsArgumentR
 ghost use Rattle.mc_flow.specs.declared.instr.Operand.TheVariants.{Const};
 ghost use Rattle.mc_base.specs.declared.ids.VarId.{VarId};
 ghost use Rattle.mc_flow.specs.declared.instr.Operand.{Operand};
-ghost use Rattle.mc_lowering.specs.Graphs.{Appends, Stage, plain};
-ghost use Rattle.mc_lowering.specs.Lowering.{IsArgument};
-ghost use Rattle.mc_lowering.specs.Values.{Evaluates, EvaluatesAll, IsOfKind, Takes, Walks, sets};
-ghost use Rattle.mc_resolved.specs.Programs.{value};
-ghost use Rattle.mc_resolved.specs.Views.{argument_of, expression_of, field_of, left_of};
+ghost use Rattle.mc_lower_spec.specs.Graphs.{Appends, Stage, plain};
+ghost use Rattle.mc_lower_spec.specs.Lowering.{IsArgument};
+ghost use Rattle.mc_lower_spec.specs.Values.{Evaluates, EvaluatesAll, IsOfKind, Takes, Walks, sets};
+ghost use Rattle.mc_semantics.specs.Resolved.Programs.{value};
+ghost use Rattle.mc_semantics.specs.Resolved.Views.{argument_of, expression_of, field_of, left_of};
 ghost use Rattle.mc_lower.specs.Valued.{Finishes, IsOperand, IsValue, JoinsParts, Made, joined, operation_of, target_of};
 ghost use Rattle.mc_lower.specs.Worlds.{Agrees, Leads, World, stage_of};
 ghost use Rattle.mc_lower.specs.declared.values.Work.TheVariants.{Join, Whole};
 
 use crate::builder::{BuildFault, Builder, Role};
+use mc_base::stack::Stack;
+use mc_base::text::Place;
 use mc_base::{Kind, PointId, VarId};
-use mc_defs::Structs;
+use mc_flow::defs::Structs;
 use mc_flow::{Instr, Operand};
-use mc_resolved::{Argument, Expression, FieldAt, LeftValue};
-use mc_stack::Stack;
-use mc_text::Place;
+use mc_semantics::resolved::{Argument, Expression, FieldAt, LeftValue};
 
 /// Where a statement stands: in an occurrence of a function, at a place.
 #[derive(Clone, Copy)]

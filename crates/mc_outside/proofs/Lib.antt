@@ -1,3 +1,4 @@
 mod EntriesLemmas
 mod OutsideLemmas
 mod StreamLemmas
+pub mod SavingLemmas

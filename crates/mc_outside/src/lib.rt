@@ -1,4 +1,6 @@
-//! The outside: files that are read and written, and a sink that is written to.
+//! The outside: files that are read and written, a sink that is written to, and files written anew (`saving`).
+//!
+//! Stands on nothing of this repository; called by `mc_load`, `mc_app` and `memcad`.
 #![tactic(auto)]
 
 mod calls;
@@ -7,6 +9,7 @@ mod host;
 mod mem_files;
 mod mem_sink;
 mod outside;
+pub mod saving;
 mod streams;
 mod sure_files;
 mod sure_sink;

@@ -15,7 +15,7 @@ use Rattle.mc_pure.specs.Known.{IsFit, IsClosed, SettledBut}
 use Rattle.mc_pure.specs.declared.scope.Scope.TheVariants.{Class}
 use Rattle.mc_pure.specs.Scopes.{Touches, SettledElsewhereBut}
 use Rattle.mc_pure.proofs.True.{follows_from_more, false_from_more}
-use Rattle.mc_ranges.specs.Ends.{IsEnd}
+use Rattle.mc_base.specs.Ranges.Ends.{IsEnd}
 use Rattle.mc_pure.specs.Normal.{low, high}
 use Rattle.mc_pure.proofs.Changing.{in_at}
 use Rattle.mc_pure.proofs.Stepping.{here}

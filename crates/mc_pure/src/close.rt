@@ -15,8 +15,8 @@ use crate::known::Known;
 use crate::rows::{Change, Outcome, Row, Span, put};
 use crate::scope::{Scope, is_within, widened};
 use crate::steps::{Split, Step, cut, link, split_of};
+use mc_base::ranges::Range;
 use mc_base::{Atom, Kind, NoMemory, NodeId};
-use mc_ranges::Range;
 use std::alloc::Global;
 
 const NULL: NodeId = NodeId(0);

@@ -1,4 +1,6 @@
-//! What is known of the numbers that nodes stand for, and what follows from it.
+//! Pure facts: what is known of the numbers that nodes stand for, and which atoms are entailed.
+//!
+//! Stands on `mc_base`; called by `mc_pure_ops`, `mc_state` and what is above them.
 #![tactic(auto)]
 
 ghost use Rattle.std.specs.Prelude.{pos};

@@ -2,14 +2,14 @@
 ghost use Rattle.std.specs.Prelude.{◌≡◌, ◌≢◌, ◌⊎◌, ◌≤ℤ◌, ◌<ℤ◌, ◌-ℤ◌, ◌+ℤ◌, neg_ℤ, pos, true, false};
 ghost use Rattle.std.specs.Int.{int_max, int_min};
 ghost use Rattle.mc_base.specs.Nodes.{null};
-ghost use Rattle.mc_ranges.specs.Ends.{IsEnd};
+ghost use Rattle.mc_base.specs.Ranges.Ends.{IsEnd};
 ghost use Rattle.mc_pure.specs.Normal.{low, high};
 ghost use Rattle.mc_pure.specs.Rows.{IsSmall, IsShort};
 ghost use Rattle.mc_pure.specs.Steps.{CutIs, JoinIs, LinkIs, SplitIs, WithoutIs, IsTame, IsPin};
 
 use crate::rows::{Change, Row, Span, narrow};
 use mc_base::NodeId;
-use mc_ranges::Range;
+use mc_base::ranges::Range;
 
 const NULL: NodeId = NodeId(0);
 

@@ -17,8 +17,8 @@ use crate::known::{Known, remove_first};
 use crate::nodes::Nodes;
 use crate::rows::Row;
 use crate::steps::own_range;
+use mc_base::ranges::Range;
 use mc_base::{Atom, Kind, NoMemory, NodeId};
-use mc_ranges::Range;
 use std::alloc::Global;
 use std::marker::Model;
 

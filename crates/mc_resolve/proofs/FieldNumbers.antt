@@ -4,14 +4,14 @@ use Rattle.std.specs.Prelude.{position, flat_map, option_and_then, unwrap_or, na
 use Rattle.std.specs.Option.{option_map_or}
 use Rattle.std.specs.List.{prefix_len}
 use Rattle.std.proofs.lemmas.List.{length-map, map-append}
-use Rattle.mc_ast.specs.declared.trees.Name.{Name}
-use Rattle.mc_ast.specs.declared.trees.Base.{Base}
-use Rattle.mc_ast.specs.declared.trees.Declarator.{Declarator}
-use Rattle.mc_ast.specs.Names.{is_same}
-use Rattle.mc_ast.specs.Trees.{FieldTree, StructTree}
-use Rattle.mc_types.specs.Tables.{Tables, Variable, variable_of, variables_of, fields_of}
-use Rattle.mc_types.specs.declared.types.VariableType.{VariableType}
-use Rattle.mc_meaning.specs.Values.{struct_behind, field_number}
+use Rattle.mc_c_syntax.specs.declared.ast.trees.Name.{Name}
+use Rattle.mc_c_syntax.specs.declared.ast.trees.Base.{Base}
+use Rattle.mc_c_syntax.specs.declared.ast.trees.Declarator.{Declarator}
+use Rattle.mc_c_syntax.specs.Ast.Names.{is_same}
+use Rattle.mc_c_syntax.specs.Ast.Trees.{FieldTree, StructTree}
+use Rattle.mc_c_types.specs.Tables.{Tables, Variable, variable_of, variables_of, fields_of}
+use Rattle.mc_c_types.specs.declared.types.VariableType.{VariableType}
+use Rattle.mc_semantics.specs.Values.{struct_behind, field_number}
 use Rattle.mc_resolve.specs.Named.{declared_names, field_names}
 
 pub prefix_map : {X Y : Type 0} (p : Y → Bool) (f : X → Y) (xs : List X) → prefix_len p (map f xs) ≡ prefix_len (λ x. p (f x)) xs

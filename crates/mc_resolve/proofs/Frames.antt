@@ -1,17 +1,17 @@
 -- Blocks and `for` that are entered and left.
 use Rattle.std.proofs.Common.{◌≡◌, ℕ, ◌+◌, ◌<◌, ◌≤◌, List, [], ◌∷◌, ◌++◌, length, map, drop, get_or, refl, ap, arith, sym, ◌∙◌}
 use Rattle.std.proofs.lemmas.List.{at_drop_all, at_drop_more, map-append}
-use Rattle.mc_ast.specs.declared.trees.Statement.{Statement as NamedStatement}
-use Rattle.mc_ast.specs.Views.{statement_of as named_statement}
-use Rattle.mc_meaning.specs.Moves.{block_variables}
-use Rattle.mc_resolved.specs.declared.program.Statement.{Statement}
-use Rattle.mc_ast.specs.Trees as tree
-use Rattle.mc_types.specs.Scopes.{Scope, inside, behind, behind_start}
-use Rattle.mc_types.specs.Tables.{Tables, Variable}
-use Rattle.mc_resolved.specs.Programs.{Head, Stmt, block, for_loop, Stmts, no_more, then}
-use Rattle.mc_resolved.specs.Resolving.{Naming, numbers_in, resolved_head, resolved_statement, resolved_statements}
-use Rattle.mc_resolved.specs.Views.{statement_of, stmts_of}
-use Rattle.mc_walk.specs.Tasks.{behind_all}
+use Rattle.mc_c_syntax.specs.declared.ast.trees.Statement.{Statement as NamedStatement}
+use Rattle.mc_c_syntax.specs.Ast.Views.{statement_of as named_statement}
+use Rattle.mc_semantics.specs.Moves.{block_variables}
+use Rattle.mc_semantics.specs.declared.resolved.program.Statement.{Statement}
+use Rattle.mc_c_syntax.specs.Ast.Trees as tree
+use Rattle.mc_c_types.specs.Scopes.{Scope, inside, behind, behind_start}
+use Rattle.mc_c_types.specs.Tables.{Tables, Variable}
+use Rattle.mc_semantics.specs.Resolved.Programs.{Head, Stmt, block, for_loop, Stmts, no_more, then}
+use Rattle.mc_semantics.specs.Resolved.Resolving.{Naming, numbers_in, resolved_head, resolved_statement, resolved_statements}
+use Rattle.mc_semantics.specs.Resolved.Views.{statement_of, stmts_of}
+use Rattle.mc_c_walk.specs.Tasks.{behind_all}
 use Rattle.mc_resolve.specs.Frames.{Placed, before, block_left, plugged}
 use Rattle.mc_resolve.specs.Parting.{behind_heads, outside}
 use Rattle.mc_resolve.specs.declared.scope.Marks.{Marks}

@@ -5,11 +5,11 @@ use Rattle.std.specs.Option.{option_map_or}
 use Rattle.std.specs.List.{position_or_len, prefix_len}
 use Rattle.std.proofs.lemmas.List.{length-map, map-append, take_more}
 use Rattle.std.proofs.lemmas.List.Elements.{filter-append}
-use Rattle.mc_ast.specs.Names.{is_same}
-use Rattle.mc_ast.specs.Trees.{FunctionTree, StructTree}
-use Rattle.mc_types.specs.Tables.{Tables, Variable, fields_of}
-use Rattle.mc_meaning.specs.Steps.{field_count}
-use Rattle.mc_resolved.specs.Resolving.{defined_functions, function_number}
+use Rattle.mc_c_syntax.specs.Ast.Names.{is_same}
+use Rattle.mc_c_syntax.specs.Ast.Trees.{FunctionTree, StructTree}
+use Rattle.mc_c_types.specs.Tables.{Tables, Variable, fields_of}
+use Rattle.mc_semantics.specs.Steps.{field_count}
+use Rattle.mc_semantics.specs.Resolved.Resolving.{defined_functions, function_number}
 use Rattle.mc_resolve.specs.Named.{declared_names, field_names, defined_names}
 use Rattle.mc_resolve.proofs.FieldNumbers.{prefix_map, names_in}
 

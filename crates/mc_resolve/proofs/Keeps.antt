@@ -1,12 +1,12 @@
 -- What stays of a scope behind statements, and how a block and a `for` give back the scope around.
 use Rattle.std.proofs.Common.{◌≡◌, ℕ, ◌-◌, List, [], ◌∷◌, ◌++◌, length, take, drop, refl, ap, sym, ◌∙◌, arith, append_assoc}
 use Rattle.std.proofs.lemmas.List.{drop_at, length-append, take_at}
-use Rattle.mc_ast.specs.declared.trees.Base.{Base}
-use Rattle.mc_ast.specs.Trees.{DeclarationTree, Head, InitialTree, Start, nothing, declares, performs, Stmt, declaration, block, empty, simple, free, assert, assume, assume_shape, assert_shape, assert_empty, if_only, if_else, while_loop, do_loop, for_loop, break_loop, continue_loop, returns, Stmts, no_more, then}
-use Rattle.mc_types.specs.Scopes.{Scope, inside, declare, behind, behind_declaration, behind_items, behind_start}
-use Rattle.mc_types.specs.Tables.{Tables, Variable, variable_of}
+use Rattle.mc_c_syntax.specs.declared.ast.trees.Base.{Base}
+use Rattle.mc_c_syntax.specs.Ast.Trees.{DeclarationTree, Head, InitialTree, Start, nothing, declares, performs, Stmt, declaration, block, empty, simple, free, assert, assume, assume_shape, assert_shape, assert_empty, if_only, if_else, while_loop, do_loop, for_loop, break_loop, continue_loop, returns, Stmts, no_more, then}
+use Rattle.mc_c_types.specs.Scopes.{Scope, inside, declare, behind, behind_declaration, behind_items, behind_start}
+use Rattle.mc_c_types.specs.Tables.{Tables, Variable, variable_of}
 use Rattle.mc_resolve.specs.Parting.{as_head, behind_heads, outside, parted}
-use Rattle.mc_walk.specs.Tasks.{behind_all}
+use Rattle.mc_c_walk.specs.Tasks.{behind_all}
 use Rattle.mc_resolve.specs.declared.scope.Marks.{Marks}
 
 -- ---- what stays

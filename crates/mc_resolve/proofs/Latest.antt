@@ -5,9 +5,9 @@ use Rattle.std.proofs.lemmas.List.Folds.{find-append}
 use Rattle.std.proofs.lemmas.Option.{none-some, same_Some, slice_get-get_or}
 use Rattle.std.specs.Option.{option_or}
 use Rattle.std.specs.Prelude.{Option, Some, None, find, option_and_then, option_map, slice_get}
-use Rattle.mc_ast.specs.Names.{is_same}
-use Rattle.mc_visible.specs.Lasts.{last_place}
-use Rattle.mc_types.specs.declared.scope.Named.{Named}
+use Rattle.mc_c_syntax.specs.Ast.Names.{is_same}
+use Rattle.mc_c_syntax.specs.Visible.Lasts.{last_place}
+use Rattle.mc_c_types.specs.declared.scope.Named.{Named}
 
 -- ---- a place that is found is in the list
 below_step : (o : Option ℕ) (b : Bool) (n p : ℕ) → ((q : ℕ) → o ≡ Some q → q < n)

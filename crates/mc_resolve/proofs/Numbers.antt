@@ -4,9 +4,9 @@ use Rattle.std.specs.List.{prefix_len}
 use Rattle.std.specs.Option.{option_or}
 use Rattle.std.specs.Prelude.{Option, Some, None, position, option_map, ◌==◌}
 use Rattle.indexmap.specs.IndexMap.{IndexMap, Updates}
-use Rattle.mc_text.specs.declared.place.Place.{Place}
-use Rattle.mc_meaning.specs.Configs.{is_place}
-use Rattle.mc_types.specs.declared.scope.Named.{Named}
+use Rattle.mc_base.specs.declared.text.place.Place.{Place}
+use Rattle.mc_semantics.specs.Configs.{is_place}
+use Rattle.mc_c_types.specs.declared.scope.Named.{Named}
 use Rattle.mc_resolve.specs.Numbered.{AreNumbers}
 use Rattle.mc_resolve.specs.declared.locals.PlaceKey.{PlaceKey}
 

@@ -1,10 +1,10 @@
 -- What the code has of the visible variables, the last first.
 use Rattle.std.proofs.Common.{◌≡◌, ℕ, ◌+◌, ◌-◌, ◌≤◌, min, List, [], ◌∷◌, ◌++◌, length, map, reverse, take, drop, insert, refl, ap, sym, ◌∙◌, arith, append_assoc, add-one, length-append}
 use Rattle.std.proofs.lemmas.List.{drop-drop, drop-take, drop_at, drop_min, length-drop, length-map, length-reverse, length-take, map-append, reverse-append, take-append-drop, take-take, take_at, take_min}
-use Rattle.mc_types.specs.Held.{variable_held, variables_held}
-use Rattle.mc_types.specs.Scopes.{Scope, declare}
-use Rattle.mc_types.specs.Tables.{Variable}
-use Rattle.mc_types.specs.declared.scope.Named.{Named}
+use Rattle.mc_c_types.specs.Held.{variable_held, variables_held}
+use Rattle.mc_c_types.specs.Scopes.{Scope, declare}
+use Rattle.mc_c_types.specs.Tables.{Variable}
+use Rattle.mc_c_types.specs.declared.scope.Named.{Named}
 use Rattle.mc_resolve.specs.Parting.{parted, scope_held, outside, as_head, behind_heads}
 use Rattle.mc_resolve.specs.declared.scope.Marks.{Marks}
 

@@ -2,15 +2,15 @@
 use Rattle.std.proofs.Common.{◌≡◌, ℕ, Bool, true, false, cond, List, [], ◌∷◌, Option, Some, None, map, reverse, length, refl, ap, ◌∙◌}
 use Rattle.std.specs.Prelude.{find, option_map, unwrap_or}
 use Rattle.std.specs.Option.{option_map_or}
-use Rattle.mc_ast.specs.declared.trees.Name.{Name}
-use Rattle.mc_ast.specs.Names.{is_same}
-use Rattle.mc_types.specs.Tables.{Variable}
-use Rattle.mc_types.specs.Held.{variable_held, variables_held}
-use Rattle.mc_types.specs.declared.scope.Named.{Named}
-use Rattle.mc_types.specs.declared.types.VariableType.TheVariants.{Anything}
-use Rattle.mc_types.specs.Faults.{variable_type}
-use Rattle.mc_meaning.specs.Values.{variable_of}
-use Rattle.mc_resolved.specs.Resolving.{Naming, number_in, numbers_in, resolved_variable}
+use Rattle.mc_c_syntax.specs.declared.ast.trees.Name.{Name}
+use Rattle.mc_c_syntax.specs.Ast.Names.{is_same}
+use Rattle.mc_c_types.specs.Tables.{Variable}
+use Rattle.mc_c_types.specs.Held.{variable_held, variables_held}
+use Rattle.mc_c_types.specs.declared.scope.Named.{Named}
+use Rattle.mc_c_types.specs.declared.types.VariableType.TheVariants.{Anything}
+use Rattle.mc_c_types.specs.Faults.{variable_type}
+use Rattle.mc_semantics.specs.Values.{variable_of}
+use Rattle.mc_semantics.specs.Resolved.Resolving.{Naming, number_in, numbers_in, resolved_variable}
 
 found_step : (v : Named) (b : Bool) (rest : Option Named) → option_map variable_held (cond b (Some v) rest) ≡ cond b (Some (variable_held v)) (option_map variable_held rest)
 found_step v true rest = refl

@@ -2,15 +2,15 @@
 use Rattle.std.proofs.Common.{◌≡◌, ℕ, List, Option, map, length, ap, sym, ◌∙◌}
 use Rattle.std.specs.List.{position_or_len}
 use Rattle.std.specs.Prelude.{option_map}
-use Rattle.mc_ast.specs.Names.{is_same}
+use Rattle.mc_c_syntax.specs.Ast.Names.{is_same}
 use Rattle.std.proofs.lemmas.List.{length-map}
 use Rattle.mc_base.specs.declared.plain.Kind.{Kind}
-use Rattle.mc_defs.specs.declared.rules.Def.{Def}
-use Rattle.mc_ast.specs.Trees as tree
-use Rattle.mc_types.specs.Scopes.{Scope}
-use Rattle.mc_types.specs.Tables.{Tables, Variable, kind_of, listed_parameters, returned_type, variable_of}
-use Rattle.mc_resolved.specs.Programs.{Function, Local, Program, Stmts}
-use Rattle.mc_resolved.specs.Resolving.{body_statements, defined_functions, function_number, function_variables, local_of, naming_of, parameter_scope, resolved_function, resolved_program, resolved_statements}
+use Rattle.mc_flow.specs.declared.defs.rules.Def.{Def}
+use Rattle.mc_c_syntax.specs.Ast.Trees as tree
+use Rattle.mc_c_types.specs.Scopes.{Scope}
+use Rattle.mc_c_types.specs.Tables.{Tables, Variable, kind_of, listed_parameters, returned_type, variable_of}
+use Rattle.mc_semantics.specs.Resolved.Programs.{Function, Local, Program, Stmts}
+use Rattle.mc_semantics.specs.Resolved.Resolving.{body_statements, defined_functions, function_number, function_variables, local_of, naming_of, parameter_scope, resolved_function, resolved_program, resolved_statements}
 use Rattle.mc_resolve.specs.Named.{defined_names}
 use Rattle.mc_resolve.proofs.FunctionNumbers.{function_number_of}
 

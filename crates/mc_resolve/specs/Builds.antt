@@ -1,10 +1,10 @@
 -- Trees that are built from the leaves on: what is still to be made, the next first, and what is made already, the last first.
 use Rattle.std.specs.Prelude.{ℕ, ◌+◌, List, [], ◌∷◌}
-use Rattle.mc_ast.specs.Trees as tree
-use Rattle.mc_ast.specs.Views.{expression_of}
-use Rattle.mc_types.specs.Tables.{Variable}
-use Rattle.mc_resolved.specs.Programs.{Expr, minus, times, plus, difference}
-use Rattle.mc_resolved.specs.Resolving.{Naming, resolved_expression}
+use Rattle.mc_c_syntax.specs.Ast.Trees as tree
+use Rattle.mc_c_syntax.specs.Ast.Views.{expression_of}
+use Rattle.mc_c_types.specs.Tables.{Variable}
+use Rattle.mc_semantics.specs.Resolved.Programs.{Expr, minus, times, plus, difference}
+use Rattle.mc_semantics.specs.Resolved.Resolving.{Naming, resolved_expression}
 use Rattle.mc_resolve.specs.declared.expression.How.{How}
 use Rattle.mc_resolve.specs.declared.expression.How.TheVariants.{Times, Plus, Difference}
 use Rattle.mc_resolve.specs.declared.expression.Work.{Work}

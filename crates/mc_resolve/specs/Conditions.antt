@@ -1,10 +1,10 @@
 -- Conditions that are built from their leaves on: what is still to be made, the next first, and what is made already, the last first.
 use Rattle.std.specs.Prelude.{ℕ, ◌+◌, List, [], ◌∷◌}
-use Rattle.mc_ast.specs.Trees as tree
-use Rattle.mc_ast.specs.Views.{condition_of}
-use Rattle.mc_types.specs.Tables.{Variable}
-use Rattle.mc_resolved.specs.Programs.{Cond, negation, both, either}
-use Rattle.mc_resolved.specs.Resolving.{Naming, resolved_condition}
+use Rattle.mc_c_syntax.specs.Ast.Trees as tree
+use Rattle.mc_c_syntax.specs.Ast.Views.{condition_of}
+use Rattle.mc_c_types.specs.Tables.{Variable}
+use Rattle.mc_semantics.specs.Resolved.Programs.{Cond, negation, both, either}
+use Rattle.mc_semantics.specs.Resolved.Resolving.{Naming, resolved_condition}
 use Rattle.mc_resolve.specs.declared.condition.Link.{Link}
 use Rattle.mc_resolve.specs.declared.condition.Link.TheVariants.{Both, Either}
 use Rattle.mc_resolve.specs.declared.condition.Part.{Part}

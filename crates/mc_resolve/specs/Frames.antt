@@ -1,13 +1,13 @@
 -- Statements that wait for one that stands in them, the innermost first.
 use Rattle.std.specs.Prelude.{ℕ, ◌+◌, ◌*◌, List, [], ◌∷◌, ◌++◌, map, box_value}
-use Rattle.mc_ast.specs.Trees as tree
-use Rattle.mc_ast.specs.Views as named
-use Rattle.mc_types.specs.Scopes.{Scope, visible, behind}
-use Rattle.mc_meaning.specs.Moves.{block_variables}
-use Rattle.mc_resolved.specs.Programs.{Stmt, block, if_only, if_else, while_loop, do_loop, for_loop, Stmts, then}
-use Rattle.mc_resolved.specs.Resolving.{Naming, numbers_in, resolved_condition, resolved_statement, resolved_statements}
-use Rattle.mc_resolved.specs.Views.{condition_of, head_of, statement_of}
-use Rattle.mc_walk.specs.Tasks.{behind_all, statement_steps, statements_steps}
+use Rattle.mc_c_syntax.specs.Ast.Trees as tree
+use Rattle.mc_c_syntax.specs.Ast.Views as named
+use Rattle.mc_c_types.specs.Scopes.{Scope, visible, behind}
+use Rattle.mc_semantics.specs.Moves.{block_variables}
+use Rattle.mc_semantics.specs.Resolved.Programs.{Stmt, block, if_only, if_else, while_loop, do_loop, for_loop, Stmts, then}
+use Rattle.mc_semantics.specs.Resolved.Resolving.{Naming, numbers_in, resolved_condition, resolved_statement, resolved_statements}
+use Rattle.mc_semantics.specs.Resolved.Views.{condition_of, head_of, statement_of}
+use Rattle.mc_c_walk.specs.Tasks.{behind_all, statement_steps, statements_steps}
 use Rattle.mc_resolve.specs.Parting.{outside, behind_heads}
 use Rattle.mc_resolve.specs.declared.scope.Marks.{Marks}
 use Rattle.mc_resolve.specs.declared.statements.Frame.{Frame}

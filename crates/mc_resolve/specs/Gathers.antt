@@ -1,10 +1,10 @@
 -- Statements of which the variables are still to be listed, the next first.
 use Rattle.std.specs.Prelude.{ℕ, ◌+◌, List, [], ◌∷◌, ◌++◌, map}
-use Rattle.mc_ast.specs.Trees.{stmts_of}
-use Rattle.mc_ast.specs.Views.{statement_of}
-use Rattle.mc_types.specs.Tables.{Tables, Variable}
-use Rattle.mc_resolved.specs.Resolving.{statement_variables, statements_variables}
-use Rattle.mc_walk.specs.Tasks.{statement_steps, statements_steps}
+use Rattle.mc_c_syntax.specs.Ast.Trees.{stmts_of}
+use Rattle.mc_c_syntax.specs.Ast.Views.{statement_of}
+use Rattle.mc_c_types.specs.Tables.{Tables, Variable}
+use Rattle.mc_semantics.specs.Resolved.Resolving.{statement_variables, statements_variables}
+use Rattle.mc_c_walk.specs.Tasks.{statement_steps, statements_steps}
 use Rattle.mc_resolve.specs.declared.gather.Rest.{Rest}
 
 -- the variables that they declare

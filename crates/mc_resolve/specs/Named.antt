@@ -1,10 +1,10 @@
 -- What the code knows of names at one point of a function, as data.
 use Rattle.std.specs.Prelude.{◌≡◌, ℕ, List, map, flat_map}
-use Rattle.mc_ast.specs.Trees.{StructTree}
-use Rattle.mc_types.specs.Tables.{Tables, Variable}
-use Rattle.mc_types.specs.Held.{tables_held, variable_held}
-use Rattle.mc_types.specs.Scopes.{visible}
-use Rattle.mc_resolved.specs.Resolving.{Naming, defined_functions}
+use Rattle.mc_c_syntax.specs.Ast.Trees.{StructTree}
+use Rattle.mc_c_types.specs.Tables.{Tables, Variable}
+use Rattle.mc_c_types.specs.Held.{tables_held, variable_held}
+use Rattle.mc_c_types.specs.Scopes.{visible}
+use Rattle.mc_semantics.specs.Resolved.Resolving.{Naming, defined_functions}
 use Rattle.mc_resolve.specs.declared.naming.Naming.{Naming as NamingCode}
 use Rattle.mc_resolve.specs.declared.naming.NamesHere.{NamesHere}
 

@@ -1,9 +1,9 @@
 -- Which numbers of variables a map holds.
 use Rattle.std.specs.Prelude.{◌≡◌, ◌==◌, ◌&&◌, ℕ, List, position}
 use Rattle.indexmap.specs.IndexMap.{IndexMap, get_by}
-use Rattle.mc_text.specs.declared.place.Place.{Place}
-use Rattle.mc_meaning.specs.Configs.{is_place}
-use Rattle.mc_types.specs.declared.scope.Named.{Named}
+use Rattle.mc_base.specs.declared.text.place.Place.{Place}
+use Rattle.mc_semantics.specs.Configs.{is_place}
+use Rattle.mc_c_types.specs.declared.scope.Named.{Named}
 use Rattle.mc_resolve.specs.declared.locals.PlaceKey.{PlaceKey}
 
 -- the map has for each place the number of the first variable there, and no other places

@@ -1,9 +1,9 @@
 -- Which of the visible variables belong to the heads of `for`, and which to the block.
 use Rattle.std.specs.Prelude.{ℕ, ◌-◌, List, ◌++◌, length, take, drop}
-use Rattle.mc_types.specs.Held.{variables_held}
-use Rattle.mc_types.specs.Scopes.{Scope}
-use Rattle.mc_types.specs.Tables.{Variable}
-use Rattle.mc_types.specs.declared.scope.Named.{Named}
+use Rattle.mc_c_types.specs.Held.{variables_held}
+use Rattle.mc_c_types.specs.Scopes.{Scope}
+use Rattle.mc_c_types.specs.Tables.{Variable}
+use Rattle.mc_c_types.specs.declared.scope.Named.{Named}
 use Rattle.mc_resolve.specs.declared.scope.Marks.{Marks}
 
 -- so many belong to the heads, so many behind them to the block, and the others are around

@@ -1,20 +1,20 @@
 // Conditions, whose names become numbers; a loop, so that none is too deep.
 ghost use Rattle.std.specs.Prelude.{◌≡◌, ◌+◌, ◌<◌, ◌∷◌, IfOk, OnOk, map};
-ghost use Rattle.mc_ast.specs.Views.{condition_of as named_condition, expression_of as named_expression};
-ghost use Rattle.mc_resolved.specs.Resolving.{resolved_condition};
-ghost use Rattle.mc_resolved.specs.Views.{condition_of};
-ghost use Rattle.mc_meaning.specs.Moves.{condition_place};
-ghost use Rattle.mc_types.specs.Faults.{first_place};
+ghost use Rattle.mc_c_syntax.specs.Ast.Views.{condition_of as named_condition, expression_of as named_expression};
+ghost use Rattle.mc_semantics.specs.Resolved.Resolving.{resolved_condition};
+ghost use Rattle.mc_semantics.specs.Resolved.Views.{condition_of};
+ghost use Rattle.mc_semantics.specs.Moves.{condition_place};
+ghost use Rattle.mc_c_types.specs.Faults.{first_place};
 ghost use Rattle.mc_resolve.specs.Conditions.{condition_steps, denied, linked, link_of, part_steps, tested};
 ghost use Rattle.mc_resolve.specs.Named.{IsNumbered, naming_at, visible_at};
 ghost use Rattle.mc_resolve.specs.declared.condition.Part.TheVariants as Part;
 
 use crate::expression::resolve_expression;
 use crate::naming::NamesHere;
-use mc_ast as tree;
-use mc_resolved::{Condition, Expression};
-use mc_stack::Stack;
-use mc_text::Place;
+use mc_base::stack::Stack;
+use mc_base::text::Place;
+use mc_c_syntax::ast as tree;
+use mc_semantics::resolved::{Condition, Expression};
 use std::alloc::{AllocError, Global};
 
 /// How two conditions are linked.
@@ -142,7 +142,7 @@ fn resolve_comparison(
     Ok(Condition::Compare(place, mark, left, right))
 }
 
-ghost use Rattle.mc_ast.specs.Trees.{compare};
+ghost use Rattle.mc_c_syntax.specs.Ast.Trees.{compare};
 
 /// A condition is made, or its parts are next.
 fn enter<'a>(

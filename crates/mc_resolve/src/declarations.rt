@@ -1,12 +1,12 @@
 // Declarations, and what stands in the parentheses of a `for`; their variables come into the scope.
 ghost use Rattle.std.specs.Prelude.{◌≡◌, IfOk, OnOk, map, option_map};
-ghost use Rattle.mc_ast.specs.Views.{condition_of as named_condition, declaration_of, head_of as named_head, initial_of as named_initial, right_of as named_right, simple_of as named_simple, start_of as named_start};
-ghost use Rattle.mc_meaning.specs.Moves.{base_place, head_variables};
-ghost use Rattle.mc_resolved.specs.Resolving.{numbers_in, resolved_condition, resolved_head, resolved_items, resolved_right, resolved_simple, resolved_start};
-ghost use Rattle.mc_resolved.specs.Views.{condition_of, head_of, initial_of, right_of, simple_of, start_of};
-ghost use Rattle.mc_types.specs.Held.{variables_held};
-ghost use Rattle.mc_types.specs.Scopes.{behind_items, behind_start, inside, visible};
-ghost use Rattle.mc_types.specs.Tables.{Variable};
+ghost use Rattle.mc_c_syntax.specs.Ast.Views.{condition_of as named_condition, declaration_of, head_of as named_head, initial_of as named_initial, right_of as named_right, simple_of as named_simple, start_of as named_start};
+ghost use Rattle.mc_semantics.specs.Moves.{base_place, head_variables};
+ghost use Rattle.mc_semantics.specs.Resolved.Resolving.{numbers_in, resolved_condition, resolved_head, resolved_items, resolved_right, resolved_simple, resolved_start};
+ghost use Rattle.mc_semantics.specs.Resolved.Views.{condition_of, head_of, initial_of, right_of, simple_of, start_of};
+ghost use Rattle.mc_c_types.specs.Held.{variables_held};
+ghost use Rattle.mc_c_types.specs.Scopes.{behind_items, behind_start, inside, visible};
+ghost use Rattle.mc_c_types.specs.Tables.{Variable};
 ghost use Rattle.mc_resolve.specs.Named.{IsNumbered, naming_at, naming_held, visible_at};
 
 use crate::condition::resolve_condition;
@@ -14,11 +14,11 @@ use crate::locals::named;
 use crate::naming::{NamesHere, Naming};
 use crate::right::{resolve_right, resolve_simple};
 use crate::scope::Scope;
-use mc_ast as tree;
-use mc_ast::Base;
-use mc_resolved::{Condition, ForHead, ForStart, Initial, RightSide, Simple};
-use mc_text::Place;
-use mc_types::Named;
+use mc_base::text::Place;
+use mc_c_syntax::ast as tree;
+use mc_c_syntax::ast::Base;
+use mc_c_types::Named;
+use mc_semantics::resolved::{Condition, ForHead, ForStart, Initial, RightSide, Simple};
 use std::alloc::{AllocError, Global};
 
 /// The first token of a base.

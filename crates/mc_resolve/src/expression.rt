@@ -1,16 +1,16 @@
 // Expressions, whose names become numbers; a loop, so that none is too deep.
 ghost use Rattle.std.specs.Prelude.{◌≡◌, ◌+◌, ◌<◌, ◌∷◌, IfOk, OnOk, map};
-ghost use Rattle.mc_ast.specs.Views.{expression_of as named_expression};
-ghost use Rattle.mc_resolved.specs.Resolving.{resolved_expression};
-ghost use Rattle.mc_resolved.specs.Views.{expression_of};
+ghost use Rattle.mc_c_syntax.specs.Ast.Views.{expression_of as named_expression};
+ghost use Rattle.mc_semantics.specs.Resolved.Resolving.{resolved_expression};
+ghost use Rattle.mc_semantics.specs.Resolved.Views.{expression_of};
 ghost use Rattle.mc_resolve.specs.Builds.{built, expression_steps, join_of, joined, signed, work_steps};
 ghost use Rattle.mc_resolve.specs.Named.{IsNumbered, naming_at, visible_at};
 ghost use Rattle.mc_resolve.specs.declared.expression.Work.TheVariants as Work;
 
 use crate::naming::NamesHere;
-use mc_ast as tree;
-use mc_resolved::Expression;
-use mc_stack::Stack;
+use mc_base::stack::Stack;
+use mc_c_syntax::ast as tree;
+use mc_semantics::resolved::Expression;
 use std::alloc::{AllocError, Global};
 
 /// How two values are joined.

@@ -1,8 +1,8 @@
 // The fields of structs, found by name in constant time.
-use mc_ast::{Declarator, Struct};
-use mc_names::Names;
-use mc_text::Text;
-use mc_types::NameTables;
+use mc_base::text::Text;
+use mc_c_syntax::ast::{Declarator, Struct};
+use mc_c_syntax::names::Names;
+use mc_c_types::NameTables;
 use std::alloc::{AllocError, Global};
 
 /// The names of the fields of each struct, by its number.
@@ -20,8 +20,8 @@ impl Drop for FieldNames<'_> {
 
 ghost use Rattle.std.specs.Prelude.{◌≡◌, ◌++◌, IfOk, OnOk, List, ℕ, map, position, slice_get, option_map, option_and_then, unwrap_or};
 ghost use Rattle.std.specs.Option.{option_map_or};
-ghost use Rattle.mc_ast.specs.Names.{is_same};
-ghost use Rattle.mc_ast.specs.Views.{struct_of};
+ghost use Rattle.mc_c_syntax.specs.Ast.Names.{is_same};
+ghost use Rattle.mc_c_syntax.specs.Ast.Views.{struct_of};
 ghost use Rattle.mc_resolve.specs.Named.{declared_names, field_names};
 
 /// Adds the names of these declarators.
@@ -46,7 +46,7 @@ fn names_of<'a>(alloc: Global, tree: &'a Struct) -> Result<Names<'a>, AllocError
 }
 
 impl<'a> FieldNames<'a> {
-    ghost use Rattle.mc_types.specs.Held.{tables_held};
+    ghost use Rattle.mc_c_types.specs.Held.{tables_held};
     ghost use Rattle.std.specs.Prelude.{length};
 
     /// The fields of all structs of a program.

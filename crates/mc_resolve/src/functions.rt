@@ -1,13 +1,13 @@
 // The functions that are defined, by number.
 ghost use Rattle.std.specs.Prelude.{◌≡◌, IfOk};
 ghost use Rattle.std.specs.List.{position_or_len};
-ghost use Rattle.mc_ast.specs.Names.{is_same};
+ghost use Rattle.mc_c_syntax.specs.Ast.Names.{is_same};
 ghost use Rattle.mc_resolve.specs.Named.{defined_names};
-ghost use Rattle.mc_types.specs.Held.{tables_held};
+ghost use Rattle.mc_c_types.specs.Held.{tables_held};
 
-use mc_names::Names;
-use mc_text::Text;
-use mc_types::NameTables;
+use mc_base::text::Text;
+use mc_c_syntax::names::Names;
+use mc_c_types::NameTables;
 use std::alloc::{AllocError, Global};
 
 /// The names of the defined functions, in the order of the text.

@@ -1,16 +1,16 @@
 // The variables that the body of a function declares, in the order of the text; a loop, so that no statement is too deep.
 ghost use Rattle.std.specs.Prelude.{◌≡◌, ◌+◌, ◌<◌, ◌++◌, ◌∷◌, OnOk, map};
-ghost use Rattle.mc_ast.specs.Trees.{stmts_of};
-ghost use Rattle.mc_ast.specs.Views.{declaration_of, function_of, start_of, statement_of};
-ghost use Rattle.mc_resolved.specs.Resolving.{body_statements, declaration_variables, start_variables, statement_variables, statements_variables};
-ghost use Rattle.mc_types.specs.Held.{tables_held, variable_held};
-ghost use Rattle.mc_walk.specs.Tasks.{statement_steps, statements_steps};
+ghost use Rattle.mc_c_syntax.specs.Ast.Trees.{stmts_of};
+ghost use Rattle.mc_c_syntax.specs.Ast.Views.{declaration_of, function_of, start_of, statement_of};
+ghost use Rattle.mc_semantics.specs.Resolved.Resolving.{body_statements, declaration_variables, start_variables, statement_variables, statements_variables};
+ghost use Rattle.mc_c_types.specs.Held.{tables_held, variable_held};
+ghost use Rattle.mc_c_walk.specs.Tasks.{statement_steps, statements_steps};
 ghost use Rattle.mc_resolve.specs.Gathers.{left_variables, rest_steps};
 
 use crate::locals::{Locals, named};
-use mc_ast::{Declaration, ForStart, Function, Statement};
-use mc_stack::Stack;
-use mc_types::NameTables;
+use mc_base::stack::Stack;
+use mc_c_syntax::ast::{Declaration, ForStart, Function, Statement};
+use mc_c_types::NameTables;
 use std::alloc::{AllocError, Global};
 
 /// Statements whose variables are still to be listed.
@@ -46,7 +46,7 @@ fn part_several<'a>(
     Ok(())
 }
 
-ghost use Rattle.mc_types.specs.Tables.{Tables};
+ghost use Rattle.mc_c_types.specs.Tables.{Tables};
 
 impl<'a> Locals<'a> {
     /// The variables of a declaration come to the end.

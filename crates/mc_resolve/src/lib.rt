@@ -1,4 +1,6 @@
-//! The names of a program are put away: variables, fields, structs, functions and predicates become numbers.
+//! Resolves the names of a program: variables, fields, structs, functions and predicates become numbers.
+//!
+//! Stands on `mc_c_check` and `mc_semantics`; called by `mc_load` and `mc_run`.
 #![tactic(auto)]
 
 mod condition;

@@ -1,15 +1,15 @@
 // The variables of a function, by number and by place.
 ghost use Rattle.std.specs.Prelude.{◌≡◌, ◌++◌, ◌∷◌, [], IfOk, OnErr, OnOk, length, map, position};
-ghost use Rattle.mc_ast.specs.Views.{function_of};
-ghost use Rattle.mc_meaning.specs.Configs.{is_place};
-ghost use Rattle.mc_resolved.specs.Resolving.{function_variables, number_in};
-ghost use Rattle.mc_types.specs.Held.{tables_held, variable_held};
-ghost use Rattle.mc_types.specs.Tables.{variable_of};
+ghost use Rattle.mc_c_syntax.specs.Ast.Views.{function_of};
+ghost use Rattle.mc_semantics.specs.Configs.{is_place};
+ghost use Rattle.mc_semantics.specs.Resolved.Resolving.{function_variables, number_in};
+ghost use Rattle.mc_c_types.specs.Held.{tables_held, variable_held};
+ghost use Rattle.mc_c_types.specs.Tables.{variable_of};
 
 use indexmap::IndexMap;
-use mc_ast::{Base, Declarator, Function};
-use mc_text::Place;
-use mc_types::{NameTables, Named, parameters};
+use mc_base::text::Place;
+use mc_c_syntax::ast::{Base, Declarator, Function};
+use mc_c_types::{NameTables, Named, parameters};
 use std::alloc::{AllocError, Global};
 use std::marker::Model;
 
@@ -58,7 +58,7 @@ impl Drop for Locals<'_> {
 
 impl<'a> Model for Locals<'a> {
     ghost use Rattle.std.specs.Prelude.{List};
-    ghost use Rattle.mc_types.specs.declared.scope.Named.{Named};
+    ghost use Rattle.mc_c_types.specs.declared.scope.Named.{Named};
     ghost use Rattle.mc_resolve.specs.Numbered.{AreNumbers};
 
     ghost Value = { List Named };

@@ -1,17 +1,17 @@
 // What names mean at one point of a function, by number.
 ghost use Rattle.std.specs.Prelude.{◌≡◌, position};
-ghost use Rattle.mc_ast.specs.Names.{is_same};
+ghost use Rattle.mc_c_syntax.specs.Ast.Names.{is_same};
 
 use crate::fields::FieldNames;
 use crate::functions::FunctionNames;
 use crate::locals::Locals;
 use crate::scope::Scope;
-use mc_ast::{LeftValue as NamedLeft, Name};
+use mc_base::text::Text;
 use mc_base::{PredId, StructId};
-use mc_defs::Def;
-use mc_resolved::{FieldAt, LeftValue};
-use mc_text::Text;
-use mc_types::{NameTables, VariableType};
+use mc_c_syntax::ast::{LeftValue as NamedLeft, Name};
+use mc_c_types::{NameTables, VariableType};
+use mc_flow::defs::Def;
+use mc_semantics::resolved::{FieldAt, LeftValue};
 use std::alloc::{AllocError, Global};
 
 /// What names mean in a function, with its variables.
@@ -31,7 +31,7 @@ pub struct NamesHere<'s, 'a> {
     pub scope: &'s Scope<'a>,
 }
 
-ghost use Rattle.mc_meaning.specs.Values.{struct_behind};
+ghost use Rattle.mc_semantics.specs.Values.{struct_behind};
 
 /// The struct that a pointer points to, and 0 for what is none.
 fn struct_behind(pointer: VariableType) -> StructId
@@ -44,7 +44,7 @@ fn struct_behind(pointer: VariableType) -> StructId
     }
 }
 
-ghost use Rattle.mc_meaning.specs.Steps.{predicate_of};
+ghost use Rattle.mc_semantics.specs.Steps.{predicate_of};
 
 /// The place of the predicate of this name among the definitions.
 fn predicate_place(defs: &[Def], name: &[u8]) -> Option<usize>
@@ -66,13 +66,13 @@ fn predicate_in(defs: &[Def], name: &Name) -> PredId
 impl<'s, 'a> NamesHere<'s, 'a> {
     ghost use Rattle.mc_resolve.specs.Named.{IsNumbered, naming_at, visible_at};
     ghost use Rattle.std.specs.Prelude.{IfOk, [], ◌∷◌, map};
-    ghost use Rattle.mc_ast.specs.Views.{left_of as named_left};
-    ghost use Rattle.mc_meaning.specs.Steps.{field_count};
-    ghost use Rattle.mc_meaning.specs.Values.{struct_behind, field_number};
-    ghost use Rattle.mc_resolved.specs.Resolving.{function_number, resolved_fields, resolved_left, resolved_variable};
-    ghost use Rattle.mc_resolved.specs.Views.{field_of, left_of};
-    ghost use Rattle.mc_types.specs.Faults.{behind_fields, variable_type};
-    ghost use Rattle.mc_types.specs.Held.{tables_held};
+    ghost use Rattle.mc_c_syntax.specs.Ast.Views.{left_of as named_left};
+    ghost use Rattle.mc_semantics.specs.Steps.{field_count};
+    ghost use Rattle.mc_semantics.specs.Values.{struct_behind, field_number};
+    ghost use Rattle.mc_semantics.specs.Resolved.Resolving.{function_number, resolved_fields, resolved_left, resolved_variable};
+    ghost use Rattle.mc_semantics.specs.Resolved.Views.{field_of, left_of};
+    ghost use Rattle.mc_c_types.specs.Faults.{behind_fields, variable_type};
+    ghost use Rattle.mc_c_types.specs.Held.{tables_held};
 
     /// The number of the variable of this name, and how many there are where none is visible.
     pub fn variable(&self, name: &Name) -> usize

@@ -1,10 +1,10 @@
 // Functions and whole programs, whose names become numbers.
 ghost use Rattle.std.specs.Prelude.{◌≡◌, ◌++◌, ◌∷◌, [], IfOk, OnOk, filter, length, map, option_map, reverse};
-ghost use Rattle.mc_ast.specs.Views.{function_of as named_function, unit_of};
-ghost use Rattle.mc_resolved.specs.Resolving.{defined_functions, local_of as resolved_local, parameter_scope, resolved_function, resolved_program};
-ghost use Rattle.mc_resolved.specs.Views.{function_of, local_of, program_of};
-ghost use Rattle.mc_types.specs.Held.{tables_held, variable_held};
-ghost use Rattle.mc_types.specs.Tables.{is_defined, kind_of, returned_type, tables_of, variable_of};
+ghost use Rattle.mc_c_syntax.specs.Ast.Views.{function_of as named_function, unit_of};
+ghost use Rattle.mc_semantics.specs.Resolved.Resolving.{defined_functions, local_of as resolved_local, parameter_scope, resolved_function, resolved_program};
+ghost use Rattle.mc_semantics.specs.Resolved.Views.{function_of, local_of, program_of};
+ghost use Rattle.mc_c_types.specs.Held.{tables_held, variable_held};
+ghost use Rattle.mc_c_types.specs.Tables.{is_defined, kind_of, returned_type, tables_of, variable_of};
 ghost use Rattle.mc_resolve.specs.Named.{defined_names, field_names};
 
 use crate::fields::FieldNames;
@@ -14,13 +14,13 @@ use crate::locals::{Locals, named};
 use crate::naming::Naming;
 use crate::scope::Scope;
 use crate::statements::resolve_body;
-use mc_ast as tree;
 use mc_base::Kind;
-use mc_defs::Def;
-use mc_resolved::{Function, Local, Resolved};
-use mc_text::Text;
-use mc_typed::{Bound, collect_tables};
-use mc_types::{NameTables, Named, VariableType, parameters};
+use mc_base::text::Text;
+use mc_c_check::{Bound, collect_tables};
+use mc_c_syntax::ast as tree;
+use mc_c_types::{NameTables, Named, VariableType, parameters};
+use mc_flow::defs::Def;
+use mc_semantics::resolved::{Function, Local, Resolved};
 use std::alloc::{AllocError, Global};
 
 /// The kind of the values of a type.

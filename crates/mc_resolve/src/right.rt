@@ -1,20 +1,20 @@
 // Calls, right sides and simple statements, whose names become numbers.
 ghost use Rattle.std.specs.Prelude.{◌≡◌, IfOk, map};
-ghost use Rattle.mc_ast.specs.Views.{call_of as named_call, expression_of as named_expression, right_of as named_right, simple_of as named_simple};
-ghost use Rattle.mc_meaning.specs.Steps.{simple_place, struct_of};
-ghost use Rattle.mc_resolved.specs.Resolving.{allocated_struct, resolved_action, resolved_call, resolved_expression, resolved_right, resolved_simple};
-ghost use Rattle.mc_resolved.specs.Views.{action_of, call_of, expression_of, right_of, simple_of};
-ghost use Rattle.mc_types.specs.Faults.{size_meaning};
-ghost use Rattle.mc_types.specs.Held.{tables_held};
+ghost use Rattle.mc_c_syntax.specs.Ast.Views.{call_of as named_call, expression_of as named_expression, right_of as named_right, simple_of as named_simple};
+ghost use Rattle.mc_semantics.specs.Steps.{simple_place, struct_of};
+ghost use Rattle.mc_semantics.specs.Resolved.Resolving.{allocated_struct, resolved_action, resolved_call, resolved_expression, resolved_right, resolved_simple};
+ghost use Rattle.mc_semantics.specs.Resolved.Views.{action_of, call_of, expression_of, right_of, simple_of};
+ghost use Rattle.mc_c_types.specs.Faults.{size_meaning};
+ghost use Rattle.mc_c_types.specs.Held.{tables_held};
 ghost use Rattle.mc_resolve.specs.Named.{IsNumbered, naming_at, visible_at};
 
 use crate::expression::resolve_expression;
 use crate::naming::NamesHere;
-use mc_ast as tree;
 use mc_base::StructId;
-use mc_resolved::{Action, Call, Expression, RightSide, Simple};
-use mc_text::Place;
-use mc_types::BaseType;
+use mc_base::text::Place;
+use mc_c_syntax::ast as tree;
+use mc_c_types::BaseType;
+use mc_semantics::resolved::{Action, Call, Expression, RightSide, Simple};
 use std::alloc::{AllocError, Global};
 
 /// The arguments of a call, where the call stands.

@@ -1,14 +1,14 @@
 // The variables that are visible at a point, and which of them belong to the block there.
 ghost use Rattle.std.specs.Prelude.{◌≡◌, OnOk, [], find, length, option_map};
 ghost use Rattle.std.specs.Option.{option_copied};
-ghost use Rattle.mc_ast.specs.Names.{is_same};
-ghost use Rattle.mc_types.specs.Held.{variable_held, variables_held};
-ghost use Rattle.mc_types.specs.Scopes.{declare, inside, visible};
+ghost use Rattle.mc_c_syntax.specs.Ast.Names.{is_same};
+ghost use Rattle.mc_c_types.specs.Held.{variable_held, variables_held};
+ghost use Rattle.mc_c_types.specs.Scopes.{declare, inside, visible};
 ghost use Rattle.mc_resolve.specs.Parting.{as_head, behind_heads, outside};
 
 use crate::visible::Visible;
-use mc_text::Text;
-use mc_types::Named;
+use mc_base::text::Text;
+use mc_c_types::Named;
 use std::alloc::{AllocError, Global};
 use std::marker::Model;
 
@@ -40,7 +40,7 @@ impl Drop for Scope<'_> {
 
 impl<'a> Model for Scope<'a> {
     ghost use Rattle.std.specs.Prelude.{◌+◌, ◌≤◌, length};
-    ghost use Rattle.mc_types.specs.Scopes.{Scope as VisibleScope};
+    ghost use Rattle.mc_c_types.specs.Scopes.{Scope as VisibleScope};
 
     ghost Value = { VisibleScope };
 

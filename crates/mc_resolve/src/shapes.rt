@@ -1,13 +1,13 @@
 // The predicates and arguments of shape commands, whose names become numbers.
 ghost use Rattle.std.specs.Prelude.{◌≡◌, IfOk, map, pos, ◌-ℤ◌};
-ghost use Rattle.mc_resolved.specs.Resolving.{resolved_argument, resolved_statement};
-ghost use Rattle.mc_ast.specs.Trees.{assert_shape, assume_shape};
-ghost use Rattle.mc_resolved.specs.Views.{argument_of, statement_of};
+ghost use Rattle.mc_semantics.specs.Resolved.Resolving.{resolved_argument, resolved_statement};
+ghost use Rattle.mc_c_syntax.specs.Ast.Trees.{assert_shape, assume_shape};
+ghost use Rattle.mc_semantics.specs.Resolved.Views.{argument_of, statement_of};
 ghost use Rattle.mc_resolve.specs.Named.{naming_at, visible_at};
 
 use crate::naming::NamesHere;
-use mc_ast as tree;
-use mc_resolved::{Argument, AssertShape, AssumeShape, Statement};
+use mc_c_syntax::ast as tree;
+use mc_semantics::resolved::{Argument, AssertShape, AssumeShape, Statement};
 use std::alloc::{AllocError, Global};
 
 /// A number.

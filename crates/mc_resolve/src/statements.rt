@@ -1,12 +1,12 @@
 // Statements, whose names become numbers; a loop, so that none is too deep.
 ghost use Rattle.std.specs.Prelude.{◌≡◌, ◌+◌, ◌*◌, ◌<◌, ◌∷◌, [], IfOk, OnOk, map};
-ghost use Rattle.mc_ast.specs.Trees.{Stmt, declaration as declaration_tree, for_loop, stmts_of};
-ghost use Rattle.mc_ast.specs.Views.{declaration_of, head_of as named_head, statement_of as named_statement};
-ghost use Rattle.mc_resolved.specs.Programs.{block};
-ghost use Rattle.mc_resolved.specs.Resolving.{resolved_statement, resolved_statements};
-ghost use Rattle.mc_resolved.specs.Views.{statement_of, stmts_of as resolved_stmts};
-ghost use Rattle.mc_types.specs.Scopes.{behind, inside};
-ghost use Rattle.mc_walk.specs.Tasks.{behind_all, statements_steps};
+ghost use Rattle.mc_c_syntax.specs.Ast.Trees.{Stmt, declaration as declaration_tree, for_loop, stmts_of};
+ghost use Rattle.mc_c_syntax.specs.Ast.Views.{declaration_of, head_of as named_head, statement_of as named_statement};
+ghost use Rattle.mc_semantics.specs.Resolved.Programs.{block};
+ghost use Rattle.mc_semantics.specs.Resolved.Resolving.{resolved_statement, resolved_statements};
+ghost use Rattle.mc_semantics.specs.Resolved.Views.{statement_of, stmts_of as resolved_stmts};
+ghost use Rattle.mc_c_types.specs.Scopes.{behind, inside};
+ghost use Rattle.mc_c_walk.specs.Tasks.{behind_all, statements_steps};
 ghost use Rattle.mc_resolve.specs.Frames.{block_left, finished, frame_steps, frames_steps, left_steps, plugged};
 ghost use Rattle.mc_resolve.specs.Named.{IsNumbered, naming_held};
 ghost use Rattle.mc_resolve.specs.Parting.{outside};
@@ -21,10 +21,10 @@ use crate::naming::{NamesHere, Naming};
 use crate::right::resolve_simple;
 use crate::scope::{Marks, Scope};
 use crate::shapes::{resolve_assert_shape, resolve_assume_shape};
-use mc_ast as tree;
-use mc_resolved::{Condition, ForHead, Statement};
-use mc_stack::Stack;
-use mc_text::Place;
+use mc_base::stack::Stack;
+use mc_base::text::Place;
+use mc_c_syntax::ast as tree;
+use mc_semantics::resolved::{Condition, ForHead, Statement};
 use std::alloc::{AllocError, Global};
 
 /// A statement that waits for one that stands in it.

@@ -1,11 +1,11 @@
 // The variables that are visible, found by name in constant time.
 ghost use Rattle.std.specs.Prelude.{◌≡◌, ◌≤◌, [], OnOk, find, insert, length, reverse, take};
 ghost use Rattle.std.specs.Option.{option_copied};
-ghost use Rattle.mc_ast.specs.Names.{is_same};
+ghost use Rattle.mc_c_syntax.specs.Ast.Names.{is_same};
 
-use mc_text::Text;
-use mc_types::Named;
-use mc_visible::NameStack;
+use mc_base::text::Text;
+use mc_c_syntax::visible::NameStack;
+use mc_c_types::Named;
 use std::alloc::{AllocError, Global};
 use std::marker::Model;
 
@@ -26,7 +26,7 @@ impl Drop for Visible<'_> {
 
 impl<'a> Model for Visible<'a> {
     ghost use Rattle.std.specs.Prelude.{◌≡◌, List, map};
-    ghost use Rattle.mc_types.specs.declared.scope.Named.{Named};
+    ghost use Rattle.mc_c_types.specs.declared.scope.Named.{Named};
 
     ghost Value = { List Named };
 

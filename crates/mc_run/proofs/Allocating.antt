@@ -1,14 +1,14 @@
 -- A step that asks for an address.
 use Rattle.std.proofs.Common.{◌≡◌, ◌<◌, ◌^◌, ℕ, zero, suc, ℤ, pos, List, [], ◌∷◌, refl, sym, subst, arith}
-use Rattle.mc_heap.specs.Choices.{Choice, malloc}
-use Rattle.mc_heap.specs.Heap.{Heap}
-use Rattle.mc_defs.specs.declared.shapes.StructInfo.{StructInfo}
-use Rattle.mc_waiting.specs.Requests.{Request, an_address, IsAllowed, IsUnanswered}
-use Rattle.mc_resolved.specs.Configs.{Config, Result}
-use Rattle.mc_resolved.specs.Steps.{Allocates}
-use Rattle.mc_values.specs.declared.refusal.Refusal.{Refusal}
-use Rattle.mc_values.specs.declared.refusal.Allocated.TheVariants.{Address, Unanswered}
-use Rattle.mc_values.specs.Memory.{allocated, IsAllocated}
+use Rattle.mc_flow.specs.Heap.Choices.{Choice, malloc}
+use Rattle.mc_flow.specs.Heap.Heap.{Heap}
+use Rattle.mc_flow.specs.declared.defs.shapes.StructInfo.{StructInfo}
+use Rattle.mc_semantics.specs.Waiting.Requests.{Request, an_address, IsAllowed, IsUnanswered}
+use Rattle.mc_semantics.specs.Resolved.Configs.{Config, Result}
+use Rattle.mc_semantics.specs.Resolved.Steps.{Allocates}
+use Rattle.mc_run_values.specs.declared.values.refusal.Refusal.{Refusal}
+use Rattle.mc_run_values.specs.declared.values.refusal.Allocated.TheVariants.{Address, Unanswered}
+use Rattle.mc_run_values.specs.Values.Memory.{allocated, IsAllocated}
 use Rattle.mc_run.specs.declared.outcome.Stepped.{Stepped}
 use Rattle.mc_run.specs.declared.outcome.Stepped.TheVariants as steps
 use Rattle.mc_run.specs.Steps.{Comes, IsStep}

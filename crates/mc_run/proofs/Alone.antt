@@ -1,13 +1,13 @@
 -- What has come to a value waits for no input.
 use Rattle.std.proofs.Common.{◌≡◌, ◌⊎◌, ℤ, List, [], ◌∷◌, Option, inl, inr, subst}
-use Rattle.mc_heap.specs.Choices.{Choice, input as choose_input, malloc as choose_malloc, shape as choose_shape}
-use Rattle.mc_meaning.specs.Values.{Evaluated, value_of, IsInput, AfterLeft}
-use Rattle.mc_meaning.specs.Steps.{Arguments, AfterFirst}
-use Rattle.mc_resolved.specs.Programs.{Expr, number, input, value, minus, times, plus, difference}
-use Rattle.mc_resolved.specs.Steps.{EvaluateAll, Here}
-use Rattle.mc_resolved.specs.Values.{Evaluates}
-use Rattle.mc_waiting.specs.Requests.{an_input, IsUnanswered}
-use Rattle.mc_values.specs.Asking.{ArgumentsAsk, AsksBehind, ValueAsks}
+use Rattle.mc_flow.specs.Heap.Choices.{Choice, input as choose_input, malloc as choose_malloc, shape as choose_shape}
+use Rattle.mc_semantics.specs.Values.{Evaluated, value_of, IsInput, AfterLeft}
+use Rattle.mc_semantics.specs.Steps.{Arguments, AfterFirst}
+use Rattle.mc_semantics.specs.Resolved.Programs.{Expr, number, input, value, minus, times, plus, difference}
+use Rattle.mc_semantics.specs.Resolved.Steps.{EvaluateAll, Here}
+use Rattle.mc_semantics.specs.Resolved.Values.{Evaluates}
+use Rattle.mc_semantics.specs.Waiting.Requests.{an_input, IsUnanswered}
+use Rattle.mc_run_values.specs.Values.Asking.{ArgumentsAsk, AsksBehind, ValueAsks}
 use Rattle.mc_run.proofs.Determined.{one_value}
 
 no_input : (choices left : List Choice) (one : Evaluated) → IsInput choices one → left ≡ choices → IsUnanswered an_input left → ⊥

@@ -5,25 +5,25 @@ use Rattle.std.specs.List.{list_any}
 use Rattle.mc_base.specs.declared.ids.PredId.{PredId}
 use Rattle.mc_base.specs.declared.plain.FaultKind.TheVariants.{Uninit, Shape}
 use Rattle.mc_flow.specs.Runs.{next, last, fault}
-use Rattle.mc_text.specs.declared.place.Place.{Place}
-use Rattle.mc_heap.specs.Choices.{Choice, shape}
-use Rattle.mc_heap.specs.Heap.{Block, Heap, Region, region_of}
-use Rattle.mc_heap.specs.Parts.{IsEmpty, Joins}
+use Rattle.mc_base.specs.declared.text.place.Place.{Place}
+use Rattle.mc_flow.specs.Heap.Choices.{Choice, shape}
+use Rattle.mc_flow.specs.Heap.Heap.{Block, Heap, Region, region_of}
+use Rattle.mc_flow.specs.Heap.Parts.{IsEmpty, Joins}
 use Rattle.std.specs.FinMap as maps
 use Rattle.std.specs.FinMap.{empty_of_len, get-empty, len-empty, nat_cmp-IsAntisymmetric, same_map}
 use Rattle.std.specs.Cmp.{nat_cmp_total}
 use Rattle.std.specs.Ordering.{nat_cmp}
-use Rattle.mc_defs.specs.declared.rules.Def.{Def}
-use Rattle.mc_defs.specs.declared.shapes.StructInfo.{StructInfo}
-use Rattle.mc_defs.specs.Meaning.{HoldsSomewhere}
-use Rattle.mc_waiting.specs.Requests.{Request, a_shape}
-use Rattle.mc_resolved.specs.Configs.{Config, Result, Tasks, Values}
-use Rattle.mc_resolved.specs.Steps.{Asserts, Assumes, Here}
-use Rattle.mc_sat.specs.Answers.{AreMeeting, region_at}
-use Rattle.mc_script.specs.Scripts.{Answers, chosen}
-use Rattle.mc_values.specs.declared.refusal.Refusal.{Refusal}
-use Rattle.mc_values.specs.Taking.{IsRefused}
-use Rattle.mc_values.proofs.Answering.{choice_refused, one_taken}
+use Rattle.mc_flow.specs.declared.defs.rules.Def.{Def}
+use Rattle.mc_flow.specs.declared.defs.shapes.StructInfo.{StructInfo}
+use Rattle.mc_flow.specs.Defs.Meaning.{HoldsSomewhere}
+use Rattle.mc_semantics.specs.Waiting.Requests.{Request, a_shape}
+use Rattle.mc_semantics.specs.Resolved.Configs.{Config, Result, Tasks, Values}
+use Rattle.mc_semantics.specs.Resolved.Steps.{Asserts, Assumes, Here}
+use Rattle.mc_shape_search.specs.Sat.Answers.{AreMeeting, region_at}
+use Rattle.mc_run_values.specs.Script.Scripts.{Answers, chosen}
+use Rattle.mc_run_values.specs.declared.values.refusal.Refusal.{Refusal}
+use Rattle.mc_run_values.specs.Values.Taking.{IsRefused}
+use Rattle.mc_run_values.proofs.ValuesLemmas.Answering.{choice_refused, one_taken}
 use Rattle.mc_run.specs.declared.outcome.End.TheVariants as ends
 use Rattle.mc_run.specs.declared.outcome.Stepped.{Stepped}
 use Rattle.mc_run.specs.declared.outcome.Stepped.TheVariants as steps

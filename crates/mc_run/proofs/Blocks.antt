@@ -4,9 +4,9 @@ use Rattle.std.specs.FinMap as map
 use Rattle.std.specs.FinMap.{get-empty}
 use Rattle.std.specs.Ordering.{nat_cmp}
 use Rattle.std.proofs.lemmas.Bool.{cases_eq}
-use Rattle.mc_heap.specs.Heap.{Block, Heap, region_of}
-use Rattle.mc_heap.specs.Adding.{AreFree, with_blocks}
-use Rattle.mc_heap.proofs.Splits.{insert_changes}
+use Rattle.mc_flow.specs.Heap.Heap.{Block, Heap, region_of}
+use Rattle.mc_flow.specs.Heap.Adding.{AreFree, with_blocks}
+use Rattle.mc_flow.proofs.HeapLemmas.Splits.{insert_changes}
 
 -- what is free in a heap is free in one that has less
 free_more : (heap other : Heap) (at : ℕ) (b : Block) → ((x : ℕ) → region_of heap x ≡ None → region_of other x ≡ None)

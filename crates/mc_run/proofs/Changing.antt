@@ -1,22 +1,22 @@
 -- A step that ends with a change.
 use Rattle.std.proofs.Common.{◌≡◌, ◌∙◌, ap, ap₂, sym, subst, ℕ, ℤ, List, Option, Result, Ok, Err}
 use Rattle.mc_base.specs.declared.plain.FaultKind.{FaultKind}
-use Rattle.mc_text.specs.declared.place.Place.{Place}
-use Rattle.mc_heap.specs.Choices.{Choice}
-use Rattle.mc_defs.specs.declared.shapes.StructInfo.{StructInfo}
-use Rattle.mc_resolved.specs.Programs.{Expr}
-use Rattle.mc_values.specs.declared.refusal.Evaluated.TheVariants as one
-use Rattle.mc_values.specs.Models.{IsEvaluated}
+use Rattle.mc_base.specs.declared.text.place.Place.{Place}
+use Rattle.mc_flow.specs.Heap.Choices.{Choice}
+use Rattle.mc_flow.specs.declared.defs.shapes.StructInfo.{StructInfo}
+use Rattle.mc_semantics.specs.Resolved.Programs.{Expr}
+use Rattle.mc_run_values.specs.declared.values.refusal.Evaluated.TheVariants as one
+use Rattle.mc_run_values.specs.Values.Models.{IsEvaluated}
 use Rattle.mc_run.specs.Asking.{AsksInput}
 use Rattle.mc_run.proofs.Using.{value_used}
-use Rattle.mc_heap.specs.Heap.{Heap}
-use Rattle.mc_resolved.specs.Configs.{Config, Tasks, Values}
-use Rattle.mc_resolved.specs.Values.{Changed}
-use Rattle.mc_resolved.specs.Steps.{after, WithValue}
-use Rattle.mc_values.specs.Models.{change_of}
+use Rattle.mc_flow.specs.Heap.Heap.{Heap}
+use Rattle.mc_semantics.specs.Resolved.Configs.{Config, Tasks, Values}
+use Rattle.mc_semantics.specs.Resolved.Values.{Changed}
+use Rattle.mc_semantics.specs.Resolved.Steps.{after, WithValue}
+use Rattle.mc_run_values.specs.Values.Models.{change_of}
 use Rattle.mc_run.specs.declared.outcome.Stepped.{Stepped}
-use Rattle.mc_tasks.specs.Going.{tasks_of, values_of}
-use Rattle.mc_tasks.specs.declared.work.Work.{Work}
+use Rattle.mc_run_values.specs.Tasks.Going.{tasks_of, values_of}
+use Rattle.mc_run_values.specs.declared.tasks.work.Work.{Work}
 use Rattle.mc_run.specs.Models.{settled_of}
 use Rattle.mc_run.specs.Steps.{Comes, IsStep}
 

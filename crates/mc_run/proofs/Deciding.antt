@@ -3,13 +3,13 @@ use Rattle.std.proofs.Common.{◌≡◌, ap, refl, Bool, true, false, ℤ, List,
 use Rattle.std.specs.Prelude.{is_some, not}
 use Rattle.mc_base.specs.declared.plain.FaultKind.TheVariants.{Uninit}
 use Rattle.mc_flow.specs.Runs.{next, last, fault}
-use Rattle.mc_text.specs.declared.place.Place.{Place}
-use Rattle.mc_heap.specs.Choices.{Choice}
-use Rattle.mc_heap.specs.Heap.{Heap}
-use Rattle.mc_resolved.specs.Configs.{Branch, Tasks, Values}
-use Rattle.mc_resolved.specs.Steps.{Here, decided, gone_back, led, returned_value, returning}
-use Rattle.mc_tasks.specs.Left.{Branches}
-use Rattle.mc_tasks.specs.Leading.{chosen}
+use Rattle.mc_base.specs.declared.text.place.Place.{Place}
+use Rattle.mc_flow.specs.Heap.Choices.{Choice}
+use Rattle.mc_flow.specs.Heap.Heap.{Heap}
+use Rattle.mc_semantics.specs.Resolved.Configs.{Branch, Tasks, Values}
+use Rattle.mc_semantics.specs.Resolved.Steps.{Here, decided, gone_back, led, returned_value, returning}
+use Rattle.mc_run_values.specs.Tasks.Left.{Branches}
+use Rattle.mc_run_values.specs.Tasks.Leading.{chosen}
 use Rattle.mc_run.proofs.Changing.{at_config}
 
 pub decides : (h : Here) (branches : Branches) (choices : List Choice) (answer : Bool) (to : Branch) → to ≡ chosen answer branches → led h to choices ≡ decided h branches.0 branches.1 choices answer

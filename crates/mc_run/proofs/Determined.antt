@@ -1,11 +1,11 @@
 -- The choices determine what an expression comes to.
 use Rattle.std.proofs.Common.{◌≡◌, ℤ, pos, ◌-ℤ◌, List, [], ◌∷◌, Some, ap, sym, ◌∙◌, subst}
-use Rattle.mc_heap.specs.Choices.{Choice, input as choose_input, malloc as choose_malloc, shape as choose_shape}
-use Rattle.mc_meaning.specs.Values.{Evaluated, fault_of, value_of, IsInput, right_operand, AfterLeft}
-use Rattle.mc_meaning.specs.Steps.{put_before, Arguments, AfterFirst}
-use Rattle.mc_resolved.specs.Programs.{Expr, number, input, value, minus, times, plus, difference}
-use Rattle.mc_resolved.specs.Steps.{EvaluateAll, Here}
-use Rattle.mc_resolved.specs.Values.{Evaluates}
+use Rattle.mc_flow.specs.Heap.Choices.{Choice, input as choose_input, malloc as choose_malloc, shape as choose_shape}
+use Rattle.mc_semantics.specs.Values.{Evaluated, fault_of, value_of, IsInput, right_operand, AfterLeft}
+use Rattle.mc_semantics.specs.Steps.{put_before, Arguments, AfterFirst}
+use Rattle.mc_semantics.specs.Resolved.Programs.{Expr, number, input, value, minus, times, plus, difference}
+use Rattle.mc_semantics.specs.Resolved.Steps.{EvaluateAll, Here}
+use Rattle.mc_semantics.specs.Resolved.Values.{Evaluates}
 
 -- two that are equal to a third are equal
 joined : {X : Type 0} {x y z : X} → x ≡ z → y ≡ z → x ≡ y

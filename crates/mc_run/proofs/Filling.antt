@@ -5,9 +5,9 @@ use Rattle.std.specs.FinMap as maps
 use Rattle.std.specs.FinMap.{nat_cmp-IsAntisymmetric, same_map}
 use Rattle.std.specs.Cmp.{nat_cmp_total}
 use Rattle.std.proofs.lemmas.Bool.{cases_eq}
-use Rattle.mc_heap.specs.Access.{field_at, with_field}
-use Rattle.mc_heap.specs.Heap.{Block, Heap, region_of}
-use Rattle.mc_heap.proofs.Splits.{insert_changes}
+use Rattle.mc_flow.specs.Heap.Access.{field_at, with_field}
+use Rattle.mc_flow.specs.Heap.Heap.{Block, Heap, region_of}
+use Rattle.mc_flow.proofs.HeapLemmas.Splits.{insert_changes}
 
 -- the first fields have these values, and the others are undefined
 abbrev pub filled : ℕ → List ℤ → List (Option ℤ)

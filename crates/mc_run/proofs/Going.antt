@@ -1,23 +1,23 @@
 -- A run, step by step.
 use Rattle.std.proofs.Common.{◌≡◌, ◌∙◌, ◌⊎◌, ◌++◌, ◌+◌, ◌-◌, ◌≤◌, inl, inr, ℕ, zero, suc, List, [], ◌∷◌, length, refl, sym, ap, ap₂, subst, append_assoc, arith}
 use Rattle.mc_flow.specs.Runs.{next, last, ended, stopped, fault}
-use Rattle.mc_heap.specs.Choices.{Choice}
-use Rattle.mc_defs.specs.declared.shapes.StructInfo.{StructInfo}
-use Rattle.mc_waiting.specs.Requests.{Request}
-use Rattle.mc_waiting.specs.Runs.{ComesTo, Leads}
+use Rattle.mc_flow.specs.Heap.Choices.{Choice}
+use Rattle.mc_flow.specs.declared.defs.shapes.StructInfo.{StructInfo}
+use Rattle.mc_semantics.specs.Waiting.Requests.{Request}
+use Rattle.mc_semantics.specs.Waiting.Runs.{ComesTo, Leads}
 use Rattle.std.specs.FinMap as maps
-use Rattle.mc_resolved.specs.Programs.{Function, Program}
-use Rattle.mc_resolved.specs.Configs.{Config, Result, Tasks, Values, done}
-use Rattle.mc_resolved.specs.Moves.{Arrives}
-use Rattle.mc_resolved.specs.Steps.{Does, start, Step}
-use Rattle.mc_tasks.specs.Going.{Comes, Has, LeavesLoop, tasks_of, values_of}
-use Rattle.mc_tasks.specs.declared.next.Next.{Next}
-use Rattle.mc_tasks.specs.declared.work.Work.{Work}
-use Rattle.mc_tasks.proofs.Ending.{one_end}
-use Rattle.mc_values.specs.declared.refusal.Refusal.{Refusal}
-use Rattle.mc_values.specs.declared.refusal.Refusal.TheVariants.{Missing, Unreadable, NotAllowed}
-use Rattle.mc_values.specs.Taking.{IsRefused, Takes}
-use Rattle.mc_values.proofs.Taking.{takes_more}
+use Rattle.mc_semantics.specs.Resolved.Programs.{Function, Program}
+use Rattle.mc_semantics.specs.Resolved.Configs.{Config, Result, Tasks, Values, done}
+use Rattle.mc_semantics.specs.Resolved.Moves.{Arrives}
+use Rattle.mc_semantics.specs.Resolved.Steps.{Does, start, Step}
+use Rattle.mc_run_values.specs.Tasks.Going.{Comes, Has, LeavesLoop, tasks_of, values_of}
+use Rattle.mc_run_values.specs.declared.tasks.next.Next.{Next}
+use Rattle.mc_run_values.specs.declared.tasks.work.Work.{Work}
+use Rattle.mc_run_values.proofs.TasksLemmas.Ending.{one_end}
+use Rattle.mc_run_values.specs.declared.values.refusal.Refusal.{Refusal}
+use Rattle.mc_run_values.specs.declared.values.refusal.Refusal.TheVariants.{Missing, Unreadable, NotAllowed}
+use Rattle.mc_run_values.specs.Values.Taking.{IsRefused, Takes}
+use Rattle.mc_run_values.proofs.ValuesLemmas.Taking.{takes_more}
 use Rattle.mc_run.specs.declared.outcome.End.{End}
 use Rattle.mc_run.specs.declared.outcome.End.TheVariants as ends
 use Rattle.mc_run.specs.declared.outcome.Stepped.{Stepped}
@@ -30,7 +30,7 @@ use Rattle.mc_run.specs.Steps.{IsStep}
 use Rattle.mc_run.proofs.Leaving.{kept_or_leaves, leaves_no_question, leaves_no_step, only_last}
 use Rattle.mc_run.proofs.NotEnded.{only_done}
 use Rattle.mc_run.proofs.Changing.{at_config}
-use Rattle.mc_heap.specs.Heap.{Heap}
+use Rattle.mc_flow.specs.Heap.Heap.{Heap}
 
 -- ---- a step of what is first among the tasks is a step of the configuration
 -- two steps that do and ask the same

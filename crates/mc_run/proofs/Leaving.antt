@@ -1,15 +1,15 @@
 -- Where a loop is to be left that is not there, there is no step.
 use Rattle.std.proofs.Common.{◌≡◌, ◌⊎◌, inl, inr, List, subst, refl}
-use Rattle.mc_heap.specs.Choices.{Choice}
-use Rattle.mc_waiting.specs.Requests.{Request}
-use Rattle.mc_heap.specs.Heap.{Heap}
-use Rattle.mc_resolved.specs.Programs.{Stmt, declaration, block, empty, simple, free, assert, assume, assume_shape, assert_shape, assert_empty}
-use Rattle.mc_resolved.specs.Programs.{if_only, if_else, while_loop, do_loop, for_loop, break_loop, continue_loop, returns, Program}
-use Rattle.mc_resolved.specs.Configs.{perform, again, test, always, end_block, end_loop, end_turn, end_call, take_result, Tasks, done, task, Result, Values}
-use Rattle.mc_resolved.specs.Steps.{Does, Here}
-use Rattle.mc_tasks.specs.Going.{Has, Keeps, LeavesLoop, values_of}
-use Rattle.mc_tasks.specs.declared.next.Next.{Next}
-use Rattle.mc_tasks.specs.declared.work.Work.{Work}
+use Rattle.mc_flow.specs.Heap.Choices.{Choice}
+use Rattle.mc_semantics.specs.Waiting.Requests.{Request}
+use Rattle.mc_flow.specs.Heap.Heap.{Heap}
+use Rattle.mc_semantics.specs.Resolved.Programs.{Stmt, declaration, block, empty, simple, free, assert, assume, assume_shape, assert_shape, assert_empty}
+use Rattle.mc_semantics.specs.Resolved.Programs.{if_only, if_else, while_loop, do_loop, for_loop, break_loop, continue_loop, returns, Program}
+use Rattle.mc_semantics.specs.Resolved.Configs.{perform, again, test, always, end_block, end_loop, end_turn, end_call, take_result, Tasks, done, task, Result, Values}
+use Rattle.mc_semantics.specs.Resolved.Steps.{Does, Here}
+use Rattle.mc_run_values.specs.Tasks.Going.{Has, Keeps, LeavesLoop, values_of}
+use Rattle.mc_run_values.specs.declared.tasks.next.Next.{Next}
+use Rattle.mc_run_values.specs.declared.tasks.work.Work.{Work}
 use Rattle.mc_run.specs.Asking.{TaskAsks}
 
 -- it is one of these two

@@ -12,3 +12,4 @@ pub mod Leaving
 pub mod Making
 pub mod NotEnded
 pub mod Going
+pub mod InterpretLemmas

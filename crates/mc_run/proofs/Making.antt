@@ -1,14 +1,14 @@
 -- The step of what is first among the tasks.
 use Rattle.std.proofs.Common.{◌≡◌, ℕ, List, sym, subst}
-use Rattle.mc_text.specs.declared.place.Place.{Place}
-use Rattle.mc_heap.specs.Choices.{Choice}
-use Rattle.mc_heap.specs.Heap.{Heap}
-use Rattle.mc_defs.specs.declared.shapes.StructInfo.{StructInfo}
-use Rattle.mc_waiting.specs.Requests.{Request}
-use Rattle.mc_resolved.specs.Programs.{Initial, Program}
-use Rattle.mc_resolved.specs.Configs.{Config, Tasks, Values}
-use Rattle.mc_resolved.specs.Steps.{Declares, Does, Here}
-use Rattle.mc_tasks.specs.Going.{IsFirst}
+use Rattle.mc_base.specs.declared.text.place.Place.{Place}
+use Rattle.mc_flow.specs.Heap.Choices.{Choice}
+use Rattle.mc_flow.specs.Heap.Heap.{Heap}
+use Rattle.mc_flow.specs.declared.defs.shapes.StructInfo.{StructInfo}
+use Rattle.mc_semantics.specs.Waiting.Requests.{Request}
+use Rattle.mc_semantics.specs.Resolved.Programs.{Initial, Program}
+use Rattle.mc_semantics.specs.Resolved.Configs.{Config, Tasks, Values}
+use Rattle.mc_semantics.specs.Resolved.Steps.{Declares, Does, Here}
+use Rattle.mc_run_values.specs.Tasks.Going.{IsFirst}
 use Rattle.mc_run.specs.declared.outcome.Stepped.{Stepped}
 use Rattle.mc_run.specs.Asking.{MaybeRightAsks, TaskAsks}
 use Rattle.mc_run.specs.Steps.{Comes, IsStep}

@@ -3,23 +3,23 @@ use Rattle.std.proofs.Common.{◌≡◌, inl, inr, zero, suc, ℕ, ℤ, pos, Lis
 use Rattle.std.specs.Prelude.{slice_get}
 use Rattle.mc_base.specs.declared.plain.FaultKind.{FaultKind}
 use Rattle.mc_flow.specs.Runs.{last, ended}
-use Rattle.mc_text.specs.declared.place.Place.{Place}
-use Rattle.mc_heap.specs.Heap.{Heap}
-use Rattle.mc_heap.specs.Adding.{with_blocks}
-use Rattle.mc_ast.specs.declared.trees.Comparison.TheVariants.{Unequal}
-use Rattle.mc_heap.specs.Choices.{Choice, input as choose_input, malloc as choose_malloc, shape as choose_shape}
-use Rattle.mc_defs.specs.declared.rules.Def.{Def}
+use Rattle.mc_base.specs.declared.text.place.Place.{Place}
+use Rattle.mc_flow.specs.Heap.Heap.{Heap}
+use Rattle.mc_flow.specs.Heap.Adding.{with_blocks}
+use Rattle.mc_c_syntax.specs.declared.ast.trees.Comparison.TheVariants.{Unequal}
+use Rattle.mc_flow.specs.Heap.Choices.{Choice, input as choose_input, malloc as choose_malloc, shape as choose_shape}
+use Rattle.mc_flow.specs.declared.defs.rules.Def.{Def}
 use Rattle.mc_base.specs.declared.ids.PredId.{PredId}
-use Rattle.mc_ast.specs.declared.trees.Comparison.{Comparison}
+use Rattle.mc_c_syntax.specs.declared.ast.trees.Comparison.{Comparison}
 use Rattle.mc_flow.specs.Values.{all_there}
-use Rattle.mc_meaning.specs.Values.{Evaluated, fault_of, value_of}
-use Rattle.mc_meaning.specs.Steps.{Arguments, no_arguments, arguments, compares}
-use Rattle.mc_resolved.specs.Programs.{Left, Cond, plain, compare, negation, both, either, Call, Right, expression, result_of, allocation, Action, assign, add, subtract, call}
-use Rattle.mc_resolved.specs.Programs.{Initial, Stmt, declaration, block, empty, simple, free, assert, assume, assume_shape, assert_shape, assert_empty}
-use Rattle.mc_resolved.specs.Programs.{if_only, if_else, while_loop, do_loop, for_loop, break_loop, continue_loop, returns, Function, Program}
-use Rattle.mc_resolved.specs.Configs.{Target, nowhere, stored, returned, perform, again, test, always, end_block, end_loop, end_turn, end_call, take_result, Tasks, done, task, Branch, go_on, fails, stops, Result}
-use Rattle.mc_resolved.specs.Values.{Changed, fault_in, changed, set_variable}
-use Rattle.mc_resolved.specs.Steps.{Here, after, AfterValue, Allocates, AfterArguments, Passes, begun, Assigns, Performs, Declares, AddsShape, Assumes, Demands, Asserts, returned_value, Returns, led, decided, compared, Tests, Executes, Does, argument_value, taken}
+use Rattle.mc_semantics.specs.Values.{Evaluated, fault_of, value_of}
+use Rattle.mc_semantics.specs.Steps.{Arguments, no_arguments, arguments, compares}
+use Rattle.mc_semantics.specs.Resolved.Programs.{Left, Cond, plain, compare, negation, both, either, Call, Right, expression, result_of, allocation, Action, assign, add, subtract, call}
+use Rattle.mc_semantics.specs.Resolved.Programs.{Initial, Stmt, declaration, block, empty, simple, free, assert, assume, assume_shape, assert_shape, assert_empty}
+use Rattle.mc_semantics.specs.Resolved.Programs.{if_only, if_else, while_loop, do_loop, for_loop, break_loop, continue_loop, returns, Function, Program}
+use Rattle.mc_semantics.specs.Resolved.Configs.{Target, nowhere, stored, returned, perform, again, test, always, end_block, end_loop, end_turn, end_call, take_result, Tasks, done, task, Branch, go_on, fails, stops, Result}
+use Rattle.mc_semantics.specs.Resolved.Values.{Changed, fault_in, changed, set_variable}
+use Rattle.mc_semantics.specs.Resolved.Steps.{Here, after, AfterValue, Allocates, AfterArguments, Passes, begun, Assigns, Performs, Declares, AddsShape, Assumes, Demands, Asserts, returned_value, Returns, led, decided, compared, Tests, Executes, Does, argument_value, taken}
 
 after_on : (tasks : Tasks) (place : Place) (choices : List Choice) (made : Changed) → last ended ≡ after tasks place choices made → ⊥
 after_on tasks place choices (fault_in kind) e = cc

@@ -1,20 +1,20 @@
 -- A step that evaluates and passes the arguments of a call.
 use Rattle.std.proofs.Common.{◌≡◌, ◌++◌, ℕ, ℤ, List, [], Option, refl, subst}
 use Rattle.mc_base.specs.declared.plain.FaultKind.{FaultKind}
-use Rattle.mc_text.specs.declared.place.Place.{Place}
-use Rattle.mc_heap.specs.Choices.{Choice}
-use Rattle.mc_heap.specs.Heap.{Heap}
-use Rattle.mc_defs.specs.declared.shapes.StructInfo.{StructInfo}
-use Rattle.mc_meaning.specs.Steps.{Arguments, no_arguments, arguments}
-use Rattle.mc_waiting.specs.Requests.{Request, an_input}
-use Rattle.mc_resolved.specs.Programs.{Call, Program}
-use Rattle.mc_resolved.specs.Configs.{Config, Result, Target, Tasks, Values}
-use Rattle.mc_resolved.specs.Steps.{Here, AfterArguments, Passes}
+use Rattle.mc_base.specs.declared.text.place.Place.{Place}
+use Rattle.mc_flow.specs.Heap.Choices.{Choice}
+use Rattle.mc_flow.specs.Heap.Heap.{Heap}
+use Rattle.mc_flow.specs.declared.defs.shapes.StructInfo.{StructInfo}
+use Rattle.mc_semantics.specs.Steps.{Arguments, no_arguments, arguments}
+use Rattle.mc_semantics.specs.Waiting.Requests.{Request, an_input}
+use Rattle.mc_semantics.specs.Resolved.Programs.{Call, Program}
+use Rattle.mc_semantics.specs.Resolved.Configs.{Config, Result, Target, Tasks, Values}
+use Rattle.mc_semantics.specs.Resolved.Steps.{Here, AfterArguments, Passes}
 use Rattle.std.specs.Prelude.{slice_get}
-use Rattle.mc_values.specs.declared.refusal.Refusal.{Refusal}
-use Rattle.mc_values.specs.declared.refusal.Arguments.TheVariants as all
-use Rattle.mc_values.specs.Asking.{ArgumentsAsk}
-use Rattle.mc_values.specs.Models.{AreEvaluated}
+use Rattle.mc_run_values.specs.declared.values.refusal.Refusal.{Refusal}
+use Rattle.mc_run_values.specs.declared.values.refusal.Arguments.TheVariants as all
+use Rattle.mc_run_values.specs.Values.Asking.{ArgumentsAsk}
+use Rattle.mc_run_values.specs.Values.Models.{AreEvaluated}
 use Rattle.mc_run.specs.declared.outcome.End.TheVariants as ends
 use Rattle.mc_run.specs.declared.outcome.Stepped.{Stepped}
 use Rattle.mc_run.specs.declared.outcome.Stepped.TheVariants as steps

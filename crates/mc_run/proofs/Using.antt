@@ -2,20 +2,20 @@
 use Rattle.std.proofs.Common.{◌≡◌, ◌⊎◌, inl, inr, ◌++◌, ℕ, ℤ, List, [], Option, refl, sym, subst, append_assoc}
 use Rattle.mc_base.specs.declared.plain.FaultKind.{FaultKind}
 use Rattle.mc_flow.specs.Runs.{next, last}
-use Rattle.mc_text.specs.declared.place.Place.{Place}
-use Rattle.mc_heap.specs.Choices.{Choice}
-use Rattle.mc_defs.specs.declared.shapes.StructInfo.{StructInfo}
-use Rattle.mc_meaning.specs.Values.{Evaluated, fault_of, value_of}
-use Rattle.mc_waiting.specs.Requests.{Request, Waits, an_input, IsUnanswered}
-use Rattle.mc_resolved.specs.Programs.{Expr}
-use Rattle.mc_resolved.specs.Configs.{Config, Result}
-use Rattle.mc_resolved.specs.Steps.{AfterValue, Here, WithValue}
-use Rattle.mc_resolved.specs.Values.{Evaluates}
-use Rattle.mc_values.specs.declared.refusal.Refusal.{Refusal}
-use Rattle.mc_values.specs.declared.refusal.Evaluated.TheVariants as one
-use Rattle.mc_values.specs.Asking.{AsksBehind, ValueAsks}
-use Rattle.mc_values.specs.Models.{IsEvaluated}
-use Rattle.mc_values.proofs.Taking.{takes_more}
+use Rattle.mc_base.specs.declared.text.place.Place.{Place}
+use Rattle.mc_flow.specs.Heap.Choices.{Choice}
+use Rattle.mc_flow.specs.declared.defs.shapes.StructInfo.{StructInfo}
+use Rattle.mc_semantics.specs.Values.{Evaluated, fault_of, value_of}
+use Rattle.mc_semantics.specs.Waiting.Requests.{Request, Waits, an_input, IsUnanswered}
+use Rattle.mc_semantics.specs.Resolved.Programs.{Expr}
+use Rattle.mc_semantics.specs.Resolved.Configs.{Config, Result}
+use Rattle.mc_semantics.specs.Resolved.Steps.{AfterValue, Here, WithValue}
+use Rattle.mc_semantics.specs.Resolved.Values.{Evaluates}
+use Rattle.mc_run_values.specs.declared.values.refusal.Refusal.{Refusal}
+use Rattle.mc_run_values.specs.declared.values.refusal.Evaluated.TheVariants as one
+use Rattle.mc_run_values.specs.Values.Asking.{AsksBehind, ValueAsks}
+use Rattle.mc_run_values.specs.Values.Models.{IsEvaluated}
+use Rattle.mc_run_values.proofs.ValuesLemmas.Taking.{takes_more}
 use Rattle.mc_run.specs.declared.outcome.End.TheVariants as ends
 use Rattle.mc_run.specs.declared.outcome.Stepped.{Stepped}
 use Rattle.mc_run.specs.declared.outcome.Stepped.TheVariants as steps

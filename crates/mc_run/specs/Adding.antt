@@ -1,13 +1,13 @@
 -- What comes of a shape that a script gives.
 use Rattle.std.specs.Prelude.{◌≡◌, ℕ, ℤ, List, Some}
 use Rattle.mc_base.specs.declared.ids.PredId.{PredId}
-use Rattle.mc_heap.specs.Adding.{with_blocks}
-use Rattle.mc_heap.specs.Choices.{shape}
-use Rattle.mc_heap.specs.Heap.{Block}
-use Rattle.mc_defs.specs.declared.rules.Def.{Def}
-use Rattle.mc_waiting.specs.Requests.{a_shape, IsAllowed}
-use Rattle.mc_resolved.specs.Configs.{Config, with_variable}
-use Rattle.mc_values.specs.declared.refusal.Refusal.TheVariants.{NotAllowed}
+use Rattle.mc_flow.specs.Heap.Adding.{with_blocks}
+use Rattle.mc_flow.specs.Heap.Choices.{shape}
+use Rattle.mc_flow.specs.Heap.Heap.{Block}
+use Rattle.mc_flow.specs.declared.defs.rules.Def.{Def}
+use Rattle.mc_semantics.specs.Waiting.Requests.{a_shape, IsAllowed}
+use Rattle.mc_semantics.specs.Resolved.Configs.{Config, with_variable}
+use Rattle.mc_run_values.specs.declared.values.refusal.Refusal.TheVariants.{NotAllowed}
 use Rattle.mc_run.specs.declared.outcome.Stepped.{Stepped}
 use Rattle.mc_run.specs.declared.outcome.Stepped.TheVariants.{Goes, Ends, Unanswered, Stuck}
 

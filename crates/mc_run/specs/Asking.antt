@@ -1,20 +1,20 @@
 -- What the steps of a resolved program ask for.
 use Rattle.std.specs.Prelude.{◌≡◌, ◌⊎◌, ℤ, List, [], ◌∷◌, Option, Some, None, map}
-use Rattle.mc_heap.specs.Choices.{Choice}
-use Rattle.mc_heap.specs.Heap.{Heap}
-use Rattle.mc_defs.specs.declared.rules.Def.{Def}
+use Rattle.mc_flow.specs.Heap.Choices.{Choice}
+use Rattle.mc_flow.specs.Heap.Heap.{Heap}
+use Rattle.mc_flow.specs.declared.defs.rules.Def.{Def}
 use Rattle.mc_flow.specs.Values.{all_there}
-use Rattle.mc_waiting.specs.Requests.{Request, an_input, an_address, a_shape}
-use Rattle.mc_resolved.specs.Programs.{Expr, Cond, plain, compare, negation, both, either, Right, expression}
-use Rattle.mc_resolved.specs.Programs.{result_of, allocation, Action, assign, add, subtract, call, Initial}
-use Rattle.mc_resolved.specs.Programs.{Stmt, declaration, block, empty, simple, free, assert, assume, assume_shape}
-use Rattle.mc_resolved.specs.Programs.{assert_shape, assert_empty, if_only, if_else, while_loop, do_loop, for_loop}
-use Rattle.mc_resolved.specs.Programs.{break_loop, continue_loop, returns, Program}
-use Rattle.mc_resolved.specs.Configs.{Values, perform, again, test, always, end_block, end_loop, end_turn, end_call}
-use Rattle.mc_resolved.specs.Configs.{take_result, Tasks, done, task, Config}
-use Rattle.mc_resolved.specs.Moves.{Arrives}
-use Rattle.mc_resolved.specs.Steps.{Here, argument_value}
-use Rattle.mc_values.specs.Asking.{ArgumentsAsk, AsksBehind, ValueAsks}
+use Rattle.mc_semantics.specs.Waiting.Requests.{Request, an_input, an_address, a_shape}
+use Rattle.mc_semantics.specs.Resolved.Programs.{Expr, Cond, plain, compare, negation, both, either, Right, expression}
+use Rattle.mc_semantics.specs.Resolved.Programs.{result_of, allocation, Action, assign, add, subtract, call, Initial}
+use Rattle.mc_semantics.specs.Resolved.Programs.{Stmt, declaration, block, empty, simple, free, assert, assume, assume_shape}
+use Rattle.mc_semantics.specs.Resolved.Programs.{assert_shape, assert_empty, if_only, if_else, while_loop, do_loop, for_loop}
+use Rattle.mc_semantics.specs.Resolved.Programs.{break_loop, continue_loop, returns, Program}
+use Rattle.mc_semantics.specs.Resolved.Configs.{Values, perform, again, test, always, end_block, end_loop, end_turn, end_call}
+use Rattle.mc_semantics.specs.Resolved.Configs.{take_result, Tasks, done, task, Config}
+use Rattle.mc_semantics.specs.Resolved.Moves.{Arrives}
+use Rattle.mc_semantics.specs.Resolved.Steps.{Here, argument_value}
+use Rattle.mc_run_values.specs.Values.Asking.{ArgumentsAsk, AsksBehind, ValueAsks}
 
 -- an expression asks for an input
 abbrev pub AsksInput : Here → Expr → List Choice → Request → List Choice → Type 0

@@ -3,3 +3,4 @@ pub mod Models
 pub mod Steps
 pub mod Adding
 pub mod Runs
+pub mod Interpret

@@ -1,17 +1,17 @@
 -- What the types of the code mean.
 use Rattle.std.specs.Prelude.{◌+◌, ℕ, [], Result, Ok, Err}
 use Rattle.mc_base.specs.declared.plain.FaultKind.{FaultKind}
-use Rattle.mc_text.specs.declared.place.Place.{Place}
+use Rattle.mc_base.specs.declared.text.place.Place.{Place}
 use Rattle.mc_flow.specs.Runs.{Final, ended, stopped, fault}
-use Rattle.mc_resolved.specs.Programs.{Left, Program}
-use Rattle.mc_resolved.specs.Configs.{Config}
-use Rattle.mc_resolved.specs.Steps.{Here}
-use Rattle.mc_resolved.specs.Views as resolved
-use Rattle.mc_tasks.specs.Going.{tasks_of, values_of}
+use Rattle.mc_semantics.specs.Resolved.Programs.{Left, Program}
+use Rattle.mc_semantics.specs.Resolved.Configs.{Config}
+use Rattle.mc_semantics.specs.Resolved.Steps.{Here}
+use Rattle.mc_semantics.specs.Resolved.Views as resolved
+use Rattle.mc_run_values.specs.Tasks.Going.{tasks_of, values_of}
 use Rattle.mc_run.specs.declared.outcome.End.{End}
 use Rattle.mc_run.specs.declared.outcome.End.TheVariants as ends
-use Rattle.mc_values.specs.declared.refusal.Refusal.{Refusal}
-use Rattle.mc_values.specs.declared.refusal.Refusal.TheVariants.{Missing, Unreadable, NotAllowed}
+use Rattle.mc_run_values.specs.declared.values.refusal.Refusal.{Refusal}
+use Rattle.mc_run_values.specs.declared.values.refusal.Refusal.TheVariants.{Missing, Unreadable, NotAllowed}
 use Rattle.mc_run.specs.declared.outcome.Outcome.{Outcome}
 use Rattle.mc_run.specs.declared.outcome.Outcome.TheVariants as outcomes
 use Rattle.mc_run.specs.declared.outcome.Stepped.{Stepped}

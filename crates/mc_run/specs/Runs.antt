@@ -1,15 +1,15 @@
 -- What a run comes to with a script and fuel.
 use Rattle.std.specs.Prelude.{◌≡◌, ◌++◌, ◌+◌, ◌<◌, ◌≤◌, ◌⊎◌, ℕ, List, [], Option, Some, None, length}
 use Rattle.mc_flow.specs.Runs.{Final, ended, stopped, fault}
-use Rattle.mc_heap.specs.Choices.{Choice}
-use Rattle.mc_defs.specs.declared.shapes.StructInfo.{StructInfo}
-use Rattle.mc_waiting.specs.Requests.{Request}
-use Rattle.mc_waiting.specs.Runs.{ComesTo, GoesOn, Leads, Machine}
-use Rattle.mc_resolved.specs.Programs.{Function, Program}
-use Rattle.mc_resolved.specs.Configs.{Config}
-use Rattle.mc_resolved.specs.Steps.{Step, start}
-use Rattle.mc_values.specs.declared.refusal.Refusal.TheVariants.{Unreadable, NotAllowed}
-use Rattle.mc_values.specs.Taking.{Takes, IsRefused}
+use Rattle.mc_flow.specs.Heap.Choices.{Choice}
+use Rattle.mc_flow.specs.declared.defs.shapes.StructInfo.{StructInfo}
+use Rattle.mc_semantics.specs.Waiting.Requests.{Request}
+use Rattle.mc_semantics.specs.Waiting.Runs.{ComesTo, GoesOn, Leads, Machine}
+use Rattle.mc_semantics.specs.Resolved.Programs.{Function, Program}
+use Rattle.mc_semantics.specs.Resolved.Configs.{Config}
+use Rattle.mc_semantics.specs.Resolved.Steps.{Step, start}
+use Rattle.mc_run_values.specs.declared.values.refusal.Refusal.TheVariants.{Unreadable, NotAllowed}
+use Rattle.mc_run_values.specs.Values.Taking.{Takes, IsRefused}
 use Rattle.mc_run.specs.declared.outcome.Outcome.{Outcome}
 use Rattle.mc_run.specs.declared.outcome.Outcome.TheVariants as outcomes
 use Rattle.mc_run.specs.Asking.{Asks}

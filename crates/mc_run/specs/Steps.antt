@@ -1,11 +1,11 @@
 -- What comes of a step with the lines of a script.
 use Rattle.std.specs.Prelude.{ℕ, List}
 use Rattle.mc_flow.specs.Runs.{next, last}
-use Rattle.mc_heap.specs.Choices.{Choice}
-use Rattle.mc_defs.specs.declared.shapes.StructInfo.{StructInfo}
-use Rattle.mc_waiting.specs.Requests.{Request, Waits}
-use Rattle.mc_resolved.specs.Configs.{Config, Result}
-use Rattle.mc_values.specs.Taking.{WithTaken, IsRefusedBehind}
+use Rattle.mc_flow.specs.Heap.Choices.{Choice}
+use Rattle.mc_flow.specs.declared.defs.shapes.StructInfo.{StructInfo}
+use Rattle.mc_semantics.specs.Waiting.Requests.{Request, Waits}
+use Rattle.mc_semantics.specs.Resolved.Configs.{Config, Result}
+use Rattle.mc_run_values.specs.Values.Taking.{WithTaken, IsRefusedBehind}
 use Rattle.mc_run.specs.declared.outcome.Stepped.{Stepped}
 use Rattle.mc_run.specs.declared.outcome.Stepped.TheVariants.{Goes, Ends, Unanswered, Stuck}
 use Rattle.mc_run.specs.Models.{final_of}

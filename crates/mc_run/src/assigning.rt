@@ -1,14 +1,14 @@
 // Assignments and declarators.
 ghost use Rattle.std.specs.Prelude.{◌≡◌, IfOk, List, Some, pos, ◌<◌, ◌^◌};
-ghost use Rattle.mc_heap.specs.Choices.{Choice as ChoiceModel};
-ghost use Rattle.mc_resolved.specs.Configs.{stored};
-ghost use Rattle.mc_resolved.specs.Steps.{Assigns, Combines, Declares, after};
-ghost use Rattle.mc_resolved.specs.Values.{assigned, set_variable};
-ghost use Rattle.mc_resolved.specs.Views.{expression_of, initial_of, left_of, right_of};
-ghost use Rattle.mc_resolved.specs.declared.program.RightSide.TheVariants as RightSide;
-ghost use Rattle.mc_tasks.specs.Going.{tasks_of};
-ghost use Rattle.mc_tasks.specs.Left.{target_of};
-ghost use Rattle.mc_values.specs.Models.{change_of, operation_of};
+ghost use Rattle.mc_flow.specs.Heap.Choices.{Choice as ChoiceModel};
+ghost use Rattle.mc_semantics.specs.Resolved.Configs.{stored};
+ghost use Rattle.mc_semantics.specs.Resolved.Steps.{Assigns, Combines, Declares, after};
+ghost use Rattle.mc_semantics.specs.Resolved.Values.{assigned, set_variable};
+ghost use Rattle.mc_semantics.specs.Resolved.Views.{expression_of, initial_of, left_of, right_of};
+ghost use Rattle.mc_semantics.specs.declared.resolved.program.RightSide.TheVariants as RightSide;
+ghost use Rattle.mc_run_values.specs.Tasks.Going.{tasks_of};
+ghost use Rattle.mc_run_values.specs.Tasks.Left.{target_of};
+ghost use Rattle.mc_run_values.specs.Values.Models.{change_of, operation_of};
 ghost use Rattle.mc_run.specs.Asking.{AsksInput, MaybeRightAsks, RightAsks};
 ghost use Rattle.mc_run.specs.Models.{config_of, goal_of, here_of, program_of, settled_of};
 ghost use Rattle.mc_run.specs.Steps.{Comes, IsStep};
@@ -16,12 +16,12 @@ ghost use Rattle.mc_run.specs.Steps.{Comes, IsStep};
 use crate::calling::pass;
 use crate::machine::{Machine, Program};
 use crate::outcome::{End, Stepped};
+use mc_base::text::Place;
 use mc_base::{FaultKind, NoMemory, StructId};
-use mc_resolved::{Expression, Initial, LeftValue, RightSide};
-use mc_script::Script;
-use mc_tasks::Target;
-use mc_text::Place;
-use mc_values::{Allocated, Evaluated, Operation, allocate, assign_behind, computed};
+use mc_run_values::script::Script;
+use mc_run_values::tasks::Target;
+use mc_run_values::values::{Allocated, Evaluated, Operation, allocate, assign_behind, computed};
+use mc_semantics::resolved::{Expression, Initial, LeftValue, RightSide};
 
 /// The run goes on behind a change, or faults at the place.
 pub fn settled(change: Result<(), FaultKind>, place: Place) -> Stepped

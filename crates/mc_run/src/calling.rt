@@ -1,26 +1,26 @@
 // Calls, returns and results.
 ghost use Rattle.std.specs.Prelude.{◌≡◌, IfOk, List, Some, slice_get};
-ghost use Rattle.mc_heap.specs.Choices.{Choice as ChoiceModel};
-ghost use Rattle.mc_meaning.specs.Steps.{arguments};
+ghost use Rattle.mc_flow.specs.Heap.Choices.{Choice as ChoiceModel};
+ghost use Rattle.mc_semantics.specs.Steps.{arguments};
 ghost use Rattle.std.specs.Option.{option_map};
-ghost use Rattle.mc_resolved.specs.Steps.{AfterArguments, Passes, Returns, returned_value};
-ghost use Rattle.mc_resolved.specs.Views.{call_of, right_of};
-ghost use Rattle.mc_tasks.specs.Going.{tasks_of};
-ghost use Rattle.mc_tasks.specs.Left.{target_of};
+ghost use Rattle.mc_semantics.specs.Resolved.Steps.{AfterArguments, Passes, Returns, returned_value};
+ghost use Rattle.mc_semantics.specs.Resolved.Views.{call_of, right_of};
+ghost use Rattle.mc_run_values.specs.Tasks.Going.{tasks_of};
+ghost use Rattle.mc_run_values.specs.Tasks.Left.{target_of};
 ghost use Rattle.mc_run.specs.Asking.{MaybeRightAsks, RightAsks};
 ghost use Rattle.mc_run.specs.Models.{config_of, here_of, program_of};
 ghost use Rattle.mc_run.specs.Steps.{Comes, IsStep};
-ghost use Rattle.mc_resolved.specs.declared.program.RightSide.TheVariants as RightSide;
+ghost use Rattle.mc_semantics.specs.declared.resolved.program.RightSide.TheVariants as RightSide;
 
 use crate::assigning::pointer_at;
 use crate::machine::{Machine, Program};
 use crate::outcome::{End, Stepped};
+use mc_base::text::Place;
 use mc_base::{FaultKind, NoMemory, StructId};
-use mc_resolved::{Call, Expression, RightSide};
-use mc_script::Script;
-use mc_tasks::Target;
-use mc_text::Place;
-use mc_values::{Allocated, Arguments, Evaluated, all_there, allocate};
+use mc_run_values::script::Script;
+use mc_run_values::tasks::Target;
+use mc_run_values::values::{Allocated, Arguments, Evaluated, all_there, allocate};
+use mc_semantics::resolved::{Call, Expression, RightSide};
 
 /// The arguments of a call are evaluated and passed, and its function begins.
 pub fn pass<'a>(

@@ -1,24 +1,24 @@
 // Atomic conditions are tested.
 ghost use Rattle.std.specs.Prelude.{◌≡◌, IfOk, List};
-ghost use Rattle.mc_heap.specs.Choices.{Choice as ChoiceModel};
-ghost use Rattle.mc_resolved.specs.Programs.{compare, plain};
-ghost use Rattle.mc_resolved.specs.Steps.{Tests, WithValue, compared};
-ghost use Rattle.mc_resolved.specs.Views.{expression_of};
-ghost use Rattle.mc_tasks.specs.Going.{branches_of};
-ghost use Rattle.mc_tasks.specs.Left.{atom_of};
+ghost use Rattle.mc_flow.specs.Heap.Choices.{Choice as ChoiceModel};
+ghost use Rattle.mc_semantics.specs.Resolved.Programs.{compare, plain};
+ghost use Rattle.mc_semantics.specs.Resolved.Steps.{Tests, WithValue, compared};
+ghost use Rattle.mc_semantics.specs.Resolved.Views.{expression_of};
+ghost use Rattle.mc_run_values.specs.Tasks.Going.{branches_of};
+ghost use Rattle.mc_run_values.specs.Tasks.Left.{atom_of};
 ghost use Rattle.mc_run.specs.Asking.{AsksInput, ConditionAsks};
 ghost use Rattle.mc_run.specs.Models.{config_of, here_of};
 ghost use Rattle.mc_run.specs.Steps.{Comes, IsStep};
 
 use crate::machine::{Machine, Program};
 use crate::outcome::{End, Stepped};
-use mc_ast::Comparison;
+use mc_base::text::Place;
 use mc_base::{FaultKind, NoMemory};
-use mc_resolved::Expression;
-use mc_script::Script;
-use mc_tasks::{Atom, Decided};
-use mc_text::Place;
-use mc_values::{Evaluated, compares};
+use mc_c_syntax::ast::Comparison;
+use mc_run_values::script::Script;
+use mc_run_values::tasks::{Atom, Decided};
+use mc_run_values::values::{Evaluated, compares};
+use mc_semantics::resolved::Expression;
 
 // The condition that was next is a comparison of two values.
 fn decide(

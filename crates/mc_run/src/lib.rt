@@ -1,10 +1,13 @@
-//! Runs of resolved programs, with the choices of a script.
+//! Runs resolved programs with the choices of a script (the root), and programs with names (`interpret`).
+//!
+//! Stands on `mc_run_values`, `mc_resolve` and `mc_shape_search`; called by `mc_app`.
 #![tactic(auto)]
 
 mod assigning;
 mod calling;
 mod commands;
 mod conditions;
+pub mod interpret;
 mod machine;
 mod outcome;
 mod running;

@@ -1,16 +1,16 @@
 // A program that runs.
 ghost use Rattle.std.specs.Prelude.{◌≡◌, IfOk, map};
-ghost use Rattle.mc_resolved.specs.Views.{expression_of};
+ghost use Rattle.mc_semantics.specs.Resolved.Views.{expression_of};
 ghost use Rattle.mc_run.specs.Models.{here_of};
-ghost use Rattle.mc_values.specs.Models.{AreEvaluated, IsEvaluated};
+ghost use Rattle.mc_run_values.specs.Values.Models.{AreEvaluated, IsEvaluated};
 
 use mc_base::NoMemory;
-use mc_defs::Defs;
-use mc_heap::Heap;
-use mc_resolved::{Expression, Resolved};
-use mc_script::{NamedStructs, Script};
-use mc_tasks::Work;
-use mc_values::{Arguments, Evaluated, Evaluator, Here};
+use mc_flow::defs::Defs;
+use mc_flow::heap::Heap;
+use mc_run_values::script::{NamedStructs, Script};
+use mc_run_values::tasks::Work;
+use mc_run_values::values::{Arguments, Evaluated, Evaluator, Here};
+use mc_semantics::resolved::{Expression, Resolved};
 use std::alloc::Global;
 
 /// A program, with its definitions and its structs.

@@ -1,7 +1,7 @@
 // What runs and their steps come to.
 use mc_base::FaultKind;
-use mc_text::Place;
-use mc_values::Refusal;
+use mc_base::text::Place;
+use mc_run_values::values::Refusal;
 
 /// How a run comes to its end.
 #[derive(Clone, Copy, Debug, PartialEq, Eq)]

@@ -1,20 +1,20 @@
 // A program is run.
 ghost use Rattle.std.specs.Prelude.{◌≡◌, ◌↔◌, ◌<◌, ◌^◌, IfOk, IsTrue, slice_get};
-ghost use Rattle.mc_tasks.specs.declared.next.Next.TheVariants.{Done};
+ghost use Rattle.mc_run_values.specs.declared.tasks.next.Next.TheVariants.{Done};
 ghost use Rattle.mc_run.specs.Models.{outcome_of, program_of, refused_as};
-ghost use Rattle.mc_resolved.specs.Steps.{start};
-ghost use Rattle.mc_resolved.specs.Views.{function_of};
+ghost use Rattle.mc_semantics.specs.Resolved.Steps.{start};
+ghost use Rattle.mc_semantics.specs.Resolved.Views.{function_of};
 ghost use Rattle.mc_run.specs.Runs.{Runs, RunsFrom};
 
 use crate::machine::{Machine, Program};
 use crate::outcome::{End, Outcome, Stepped};
 use crate::step::make;
 use mc_base::NoMemory;
-use mc_heap::Heap;
-use mc_resolved::Function;
-use mc_script::Script;
-use mc_tasks::{Next, Work};
-use mc_values::{Evaluator, Refusal};
+use mc_flow::heap::Heap;
+use mc_run_values::script::Script;
+use mc_run_values::tasks::{Next, Work};
+use mc_run_values::values::{Evaluator, Refusal};
+use mc_semantics::resolved::Function;
 use std::alloc::Global;
 
 // How a run ends.

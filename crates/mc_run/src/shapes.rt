@@ -1,12 +1,12 @@
 // What is freed, and what commands on shapes take and add.
 ghost use Rattle.std.specs.Prelude.{◌≡◌, ◌↔◌, ◌∷◌, [], IfOk, IsTrue, map, option_map};
 ghost use Rattle.mc_flow.specs.Values.{all_there};
-ghost use Rattle.mc_resolved.specs.Steps.{Executes, argument_value};
-ghost use Rattle.mc_resolved.specs.Programs.{free as free_statement};
-ghost use Rattle.mc_resolved.specs.Views.{argument_of, expression_of};
-ghost use Rattle.mc_tasks.specs.Going.{tasks_of};
-ghost use Rattle.mc_heap.specs.Adding.{AreFree, with_blocks};
-ghost use Rattle.mc_script.specs.Models.{block};
+ghost use Rattle.mc_semantics.specs.Resolved.Steps.{Executes, argument_value};
+ghost use Rattle.mc_semantics.specs.Resolved.Programs.{free as free_statement};
+ghost use Rattle.mc_semantics.specs.Resolved.Views.{argument_of, expression_of};
+ghost use Rattle.mc_run_values.specs.Tasks.Going.{tasks_of};
+ghost use Rattle.mc_flow.specs.Heap.Adding.{AreFree, with_blocks};
+ghost use Rattle.mc_run_values.specs.Script.Models.{block};
 ghost use Rattle.mc_run.specs.Asking.{StatementAsks};
 ghost use Rattle.mc_run.specs.Models.{config_of, here_of, program_of};
 ghost use Rattle.mc_run.specs.Steps.{IsStep};
@@ -15,11 +15,11 @@ use crate::assigning::settled;
 use crate::machine::{Machine, Program};
 use crate::outcome::{End, Stepped};
 use mc_base::NoMemory;
-use mc_heap::Heap;
-use mc_resolved::{Argument, Expression};
-use mc_script::{NewBlock, Script};
-use mc_text::Place;
-use mc_values::{Evaluated, free};
+use mc_base::text::Place;
+use mc_flow::heap::Heap;
+use mc_run_values::script::{NewBlock, Script};
+use mc_run_values::values::{Evaluated, free};
+use mc_semantics::resolved::{Argument, Expression};
 
 /// A `free`.
 pub fn free_at<'a>(

@@ -1,11 +1,11 @@
 // The next step is made.
 ghost use Rattle.std.specs.Prelude.{◌≡◌, IfOk, List};
-ghost use Rattle.mc_heap.specs.Choices.{Choice as ChoiceModel};
-ghost use Rattle.mc_resolved.specs.Configs.{Tasks};
-ghost use Rattle.mc_resolved.specs.Steps.{Does, Performs, taken};
-ghost use Rattle.mc_resolved.specs.Views.{simple_of};
-ghost use Rattle.mc_tasks.specs.Going.{Has, tasks_of};
-ghost use Rattle.mc_tasks.specs.Left.{target_of};
+ghost use Rattle.mc_flow.specs.Heap.Choices.{Choice as ChoiceModel};
+ghost use Rattle.mc_semantics.specs.Resolved.Configs.{Tasks};
+ghost use Rattle.mc_semantics.specs.Resolved.Steps.{Does, Performs, taken};
+ghost use Rattle.mc_semantics.specs.Resolved.Views.{simple_of};
+ghost use Rattle.mc_run_values.specs.Tasks.Going.{Has, tasks_of};
+ghost use Rattle.mc_run_values.specs.Tasks.Left.{target_of};
 ghost use Rattle.mc_run.specs.Asking.{ActionAsks, TaskAsks};
 ghost use Rattle.mc_run.specs.Models.{config_of, here_of, program_of};
 ghost use Rattle.mc_run.specs.Steps.{Comes, IsStep};
@@ -18,10 +18,10 @@ use crate::machine::{Machine, Program};
 use crate::outcome::{End, Stepped};
 use crate::shapes::free_at;
 use mc_base::NoMemory;
-use mc_resolved::{Action, Simple};
-use mc_script::Script;
-use mc_tasks::{Next, Target};
-use mc_values::Operation;
+use mc_run_values::script::Script;
+use mc_run_values::tasks::{Next, Target};
+use mc_run_values::values::Operation;
+use mc_semantics::resolved::{Action, Simple};
 
 // A simple statement.
 fn perform<'a>(

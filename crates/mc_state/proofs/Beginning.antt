@@ -1,9 +1,9 @@
 -- States of which nothing is known, and whole states without edges.
 use Rattle.std.proofs.Common.{List, [], ◌∷◌, length, replicate, Option, None, refl, sym, subst, ℤ, pos}
 use Rattle.mc_base.specs.Nodes.{Valuation}
-use Rattle.mc_heap.specs.Parts.{IsEmpty}
-use Rattle.mc_heap.specs.Heap.{Region}
-use Rattle.mc_graph.specs.Graph.{Edges}
+use Rattle.mc_flow.specs.Heap.Parts.{IsEmpty}
+use Rattle.mc_flow.specs.Heap.Heap.{Region}
+use Rattle.mc_state.specs.Graph.Graph.{Edges}
 use Rattle.mc_state.specs.Stands.{VarsMeet, EdgesMeet}
 use Rattle.mc_state.specs.Laws.{UnknownStands, WholeWithoutEdges}
 use Rattle.mc_state.proofs.Parts.{SplitLaws}

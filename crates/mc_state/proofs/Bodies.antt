@@ -5,14 +5,14 @@ use Rattle.mc_base.specs.declared.ids.NodeId.{NodeId}
 use Rattle.mc_base.specs.declared.ids.PredId.{PredId}
 use Rattle.mc_base.specs.declared.ids.StructId.{StructId}
 use Rattle.mc_base.specs.Nodes.{Valuation, at_node, null}
-use Rattle.mc_heap.specs.Heap.{Region}
-use Rattle.mc_heap.specs.Parts.{Star, StarAt}
-use Rattle.mc_defs.specs.declared.rules.Call.{Call}
-use Rattle.mc_defs.specs.declared.rules.Def.{Def}
-use Rattle.mc_defs.specs.Instances.{node_of}
-use Rattle.mc_defs.specs.Meaning.{BlockMeets, CallMeets, SegCallMeets, Sat, Seg}
-use Rattle.mc_defs.specs.Values.{value_of}
-use Rattle.mc_graph.specs.declared.edge.Edge.TheVariants.{Block}
+use Rattle.mc_flow.specs.Heap.Heap.{Region}
+use Rattle.mc_flow.specs.Heap.Parts.{Star, StarAt}
+use Rattle.mc_flow.specs.declared.defs.rules.Call.{Call}
+use Rattle.mc_flow.specs.declared.defs.rules.Def.{Def}
+use Rattle.mc_flow.specs.Defs.Instances.{node_of}
+use Rattle.mc_flow.specs.Defs.Meaning.{BlockMeets, CallMeets, SegCallMeets, Sat, Seg}
+use Rattle.mc_flow.specs.Defs.Values.{value_of}
+use Rattle.mc_state.specs.declared.graph.edge.Edge.TheVariants.{Block}
 use Rattle.mc_state.specs.Bodies.{call_edge, block_edges, body_edges, calls_to}
 use Rattle.mc_state.specs.BodyLaws.{IsBody, BodiesAreEdges, SegBodiesAreEdges}
 use Rattle.mc_state.specs.Stands.{VarsMeet, EdgeMeets}

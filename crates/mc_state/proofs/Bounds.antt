@@ -4,9 +4,9 @@ use Rattle.mc_base.specs.declared.ids.EdgeId.{EdgeId}
 use Rattle.mc_base.specs.declared.ids.NodeId.{NodeId}
 use Rattle.mc_base.specs.declared.plain.Atom.{Atom}
 use Rattle.mc_base.specs.Atoms.{nodes_of_atom}
-use Rattle.mc_graph.specs.declared.edge.Edge.{Edge}
-use Rattle.mc_graph.specs.Edges.{known_nodes, nodes_of}
-use Rattle.mc_graph.specs.Graph.{IdsAscend, numbered}
+use Rattle.mc_state.specs.declared.graph.edge.Edge.{Edge}
+use Rattle.mc_state.specs.Graph.Edges.{known_nodes, nodes_of}
+use Rattle.mc_state.specs.Graph.Graph.{IdsAscend, numbered}
 use Rattle.mc_pure.specs.Pure.{Kinds, IsNode}
 use Rattle.mc_state.specs.State.{State, numbered_kinds, numbered_nodes}
 use Rattle.mc_state.specs.Fits.{AreNodes}

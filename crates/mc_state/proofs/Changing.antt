@@ -3,8 +3,8 @@ use Rattle.mc_base.specs.declared.ids.EdgeId.{EdgeId}
 use Rattle.mc_base.specs.declared.ids.NodeId.{NodeId}
 use Rattle.mc_base.specs.declared.plain.Kind.{Kind}
 use Rattle.mc_base.specs.Kinds.{InKind}
-use Rattle.mc_graph.specs.declared.edge.Edge.{Edge}
-use Rattle.mc_graph.specs.Graph.{numbered}
+use Rattle.mc_state.specs.declared.graph.edge.Edge.{Edge}
+use Rattle.mc_state.specs.Graph.Graph.{numbered}
 use Rattle.mc_state.specs.Stands.{EdgeMeets}
 use Rattle.mc_state.specs.Laws.{EdgesAreTaken, EdgesArePut, EdgeIsReplaced, AtomsAreDropped, EdgesAreDropped, NodeIsDropped}
 use Rattle.mc_state.proofs.Nodes.{all_without_node}

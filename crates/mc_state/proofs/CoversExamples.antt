@@ -6,9 +6,9 @@ use Rattle.mc_base.specs.declared.plain.Atom.TheVariants as atom
 use Rattle.mc_base.specs.declared.plain.Kind.{Kind}
 use Rattle.mc_base.specs.declared.plain.Kind.TheVariants.{Int, Ptr}
 use Rattle.mc_base.specs.Nodes.{null}
-use Rattle.mc_defs.specs.Examples.{defs, cell_id, list_id, lenlist_id, tree_id, null_rule, list_rule, lenlist_rule, tree_rule, list_def, lenlist_def, tree_def}
-use Rattle.mc_graph.specs.declared.edge.Edge.TheVariants as edge
-use Rattle.mc_graph.specs.Graph.{Edges}
+use Rattle.mc_flow.specs.Defs.Examples.{defs, cell_id, list_id, lenlist_id, tree_id, null_rule, list_rule, lenlist_rule, tree_rule, list_def, lenlist_def, tree_def}
+use Rattle.mc_state.specs.declared.graph.edge.Edge.TheVariants as edge
+use Rattle.mc_state.specs.Graph.Graph.{Edges}
 use Rattle.mc_pure.specs.Derived as pure
 use Rattle.mc_pure.specs.Examples.{node}
 use Rattle.mc_pure.specs.Pure as known

@@ -11,13 +11,13 @@ use Rattle.mc_base.specs.declared.plain.Kind.{Kind}
 use Rattle.mc_base.specs.declared.plain.Kind.TheVariants.{Ptr}
 use Rattle.mc_base.specs.Atoms.{IsTrueAtom}
 use Rattle.mc_base.specs.Nodes.{null}
-use Rattle.mc_defs.specs.declared.rules.Def.{Def}
-use Rattle.mc_defs.specs.declared.rules.Rule.{Rule}
-use Rattle.mc_defs.specs.Examples.{defs, fork_id, list_id, tree_id, null_rule, list_rule, tree_rule, list_def, tree_def}
-use Rattle.mc_graph.specs.declared.edge.Edge.{Edge}
-use Rattle.mc_graph.specs.declared.edge.Edge.TheVariants as edge
-use Rattle.mc_graph.specs.Edges.{fields_of}
-use Rattle.mc_graph.specs.Graph.{Edges}
+use Rattle.mc_flow.specs.declared.defs.rules.Def.{Def}
+use Rattle.mc_flow.specs.declared.defs.rules.Rule.{Rule}
+use Rattle.mc_flow.specs.Defs.Examples.{defs, fork_id, list_id, tree_id, null_rule, list_rule, tree_rule, list_def, tree_def}
+use Rattle.mc_state.specs.declared.graph.edge.Edge.{Edge}
+use Rattle.mc_state.specs.declared.graph.edge.Edge.TheVariants as edge
+use Rattle.mc_state.specs.Graph.Edges.{fields_of}
+use Rattle.mc_state.specs.Graph.Graph.{Edges}
 use Rattle.mc_pure.specs.Examples.{node}
 use Rattle.mc_pure.specs.Laws.{IsTrue, DerivedIsTrue}
 use Rattle.mc_pure.specs.Pure as known

@@ -2,12 +2,12 @@
 use Rattle.std.proofs.Common.{pos, Some, [], ◌∷◌, refl, ◌∙◌, arith}
 use Rattle.std.specs.FinMap as finmap
 use Rattle.std.proofs.lemmas.Int.{ints}
-use Rattle.mc_heap.specs.Heap.{IsAtAddresses}
-use Rattle.mc_heap.specs.Instances.{nowhere}
-use Rattle.mc_heap.specs.PartLaws.{EmptyHeapIsEmpty, InsertChanges, InsertKeepsAddresses}
-use Rattle.mc_heap.specs.Parts.{Split, IsCell}
-use Rattle.mc_defs.specs.Examples.{defs, list_id, list_rule, cell_with, blocks, two_cells, first_cell, second_cell}
-use Rattle.mc_defs.specs.Meaning.{Sat}
+use Rattle.mc_flow.specs.Heap.Heap.{IsAtAddresses}
+use Rattle.mc_flow.specs.Heap.Instances.{nowhere}
+use Rattle.mc_flow.specs.Heap.PartLaws.{EmptyHeapIsEmpty, InsertChanges, InsertKeepsAddresses}
+use Rattle.mc_flow.specs.Heap.Parts.{Split, IsCell}
+use Rattle.mc_flow.specs.Defs.Examples.{defs, list_id, list_rule, cell_with, blocks, two_cells, first_cell, second_cell}
+use Rattle.mc_flow.specs.Defs.Meaning.{Sat}
 use Rattle.mc_pure.specs.Examples.{node}
 use Rattle.mc_state.specs.BodyLaws.{IsBody, IsBodyTo}
 use Rattle.mc_state.specs.CoverExamples.{cell_and_list, at_seven}

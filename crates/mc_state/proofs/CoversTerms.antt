@@ -14,14 +14,14 @@ use Rattle.mc_base.specs.declared.plain.Kind.TheVariants.{Int, Ptr}
 use Rattle.mc_base.specs.Atoms.{IsTrueAtom}
 use Rattle.mc_base.specs.Kinds.{InKind}
 use Rattle.mc_base.specs.Nodes.{Valuation, at_node}
-use Rattle.mc_heap.specs.Heap.{Region, IsAtAddresses}
-use Rattle.mc_defs.specs.declared.rules.Def.{Def}
-use Rattle.mc_defs.specs.declared.rules.DefAtom.{DefAtom}
-use Rattle.mc_defs.specs.declared.rules.DefAtom.TheVariants.{Eq, Ne, In}
-use Rattle.mc_defs.specs.Conditions.{IsDefs, DefFits, RuleFitsStructs, numbers_from}
-use Rattle.mc_defs.specs.Meaning.{RuleValues}
-use Rattle.mc_defs.specs.Values as by_values
-use Rattle.mc_defs.specs.Values.{value_of, base_of, InKinds}
+use Rattle.mc_flow.specs.Heap.Heap.{Region, IsAtAddresses}
+use Rattle.mc_flow.specs.declared.defs.rules.Def.{Def}
+use Rattle.mc_flow.specs.declared.defs.rules.DefAtom.{DefAtom}
+use Rattle.mc_flow.specs.declared.defs.rules.DefAtom.TheVariants.{Eq, Ne, In}
+use Rattle.mc_flow.specs.Defs.Conditions.{IsDefs, DefFits, RuleFitsStructs, numbers_from}
+use Rattle.mc_flow.specs.Defs.Meaning.{RuleValues}
+use Rattle.mc_flow.specs.Defs.Values as by_values
+use Rattle.mc_flow.specs.Defs.Values.{value_of, base_of, InKinds}
 use Rattle.mc_state.specs.declared.terms.Term.{Term}
 use Rattle.mc_state.specs.State.{State}
 use Rattle.mc_state.specs.Facts.{Derives}

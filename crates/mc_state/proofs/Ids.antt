@@ -3,8 +3,8 @@ use Rattle.std.proofs.Common.{◌≡◌, ◌+◌, ◌≤◌, ℕ, suc, List, [],
 use Rattle.std.specs.Prelude.{◌==◌, if◌then◌else◌}
 use Rattle.std.specs.List.{AllByRecursion}
 use Rattle.mc_base.specs.declared.ids.EdgeId.{EdgeId}
-use Rattle.mc_graph.specs.declared.edge.Edge.{Edge}
-use Rattle.mc_graph.specs.Graph.{Edges, Picks, IdsAscend, edge_with, without, replaced, numbered}
+use Rattle.mc_state.specs.declared.graph.edge.Edge.{Edge}
+use Rattle.mc_state.specs.Graph.Graph.{Edges, Picks, IdsAscend, edge_with, without, replaced, numbered}
 
 -- what holds of each edge
 abbrev pub AllEdges : (Edge → Type 0) → Edges → Type 0

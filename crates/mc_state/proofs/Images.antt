@@ -9,10 +9,10 @@ use Rattle.mc_base.specs.declared.plain.Atom.{Atom}
 use Rattle.mc_base.specs.declared.plain.Atom.TheVariants.{Eq, Ne, In}
 use Rattle.mc_base.specs.Atoms.{nodes_of_atom, moved_atom}
 use Rattle.mc_base.specs.Nodes.{moved}
-use Rattle.mc_graph.specs.declared.edge.Edge.{Edge}
-use Rattle.mc_graph.specs.declared.edge.Edge.TheVariants.{Block, Ind, Seg}
-use Rattle.mc_graph.specs.Edges.{known_nodes, nodes_of, moved_edge}
-use Rattle.mc_graph.specs.Graph.{Edges, IdsAscend}
+use Rattle.mc_state.specs.declared.graph.edge.Edge.{Edge}
+use Rattle.mc_state.specs.declared.graph.edge.Edge.TheVariants.{Block, Ind, Seg}
+use Rattle.mc_state.specs.Graph.Edges.{known_nodes, nodes_of, moved_edge}
+use Rattle.mc_state.specs.Graph.Graph.{Edges, IdsAscend}
 use Rattle.mc_pure.specs.Pure.{Kinds, IsNode}
 use Rattle.mc_state.specs.Facts.{instead}
 use Rattle.mc_pure.specs.Whole.{kinds_without}

@@ -25,3 +25,4 @@ pub mod Tests
 pub mod Truth
 pub mod Variables
 pub mod Worked
+pub mod GraphLemmas

@@ -2,10 +2,10 @@
 use Rattle.std.proofs.Common.{◌≡◌, ◌≢◌, ◌<◌, ◌≤◌, ℕ, suc, List, [], ◌∷◌, Bool, true, false, not, ◌&&◌, Option, Some, None, refl, ap, sym, subst, ◌∙◌, arith, eqb-true, eq-eqb}
 use Rattle.std.specs.Prelude.{◌==◌, if◌then◌else◌}
 use Rattle.mc_base.specs.declared.ids.EdgeId.{EdgeId}
-use Rattle.mc_graph.specs.declared.edge.Edge.{Edge}
+use Rattle.mc_state.specs.declared.graph.edge.Edge.{Edge}
 use Rattle.std.proofs.Common.{◌++◌, length, length-append}
 use Rattle.std.specs.Prelude.{◌||◌, is_some}
-use Rattle.mc_graph.specs.Graph.{Edges, Picks, edge_with, without, IdsAscend}
+use Rattle.mc_state.specs.Graph.Graph.{Edges, Picks, edge_with, without, IdsAscend}
 use Rattle.mc_state.specs.Named.{others, are_there, is_among, are_distinct, is_apart, are_named, named_ids, Looked}
 use Rattle.mc_state.proofs.Tests.{and_both, and_yes, not_no}
 use Rattle.mc_state.specs.Told.{PicksAreNamed}

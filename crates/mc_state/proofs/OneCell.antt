@@ -5,12 +5,12 @@ use Rattle.std.specs.FinMap as map
 use Rattle.std.specs.FinMap.{get-from_entries}
 use Rattle.std.proofs.lemmas.Int.{ints}
 use Rattle.mc_base.specs.declared.plain.Kind.TheVariants.{Ptr}
-use Rattle.mc_heap.specs.Heap.{Block}
-use Rattle.mc_heap.specs.Instances.{nowhere}
-use Rattle.mc_heap.specs.Parts.{Joins, Split, IsCell}
-use Rattle.mc_heap.specs.PartLaws.{EmptyHeapIsEmpty, InsertChanges}
-use Rattle.mc_defs.specs.Meaning.{Sat}
-use Rattle.mc_defs.specs.Examples.{defs, list_id, cell_with, blocks, two_cells, first_cell, second_cell}
+use Rattle.mc_flow.specs.Heap.Heap.{Block}
+use Rattle.mc_flow.specs.Heap.Instances.{nowhere}
+use Rattle.mc_flow.specs.Heap.Parts.{Joins, Split, IsCell}
+use Rattle.mc_flow.specs.Heap.PartLaws.{EmptyHeapIsEmpty, InsertChanges}
+use Rattle.mc_flow.specs.Defs.Meaning.{Sat}
+use Rattle.mc_flow.specs.Defs.Examples.{defs, list_id, cell_with, blocks, two_cells, first_cell, second_cell}
 use Rattle.mc_pure.specs.Examples.{node}
 use Rattle.mc_pure.specs.Pure.{kind, written}
 use Rattle.mc_pure.specs.Derived.{LiesIn, base, turned, empty}

@@ -3,12 +3,12 @@ use Rattle.std.proofs.Common.{◌≡◌, ℕ, suc, List, [], ◌∷◌, ◌++◌
 use Rattle.std.specs.Prelude.{◌==◌, if◌then◌else◌}
 use Rattle.std.specs.List.{AllByRecursion}
 use Rattle.mc_base.specs.declared.ids.EdgeId.{EdgeId}
-use Rattle.mc_heap.specs.Heap.{Region}
-use Rattle.mc_heap.specs.Instances.{nowhere}
-use Rattle.mc_heap.specs.Parts.{Split, IsEmpty, Star}
-use Rattle.mc_heap.specs.PartLaws.{SplitCommutes, SplitRegroupsLeft, SplitRegroupsRight, SplitDropsEmpty, SplitAddsEmpty}
-use Rattle.mc_graph.specs.declared.edge.Edge.{Edge}
-use Rattle.mc_graph.specs.Graph.{Edges, Picks, edge_with, without, replaced, numbered}
+use Rattle.mc_flow.specs.Heap.Heap.{Region}
+use Rattle.mc_flow.specs.Heap.Instances.{nowhere}
+use Rattle.mc_flow.specs.Heap.Parts.{Split, IsEmpty, Star}
+use Rattle.mc_flow.specs.Heap.PartLaws.{SplitCommutes, SplitRegroupsLeft, SplitRegroupsRight, SplitDropsEmpty, SplitAddsEmpty}
+use Rattle.mc_state.specs.declared.graph.edge.Edge.{Edge}
+use Rattle.mc_state.specs.Graph.Graph.{Edges, Picks, edge_with, without, replaced, numbered}
 
 -- what holds of parts
 pub record SplitLaws : Type 0 where

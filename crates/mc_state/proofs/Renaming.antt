@@ -11,14 +11,14 @@ use Rattle.mc_base.specs.declared.plain.Atom.TheVariants.{Eq, Ne, In}
 use Rattle.mc_base.specs.Atoms.{IsTrueAtom, moved_atom}
 use Rattle.mc_base.specs.Kinds.{InKind}
 use Rattle.mc_base.specs.Nodes.{Valuation, at_node, moved}
-use Rattle.mc_heap.specs.Heap.{Region}
-use Rattle.mc_heap.specs.Parts.{Split, IsCell}
-use Rattle.mc_defs.specs.declared.rules.Def.{Def}
-use Rattle.mc_defs.specs.Meaning as meaning
-use Rattle.mc_graph.specs.declared.edge.Edge.{Edge}
-use Rattle.mc_graph.specs.declared.edge.Edge.TheVariants.{Block, Ind, Seg}
-use Rattle.mc_graph.specs.Edges.{moved_edge}
-use Rattle.mc_graph.specs.Graph.{Edges}
+use Rattle.mc_flow.specs.Heap.Heap.{Region}
+use Rattle.mc_flow.specs.Heap.Parts.{Split, IsCell}
+use Rattle.mc_flow.specs.declared.defs.rules.Def.{Def}
+use Rattle.mc_flow.specs.Defs.Meaning as meaning
+use Rattle.mc_state.specs.declared.graph.edge.Edge.{Edge}
+use Rattle.mc_state.specs.declared.graph.edge.Edge.TheVariants.{Block, Ind, Seg}
+use Rattle.mc_state.specs.Graph.Edges.{moved_edge}
+use Rattle.mc_state.specs.Graph.Graph.{Edges}
 use Rattle.mc_pure.specs.Pure.{Kinds}
 use Rattle.mc_state.specs.State.{State, renamed}
 use Rattle.mc_state.specs.Stands.{VarsMeet, EdgeMeets, EdgesMeet, StandsBy}

@@ -10,12 +10,12 @@ use Rattle.mc_base.specs.declared.plain.Atom.TheVariants.{Eq, Ne, In}
 use Rattle.mc_base.specs.Atoms.{IsTrueAtom, nodes_of_atom}
 use Rattle.mc_base.specs.Kinds.{InKind}
 use Rattle.mc_base.specs.Nodes.{Valuation, at_node}
-use Rattle.mc_heap.specs.Heap.{Region}
-use Rattle.mc_defs.specs.declared.rules.Def.{Def}
-use Rattle.mc_defs.specs.Values.{InKinds}
-use Rattle.mc_graph.specs.declared.edge.Edge.{Edge}
-use Rattle.mc_graph.specs.declared.edge.Edge.TheVariants.{Block, Ind, Seg}
-use Rattle.mc_graph.specs.Edges.{known_nodes, nodes_of}
+use Rattle.mc_flow.specs.Heap.Heap.{Region}
+use Rattle.mc_flow.specs.declared.defs.rules.Def.{Def}
+use Rattle.mc_flow.specs.Defs.Values.{InKinds}
+use Rattle.mc_state.specs.declared.graph.edge.Edge.{Edge}
+use Rattle.mc_state.specs.declared.graph.edge.Edge.TheVariants.{Block, Ind, Seg}
+use Rattle.mc_state.specs.Graph.Edges.{known_nodes, nodes_of}
 use Rattle.mc_pure.specs.Pure.{Kinds, IsNode}
 use Rattle.mc_state.specs.State.{State, numbered_kinds, numbered_nodes}
 use Rattle.mc_state.specs.Fits.{IsBounded}

@@ -1,8 +1,8 @@
 -- The parts of two lists of things, and regions with nothing beside them.
 use Rattle.std.proofs.Common.{List, [], ◌∷◌, ◌++◌}
-use Rattle.mc_heap.specs.Heap.{Region}
-use Rattle.mc_heap.specs.Instances.{nowhere}
-use Rattle.mc_heap.specs.Parts.{Split, Star}
+use Rattle.mc_flow.specs.Heap.Heap.{Region}
+use Rattle.mc_flow.specs.Heap.Instances.{nowhere}
+use Rattle.mc_flow.specs.Heap.Parts.{Split, Star}
 use Rattle.mc_state.proofs.Parts.{SplitLaws, nowhere-IsEmpty}
 
 module _ (laws : SplitLaws) where

@@ -10,12 +10,12 @@ use Rattle.mc_base.specs.declared.plain.Atom.TheVariants.{Eq, Ne, In}
 use Rattle.mc_base.specs.Atoms.{IsTrueAtom}
 use Rattle.mc_base.specs.Kinds.{InKind}
 use Rattle.mc_base.specs.Nodes.{Valuation}
-use Rattle.mc_heap.specs.Heap as heap
-use Rattle.mc_heap.specs.Heap.{Region, IsAtAddresses, IsAddress}
-use Rattle.mc_heap.specs.Parts.{Joins, Split}
-use Rattle.mc_defs.specs.declared.rules.Def.{Def}
-use Rattle.mc_graph.specs.declared.edge.Edge.TheVariants.{Block, Ind, Seg}
-use Rattle.mc_graph.specs.Graph.{Edges, block_starts}
+use Rattle.mc_flow.specs.Heap.Heap as heap
+use Rattle.mc_flow.specs.Heap.Heap.{Region, IsAtAddresses, IsAddress}
+use Rattle.mc_flow.specs.Heap.Parts.{Joins, Split}
+use Rattle.mc_flow.specs.declared.defs.rules.Def.{Def}
+use Rattle.mc_state.specs.declared.graph.edge.Edge.TheVariants.{Block, Ind, Seg}
+use Rattle.mc_state.specs.Graph.Graph.{Edges, block_starts}
 use Rattle.mc_pure.specs.Pure as known
 use Rattle.mc_pure.specs.Pure.{kind_atom, address_atom, low_of, high_of}
 use Rattle.mc_pure.specs.Laws as pure

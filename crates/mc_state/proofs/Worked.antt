@@ -5,15 +5,15 @@ use Rattle.std.specs.List.{AllByRecursion}
 use Rattle.std.specs.Cmp.{nat_cmp_total}
 use Rattle.std.specs.FinMap.{get-from_entries}
 use Rattle.std.proofs.lemmas.Int.{ints}
-use Rattle.mc_heap.specs.Heap.{Block, Region}
-use Rattle.mc_heap.specs.Instances.{nowhere}
-use Rattle.mc_heap.specs.Parts.{Split, IsCell, Star}
-use Rattle.mc_defs.specs.declared.rules.Def.{Def}
-use Rattle.mc_defs.specs.declared.rules.Rule.{Rule}
-use Rattle.mc_defs.specs.Values.{value_of, IsTrueAtom}
-use Rattle.mc_defs.specs.Meaning.{BlockMeets, CallMeets, Sat, Seg}
-use Rattle.mc_defs.specs.Laws.{SatUnfolds, SegThenSat}
-use Rattle.mc_defs.specs.Examples.{defs, list_id, null_rule, list_rule, list_def, cell_with, blocks, two_cells, first_cell, second_cell}
+use Rattle.mc_flow.specs.Heap.Heap.{Block, Region}
+use Rattle.mc_flow.specs.Heap.Instances.{nowhere}
+use Rattle.mc_flow.specs.Heap.Parts.{Split, IsCell, Star}
+use Rattle.mc_flow.specs.declared.defs.rules.Def.{Def}
+use Rattle.mc_flow.specs.declared.defs.rules.Rule.{Rule}
+use Rattle.mc_flow.specs.Defs.Values.{value_of, IsTrueAtom}
+use Rattle.mc_flow.specs.Defs.Meaning.{BlockMeets, CallMeets, Sat, Seg}
+use Rattle.mc_flow.specs.Defs.Laws.{SatUnfolds, SegThenSat}
+use Rattle.mc_flow.specs.Defs.Examples.{defs, list_id, null_rule, list_rule, list_def, cell_with, blocks, two_cells, first_cell, second_cell}
 use Rattle.mc_state.specs.Laws.{IsInjective}
 use Rattle.mc_state.specs.Stands.{EdgesMeet, StandsBy, Stands}
 use Rattle.mc_state.specs.Examples.{list_in_parts, at_seven, seven_and_nine, raised, raised_list, two_and_three}

@@ -2,8 +2,8 @@
 use Rattle.std.specs.Prelude.{◌≡◌, ◌==◌, ◌&&◌, ◌<◌, ℕ, nat_lt, Bool, true, List, Some, length, slice_get, if◌then◌else◌}
 use Rattle.std.specs.List.{list_all, AllByRecursion}
 use Rattle.mc_base.specs.declared.ids.PredId.{PredId}
-use Rattle.mc_defs.specs.declared.rules.Call.{Call}
-use Rattle.mc_defs.specs.declared.rules.Def.{Def}
+use Rattle.mc_flow.specs.declared.defs.rules.Call.{Call}
+use Rattle.mc_flow.specs.declared.defs.rules.Def.{Def}
 use Rattle.mc_state.specs.Lists.{on_some}
 
 -- a call, if it is one of the predicate, has `this`, which is name 0, as its argument at a position

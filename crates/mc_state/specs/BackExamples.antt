@@ -2,10 +2,10 @@
 use Rattle.std.specs.Prelude.{ℕ, pos, false, Some, None, List, [], ◌∷◌, codes}
 use Rattle.mc_base.specs.declared.ids.PredId.{PredId}
 use Rattle.mc_base.specs.declared.plain.Kind.TheVariants.{Int, Ptr}
-use Rattle.mc_defs.specs.declared.rules.Def.{Def}
-use Rattle.mc_defs.specs.declared.rules.DefAtom.TheVariants.{Eq}
-use Rattle.mc_defs.specs.declared.rules.Rule.{Rule}
-use Rattle.mc_defs.specs.Examples.{cell_id}
+use Rattle.mc_flow.specs.declared.defs.rules.Def.{Def}
+use Rattle.mc_flow.specs.declared.defs.rules.DefAtom.TheVariants.{Eq}
+use Rattle.mc_flow.specs.declared.defs.rules.Rule.{Rule}
+use Rattle.mc_flow.specs.Defs.Examples.{cell_id}
 
 -- the predicate with a number
 abbrev pub predicate : ℕ → PredId

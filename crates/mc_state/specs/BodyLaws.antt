@@ -4,13 +4,13 @@ use Rattle.mc_base.specs.declared.ids.NodeId.{NodeId}
 use Rattle.mc_base.specs.declared.ids.PredId.{PredId}
 use Rattle.mc_base.specs.declared.ids.StructId.{StructId}
 use Rattle.mc_base.specs.Nodes.{Valuation, at_node}
-use Rattle.mc_heap.specs.Heap.{Region, IsAtAddresses}
-use Rattle.mc_heap.specs.Parts.{Split, Star, StarAt}
-use Rattle.mc_defs.specs.declared.rules.Call.{Call}
-use Rattle.mc_defs.specs.declared.rules.Def.{Def}
-use Rattle.mc_defs.specs.Conditions.{IsDefs}
-use Rattle.mc_defs.specs.Meaning.{BlockMeets, CallMeets, SegCallMeets, Sat, Seg}
-use Rattle.mc_graph.specs.Graph.{Edges}
+use Rattle.mc_flow.specs.Heap.Heap.{Region, IsAtAddresses}
+use Rattle.mc_flow.specs.Heap.Parts.{Split, Star, StarAt}
+use Rattle.mc_flow.specs.declared.defs.rules.Call.{Call}
+use Rattle.mc_flow.specs.declared.defs.rules.Def.{Def}
+use Rattle.mc_flow.specs.Defs.Conditions.{IsDefs}
+use Rattle.mc_flow.specs.Defs.Meaning.{BlockMeets, CallMeets, SegCallMeets, Sat, Seg}
+use Rattle.mc_state.specs.Graph.Graph.{Edges}
 use Rattle.mc_state.specs.declared.terms.Term.{Term}
 use Rattle.mc_state.specs.State.{State}
 use Rattle.mc_state.specs.Stands.{EdgeMeets, EdgesMeet, StandsBy}

@@ -4,10 +4,10 @@ use Rattle.mc_base.specs.declared.ids.EdgeId.{EdgeId}
 use Rattle.mc_base.specs.declared.plain.Kind.TheVariants.{Int, Ptr}
 use Rattle.mc_base.specs.declared.plain.Atom.TheVariants.{Eq, In}
 use Rattle.mc_base.specs.Nodes.{Valuation}
-use Rattle.mc_defs.specs.Examples.{cell_id, list_id}
-use Rattle.mc_graph.specs.declared.edge.Edge.{Edge}
-use Rattle.mc_graph.specs.declared.edge.Edge.TheVariants.{Block, Ind, Seg}
-use Rattle.mc_graph.specs.Graph.{Graph}
+use Rattle.mc_flow.specs.Defs.Examples.{cell_id, list_id}
+use Rattle.mc_state.specs.declared.graph.edge.Edge.{Edge}
+use Rattle.mc_state.specs.declared.graph.edge.Edge.TheVariants.{Block, Ind, Seg}
+use Rattle.mc_state.specs.Graph.Graph.{Graph}
 use Rattle.mc_pure.specs.Examples.{node}
 use Rattle.mc_pure.specs.Pure.{Kinds}
 use Rattle.mc_state.specs.State.{State, with_atom, renamed}

@@ -4,8 +4,8 @@ use Rattle.mc_base.specs.declared.ids.EdgeId.{EdgeId}
 use Rattle.mc_base.specs.declared.ids.NodeId.{NodeId}
 use Rattle.mc_base.specs.declared.plain.Atom.{Atom}
 use Rattle.mc_base.specs.Nodes.{null}
-use Rattle.mc_graph.specs.declared.edge.Edge.{Edge}
-use Rattle.mc_graph.specs.Edges.{start_of, nodes_of}
+use Rattle.mc_state.specs.declared.graph.edge.Edge.{Edge}
+use Rattle.mc_state.specs.Graph.Edges.{start_of, nodes_of}
 use Rattle.mc_pure.specs.Pure.{Kinds, IsNode, AreOfOneKind}
 use Rattle.mc_pure.specs.Derived as pure
 use Rattle.mc_pure.specs.Whole.{kinds_without}

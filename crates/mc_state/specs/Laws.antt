@@ -9,13 +9,13 @@ use Rattle.mc_base.specs.declared.plain.Atom.{Atom}
 use Rattle.mc_base.specs.Atoms.{IsTrueAtom, nodes_of_atom}
 use Rattle.mc_base.specs.Kinds.{InKind}
 use Rattle.mc_base.specs.Nodes.{Valuation, at_node, moved}
-use Rattle.mc_heap.specs.Heap.{Region, IsAtAddresses}
-use Rattle.mc_heap.specs.Parts.{Split, IsEmpty, Star}
-use Rattle.mc_defs.specs.declared.rules.Def.{Def}
-use Rattle.mc_defs.specs.Values.{InKinds}
-use Rattle.mc_graph.specs.declared.edge.Edge.{Edge}
-use Rattle.mc_graph.specs.Edges.{known_nodes, nodes_of}
-use Rattle.mc_graph.specs.Graph.{Edges, Picks, edge_with, replaced}
+use Rattle.mc_flow.specs.Heap.Heap.{Region, IsAtAddresses}
+use Rattle.mc_flow.specs.Heap.Parts.{Split, IsEmpty, Star}
+use Rattle.mc_flow.specs.declared.defs.rules.Def.{Def}
+use Rattle.mc_flow.specs.Defs.Values.{InKinds}
+use Rattle.mc_state.specs.declared.graph.edge.Edge.{Edge}
+use Rattle.mc_state.specs.Graph.Edges.{known_nodes, nodes_of}
+use Rattle.mc_state.specs.Graph.Graph.{Edges, Picks, edge_with, replaced}
 use Rattle.mc_pure.specs.Pure.{Kinds, HasKind, IsNode}
 use Rattle.mc_pure.specs.Derived.{LiesIn}
 use Rattle.mc_state.specs.State.{State, unknown, pure_of, var_node, with_var, with_nodes, with_atoms, with_edges, with_only_edges, numbered_nodes, renamed}

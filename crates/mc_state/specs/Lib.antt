@@ -19,3 +19,4 @@ pub mod Stands
 pub mod State
 pub mod Terms
 pub mod Told
+pub mod Graph

@@ -2,9 +2,9 @@
 use Rattle.std.specs.Prelude.{◌≡◌, ◌≢◌, ℕ, suc, List, [], ◌∷◌, All, length}
 use Rattle.mc_base.specs.declared.plain.Kind.TheVariants as kind
 use Rattle.mc_base.specs.declared.plain.VarInfo.{VarInfo}
-use Rattle.mc_defs.specs.declared.rules.Def.{Def}
-use Rattle.mc_defs.specs.declared.shapes.StructInfo.{StructInfo}
-use Rattle.mc_graph.specs.Graph.{numbered}
+use Rattle.mc_flow.specs.declared.defs.rules.Def.{Def}
+use Rattle.mc_flow.specs.declared.defs.shapes.StructInfo.{StructInfo}
+use Rattle.mc_state.specs.Graph.Graph.{numbered}
 use Rattle.mc_pure.specs.Pure.{Kinds}
 use Rattle.mc_state.specs.declared.raw_state.NodeKind.{NodeKind}
 use Rattle.mc_state.specs.declared.raw_state.NodeKind.TheVariants.{Zero, Int, Ptr}

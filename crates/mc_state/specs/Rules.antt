@@ -2,9 +2,9 @@
 use Rattle.std.specs.Prelude.{◌≡◌, ◌⊎◌, ℕ, ℤ, List, ◌∷◌, Option, Some, None, map, slice_get}
 use Rattle.mc_base.specs.declared.ids.NodeId.{NodeId}
 use Rattle.mc_base.specs.Nodes.{Valuation, at_node, null}
-use Rattle.mc_heap.specs.Heap.{Region, IsAtAddresses}
-use Rattle.mc_defs.specs.declared.rules.Def.{Def}
-use Rattle.mc_defs.specs.Meaning.{HoldsSomewhere}
+use Rattle.mc_flow.specs.Heap.Heap.{Region, IsAtAddresses}
+use Rattle.mc_flow.specs.declared.defs.rules.Def.{Def}
+use Rattle.mc_flow.specs.Defs.Meaning.{HoldsSomewhere}
 use Rattle.mc_state.specs.declared.goal.Goal.{Goal}
 use Rattle.mc_state.specs.State.{State}
 use Rattle.mc_state.specs.Facts.{AreEqual}

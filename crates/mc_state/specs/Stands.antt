@@ -5,13 +5,13 @@ use Rattle.mc_base.specs.declared.ids.NodeId.{NodeId}
 use Rattle.mc_base.specs.Atoms.{IsTrueAtom}
 use Rattle.mc_base.specs.Kinds.{InKind}
 use Rattle.mc_base.specs.Nodes.{Valuation, at_node}
-use Rattle.mc_heap.specs.Heap.{Region}
-use Rattle.mc_heap.specs.Parts.{Split, IsEmpty, IsCell, Star}
-use Rattle.mc_defs.specs.declared.rules.Def.{Def}
-use Rattle.mc_defs.specs.Meaning.{Sat, Seg}
-use Rattle.mc_graph.specs.declared.edge.Edge.{Edge}
-use Rattle.mc_graph.specs.declared.edge.Edge.TheVariants as edge
-use Rattle.mc_graph.specs.Graph.{Edges}
+use Rattle.mc_flow.specs.Heap.Heap.{Region}
+use Rattle.mc_flow.specs.Heap.Parts.{Split, IsEmpty, IsCell, Star}
+use Rattle.mc_flow.specs.declared.defs.rules.Def.{Def}
+use Rattle.mc_flow.specs.Defs.Meaning.{Sat, Seg}
+use Rattle.mc_state.specs.declared.graph.edge.Edge.{Edge}
+use Rattle.mc_state.specs.declared.graph.edge.Edge.TheVariants as edge
+use Rattle.mc_state.specs.Graph.Graph.{Edges}
 use Rattle.mc_state.specs.State.{State}
 
 -- what is known has the value of its node; what is unknown is free

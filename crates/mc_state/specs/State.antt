@@ -9,9 +9,9 @@ use Rattle.mc_base.specs.declared.plain.Atom.{Atom}
 use Rattle.mc_base.specs.declared.plain.Atom.TheVariants.{In}
 use Rattle.mc_base.specs.Nodes.{moved}
 use Rattle.mc_base.specs.Atoms.{moved_atom}
-use Rattle.mc_graph.specs.declared.edge.Edge.{Edge}
-use Rattle.mc_graph.specs.declared.edge.Edge.TheVariants.{Block}
-use Rattle.mc_graph.specs.Graph.{Graph, Edges, no_edges, with_only, with_new, block_starts, moved_graph}
+use Rattle.mc_state.specs.declared.graph.edge.Edge.{Edge}
+use Rattle.mc_state.specs.declared.graph.edge.Edge.TheVariants.{Block}
+use Rattle.mc_state.specs.Graph.Graph.{Graph, Edges, no_edges, with_only, with_new, block_starts, moved_graph}
 use Rattle.mc_pure.specs.Pure.{Kinds, Pure}
 
 -- a node for each variable, where it is known; the kind of each node but node 0; the edges; written atoms;

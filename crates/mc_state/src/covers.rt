@@ -1,10 +1,10 @@
 // What holds of bodies of rules as edges, and of covers. Each law is what a function with no body ensures.
 ghost use Rattle.std.specs.Prelude.{pos, [], ◌∷◌};
-ghost use Rattle.mc_heap.specs.Heap.{IsAtAddresses};
-ghost use Rattle.mc_defs.specs.Conditions.{IsDefs};
-ghost use Rattle.mc_defs.specs.Examples.{defs, list_id, lenlist_id, tree_id, list_rule, blocks, two_cells, first_cell};
-ghost use Rattle.mc_graph.specs.declared.edge.Edge.TheVariants.{Ind};
-ghost use Rattle.mc_graph.specs.Graph.{Edges};
+ghost use Rattle.mc_flow.specs.Heap.Heap.{IsAtAddresses};
+ghost use Rattle.mc_flow.specs.Defs.Conditions.{IsDefs};
+ghost use Rattle.mc_flow.specs.Defs.Examples.{defs, list_id, lenlist_id, tree_id, list_rule, blocks, two_cells, first_cell};
+ghost use Rattle.mc_state.specs.declared.graph.edge.Edge.TheVariants.{Ind};
+ghost use Rattle.mc_state.specs.Graph.Graph.{Edges};
 ghost use Rattle.mc_pure.specs.Examples.{node};
 ghost use Rattle.mc_state.specs.BodyLaws.{IsBody, IsBodyTo, BodiesAreEdges, SegBodiesAreEdges, CoverMakesPredicate, SegCoverMakesSegment};
 ghost use Rattle.mc_state.specs.CoverExamples.{lone_pointer, cell_and_list, rest_list, segment_and_list, cell_and_length, fork_and_tree, other_list, shared_tree, at, entry, at_seven};
@@ -12,8 +12,8 @@ ghost use Rattle.mc_state.specs.Covers.{Cover, SegCover};
 ghost use Rattle.mc_state.specs.Stands.{EdgesMeet, StandsBy};
 
 use crate::laws::derived_is_true;
-use mc_defs::{example_premises, examples_fit, predicates_are_bodies, segments_join};
-use mc_heap::{heaps_change_one_address, parts_regroup};
+use mc_flow::defs::{example_premises, examples_fit, predicates_are_bodies, segments_join};
+use mc_flow::heap::{heaps_change_one_address, parts_regroup};
 
 /// A block and calls are the edges of a body, also where one of the calls is a segment.
 pub fn bodies_are_edges()

@@ -7,12 +7,12 @@ ghost use Rattle.mc_base.specs.declared.plain.Atom.TheVariants.{In};
 ghost use Rattle.mc_base.specs.Atoms.{IsTrueAtom, nodes_of_atom};
 ghost use Rattle.mc_base.specs.Kinds.{InKind};
 ghost use Rattle.mc_base.specs.Nodes.{moved};
-ghost use Rattle.mc_heap.specs.Heap.{IsAtAddresses};
-ghost use Rattle.mc_heap.specs.Parts.{Star};
-ghost use Rattle.mc_defs.specs.Examples.{defs, blocks, two_cells, first_cell, second_cell};
-ghost use Rattle.mc_defs.specs.Values.{InKinds};
-ghost use Rattle.mc_graph.specs.Edges.{nodes_of};
-ghost use Rattle.mc_graph.specs.Graph.{Picks, edge_with};
+ghost use Rattle.mc_flow.specs.Heap.Heap.{IsAtAddresses};
+ghost use Rattle.mc_flow.specs.Heap.Parts.{Star};
+ghost use Rattle.mc_flow.specs.Defs.Examples.{defs, blocks, two_cells, first_cell, second_cell};
+ghost use Rattle.mc_flow.specs.Defs.Values.{InKinds};
+ghost use Rattle.mc_state.specs.Graph.Edges.{nodes_of};
+ghost use Rattle.mc_state.specs.Graph.Graph.{Picks, edge_with};
 ghost use Rattle.mc_pure.specs.Derived.{LiesIn};
 ghost use Rattle.mc_pure.specs.Examples.{node};
 ghost use Rattle.mc_pure.specs.Pure.{IsNode};
@@ -33,12 +33,12 @@ pub fn example_list()
     ensures stands { StandsBy defs seven_and_nine at_seven (blocks two_cells) list_in_parts }
     ensures cut { ¬ Stands defs at_seven (blocks first_cell) list_in_parts }
 {
-    mc_heap::parts_regroup();
-    mc_heap::heaps_change_one_address();
-    mc_defs::example_premises();
-    mc_defs::example_segments();
-    mc_defs::predicates_are_bodies();
-    mc_defs::segments_join();
+    mc_flow::heap::parts_regroup();
+    mc_flow::heap::heaps_change_one_address();
+    mc_flow::defs::example_premises();
+    mc_flow::defs::example_segments();
+    mc_flow::defs::predicates_are_bodies();
+    mc_flow::defs::segments_join();
 }
 
 /// The parts of the list, taken out, put in and replaced, and what else may be added to it.
@@ -53,10 +53,10 @@ pub fn example_parts()
     ensures numbers { InKinds (Int ∷ []) (pos 5 ∷ []) }
     ensures atoms { AllByRecursion (IsTrueAtom seven_and_nine) (In (node 1) (pos 7) (pos 7) ∷ []) }
 {
-    mc_heap::parts_regroup();
-    mc_heap::heaps_change_one_address();
-    mc_defs::example_premises();
-    mc_defs::example_segments();
+    mc_flow::heap::parts_regroup();
+    mc_flow::heap::heaps_change_one_address();
+    mc_flow::defs::example_premises();
+    mc_flow::defs::example_segments();
 }
 
 /// The same list with other nodes.
@@ -68,9 +68,9 @@ pub fn example_renaming()
     ensures there { (n : Node) → IsNode list_in_parts.kinds n → IsNode raised_kinds (moved raised n) }
     ensures stands { StandsBy defs two_and_three at_seven (blocks two_cells) raised_list }
 {
-    mc_heap::parts_regroup();
-    mc_defs::example_premises();
-    mc_defs::example_segments();
+    mc_flow::heap::parts_regroup();
+    mc_flow::defs::example_premises();
+    mc_flow::defs::example_segments();
 }
 
 /// A cell with two names. Since nothing else is allocated, a heap of two cells does not stand for it.
@@ -88,7 +88,7 @@ pub fn example_merging()
     ensures lies { LiesIn (pure_of two_names) Ptr (node 1) (pos 0) }
     ensures wrong { IsFalse no_number }
 {
-    mc_heap::parts_regroup();
-    mc_heap::heaps_change_one_address();
-    mc_defs::example_premises();
+    mc_flow::heap::parts_regroup();
+    mc_flow::heap::heaps_change_one_address();
+    mc_flow::defs::example_premises();
 }

@@ -26,7 +26,7 @@ pub fn nothing_is_allocated()
     ensures unknown { UnknownStands }
     ensures whole { WholeWithoutEdges }
 {
-    mc_heap::parts_regroup();
+    mc_flow::heap::parts_regroup();
 }
 
 /// Nodes that are new may have any values of their kinds, and true atoms may be written.
@@ -52,7 +52,7 @@ pub fn edges_come_and_go()
     ensures replaced { EdgeIsReplaced }
     ensures dropped { EdgesAreDropped }
 {
-    mc_heap::parts_regroup();
+    mc_flow::heap::parts_regroup();
 }
 
 /// Other true atoms may be written, and a node may be dropped.

@@ -1,5 +1,7 @@
-//! Symbolic states, the lines of documents, and rules as premises with numbers, in order: what a rule gives, or the
-//! number of the first premise that is unmet.
+//! Symbolic states as the rules see them: a separating shape graph (`graph`) with pure facts, when a memory satisfies a
+//! state, and rules as premises with numbers.
+//!
+//! Stands on `mc_flow` and `mc_pure`; called by `mc_symbolic`, `mc_rules_steps`, `mc_lines` and what is above them.
 //!
 //! The lemmas on premises and lists in `proofs` speak of any type, which no contract can: the crates whose rules are
 //! judged cite them.
@@ -8,6 +10,7 @@
 mod covers;
 mod examples;
 mod goal;
+pub mod graph;
 mod laws;
 mod line;
 mod positions;
@@ -16,6 +19,7 @@ mod rule;
 mod terms;
 mod told;
 
+pub use crate::graph::Edge;
 pub use covers::{
     bodies_are_edges, body_premises, covers_are_sound, example_covers, example_segment_covers,
 };
@@ -27,7 +31,6 @@ pub use laws::{
     variables_change,
 };
 pub use line::{Form, JoinStep, Side, Version};
-pub use mc_graph::Edge;
 pub use positions::example_back_positions;
 pub use raw_state::{NodeKind, RawState};
 pub use rule::LogicFault;

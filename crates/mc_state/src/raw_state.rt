@@ -1,6 +1,6 @@
 // States as documents write them.
+use crate::graph::Edge;
 use mc_base::{Atom, Items, NodeId};
-use mc_graph::Edge;
 
 /// The kind of a node as documents write it; node 0 alone is `Zero`.
 #[derive(Clone, Copy, Debug, PartialEq, Eq)]

@@ -11,10 +11,10 @@ use Rattle.mc_base.specs.declared.plain.Kind.{Kind}
 use Rattle.mc_base.specs.declared.plain.Atom.{Atom}
 use Rattle.mc_base.specs.declared.plain.Atom.TheVariants.{Eq, Ne, In}
 use Rattle.mc_base.specs.Atoms.{nodes_of_atom}
-use Rattle.mc_graph.specs.declared.edge.Edge.{Edge}
-use Rattle.mc_graph.specs.declared.edge.Edge.TheVariants.{Block, Ind, Seg}
-use Rattle.mc_graph.specs.Edges.{known_nodes, nodes_of, with_field_node}
-use Rattle.mc_graph.specs.Graph.{Graph, Edges, edge_with, without, replaced, with_only, block_starts, no_edges}
+use Rattle.mc_state.specs.declared.graph.edge.Edge.{Edge}
+use Rattle.mc_state.specs.declared.graph.edge.Edge.TheVariants.{Block, Ind, Seg}
+use Rattle.mc_state.specs.Graph.Edges.{known_nodes, nodes_of, with_field_node}
+use Rattle.mc_state.specs.Graph.Graph.{Graph, Edges, edge_with, without, replaced, with_only, block_starts, no_edges}
 use Rattle.mc_pure.specs.Pure.{Pure, Kinds, HasKind, IsNode, IsWellFormed}
 use Rattle.mc_pure.specs.Known.{nothing}
 use Rattle.mc_pure.specs.Nodes.{with_kind}

@@ -8,11 +8,11 @@ use Rattle.mc_base.specs.declared.plain.Atom.{Atom}
 use Rattle.mc_base.specs.declared.plain.Atom.TheVariants.{Eq, Ne, In}
 use Rattle.mc_base.specs.Atoms.{moved_atom}
 use Rattle.mc_base.specs.Nodes.{null, moved}
-use Rattle.mc_graph.specs.declared.edge.Edge.TheVariants.{Block, Ind, Seg}
-use Rattle.mc_graph.specs.Edges.{moved_edge}
-use Rattle.mc_graph.specs.Graph.{Graph, Edges, block_starts, moved_graph, no_edges}
+use Rattle.mc_state.specs.declared.graph.edge.Edge.TheVariants.{Block, Ind, Seg}
+use Rattle.mc_state.specs.Graph.Edges.{moved_edge}
+use Rattle.mc_state.specs.Graph.Graph.{Graph, Edges, block_starts, moved_graph, no_edges}
 use Rattle.mc_pure.specs.Pure.{Pure, Kinds, HasKind, IsWellFormed, kind_of}
-use Rattle.mc_renamed.specs.Renamed as renamed
+use Rattle.mc_pure_ops.specs.Renamed.Renamed as renamed
 use Rattle.mc_state.specs.State.{State}
 use Rattle.mc_state.specs.Facts.{CanMerge, merged, instead}
 use Rattle.mc_state.specs.Fits.{IsBounded}

@@ -1,6 +1,6 @@
 -- A state as it is kept.
 use Rattle.std.specs.List.{AllByRecursion}
-use Rattle.mc_graph.specs.Graph.{block_starts}
+use Rattle.mc_state.specs.Graph.Graph.{block_starts}
 use Rattle.mc_pure.specs.Pure.{IsWellFormed}
 use Rattle.mc_state.specs.State.{State}
 use Rattle.mc_state.specs.Fits.{IsBounded}

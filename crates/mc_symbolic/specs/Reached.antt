@@ -2,9 +2,9 @@
 use Rattle.std.specs.Prelude.{◌≡◌, ◌⊎◌, ◌<◌, ◌+◌, ◌++◌, ℕ, Bool, true, false, List, [], ◌∷◌, Some, Contains, slice_get, slice_set, length}
 use Rattle.mc_base.specs.declared.ids.EdgeId.{EdgeId}
 use Rattle.mc_base.specs.declared.ids.NodeId.{NodeId}
-use Rattle.mc_graph.specs.declared.edge.Edge.{Edge}
-use Rattle.mc_graph.specs.Edges.{start_of, nodes_of}
-use Rattle.mc_graph.specs.Graph.{Edges}
+use Rattle.mc_state.specs.declared.graph.edge.Edge.{Edge}
+use Rattle.mc_state.specs.Graph.Edges.{start_of, nodes_of}
+use Rattle.mc_state.specs.Graph.Graph.{Edges}
 use Rattle.mc_state.specs.State.{State}
 use Rattle.mc_state.specs.Facts.{AreEqual, IsReached}
 

@@ -1,8 +1,8 @@
 -- Lists of nodes up to order.
 use Rattle.std.specs.Prelude.{◌≡◌, ℕ, suc, Bool, List, [], ◌∷◌, Option, Some, None, if◌then◌else◌}
 use Rattle.mc_base.specs.declared.ids.NodeId.{NodeId}
-use Rattle.mc_graph.specs.declared.edge.Edge.{Edge}
-use Rattle.mc_graph.specs.declared.edge.Edge.TheVariants.{Block, Ind, Seg}
+use Rattle.mc_state.specs.declared.graph.edge.Edge.{Edge}
+use Rattle.mc_state.specs.declared.graph.edge.Edge.TheVariants.{Block, Ind, Seg}
 
 -- how many of the nodes meet a test
 abbrev pub how_many : (NodeId → Bool) → List NodeId → ℕ

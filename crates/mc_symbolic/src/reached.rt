@@ -1,13 +1,13 @@
 // The nodes that are reached from null and the variables.
 ghost use Rattle.std.specs.Prelude.{◌≡◌, ◌↔◌, ◌<◌, ◌++◌, ◌∷◌, [], IfOk, OnOk, IsTrue, Some, false, slice_get, length, replicate};
 ghost use Rattle.mc_base.specs.Nodes.{null};
-ghost use Rattle.mc_graph.specs.Edges.{known_nodes, nodes_of};
+ghost use Rattle.mc_state.specs.Graph.Edges.{known_nodes, nodes_of};
 ghost use Rattle.mc_state.specs.Facts.{IsReached, IsFalse};
 ghost use Rattle.mc_symbolic.specs.Reached.{IsOpened, Opens, Searches};
 
 use crate::State;
 use mc_base::{NoMemory, NodeId};
-use mc_graph::Edge;
+use mc_state::graph::Edge;
 use std::alloc::Global;
 
 const NULL: NodeId = NodeId(0);

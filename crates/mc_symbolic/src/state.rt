@@ -4,8 +4,8 @@ ghost use Rattle.std.specs.List.{AllByRecursion};
 ghost use Rattle.std.specs.Option.{option_copied};
 ghost use Rattle.mc_base.specs.declared.plain.Atom.{Atom as Fact};
 ghost use Rattle.mc_base.specs.Nodes.{moved};
-ghost use Rattle.mc_graph.specs.Edges.{nodes_of, with_field_node};
-ghost use Rattle.mc_graph.specs.Graph.{edge_with, without, replaced, block_starts};
+ghost use Rattle.mc_state.specs.Graph.Edges.{nodes_of, with_field_node};
+ghost use Rattle.mc_state.specs.Graph.Graph.{edge_with, without, replaced, block_starts};
 ghost use Rattle.mc_pure.specs.Pure.{IsNode, IsWellFormed, kind_of};
 ghost use Rattle.mc_pure.specs.Derived.{Follows, HasRange, IsFalse as IsFalsePure};
 ghost use Rattle.mc_pure.specs.Canonical.{IsCanonical};
@@ -16,11 +16,11 @@ ghost use Rattle.mc_state.specs.Fits.{IsBounded, AreNodes};
 ghost use Rattle.mc_state.specs.Known.{Test, Tells, is_false, equal, all_equal, same_kind, has_kind};
 ghost use Rattle.mc_symbolic.specs.Starts.{HaveSameNodes, block_start};
 
+use crate::edges::Graph;
+use mc_base::ranges::Range;
 use mc_base::{Atom, EdgeId, Items, Kind, NoMemory, NodeId, VarId};
-use mc_edges::Graph;
-use mc_graph::Edge;
 use mc_pure::Pure;
-use mc_ranges::Range;
+use mc_state::graph::Edge;
 use std::alloc::{AllocError, Global};
 use std::marker::Model;
 
@@ -340,7 +340,7 @@ impl State {
     {
         mc_state::numbers_stay_bounded();
         let env = moved_vars(alloc, self.env.as_slice(), keep, gone)?;
-        let pure = mc_renamed::merge(alloc, &self.pure, keep, gone)?;
+        let pure = mc_pure_ops::renamed::merge(alloc, &self.pure, keep, gone)?;
         self.graph.merge(keep, gone)?;
         self.env = Items::of(env);
         self.pure = pure;
@@ -364,7 +364,7 @@ impl State {
         ensures { IfOk result (λ list. IsCanonical (pure_of self.now) list.items) }
     {
         mc_pure::derived_grows();
-        mc_canon::canon(alloc, &self.pure)
+        mc_pure_ops::canon::canon(alloc, &self.pure)
     }
 
     /// Puts other nodes and atoms in place of those that are known, where blocks start as before.

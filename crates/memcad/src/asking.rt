@@ -1,4 +1,4 @@
-use mc_words::{Analyse, Check, Request, Run, asked};
+use mc_app::words::{Analyse, Check, Request, Run, asked};
 use std::alloc::{AllocError, Global};
 use std::test::Fail;
 

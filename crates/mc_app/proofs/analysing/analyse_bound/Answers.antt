@@ -1,13 +1,13 @@
 use Rattle.std.proofs.Common.{◌≡◌, ◌≤◌, ℕ, List, length, subst, sym}
-use Rattle.mc_analysis.specs.declared.analysis.Analysis.{Analysis}
-use Rattle.mc_analysis.specs.declared.analysis.Analysis.TheVariants.{Safe}
-use Rattle.mc_analysis.specs.Findings.{IsAnalysis}
-use Rattle.mc_ast.specs.Views.{unit_of}
-use Rattle.mc_defs.specs.declared.rules.Def.{Def}
+use Rattle.mc_find.specs.declared.analysis.analysis.Analysis.{Analysis}
+use Rattle.mc_find.specs.declared.analysis.analysis.Analysis.TheVariants.{Safe}
+use Rattle.mc_find.specs.Analysis.Findings.{IsAnalysis}
+use Rattle.mc_c_syntax.specs.Ast.Views.{unit_of}
+use Rattle.mc_flow.specs.declared.defs.rules.Def.{Def}
 use Rattle.mc_flow.specs.Valid.{IsValid}
-use Rattle.mc_inputs.specs.Texts.{IsWellFormed}
+use Rattle.mc_load.specs.Inputs.Texts.{IsWellFormed}
 use Rattle.mc_lower.specs.declared.lowering.Lowered.{Lowered}
-use Rattle.mc_lowered.specs.Graphs.{IsGraphOf}
+use Rattle.mc_load.specs.Lowered.Graphs.{IsGraphOf}
 use Rattle.mc_app.proofs.Safe.{has_entry, safe_graph}
 use Rattle.mc_app.proofs.Whys.{only_ok}
 use Rattle.mc_app.proofs.analysing.analyse_bound.Goals as goal

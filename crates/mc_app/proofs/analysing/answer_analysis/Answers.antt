@@ -1,5 +1,5 @@
-use Rattle.mc_ast.specs.Views.{unit_of}
-use Rattle.mc_words.specs.declared.words.Request.TheVariants as request
+use Rattle.mc_c_syntax.specs.Ast.Views.{unit_of}
+use Rattle.mc_app.specs.declared.words.words.Request.TheVariants as request
 use Rattle.mc_app.proofs.Whys.{at_err, at_ok}
 use Rattle.mc_app.proofs.analysing.answer_analysis.Goals as goal
 

@@ -1,6 +1,6 @@
 use Rattle.std.proofs.Common.{◌≡◌, ◌∙◌, ◌++◌, ap, append_assoc, codes, subst, sym}
 use Rattle.std.specs.Fmt.{decimal}
-use Rattle.mc_interpret.specs.declared.ending.Ending.{Ending}
+use Rattle.mc_run.specs.declared.interpret.ending.Ending.{Ending}
 use Rattle.mc_app.specs.Printing.{ending_text}
 use Rattle.mc_app.proofs.run_text.print_ending.Goals as goal
 

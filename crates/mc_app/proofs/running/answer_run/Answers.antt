@@ -1,6 +1,6 @@
-use Rattle.mc_ast.specs.Views.{unit_of}
+use Rattle.mc_c_syntax.specs.Ast.Views.{unit_of}
 use Rattle.mc_app.proofs.Whys.{at_err, at_ok, stay_ran}
-use Rattle.mc_words.specs.declared.words.Request.TheVariants as request
+use Rattle.mc_app.specs.declared.words.words.Request.TheVariants as request
 use Rattle.mc_app.proofs.running.answer_run.Goals as goal
 
 pub returns-in-Err-clause-why : goal.returns-in-Err-clause-why

@@ -1,7 +1,7 @@
 use Rattle.std.proofs.Common.{◌∙◌, ℕ, List, subst}
-use Rattle.mc_ast.specs.Views.{unit_of}
-use Rattle.mc_cert.specs.Lines.{lines_of}
-use Rattle.mc_interpret.specs.Programs.{ProgramRuns}
+use Rattle.mc_c_syntax.specs.Ast.Views.{unit_of}
+use Rattle.mc_lines.specs.Cert.Lines.{lines_of}
+use Rattle.mc_run.specs.Interpret.Programs.{ProgramRuns}
 use Rattle.mc_app.proofs.Whys.{at_some}
 use Rattle.mc_app.proofs.running.run.Goals as goal
 

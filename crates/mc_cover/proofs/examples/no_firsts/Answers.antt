@@ -1,5 +1,5 @@
 use Rattle.std.proofs.Common.{refl}
-use Rattle.mc_search.specs.Search.{options, tries}
+use Rattle.mc_shape_search.specs.Search.Search.{options, tries}
 use Rattle.mc_cover.proofs.examples.no_firsts.Goals as goal
 
 pub returns : goal.returns

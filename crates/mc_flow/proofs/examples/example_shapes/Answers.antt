@@ -2,13 +2,13 @@ use Rattle.std.proofs.Common.{◌≡◌, ◌⊎◌, ℕ, zero, suc, pos, Option,
 use Rattle.std.specs.List.{AllByRecursion}
 use Rattle.std.proofs.lemmas.Int.{ints}
 use Rattle.std.specs.FinMap as map
-use Rattle.mc_heap.specs.Heap.{Block, Region, region_of}
-use Rattle.mc_heap.specs.Parts.{Joins, Split, IsEmpty}
-use Rattle.mc_heap.specs.Adding.{with_blocks}
-use Rattle.mc_defs.specs.declared.rules.Rule.{Rule}
-use Rattle.mc_defs.specs.Values.{value_of, IsTrueAtom}
-use Rattle.mc_defs.specs.Meaning.{BlockMeets, BodyMeets, Sat}
-use Rattle.mc_defs.specs.Examples.{defs, list_id, list_def, null_rule, list_rule, blocks, second_cell}
+use Rattle.mc_flow.specs.Heap.Heap.{Block, Region, region_of}
+use Rattle.mc_flow.specs.Heap.Parts.{Joins, Split, IsEmpty}
+use Rattle.mc_flow.specs.Heap.Adding.{with_blocks}
+use Rattle.mc_flow.specs.declared.defs.rules.Rule.{Rule}
+use Rattle.mc_flow.specs.Defs.Values.{value_of, IsTrueAtom}
+use Rattle.mc_flow.specs.Defs.Meaning.{BlockMeets, BodyMeets, Sat}
+use Rattle.mc_flow.specs.Defs.Examples.{defs, list_id, list_def, null_rule, list_rule, blocks, second_cell}
 use Rattle.mc_flow.proofs.examples.example_shapes.Goals as goal
 
 -- a part of nothing is nothing

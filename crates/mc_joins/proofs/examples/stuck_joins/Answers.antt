@@ -1,7 +1,7 @@
 use Rattle.std.proofs.Common.{refl}
-use Rattle.mc_search.specs.Search.{options, tries}
+use Rattle.mc_shape_search.specs.Search.Search.{options, tries}
 use Rattle.mc_state.specs.Known.{has_kind}
-use Rattle.mc_fold.specs.ChangeJudges.{is_there}
+use Rattle.mc_rules_logic.specs.Fold.ChangeJudges.{is_there}
 use Rattle.mc_joins.proofs.examples.stuck_joins.Goals as goal
 
 pub returns : goal.returns

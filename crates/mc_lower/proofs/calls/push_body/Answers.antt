@@ -2,8 +2,8 @@ use Rattle.mc_lower.proofs.Readying.{ready_body}
 use Rattle.std.proofs.Common.{sym}
 use Rattle.mc_lower.specs.Ready.{Ready}
 use Rattle.std.proofs.Common.{◌∷◌, map, ap, subst, ◌∙◌}
-use Rattle.mc_resolved.specs.Views.{statement_of, stmts_of}
-use Rattle.mc_lowering.specs.Lowering.{LowersAll}
+use Rattle.mc_semantics.specs.Resolved.Views.{statement_of, stmts_of}
+use Rattle.mc_lower_spec.specs.Lowering.{LowersAll}
 use Rattle.mc_lower.specs.declared.tasks.Task.{Task}
 use Rattle.mc_lower.specs.Left.{around_of}
 use Rattle.mc_lower.proofs.Resting.{pushed}

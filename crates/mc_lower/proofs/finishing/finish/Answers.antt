@@ -1,7 +1,7 @@
 use Rattle.std.proofs.Common.{◌≡◌, List, sym, subst, map}
 use Rattle.mc_flow.specs.declared.graph.Point.{Point}
-use Rattle.mc_lowering.specs.Graphs.{head, merge, stop}
-use Rattle.mc_lowering.specs.Lowering.{AreThresholds}
+use Rattle.mc_lower_spec.specs.Graphs.{head, merge, stop}
+use Rattle.mc_lower_spec.specs.Lowering.{AreThresholds}
 use Rattle.mc_lower.specs.declared.builder.Draft.{Draft}
 use Rattle.mc_lower.specs.Finished.{AreThose, point_at}
 use Rattle.mc_lower.specs.Worlds.{point_in}

@@ -1,6 +1,6 @@
 use Rattle.std.proofs.Common.{sym, subst, map}
 use Rattle.std.proofs.lemmas.List.Filters.{dedup_is}
-use Rattle.mc_lowering.specs.Lowering.{AreThresholds}
+use Rattle.mc_lower_spec.specs.Lowering.{AreThresholds}
 use Rattle.mc_lower.specs.Worlds.{point_in}
 use Rattle.mc_lower.proofs.Constants.{once_ascending, same_constants, thresholds_settled}
 use Rattle.mc_lower.proofs.finishing.thresholds.Goals as goal

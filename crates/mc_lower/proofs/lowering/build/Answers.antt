@@ -1,6 +1,6 @@
 use Rattle.std.proofs.Common.{◌≡◌, ◌<◌, Some, length, subst, sym}
 use Rattle.std.specs.Prelude.{slice_get}
-use Rattle.mc_resolved.specs.Views.{function_of}
+use Rattle.mc_semantics.specs.Resolved.Views.{function_of}
 use Rattle.mc_lower.specs.Ready.{functions_in}
 use Rattle.mc_lower.proofs.Readying.{entry_alone, entry_there}
 use Rattle.mc_lower.proofs.Worlding.{flow_there, valid_there}

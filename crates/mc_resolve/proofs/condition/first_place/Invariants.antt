@@ -1,6 +1,6 @@
 use Rattle.std.proofs.Common.{◌≡◌}
-use Rattle.mc_ast.specs.Views.{expression_of}
-use Rattle.mc_types.specs.Faults.{first_place}
+use Rattle.mc_c_syntax.specs.Ast.Views.{expression_of}
+use Rattle.mc_c_types.specs.Faults.{first_place}
 use Rattle.mc_resolve.proofs.condition.first_place.Given as goal
 
 abbrev pub invariant-loop-current : goal.invariant-loop-current

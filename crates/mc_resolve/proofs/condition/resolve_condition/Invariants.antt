@@ -1,7 +1,7 @@
 use Rattle.std.proofs.Common.{◌≡◌, [], ◌∷◌, map}
-use Rattle.mc_ast.specs.Views.{condition_of as named_condition}
-use Rattle.mc_resolved.specs.Resolving.{resolved_condition}
-use Rattle.mc_resolved.specs.Views.{condition_of}
+use Rattle.mc_c_syntax.specs.Ast.Views.{condition_of as named_condition}
+use Rattle.mc_semantics.specs.Resolved.Resolving.{resolved_condition}
+use Rattle.mc_semantics.specs.Resolved.Views.{condition_of}
 use Rattle.mc_resolve.specs.Conditions.{tested, part_steps}
 use Rattle.mc_resolve.specs.Named.{naming_at, visible_at}
 use Rattle.mc_resolve.proofs.condition.resolve_condition.Given as goal

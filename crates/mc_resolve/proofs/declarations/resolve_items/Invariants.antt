@@ -1,8 +1,8 @@
 use Rattle.std.proofs.Common.{◌≡◌, ◌++◌, map, drop}
-use Rattle.mc_ast.specs.Views.{initial_of as named_initial}
-use Rattle.mc_resolved.specs.Resolving.{resolved_items}
-use Rattle.mc_resolved.specs.Views.{initial_of}
-use Rattle.mc_types.specs.Scopes.{behind_items}
+use Rattle.mc_c_syntax.specs.Ast.Views.{initial_of as named_initial}
+use Rattle.mc_semantics.specs.Resolved.Resolving.{resolved_items}
+use Rattle.mc_semantics.specs.Resolved.Views.{initial_of}
+use Rattle.mc_c_types.specs.Scopes.{behind_items}
 use Rattle.mc_resolve.specs.Named.{naming_held}
 use Rattle.mc_resolve.proofs.declarations.resolve_items.Given as goal
 

@@ -1,7 +1,7 @@
 use Rattle.std.proofs.Common.{◌≡◌, [], ◌∷◌, map}
-use Rattle.mc_ast.specs.Views.{expression_of as named_expression}
-use Rattle.mc_resolved.specs.Resolving.{resolved_expression}
-use Rattle.mc_resolved.specs.Views.{expression_of}
+use Rattle.mc_c_syntax.specs.Ast.Views.{expression_of as named_expression}
+use Rattle.mc_semantics.specs.Resolved.Resolving.{resolved_expression}
+use Rattle.mc_semantics.specs.Resolved.Views.{expression_of}
 use Rattle.mc_resolve.specs.Builds.{built, work_steps}
 use Rattle.mc_resolve.specs.Named.{naming_at, visible_at}
 use Rattle.mc_resolve.proofs.expression.resolve_expression.Given as goal

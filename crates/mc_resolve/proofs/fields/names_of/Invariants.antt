@@ -1,5 +1,5 @@
 use Rattle.std.proofs.Common.{◌≡◌, map, flat_map, take}
-use Rattle.mc_ast.specs.Views.{field_of}
+use Rattle.mc_c_syntax.specs.Ast.Views.{field_of}
 use Rattle.mc_resolve.proofs.fields.names_of.Given as goal
 
 abbrev pub invariant-loop-field : goal.invariant-loop-field

@@ -1,6 +1,6 @@
 use Rattle.std.proofs.Common.{◌≡◌, [], map, reverse, take}
-use Rattle.mc_types.specs.Held.{tables_held}
-use Rattle.mc_types.specs.Tables.{variable_of}
+use Rattle.mc_c_types.specs.Held.{tables_held}
+use Rattle.mc_c_types.specs.Tables.{variable_of}
 use Rattle.mc_resolve.proofs.program.body_scope.Given as goal
 
 abbrev pub invariant-loop-parameter : goal.invariant-loop-parameter

@@ -1,8 +1,8 @@
 use Rattle.std.proofs.Common.{ap, map, sym, ◌∙◌}
-use Rattle.mc_ast.specs.Views.{unit_of}
-use Rattle.mc_resolved.specs.Views.{function_of}
-use Rattle.mc_types.specs.Held.{tables_held}
-use Rattle.mc_types.specs.Tables.{tables_of}
+use Rattle.mc_c_syntax.specs.Ast.Views.{unit_of}
+use Rattle.mc_semantics.specs.Resolved.Views.{function_of}
+use Rattle.mc_c_types.specs.Held.{tables_held}
+use Rattle.mc_c_types.specs.Tables.{tables_of}
 use Rattle.mc_resolve.proofs.WholeFunctions.{program_resolved}
 use Rattle.mc_resolve.proofs.program.resolve.Goals as goal
 

@@ -2,12 +2,12 @@ use Rattle.std.proofs.Common.{◌<◌, ◌≤◌, ap, ◌∙◌, map, length, ar
 use Rattle.std.specs.Prelude.{filter}
 use Rattle.std.proofs.lemmas.List.{take_all}
 use Rattle.std.proofs.lemmas.Bool.Decides.{nat_tests}
-use Rattle.mc_ast.specs.Views.{function_of as named_function}
-use Rattle.mc_ast.specs.declared.trees.Function.{Function}
-use Rattle.mc_types.specs.Held.{tables_held}
-use Rattle.mc_types.specs.Tables.{is_defined}
-use Rattle.mc_resolved.specs.Resolving.{resolved_function}
-use Rattle.mc_resolved.specs.Views.{function_of}
+use Rattle.mc_c_syntax.specs.Ast.Views.{function_of as named_function}
+use Rattle.mc_c_syntax.specs.declared.ast.trees.Function.{Function}
+use Rattle.mc_c_types.specs.Held.{tables_held}
+use Rattle.mc_c_types.specs.Tables.{is_defined}
+use Rattle.mc_semantics.specs.Resolved.Resolving.{resolved_function}
+use Rattle.mc_semantics.specs.Resolved.Views.{function_of}
 use Rattle.mc_resolve.proofs.FunctionNumbers.{filtered_more}
 use Rattle.mc_resolve.proofs.program.resolve_functions.Goals as goal
 

@@ -1,10 +1,10 @@
 use Rattle.std.proofs.Common.{◌≡◌, map, take}
 use Rattle.std.specs.Prelude.{filter}
-use Rattle.mc_ast.specs.Views.{function_of as named_function}
-use Rattle.mc_resolved.specs.Resolving.{resolved_function}
-use Rattle.mc_resolved.specs.Views.{function_of}
-use Rattle.mc_types.specs.Held.{tables_held}
-use Rattle.mc_types.specs.Tables.{is_defined}
+use Rattle.mc_c_syntax.specs.Ast.Views.{function_of as named_function}
+use Rattle.mc_semantics.specs.Resolved.Resolving.{resolved_function}
+use Rattle.mc_semantics.specs.Resolved.Views.{function_of}
+use Rattle.mc_c_types.specs.Held.{tables_held}
+use Rattle.mc_c_types.specs.Tables.{is_defined}
 use Rattle.mc_resolve.proofs.program.resolve_functions.Given as goal
 
 abbrev pub invariant-loop-function : goal.invariant-loop-function

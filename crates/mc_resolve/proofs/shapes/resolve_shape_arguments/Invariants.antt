@@ -1,6 +1,6 @@
 use Rattle.std.proofs.Common.{◌≡◌, map, take}
-use Rattle.mc_resolved.specs.Resolving.{resolved_argument}
-use Rattle.mc_resolved.specs.Views.{argument_of}
+use Rattle.mc_semantics.specs.Resolved.Resolving.{resolved_argument}
+use Rattle.mc_semantics.specs.Resolved.Views.{argument_of}
 use Rattle.mc_resolve.specs.Named.{naming_at, visible_at}
 use Rattle.mc_resolve.proofs.shapes.resolve_shape_arguments.Given as goal
 

@@ -1,10 +1,10 @@
 use Rattle.std.proofs.Common.{ap, List, ◌∙◌}
 use Rattle.std.specs.Prelude.{box_value}
-use Rattle.mc_ast.specs.Views.{head_of as named_head}
-use Rattle.mc_resolved.specs.Resolving.{resolved_statement}
-use Rattle.mc_resolved.specs.Views.{head_of}
-use Rattle.mc_types.specs.Held.{tables_held}
-use Rattle.mc_types.specs.Scopes.{behind}
+use Rattle.mc_c_syntax.specs.Ast.Views.{head_of as named_head}
+use Rattle.mc_semantics.specs.Resolved.Resolving.{resolved_statement}
+use Rattle.mc_semantics.specs.Resolved.Views.{head_of}
+use Rattle.mc_c_types.specs.Held.{tables_held}
+use Rattle.mc_c_types.specs.Scopes.{behind}
 use Rattle.mc_resolve.specs.Frames.{plugged}
 use Rattle.mc_resolve.specs.Named.{naming_held}
 use Rattle.mc_resolve.specs.declared.statements.Frame.{Frame}

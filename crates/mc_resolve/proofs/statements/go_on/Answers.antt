@@ -1,9 +1,9 @@
 use Rattle.std.proofs.Common.{◌≡◌, ap, arith, length, map, ◌∙◌}
-use Rattle.mc_ast.specs.Trees.{stmts_of}
-use Rattle.mc_ast.specs.Views.{statement_of as named_statement}
-use Rattle.mc_resolved.specs.Programs.{Stmt}
-use Rattle.mc_resolved.specs.Views.{statement_of}
-use Rattle.mc_types.specs.Held.{variables_held}
+use Rattle.mc_c_syntax.specs.Ast.Trees.{stmts_of}
+use Rattle.mc_c_syntax.specs.Ast.Views.{statement_of as named_statement}
+use Rattle.mc_semantics.specs.Resolved.Programs.{Stmt}
+use Rattle.mc_semantics.specs.Resolved.Views.{statement_of}
+use Rattle.mc_c_types.specs.Held.{variables_held}
 use Rattle.mc_resolve.specs.Frames.{plugged}
 use Rattle.mc_resolve.specs.Named.{naming_held}
 use Rattle.mc_resolve.proofs.Frames.{block_ended, none_left}

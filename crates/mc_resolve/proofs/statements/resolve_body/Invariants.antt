@@ -1,8 +1,8 @@
 use Rattle.std.proofs.Common.{◌≡◌, map, drop}
-use Rattle.mc_ast.specs.Trees.{stmts_of}
-use Rattle.mc_ast.specs.Views.{statement_of as named_statement}
-use Rattle.mc_resolved.specs.Resolving.{resolved_statements}
-use Rattle.mc_resolved.specs.Views.{statement_of}
+use Rattle.mc_c_syntax.specs.Ast.Trees.{stmts_of}
+use Rattle.mc_c_syntax.specs.Ast.Views.{statement_of as named_statement}
+use Rattle.mc_semantics.specs.Resolved.Resolving.{resolved_statements}
+use Rattle.mc_semantics.specs.Resolved.Views.{statement_of}
 use Rattle.mc_resolve.specs.Frames.{before}
 use Rattle.mc_resolve.specs.Named.{naming_held}
 use Rattle.mc_resolve.proofs.statements.resolve_body.Given as goal

@@ -1,7 +1,7 @@
 use Rattle.std.proofs.Common.{◌≡◌, []}
-use Rattle.mc_ast.specs.Views.{statement_of as named_statement}
-use Rattle.mc_resolved.specs.Resolving.{resolved_statement}
-use Rattle.mc_types.specs.Scopes.{behind}
+use Rattle.mc_c_syntax.specs.Ast.Views.{statement_of as named_statement}
+use Rattle.mc_semantics.specs.Resolved.Resolving.{resolved_statement}
+use Rattle.mc_c_types.specs.Scopes.{behind}
 use Rattle.mc_resolve.specs.Frames.{finished, left_steps, plugged}
 use Rattle.mc_resolve.specs.Named.{naming_held}
 use Rattle.mc_resolve.proofs.statements.resolve_statement.Given as goal

@@ -1,7 +1,7 @@
 use Rattle.std.proofs.Common.{◌≡◌, ◌∙◌, ℤ, Option, Some, ap, pos}
-use Rattle.mc_resolved.specs.Steps.{after}
-use Rattle.mc_resolved.specs.Values.{assigned}
-use Rattle.mc_tasks.specs.Going.{tasks_of, values_of}
+use Rattle.mc_semantics.specs.Resolved.Steps.{after}
+use Rattle.mc_semantics.specs.Resolved.Values.{assigned}
+use Rattle.mc_run_values.specs.Tasks.Going.{tasks_of, values_of}
 use Rattle.mc_run.specs.Models.{config_of, goal_of}
 use Rattle.mc_run.proofs.Allocating.{block_made, block_refused, small_address}
 use Rattle.mc_run.proofs.Changing.{settles}

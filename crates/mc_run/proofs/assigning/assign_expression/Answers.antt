@@ -1,8 +1,8 @@
 use Rattle.std.proofs.Common.{◌≡◌}
-use Rattle.mc_resolved.specs.Steps.{after}
-use Rattle.mc_resolved.specs.Values.{assigned}
-use Rattle.mc_resolved.specs.Views.{expression_of}
-use Rattle.mc_tasks.specs.Going.{tasks_of, values_of}
+use Rattle.mc_semantics.specs.Resolved.Steps.{after}
+use Rattle.mc_semantics.specs.Resolved.Values.{assigned}
+use Rattle.mc_semantics.specs.Resolved.Views.{expression_of}
+use Rattle.mc_run_values.specs.Tasks.Going.{tasks_of, values_of}
 use Rattle.mc_run.specs.Models.{config_of, goal_of, here_of}
 use Rattle.mc_run.proofs.Changing.{same_config, value_changes}
 use Rattle.mc_run.proofs.Using.{value_faults, value_refused}

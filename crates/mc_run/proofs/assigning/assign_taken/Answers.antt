@@ -1,5 +1,5 @@
-use Rattle.mc_resolved.specs.Values.{assigned}
-use Rattle.mc_tasks.specs.Going.{tasks_of, values_of}
+use Rattle.mc_semantics.specs.Resolved.Values.{assigned}
+use Rattle.mc_run_values.specs.Tasks.Going.{tasks_of, values_of}
 use Rattle.mc_run.specs.Models.{goal_of, here_of}
 use Rattle.mc_run.proofs.Changing.{settles}
 use Rattle.mc_run.proofs.assigning.assign_taken.Goals as goal

@@ -1,9 +1,9 @@
 use Rattle.std.proofs.Common.{◌≡◌, ◌∙◌, sym, refl, Err}
-use Rattle.mc_resolved.specs.Steps.{after}
-use Rattle.mc_resolved.specs.Values.{combined}
-use Rattle.mc_resolved.specs.Views.{expression_of, left_of}
-use Rattle.mc_values.specs.Models.{operation_of}
-use Rattle.mc_tasks.specs.Going.{tasks_of, values_of}
+use Rattle.mc_semantics.specs.Resolved.Steps.{after}
+use Rattle.mc_semantics.specs.Resolved.Values.{combined}
+use Rattle.mc_semantics.specs.Resolved.Views.{expression_of, left_of}
+use Rattle.mc_run_values.specs.Values.Models.{operation_of}
+use Rattle.mc_run_values.specs.Tasks.Going.{tasks_of, values_of}
 use Rattle.mc_run.specs.Models.{config_of, here_of}
 use Rattle.mc_run.proofs.Changing.{same_config, value_changes}
 use Rattle.mc_run.proofs.Using.{value_faults, value_refused}

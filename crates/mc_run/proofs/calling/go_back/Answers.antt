@@ -1,4 +1,4 @@
-use Rattle.mc_tasks.specs.Going.{tasks_of, values_of}
+use Rattle.mc_run_values.specs.Tasks.Going.{tasks_of, values_of}
 use Rattle.mc_run.proofs.Deciding.{returns_none, returns_some}
 use Rattle.mc_run.proofs.calling.go_back.Goals as goal
 

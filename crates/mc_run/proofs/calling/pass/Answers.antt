@@ -1,13 +1,13 @@
 use Rattle.std.proofs.Common.{List, subst}
 use Rattle.std.specs.Prelude.{slice_get}
-use Rattle.mc_heap.specs.Choices.{Choice}
-use Rattle.mc_heap.specs.Heap.{Heap}
-use Rattle.mc_meaning.specs.Steps.{arguments}
-use Rattle.mc_resolved.specs.Steps.{AfterArguments}
-use Rattle.mc_resolved.specs.Views.{call_of}
-use Rattle.mc_tasks.specs.Left.{target_of}
-use Rattle.mc_tasks.specs.declared.work.Work.{Work}
-use Rattle.mc_tasks.specs.Going.{tasks_of, values_of}
+use Rattle.mc_flow.specs.Heap.Choices.{Choice}
+use Rattle.mc_flow.specs.Heap.Heap.{Heap}
+use Rattle.mc_semantics.specs.Steps.{arguments}
+use Rattle.mc_semantics.specs.Resolved.Steps.{AfterArguments}
+use Rattle.mc_semantics.specs.Resolved.Views.{call_of}
+use Rattle.mc_run_values.specs.Tasks.Left.{target_of}
+use Rattle.mc_run_values.specs.declared.tasks.work.Work.{Work}
+use Rattle.mc_run_values.specs.Tasks.Going.{tasks_of, values_of}
 use Rattle.mc_run.specs.Models.{config_of, program_of}
 use Rattle.mc_run.specs.Steps.{Comes}
 use Rattle.mc_run.proofs.Passing.{passed_on, passing_faults, passing_refused}

@@ -1,6 +1,6 @@
 use Rattle.std.proofs.Common.{◌≡◌, ◌∙◌, ℤ, Option, Some, ap, pos}
-use Rattle.mc_resolved.specs.Steps.{gone_back, returning}
-use Rattle.mc_tasks.specs.Going.{tasks_of, values_of}
+use Rattle.mc_semantics.specs.Resolved.Steps.{gone_back, returning}
+use Rattle.mc_run_values.specs.Tasks.Going.{tasks_of, values_of}
 use Rattle.mc_run.specs.declared.outcome.Stepped.TheVariants.{Goes}
 use Rattle.mc_run.proofs.Allocating.{block_made, block_refused, small_address}
 use Rattle.mc_run.proofs.Changing.{at_config}

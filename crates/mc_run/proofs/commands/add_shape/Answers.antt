@@ -1,10 +1,10 @@
 use Rattle.std.proofs.Common.{◌≡◌, ◌∙◌, ap, ap₂, map, refl, rules, Some}
 use mir.Syntax.{w64}
 use mir.Val.{to_z, of_z}
-use Rattle.mc_heap.specs.Heap.{Heap}
-use Rattle.mc_resolved.specs.Configs.{Tasks, Values, with_variable}
-use Rattle.mc_script.specs.Models.{block}
-use Rattle.mc_tasks.specs.Going.{tasks_of, values_of}
+use Rattle.mc_flow.specs.Heap.Heap.{Heap}
+use Rattle.mc_semantics.specs.Resolved.Configs.{Tasks, Values, with_variable}
+use Rattle.mc_run_values.specs.Script.Models.{block}
+use Rattle.mc_run_values.specs.Tasks.Going.{tasks_of, values_of}
 use Rattle.mc_run.proofs.Blocks.{free_alone}
 use Rattle.mc_run.proofs.Changing.{at_config}
 use Rattle.mc_run.proofs.commands.add_shape.Goals as goal

@@ -1,12 +1,12 @@
 use Rattle.std.proofs.Common.{map}
 use Rattle.mc_flow.specs.Values.{all_there}
-use Rattle.mc_waiting.specs.Requests.{a_shape}
-use Rattle.mc_resolved.specs.Steps.{argument_value}
-use Rattle.mc_resolved.specs.Views.{argument_of}
-use Rattle.mc_script.specs.Models.{block}
-use Rattle.mc_tasks.specs.Going.{tasks_of, values_of}
-use Rattle.mc_values.specs.declared.refusal.Refusal.TheVariants.{Missing, NotAllowed, Unreadable}
-use Rattle.mc_values.proofs.Answering.{choice_refused, missing_refused, unreadable_refused}
+use Rattle.mc_semantics.specs.Waiting.Requests.{a_shape}
+use Rattle.mc_semantics.specs.Resolved.Steps.{argument_value}
+use Rattle.mc_semantics.specs.Resolved.Views.{argument_of}
+use Rattle.mc_run_values.specs.Script.Models.{block}
+use Rattle.mc_run_values.specs.Tasks.Going.{tasks_of, values_of}
+use Rattle.mc_run_values.specs.declared.values.refusal.Refusal.TheVariants.{Missing, NotAllowed, Unreadable}
+use Rattle.mc_run_values.proofs.ValuesLemmas.Answering.{choice_refused, missing_refused, unreadable_refused}
 use Rattle.mc_run.specs.Models.{config_of}
 use Rattle.mc_run.proofs.Assuming.{assume_added, assume_refused}
 use Rattle.mc_run.proofs.commands.ask_shape.Goals as goal

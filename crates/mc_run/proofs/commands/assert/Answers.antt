@@ -2,9 +2,9 @@ use Rattle.std.proofs.Common.{◌≡◌, ◌∙◌, map, rules, sym}
 use mir.Syntax.{w64}
 use mir.Val.{to_z, of_z}
 use Rattle.mc_flow.specs.Values.{all_there}
-use Rattle.mc_resolved.specs.Steps.{argument_value}
-use Rattle.mc_resolved.specs.Views.{argument_of}
-use Rattle.mc_tasks.specs.Going.{tasks_of, values_of}
+use Rattle.mc_semantics.specs.Resolved.Steps.{argument_value}
+use Rattle.mc_semantics.specs.Resolved.Views.{argument_of}
+use Rattle.mc_run_values.specs.Tasks.Going.{tasks_of, values_of}
 use Rattle.mc_run.proofs.Assuming.{assert_holds, somewhere}
 use Rattle.mc_run.proofs.commands.assert.Goals as goal
 

@@ -1,8 +1,8 @@
 use Rattle.std.proofs.Common.{map, sym}
 use Rattle.mc_flow.specs.Values.{all_there}
-use Rattle.mc_resolved.specs.Steps.{argument_value}
-use Rattle.mc_resolved.specs.Views.{argument_of}
-use Rattle.mc_tasks.specs.Going.{tasks_of, values_of}
+use Rattle.mc_semantics.specs.Resolved.Steps.{argument_value}
+use Rattle.mc_semantics.specs.Resolved.Views.{argument_of}
+use Rattle.mc_run_values.specs.Tasks.Going.{tasks_of, values_of}
 use Rattle.mc_run.specs.Models.{config_of}
 use Rattle.mc_run.proofs.Assuming.{assume_faults}
 use Rattle.mc_run.proofs.commands.assume.Goals as goal

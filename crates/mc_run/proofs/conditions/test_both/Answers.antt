@@ -1,12 +1,12 @@
 use Rattle.std.proofs.Common.{◌≡◌, subst}
-use Rattle.mc_heap.specs.Heap.{Heap}
-use Rattle.mc_tasks.specs.declared.work.Work.{Work}
-use Rattle.mc_waiting.specs.Requests.{an_input}
-use Rattle.mc_values.specs.Asking.{ValueAsks}
+use Rattle.mc_flow.specs.Heap.Heap.{Heap}
+use Rattle.mc_run_values.specs.declared.tasks.work.Work.{Work}
+use Rattle.mc_semantics.specs.Waiting.Requests.{an_input}
+use Rattle.mc_run_values.specs.Values.Asking.{ValueAsks}
 use Rattle.mc_run.specs.Steps.{IsStep}
-use Rattle.mc_resolved.specs.Steps.{compared, WithValue}
-use Rattle.mc_resolved.specs.Views.{expression_of}
-use Rattle.mc_tasks.specs.Going.{branches_of, values_of}
+use Rattle.mc_semantics.specs.Resolved.Steps.{compared, WithValue}
+use Rattle.mc_semantics.specs.Resolved.Views.{expression_of}
+use Rattle.mc_run_values.specs.Tasks.Going.{branches_of, values_of}
 use Rattle.mc_run.specs.Models.{config_of, here_of}
 use Rattle.mc_run.proofs.Using.{then_faults, then_refused, value_then}
 use Rattle.mc_run.proofs.conditions.test_both.Goals as goal

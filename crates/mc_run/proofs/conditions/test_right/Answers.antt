@@ -1,11 +1,11 @@
 use Rattle.std.proofs.Common.{◌≡◌, List, subst}
-use Rattle.mc_heap.specs.Choices.{Choice}
-use Rattle.mc_heap.specs.Heap.{Heap}
-use Rattle.mc_tasks.specs.declared.work.Work.{Work}
+use Rattle.mc_flow.specs.Heap.Choices.{Choice}
+use Rattle.mc_flow.specs.Heap.Heap.{Heap}
+use Rattle.mc_run_values.specs.declared.tasks.work.Work.{Work}
 use Rattle.mc_run.specs.Steps.{Comes}
-use Rattle.mc_resolved.specs.Steps.{compared}
-use Rattle.mc_resolved.specs.Views.{expression_of}
-use Rattle.mc_tasks.specs.Going.{branches_of, values_of}
+use Rattle.mc_semantics.specs.Resolved.Steps.{compared}
+use Rattle.mc_semantics.specs.Resolved.Views.{expression_of}
+use Rattle.mc_run_values.specs.Tasks.Going.{branches_of, values_of}
 use Rattle.mc_run.specs.Models.{config_of, here_of}
 use Rattle.mc_run.proofs.Using.{value_faults, value_refused, value_used}
 use Rattle.mc_run.proofs.conditions.test_right.Goals as goal

@@ -1,6 +1,6 @@
 use Rattle.std.proofs.Common.{◌-◌, ◌≤◌, length, arith}
-use Rattle.mc_resolved.specs.Steps.{start}
-use Rattle.mc_resolved.specs.Views.{function_of}
+use Rattle.mc_semantics.specs.Resolved.Steps.{start}
+use Rattle.mc_semantics.specs.Resolved.Views.{function_of}
 use Rattle.mc_run.specs.Models.{config_of, program_of}
 use Rattle.mc_run.proofs.Going.{run_ended, run_ends, run_goes, run_left, run_refused, run_spent, run_stuck, starts}
 use Rattle.mc_run.proofs.running.run_from.Goals as goal

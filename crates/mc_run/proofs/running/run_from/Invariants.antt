@@ -1,6 +1,6 @@
-use Rattle.mc_resolved.specs.Steps.{start}
-use Rattle.mc_resolved.specs.Views.{function_of}
-use Rattle.mc_tasks.specs.Going.{tasks_of, values_of}
+use Rattle.mc_semantics.specs.Resolved.Steps.{start}
+use Rattle.mc_semantics.specs.Resolved.Views.{function_of}
+use Rattle.mc_run_values.specs.Tasks.Going.{tasks_of, values_of}
 use Rattle.mc_run.specs.Models.{program_of}
 use Rattle.mc_run.proofs.Changing.{at_config}
 use Rattle.mc_run.proofs.Going.{SoFar}

@@ -1,5 +1,5 @@
 use Rattle.std.proofs.Common.{length, map}
-use Rattle.mc_script.specs.Models.{block}
+use Rattle.mc_run_values.specs.Script.Models.{block}
 use Rattle.mc_run.proofs.Blocks.{Left}
 use Rattle.mc_run.proofs.shapes.add_blocks.Given as goal
 

@@ -1,9 +1,9 @@
 use Rattle.std.proofs.Common.{◌≡◌, length, map}
 use Rattle.mc_flow.specs.Values.{all_there}
-use Rattle.mc_resolved.specs.Steps.{argument_value}
-use Rattle.mc_resolved.specs.Views.{argument_of}
-use Rattle.mc_script.specs.Models.{prefixed}
-use Rattle.mc_tasks.specs.Going.{values_of}
+use Rattle.mc_semantics.specs.Resolved.Steps.{argument_value}
+use Rattle.mc_semantics.specs.Resolved.Views.{argument_of}
+use Rattle.mc_run_values.specs.Script.Models.{prefixed}
+use Rattle.mc_run_values.specs.Tasks.Going.{values_of}
 use Rattle.mc_run.proofs.shapes.values_of.Given as goal
 
 abbrev pub invariant-loop-left : goal.invariant-loop-left

@@ -1,4 +1,4 @@
-use Rattle.mc_defs.specs.Examples.{structs}
+use Rattle.mc_flow.specs.Defs.Examples.{structs}
 use Rattle.mc_state.proofs.CoversPremises as proof
 use Rattle.mc_state.proofs.Parts.{SplitLaws}
 use Rattle.mc_state.proofs.covers.body_premises.Goals as goal

@@ -1,8 +1,8 @@
 use Rattle.std.proofs.Common.{◌≡◌, ◌<◌, inl, inr, length, get_or, refl, sym, ap, subst, ◌∙◌, arith}
 use Rattle.mc_base.specs.declared.ids.EdgeId.{EdgeId}
 use Rattle.mc_base.specs.declared.ids.NodeId.{NodeId}
-use Rattle.mc_graph.specs.declared.edge.Edge.{Edge}
-use Rattle.mc_graph.specs.Edges.{start_of}
+use Rattle.mc_state.specs.declared.graph.edge.Edge.{Edge}
+use Rattle.mc_state.specs.Graph.Edges.{start_of}
 use Rattle.mc_state.specs.Facts.{AreEqual}
 use Rattle.mc_symbolic.proofs.Finding.{item_at, one_item, never}
 use Rattle.mc_symbolic.proofs.reached.open_at.Goals as goal

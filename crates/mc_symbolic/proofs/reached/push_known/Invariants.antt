@@ -1,5 +1,5 @@
 use Rattle.std.proofs.Common.{◌≡◌, ◌++◌, drop}
-use Rattle.mc_graph.specs.Edges.{known_nodes}
+use Rattle.mc_state.specs.Graph.Edges.{known_nodes}
 use Rattle.mc_symbolic.proofs.reached.push_known.Given as goal
 
 abbrev pub invariant-loop-field : goal.invariant-loop-field

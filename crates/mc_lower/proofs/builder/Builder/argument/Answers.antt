@@ -2,9 +2,9 @@ use Rattle.std.proofs.Common.{◌≡◌, ap, ◌∙◌, rules, sym, subst}
 use mir.Syntax.{w64}
 use mir.Val.{to_z, of_z}
 use Rattle.mc_flow.specs.declared.instr.Operand.TheVariants.{Const, Var}
-use Rattle.mc_resolved.specs.Programs.{constant}
-use Rattle.mc_resolved.specs.Views.{argument_of}
-use Rattle.mc_lowering.specs.Lowering.{IsArgument, is_variable, is_constant}
+use Rattle.mc_semantics.specs.Resolved.Programs.{constant}
+use Rattle.mc_semantics.specs.Resolved.Views.{argument_of}
+use Rattle.mc_lower_spec.specs.Lowering.{IsArgument, is_variable, is_constant}
 use Rattle.mc_lower.specs.Worlds.{stage_of}
 use Rattle.mc_lower.proofs.builder.Builder.argument.Goals as goal
 

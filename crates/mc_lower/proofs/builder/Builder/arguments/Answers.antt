@@ -3,8 +3,8 @@ use Rattle.mc_lower.proofs.Having.{argument_at}
 use Rattle.std.proofs.Common.{◌≡◌, ◌<◌, ◌+◌, ◌++◌, [], ◌∷◌, map, drop, refl, sym, ap, subst, ◌∙◌, length, arith}
 use Rattle.std.proofs.lemmas.List.{append-nil, append_assoc, drop_all}
 use Rattle.std.proofs.lemmas.Option.{slice_get-get_or}
-use Rattle.mc_resolved.specs.Views.{argument_of}
-use Rattle.mc_lowering.specs.Lowering.{AreArguments, are_none}
+use Rattle.mc_semantics.specs.Resolved.Views.{argument_of}
+use Rattle.mc_lower_spec.specs.Lowering.{AreArguments, are_none}
 use Rattle.mc_lower.specs.Worlds.{stage_of}
 use Rattle.mc_lower.proofs.Valuing.{argument_on}
 use Rattle.mc_lower.proofs.builder.Builder.arguments.Goals as goal

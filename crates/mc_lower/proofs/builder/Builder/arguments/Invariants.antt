@@ -1,7 +1,7 @@
 use Rattle.std.proofs.Common.{◌++◌, List, map, drop}
 use Rattle.mc_flow.specs.declared.instr.Operand.{Operand}
-use Rattle.mc_resolved.specs.Views.{argument_of}
-use Rattle.mc_lowering.specs.Lowering.{AreArguments}
+use Rattle.mc_semantics.specs.Resolved.Views.{argument_of}
+use Rattle.mc_lower_spec.specs.Lowering.{AreArguments}
 use Rattle.mc_lower.specs.Worlds.{World, Agrees, stage_of}
 use Rattle.mc_lower.proofs.builder.Builder.arguments.Given as goal
 

@@ -1,6 +1,6 @@
 use Rattle.std.proofs.Common.{ap}
 use Rattle.mc_flow.specs.declared.instr.Instr.TheVariants.{AssertEmpty}
-use Rattle.mc_lowering.specs.Graphs.{point}
+use Rattle.mc_lower_spec.specs.Graphs.{point}
 use Rattle.mc_lower.proofs.Agreeing.{appended, targets}
 use Rattle.mc_lower.proofs.builder.Builder.assert_empty.Goals as goal
 

@@ -1,8 +1,8 @@
 use Rattle.std.proofs.Common.{map, ap, subst}
 use Rattle.mc_flow.specs.declared.instr.Instr.TheVariants.{AssertShape}
-use Rattle.mc_resolved.specs.Views.{argument_of}
-use Rattle.mc_lowering.specs.Graphs.{point}
-use Rattle.mc_lowering.specs.Lowering.{AreArguments, shapes_asserted}
+use Rattle.mc_semantics.specs.Resolved.Views.{argument_of}
+use Rattle.mc_lower_spec.specs.Graphs.{point}
+use Rattle.mc_lower_spec.specs.Lowering.{AreArguments, shapes_asserted}
 use Rattle.mc_lower.specs.Worlds.{stage_of}
 use Rattle.mc_lower.proofs.Agreeing.{appended, targets}
 use Rattle.mc_lower.proofs.builder.Builder.assert_shape.Goals as goal

@@ -1,7 +1,7 @@
 use Rattle.std.proofs.Common.{◌≡◌, length, map, sym, subst, arith}
 use Rattle.std.proofs.lemmas.Bool.Decides.{nat_tests}
-use Rattle.mc_resolved.specs.Views.{field_of, right_of}
-use Rattle.mc_lowering.specs.Lowering.{Assigns, assigns_variable}
+use Rattle.mc_semantics.specs.Resolved.Views.{field_of, right_of}
+use Rattle.mc_lower_spec.specs.Lowering.{Assigns, assigns_variable}
 use Rattle.mc_lower.specs.Worlds.{stage_of}
 use Rattle.mc_lower.proofs.Agreeing.{is_none}
 use Rattle.mc_lower.proofs.builder.Builder.assign.Goals as goal

@@ -1,6 +1,6 @@
 use Rattle.std.proofs.Common.{sym, subst}
-use Rattle.mc_resolved.specs.Views.{right_of}
-use Rattle.mc_lowering.specs.Lowering.{Assigns}
+use Rattle.mc_semantics.specs.Resolved.Views.{right_of}
+use Rattle.mc_lower_spec.specs.Lowering.{Assigns}
 use Rattle.mc_lower.specs.Valued.{target_of}
 use Rattle.mc_lower.specs.Worlds.{stage_of}
 use Rattle.mc_lower.proofs.builder.Builder.assign_field.Goals as goal

@@ -1,7 +1,7 @@
 use Rattle.std.proofs.Common.{ap, ◌∙◌}
 use Rattle.mc_flow.specs.Steps.{field_count}
 use Rattle.std.proofs.Common.{◌++◌, [], ◌∷◌, ap, ◌∙◌, map}
-use Rattle.mc_resolved.specs.Views.{field_of}
+use Rattle.mc_semantics.specs.Resolved.Views.{field_of}
 use Rattle.mc_lower.proofs.Assigning.{allocated_assigned}
 use Rattle.mc_lower.proofs.builder.Builder.assign_new.Goals as goal
 

@@ -3,9 +3,9 @@ use Rattle.mc_lower.specs.Knowns.{known}
 use Rattle.mc_lower.specs.Ready.{IsPlainReady, IsRightReady}
 use Rattle.std.proofs.Common.{[], refl}
 use Rattle.std.proofs.Common.{sym, subst}
-use Rattle.mc_resolved.specs.Programs.{assign}
-use Rattle.mc_resolved.specs.Views.{right_of}
-use Rattle.mc_lowering.specs.Lowering.{Performs, performs_assign}
+use Rattle.mc_semantics.specs.Resolved.Programs.{assign}
+use Rattle.mc_semantics.specs.Resolved.Views.{right_of}
+use Rattle.mc_lower_spec.specs.Lowering.{Performs, performs_assign}
 use Rattle.mc_lower.specs.Valued.{target_of}
 use Rattle.mc_lower.specs.Worlds.{stage_of}
 use Rattle.mc_lower.proofs.builder.Builder.assign_right.Goals as goal

@@ -1,5 +1,5 @@
 use Rattle.std.proofs.Common.{map}
-use Rattle.mc_resolved.specs.Views.{expression_of, field_of}
+use Rattle.mc_semantics.specs.Resolved.Views.{expression_of, field_of}
 use Rattle.mc_lower.proofs.Assigning.{value_assigned}
 use Rattle.mc_lower.proofs.builder.Builder.assign_value.Goals as goal
 

@@ -1,5 +1,5 @@
 use Rattle.std.proofs.Common.{Some, None, subst, sym}
-use Rattle.mc_lowering.specs.Lowering.{Awaits, awaits, awaits_none}
+use Rattle.mc_lower_spec.specs.Lowering.{Awaits, awaits, awaits_none}
 use Rattle.mc_lower.specs.Worlds.{stage_of}
 use Rattle.mc_lower.proofs.builder.Builder.await_result.Goals as goal
 

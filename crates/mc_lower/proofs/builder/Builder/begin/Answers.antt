@@ -1,5 +1,5 @@
 use Rattle.std.proofs.Common.{sym, subst}
-use Rattle.mc_lowering.specs.Lowering.{Answers, answers, answers_none}
+use Rattle.mc_lower_spec.specs.Lowering.{Answers, answers, answers_none}
 use Rattle.mc_lower.specs.Worlds.{stage_of}
 use Rattle.mc_lower.proofs.builder.Builder.begin.Goals as goal
 

@@ -2,8 +2,8 @@ use Rattle.mc_lower.proofs.Readying.{block_grown, ready_block, ready_same}
 use Rattle.mc_lower.specs.Knowns.{known}
 use Rattle.std.proofs.Common.{arith}
 use Rattle.std.proofs.Common.{◌∷◌, map, ap, ◌∙◌, subst, sym}
-use Rattle.mc_resolved.specs.Views.{statement_of, stmts_of}
-use Rattle.mc_lowering.specs.Lowering.{LowersAll, blocks}
+use Rattle.mc_semantics.specs.Resolved.Views.{statement_of, stmts_of}
+use Rattle.mc_lower_spec.specs.Lowering.{LowersAll, blocks}
 use Rattle.mc_lower.specs.declared.tasks.Task.{Task}
 use Rattle.mc_lower.specs.Left.{around_of}
 use Rattle.mc_lower.specs.Worlds.{stage_of}

@@ -3,8 +3,8 @@ use Rattle.mc_lower.specs.Knowns.{known}
 use Rattle.std.proofs.Common.{refl, sym}
 use Rattle.mc_lower.specs.Ready.{FitsAll, Ready}
 use Rattle.std.proofs.Common.{[], ◌∷◌, None, map, ap, ◌∙◌, subst}
-use Rattle.mc_resolved.specs.Views.{function_of, statement_of, stmts_of}
-use Rattle.mc_lowering.specs.Lowering.{LowersAll, in_body}
+use Rattle.mc_semantics.specs.Resolved.Views.{function_of, statement_of, stmts_of}
+use Rattle.mc_lower_spec.specs.Lowering.{LowersAll, in_body}
 use Rattle.mc_lower.specs.declared.tasks.Context.{Context}
 use Rattle.mc_lower.specs.declared.tasks.Task.{Task}
 use Rattle.mc_lower.specs.Left.{around_of}

@@ -1,11 +1,11 @@
-use Rattle.mc_length.specs.Lengths.{all_declared}
-use Rattle.mc_resolved.specs.Views.{function_of}
+use Rattle.mc_lower_spec.specs.Length.Lengths.{all_declared}
+use Rattle.mc_semantics.specs.Resolved.Views.{function_of}
 use Rattle.mc_lower.proofs.Readying.{answered_there, begun_fits, ready_answer}
 use Rattle.mc_lower.specs.Knowns.{known}
 use Rattle.std.proofs.Common.{Some, sym, subst}
 use Rattle.mc_lower.specs.Ready.{Later}
 use Rattle.std.proofs.Common.{◌∷◌}
-use Rattle.mc_resolved.specs.Views.{call_of}
+use Rattle.mc_semantics.specs.Resolved.Views.{call_of}
 use Rattle.mc_lower.specs.declared.tasks.Task.{Task}
 use Rattle.mc_lower.specs.Left.{around_of}
 use Rattle.mc_lower.specs.Worlds.{stage_of}

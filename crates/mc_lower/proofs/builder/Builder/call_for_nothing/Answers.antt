@@ -1,9 +1,9 @@
-use Rattle.mc_length.specs.Lengths.{all_declared}
-use Rattle.mc_resolved.specs.Views.{function_of}
+use Rattle.mc_lower_spec.specs.Length.Lengths.{all_declared}
+use Rattle.mc_semantics.specs.Resolved.Views.{function_of}
 use Rattle.mc_lower.proofs.Readying.{begun_fits, ready_call}
 use Rattle.mc_lower.specs.Knowns.{known}
-use Rattle.mc_resolved.specs.Views.{call_of}
-use Rattle.mc_lowering.specs.Lowering.{performs_call}
+use Rattle.mc_semantics.specs.Resolved.Views.{call_of}
+use Rattle.mc_lower_spec.specs.Lowering.{performs_call}
 use Rattle.mc_lower.specs.Worlds.{stage_of}
 use Rattle.mc_lower.proofs.Waiting.{out_waits, under_out}
 use Rattle.mc_lower.proofs.builder.Builder.call_for_nothing.Goals as goal

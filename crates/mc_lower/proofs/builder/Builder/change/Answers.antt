@@ -1,8 +1,8 @@
 use Rattle.std.proofs.Common.{◌≡◌, [], length, map, sym, subst, arith}
 use Rattle.std.proofs.lemmas.Bool.Decides.{nat_tests}
-use Rattle.mc_resolved.specs.Views.{field_of, expression_of}
-use Rattle.mc_lowering.specs.Values.{Evaluates}
-use Rattle.mc_lowering.specs.Lowering.{Changes}
+use Rattle.mc_semantics.specs.Resolved.Views.{field_of, expression_of}
+use Rattle.mc_lower_spec.specs.Values.{Evaluates}
+use Rattle.mc_lower_spec.specs.Lowering.{Changes}
 use Rattle.mc_lower.specs.Valued.{joined}
 use Rattle.mc_lower.specs.Worlds.{stage_of}
 use Rattle.mc_lower.proofs.Agreeing.{is_none}

@@ -1,8 +1,8 @@
 use Rattle.std.proofs.Common.{map, subst}
 use Rattle.mc_base.specs.declared.plain.Kind.TheVariants.{Int}
-use Rattle.mc_resolved.specs.Views.{field_of}
-use Rattle.mc_lowering.specs.Graphs.{Undefines}
-use Rattle.mc_lowering.specs.Values.{Takes, Walks}
+use Rattle.mc_semantics.specs.Resolved.Views.{field_of}
+use Rattle.mc_lower_spec.specs.Graphs.{Undefines}
+use Rattle.mc_lower_spec.specs.Values.{Takes, Walks}
 use Rattle.mc_lower.specs.Valued.{joined}
 use Rattle.mc_lower.specs.Worlds.{stage_of}
 use Rattle.mc_lower.proofs.Assigning.{field_changed}

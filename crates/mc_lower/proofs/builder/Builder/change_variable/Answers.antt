@@ -1,7 +1,7 @@
 use Rattle.std.proofs.Common.{subst}
-use Rattle.mc_lowering.specs.Graphs.{plain, Appends}
-use Rattle.mc_lowering.specs.Values.{sets}
-use Rattle.mc_lowering.specs.Lowering.{changes_variable}
+use Rattle.mc_lower_spec.specs.Graphs.{plain, Appends}
+use Rattle.mc_lower_spec.specs.Values.{sets}
+use Rattle.mc_lower_spec.specs.Lowering.{changes_variable}
 use Rattle.mc_lower.specs.Worlds.{stage_of}
 use Rattle.mc_lower.proofs.builder.Builder.change_variable.Goals as goal
 

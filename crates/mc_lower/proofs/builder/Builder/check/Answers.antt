@@ -1,6 +1,6 @@
 use Rattle.std.proofs.Common.{◌≡◌, subst, sym, ap, ◌∙◌, length}
-use Rattle.mc_resolved.specs.Views.{condition_of}
-use Rattle.mc_lowering.specs.Graphs.{stage}
+use Rattle.mc_semantics.specs.Resolved.Views.{condition_of}
+use Rattle.mc_lower_spec.specs.Graphs.{stage}
 use Rattle.mc_lower.specs.Left.{Checks}
 use Rattle.mc_lower.specs.Worlds.{role_of, settled, stage_of}
 use Rattle.mc_lower.proofs.Having.{test_over}

@@ -1,5 +1,5 @@
 use Rattle.std.proofs.Common.{sym, ◌∙◌, subst}
-use Rattle.mc_lowering.specs.Graphs.{Undefines}
+use Rattle.mc_lower_spec.specs.Graphs.{Undefines}
 use Rattle.mc_lower.specs.Worlds.{stage_of}
 use Rattle.mc_lower.proofs.Agreeing.{went}
 use Rattle.mc_lower.proofs.Waiting.{waits_on}

@@ -1,8 +1,8 @@
 use Rattle.mc_lower.proofs.Readying.{needs_assert, needs_assert_shape, needs_assume, needs_assume_shape, needs_break, needs_continue, needs_free, nothing_declared}
-use Rattle.mc_resolved.specs.Views.{condition_of, expression_of, statement_of}
+use Rattle.mc_semantics.specs.Resolved.Views.{condition_of, expression_of, statement_of}
 use Rattle.std.proofs.Common.{ap, ◌∙◌, sym, subst}
-use Rattle.mc_resolved.specs.Views.{condition_of, statement_of}
-use Rattle.mc_lowering.specs.Lowering.{Lowers, frees, emptiness_asserted}
+use Rattle.mc_semantics.specs.Resolved.Views.{condition_of, statement_of}
+use Rattle.mc_lower_spec.specs.Lowering.{Lowers, frees, emptiness_asserted}
 use Rattle.mc_lower.specs.Left.{around_of}
 use Rattle.mc_lower.specs.Worlds.{stage_of}
 use Rattle.mc_lower.proofs.Meeting.{checked_fail, checked_end}

@@ -3,9 +3,9 @@ use Rattle.mc_lower.specs.Ready.{IsReady}
 use Rattle.std.proofs.Common.{pos, refl, ap, sym, subst, ◌∙◌}
 use Rattle.mc_base.specs.declared.plain.Kind.TheVariants.{Int}
 use Rattle.mc_flow.specs.declared.instr.Operand.TheVariants.{Const}
-use Rattle.mc_resolved.specs.Programs.{minus, times, plus, difference}
-use Rattle.mc_resolved.specs.Views.{expression_of}
-use Rattle.mc_lowering.specs.Values.{an_input, a_difference, Evaluates, Computes, of_input, of_minus}
+use Rattle.mc_semantics.specs.Resolved.Programs.{minus, times, plus, difference}
+use Rattle.mc_semantics.specs.Resolved.Views.{expression_of}
+use Rattle.mc_lower_spec.specs.Values.{an_input, a_difference, Evaluates, Computes, of_input, of_minus}
 use Rattle.mc_lower.specs.declared.values.How.{How}
 use Rattle.mc_lower.specs.Valued.{IsValue}
 use Rattle.mc_lower.specs.Worlds.{stage_of}

@@ -3,8 +3,8 @@ use Rattle.mc_lower.proofs.Having.{new_if}
 use Rattle.std.proofs.Common.{subst, sym, ap, refl, ◌∙◌, length}
 use Rattle.std.proofs.lemmas.Option.{slice_get-map, slice_get_read}
 use Rattle.std.specs.Prelude.{option_map, slice_get}
-use Rattle.mc_resolved.specs.Views.{local_of}
-use Rattle.mc_lowering.specs.Graphs.{local, Creates}
+use Rattle.mc_semantics.specs.Resolved.Views.{local_of}
+use Rattle.mc_lower_spec.specs.Graphs.{local, Creates}
 use Rattle.mc_lower.specs.Worlds.{stage_of}
 use Rattle.mc_lower.proofs.Owning.{info_same}
 use Rattle.mc_lower.proofs.builder.Builder.create_local.Goals as goal

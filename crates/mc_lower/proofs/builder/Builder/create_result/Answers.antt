@@ -2,7 +2,7 @@ use Rattle.std.proofs.Common.{refl}
 use Rattle.mc_lower.specs.declared.variables.Owner.{Owner}
 use Rattle.mc_lower.proofs.Having.{new_if}
 use Rattle.std.proofs.Common.{subst, ◌∙◌}
-use Rattle.mc_lowering.specs.Graphs.{result, Creates}
+use Rattle.mc_lower_spec.specs.Graphs.{result, Creates}
 use Rattle.mc_lower.specs.Worlds.{stage_of}
 use Rattle.mc_lower.proofs.builder.Builder.create_result.Goals as goal
 

@@ -1,12 +1,12 @@
 use Rattle.mc_lower.proofs.Readying.{first_item, later_items, ready_left}
 use Rattle.mc_lower.specs.Knowns.{known}
 use Rattle.mc_lower.specs.Ready.{Ready, in_state}
-use Rattle.mc_length.specs.Lengths.{items_declared}
+use Rattle.mc_lower_spec.specs.Length.Lengths.{items_declared}
 use Rattle.std.proofs.Common.{◌≡◌, ◌∷◌, arith, ◌-◌, List, length, map, take, drop, sym, ap, ◌∙◌, subst}
 use Rattle.std.proofs.lemmas.List.{take_rest}
-use Rattle.mc_resolved.specs.declared.program.Initial.{Initial as InitialCode}
-use Rattle.mc_resolved.specs.Views.{function_of, initial_of}
-use Rattle.mc_lowering.specs.Lowering.{Declares, declares_none}
+use Rattle.mc_semantics.specs.declared.resolved.program.Initial.{Initial as InitialCode}
+use Rattle.mc_semantics.specs.Resolved.Views.{function_of, initial_of}
+use Rattle.mc_lower_spec.specs.Lowering.{Declares, declares_none}
 use Rattle.mc_lower.specs.Worlds.{stage_of}
 use Rattle.mc_lower.proofs.Agreeing.{first_of, is_none}
 use Rattle.mc_lower.proofs.Resting.{pushed}

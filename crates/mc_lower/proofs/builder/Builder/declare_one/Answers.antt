@@ -2,12 +2,12 @@ use Rattle.mc_lower.proofs.Readying.{one_low}
 use Rattle.mc_lower.proofs.Readying.{declared_low, declared_right, local_grown, local_made, local_then, ready_same}
 use Rattle.mc_lower.specs.Knowns.{IsThere, known}
 use Rattle.mc_lower.specs.Ready.{IsRightReady, Later}
-use Rattle.mc_resolved.specs.Views.{initial_of}
+use Rattle.mc_semantics.specs.Resolved.Views.{initial_of}
 use Rattle.std.proofs.Common.{[], ap, refl, ◌∙◌}
 use Rattle.std.proofs.Common.{◌∷◌, sym, subst}
 use Rattle.std.specs.Prelude.{option_map}
-use Rattle.mc_resolved.specs.Views.{function_of, right_of}
-use Rattle.mc_lowering.specs.Lowering.{Declares, declares_undefined, declares_value}
+use Rattle.mc_semantics.specs.Resolved.Views.{function_of, right_of}
+use Rattle.mc_lower_spec.specs.Lowering.{Declares, declares_undefined, declares_value}
 use Rattle.mc_lower.specs.Worlds.{stage_of}
 use Rattle.mc_lower.proofs.builder.Builder.declare_one.Goals as goal
 

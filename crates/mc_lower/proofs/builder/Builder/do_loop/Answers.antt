@@ -1,7 +1,7 @@
 use Rattle.mc_lower.proofs.Readying.{ready_do, ready_same}
 use Rattle.std.proofs.Common.{◌∷◌, ap, ◌∙◌, subst, sym}
-use Rattle.mc_resolved.specs.Views.{condition_of, statement_of}
-use Rattle.mc_lowering.specs.Lowering.{Lowers}
+use Rattle.mc_semantics.specs.Resolved.Views.{condition_of, statement_of}
+use Rattle.mc_lower_spec.specs.Lowering.{Lowers}
 use Rattle.mc_lower.specs.declared.tasks.Task.{Task}
 use Rattle.mc_lower.specs.Left.{around_of}
 use Rattle.mc_lower.specs.Worlds.{stage_of}

@@ -1,7 +1,7 @@
 use Rattle.std.proofs.Common.{◌≡◌, ◌<◌, subst, sym, ap, ◌∙◌, length}
 use Rattle.mc_flow.specs.declared.instr.Instr.TheVariants.{Undef}
-use Rattle.mc_lowering.specs.Graphs.{AreMade, Appends, plain, point}
-use Rattle.mc_resolved.specs.Views.{function_of, local_of}
+use Rattle.mc_lower_spec.specs.Graphs.{AreMade, Appends, plain, point}
+use Rattle.mc_semantics.specs.Resolved.Views.{function_of, local_of}
 use Rattle.mc_lower.specs.declared.lines.Awaited.{Awaited}
 use Rattle.mc_lower.specs.Knowns.{with_next}
 use Rattle.mc_lower.specs.Worlds.{stage_of}

@@ -1,7 +1,7 @@
 use Rattle.std.proofs.Common.{ap, refl, subst, sym, ◌∙◌}
 use Rattle.mc_flow.specs.declared.instr.Instr.TheVariants.{Skip}
-use Rattle.mc_lowering.specs.Graphs.{point}
-use Rattle.mc_resolved.specs.Views.{condition_of}
+use Rattle.mc_lower_spec.specs.Graphs.{point}
+use Rattle.mc_semantics.specs.Resolved.Views.{condition_of}
 use Rattle.mc_lower.specs.declared.lines.Awaited.{Awaited}
 use Rattle.mc_lower.specs.Knowns.{with_label}
 use Rattle.mc_lower.specs.Ready.{IsTestReady}

@@ -1,5 +1,5 @@
 use Rattle.std.proofs.Common.{subst, ap, ◌∙◌}
-use Rattle.mc_lowering.specs.Graphs.{nowhere, Leaves}
+use Rattle.mc_lower_spec.specs.Graphs.{nowhere, Leaves}
 use Rattle.mc_lower.specs.Left.{ends_for}
 use Rattle.mc_lower.specs.Worlds.{stage_of}
 use Rattle.mc_lower.proofs.Meeting.{exits_there}

@@ -5,9 +5,9 @@ use Rattle.mc_lower.proofs.Having.{low_one}
 use Rattle.std.proofs.Common.{◌∷◌, pos, ap, sym, subst, ◌∙◌}
 use Rattle.mc_base.specs.declared.plain.Kind.TheVariants.{Int}
 use Rattle.mc_flow.specs.declared.instr.Operand.TheVariants.{Var, Const}
-use Rattle.mc_resolved.specs.Programs.{value, minus, times, plus, difference}
-use Rattle.mc_resolved.specs.Views.{expression_of, left_of}
-use Rattle.mc_lowering.specs.Values.{an_input, Evaluates, Computes, of_input, of_operation}
+use Rattle.mc_semantics.specs.Resolved.Programs.{value, minus, times, plus, difference}
+use Rattle.mc_semantics.specs.Resolved.Views.{expression_of, left_of}
+use Rattle.mc_lower_spec.specs.Values.{an_input, Evaluates, Computes, of_input, of_operation}
 use Rattle.mc_lower.specs.declared.values.How.{How}
 use Rattle.mc_lower.specs.declared.values.Work.{Work}
 use Rattle.mc_lower.specs.Valued.{Finishes}

@@ -4,13 +4,13 @@ use Rattle.mc_lower.specs.Knowns.{known}
 use Rattle.std.proofs.Common.{ap, refl, length, ◌∙◌, arith}
 use Rattle.std.proofs.lemmas.List.{length-map}
 use Rattle.std.proofs.lemmas.Option.{slice_get_within}
-use Rattle.mc_resolved.specs.Views.{local_of}
+use Rattle.mc_semantics.specs.Resolved.Views.{local_of}
 use Rattle.mc_lower.specs.Knowns.{with_owners}
 use Rattle.mc_lower.specs.Ready.{AreReady, functions_in, locals_to}
 use Rattle.mc_lower.proofs.Having.{all_still_ready}
 use Rattle.std.proofs.Common.{map, subst, sym}
-use Rattle.mc_resolved.specs.Views.{call_of, expression_of, function_of}
-use Rattle.mc_lowering.specs.Lowering.{Receives}
+use Rattle.mc_semantics.specs.Resolved.Views.{call_of, expression_of, function_of}
+use Rattle.mc_lower_spec.specs.Lowering.{Receives}
 use Rattle.mc_lower.specs.Left.{PassesAll}
 use Rattle.mc_lower.specs.Worlds.{stage_of}
 use Rattle.mc_lower.proofs.Calling.{called}

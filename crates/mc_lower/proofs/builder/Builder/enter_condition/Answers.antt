@@ -1,6 +1,6 @@
 use Rattle.std.proofs.Common.{◌∷◌, ap, sym, subst, ◌∙◌, length}
-use Rattle.mc_resolved.specs.Programs.{plain, compare, negation, both, either}
-use Rattle.mc_resolved.specs.Views.{condition_of, expression_of}
+use Rattle.mc_semantics.specs.Resolved.Programs.{plain, compare, negation, both, either}
+use Rattle.mc_semantics.specs.Resolved.Views.{condition_of, expression_of}
 use Rattle.mc_lower.specs.declared.conditions.Work.{Work}
 use Rattle.mc_lower.specs.Knowns.{known, with_all, with_label}
 use Rattle.mc_lower.specs.Ready.{AreTestsReady, IsTestReady}

@@ -1,6 +1,6 @@
 use Rattle.std.proofs.Common.{refl, lit<}
 use Rattle.std.proofs.Common.{refl, sym, subst, ap, ◌∙◌, ◌∷◌}
-use Rattle.mc_resolved.specs.Views.{expression_of}
+use Rattle.mc_semantics.specs.Resolved.Views.{expression_of}
 use Rattle.mc_lower.specs.declared.values.Work.{Work}
 use Rattle.mc_lower.specs.Valued.{Finishes}
 use Rattle.mc_lower.specs.Worlds.{stage_of}

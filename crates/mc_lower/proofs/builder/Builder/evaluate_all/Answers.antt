@@ -6,8 +6,8 @@ use Rattle.mc_lower.proofs.Agreeing.{one_more}
 use Rattle.std.proofs.Common.{◌≡◌, ◌<◌, ◌+◌, ◌++◌, [], ◌∷◌, Some, map, drop, refl, sym, ap, subst, ◌∙◌, length, arith}
 use Rattle.std.proofs.lemmas.List.{append-nil, append_assoc, drop_all}
 use Rattle.std.proofs.lemmas.Option.{slice_get-get_or}
-use Rattle.mc_resolved.specs.Views.{expression_of}
-use Rattle.mc_lowering.specs.Values.{EvaluatesAll, evaluates_none}
+use Rattle.mc_semantics.specs.Resolved.Views.{expression_of}
+use Rattle.mc_lower_spec.specs.Values.{EvaluatesAll, evaluates_none}
 use Rattle.mc_lower.specs.Worlds.{stage_of}
 use Rattle.mc_lower.proofs.Valuing.{all_evaluated}
 use Rattle.mc_lower.proofs.builder.Builder.evaluate_all.Goals as goal

@@ -1,9 +1,9 @@
 use Rattle.std.proofs.Common.{◌++◌, List, map, drop}
 use Rattle.mc_base.specs.declared.ids.VarId.{VarId}
 use Rattle.mc_flow.specs.declared.instr.Operand.{Operand}
-use Rattle.mc_resolved.specs.Views.{expression_of}
-use Rattle.mc_lowering.specs.Graphs.{Stage}
-use Rattle.mc_lowering.specs.Values.{EvaluatesAll}
+use Rattle.mc_semantics.specs.Resolved.Views.{expression_of}
+use Rattle.mc_lower_spec.specs.Graphs.{Stage}
+use Rattle.mc_lower_spec.specs.Values.{EvaluatesAll}
 use Rattle.mc_lower.specs.Worlds.{World, Agrees, stage_of}
 use Rattle.mc_lower.specs.Knowns.{Keeps}
 use Rattle.std.proofs.Common.{◌≡◌, length}

@@ -1,6 +1,6 @@
 use Rattle.std.proofs.Common.{◌∷◌, sym, subst, ap, ◌∙◌}
 use Rattle.mc_base.specs.declared.plain.Kind.TheVariants.{Int}
-use Rattle.mc_lowering.specs.Values.{a_difference, Takes}
+use Rattle.mc_lower_spec.specs.Values.{a_difference, Takes}
 use Rattle.mc_lower.specs.declared.values.Work.{Work}
 use Rattle.mc_lower.specs.Valued.{Finishes}
 use Rattle.mc_lower.specs.Worlds.{stage_of}

@@ -1,7 +1,7 @@
 use Rattle.std.proofs.Common.{◌≡◌, false, true, rules, subst, sym, ◌∙◌}
 use Rattle.mc_flow.specs.declared.instr.Instr.TheVariants.{Copy}
-use Rattle.mc_lowering.specs.Graphs.{Appends, nowhere, plain}
-use Rattle.mc_lowering.specs.Lowering.{falls, falls_in_main}
+use Rattle.mc_lower_spec.specs.Graphs.{Appends, nowhere, plain}
+use Rattle.mc_lower_spec.specs.Lowering.{falls, falls_in_main}
 use Rattle.mc_lower.specs.Worlds.{stage_of}
 use Rattle.mc_lower.proofs.builder.Builder.fall.Goals as goal
 

@@ -1,10 +1,10 @@
 use Rattle.mc_lower.proofs.Readying.{ready_for_nothing, ready_for_declaring, ready_for_performing, ready_same, ready_two}
 use Rattle.std.proofs.Common.{◌∷◌, ◌∙◌, ap, refl}
-use Rattle.mc_resolved.specs.Programs.{declares}
+use Rattle.mc_semantics.specs.Resolved.Programs.{declares}
 use Rattle.mc_lower.specs.declared.tasks.Task.{Task}
 use Rattle.std.proofs.Common.{map, sym, subst}
-use Rattle.mc_resolved.specs.Views.{function_of, initial_of, start_of}
-use Rattle.mc_lowering.specs.Lowering.{Declares, Starts, starts_nothing, starts_declaring, starts_performing}
+use Rattle.mc_semantics.specs.Resolved.Views.{function_of, initial_of, start_of}
+use Rattle.mc_lower_spec.specs.Lowering.{Declares, Starts, starts_nothing, starts_declaring, starts_performing}
 use Rattle.mc_lower.specs.Worlds.{stage_of}
 use Rattle.mc_lower.proofs.Resting.{pushed, pushed_two}
 use Rattle.mc_lower.proofs.builder.Builder.for_loop.Goals as goal

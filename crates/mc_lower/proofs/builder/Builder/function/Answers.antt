@@ -1,7 +1,7 @@
 use Rattle.std.proofs.Common.{ap, refl, sym, ◌∙◌, length}
 use Rattle.std.proofs.lemmas.Option.{slice_get-map, slice_get_read}
 use Rattle.std.specs.Prelude.{option_map, slice_get}
-use Rattle.mc_resolved.specs.Views.{function_of}
+use Rattle.mc_semantics.specs.Resolved.Views.{function_of}
 use Rattle.mc_lower.proofs.builder.Builder.function.Goals as goal
 
 pub returns-clause-seen : goal.returns-clause-seen

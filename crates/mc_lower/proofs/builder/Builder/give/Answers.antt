@@ -1,8 +1,8 @@
 use Rattle.std.proofs.Common.{[], map, subst}
-use Rattle.mc_resolved.specs.Views.{expression_of}
-use Rattle.mc_lowering.specs.Graphs.{Undefines}
-use Rattle.mc_lowering.specs.Lowering.{Passes}
-use Rattle.mc_lowering.specs.Values.{EvaluatesAll}
+use Rattle.mc_semantics.specs.Resolved.Views.{expression_of}
+use Rattle.mc_lower_spec.specs.Graphs.{Undefines}
+use Rattle.mc_lower_spec.specs.Lowering.{Passes}
+use Rattle.mc_lower_spec.specs.Values.{EvaluatesAll}
 use Rattle.mc_lower.specs.Worlds.{stage_of}
 use Rattle.mc_lower.proofs.builder.Builder.give.Goals as goal
 

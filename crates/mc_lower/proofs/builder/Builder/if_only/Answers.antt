@@ -2,7 +2,7 @@ use Rattle.mc_lower.specs.Knowns.{known, with_label}
 use Rattle.mc_lower.proofs.Readying.{needs_if, ready_if_only, ready_same}
 use Rattle.mc_lower.specs.Ready.{IsTestReady}
 use Rattle.std.proofs.Common.{◌∷◌, ap, ◌∙◌, subst, sym}
-use Rattle.mc_resolved.specs.Views.{condition_of, statement_of}
+use Rattle.mc_semantics.specs.Resolved.Views.{condition_of, statement_of}
 use Rattle.mc_lower.specs.declared.tasks.Task.{Task}
 use Rattle.mc_lower.specs.Left.{around_of}
 use Rattle.mc_lower.specs.Valued.{TestsOn}

@@ -1,5 +1,5 @@
 use Rattle.std.proofs.Common.{subst}
-use Rattle.mc_lowering.specs.Graphs.{Undefines, leaves}
+use Rattle.mc_lower_spec.specs.Graphs.{Undefines, leaves}
 use Rattle.mc_lower.specs.Worlds.{stage_of}
 use Rattle.mc_lower.proofs.builder.Builder.leave.Goals as goal
 

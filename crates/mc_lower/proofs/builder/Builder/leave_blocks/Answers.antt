@@ -1,5 +1,5 @@
 use Rattle.std.proofs.Common.{subst, ◌∙◌}
-use Rattle.mc_lowering.specs.Graphs.{Leaves}
+use Rattle.mc_lower_spec.specs.Graphs.{Leaves}
 use Rattle.mc_lower.specs.Worlds.{stage_of}
 use Rattle.mc_lower.proofs.builder.Builder.leave_blocks.Goals as goal
 

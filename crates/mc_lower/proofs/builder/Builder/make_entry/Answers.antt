@@ -8,8 +8,8 @@ use Rattle.mc_lower.specs.Knowns.{known, with_occurrence}
 use Rattle.mc_lower.specs.Ready.{functions_in, with_awaited}
 use Rattle.mc_lower.proofs.Readying.{entry_begins, main_answered, source_awaited}
 use Rattle.std.proofs.Common.{length, ap, sym, subst}
-use Rattle.mc_resolved.specs.Views.{function_of}
-use Rattle.mc_lowering.specs.Lowering.{Answers}
+use Rattle.mc_semantics.specs.Resolved.Views.{function_of}
+use Rattle.mc_lower_spec.specs.Lowering.{Answers}
 use Rattle.mc_lower.specs.Worlds.{stage_of}
 use Rattle.mc_lower.proofs.Entering.{entry_made}
 use Rattle.mc_lower.proofs.builder.Builder.make_entry.Goals as goal

@@ -1,6 +1,6 @@
 use Rattle.std.proofs.Common.{ap}
 use Rattle.mc_flow.specs.declared.instr.Instr.TheVariants.{Skip}
-use Rattle.mc_lowering.specs.Graphs.{point}
+use Rattle.mc_lower_spec.specs.Graphs.{point}
 use Rattle.mc_lower.specs.declared.lines.Awaited.{Awaited}
 use Rattle.mc_lower.proofs.Agreeing.{appended_there, targets}
 use Rattle.mc_lower.proofs.Meeting.{merged}

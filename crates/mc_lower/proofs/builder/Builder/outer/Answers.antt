@@ -1,10 +1,10 @@
 use Rattle.mc_lower.specs.Knowns.{known}
-use Rattle.mc_length.specs.Lengths.{declared}
+use Rattle.mc_lower_spec.specs.Length.Lengths.{declared}
 use Rattle.mc_lower.specs.Ready.{FitsStatement, Later}
 use Rattle.std.proofs.Common.{map, ap, ◌∙◌, sym, subst}
-use Rattle.mc_resolved.specs.Programs.{block, if_only, if_else, while_loop, do_loop, for_loop}
-use Rattle.mc_resolved.specs.Views.{condition_of, head_of, statement_of, stmts_of}
-use Rattle.mc_lowering.specs.Lowering.{Lowers}
+use Rattle.mc_semantics.specs.Resolved.Programs.{block, if_only, if_else, while_loop, do_loop, for_loop}
+use Rattle.mc_semantics.specs.Resolved.Views.{condition_of, head_of, statement_of, stmts_of}
+use Rattle.mc_lower_spec.specs.Lowering.{Lowers}
 use Rattle.mc_lower.specs.Left.{around_of}
 use Rattle.mc_lower.specs.Worlds.{stage_of}
 use Rattle.mc_lower.proofs.Seen.{block_statement_seen}

@@ -2,7 +2,7 @@ use Rattle.std.proofs.Common.{◌∙◌, refl}
 use Rattle.std.proofs.Common.{◌≡◌, ◌<◌, ◌+◌, [], drop, refl, sym, subst, length, arith}
 use Rattle.std.proofs.lemmas.List.{drop_all}
 use Rattle.std.proofs.lemmas.Option.{slice_get-get_or}
-use Rattle.mc_lowering.specs.Lowering.{Passes, passes_none}
+use Rattle.mc_lower_spec.specs.Lowering.{Passes, passes_none}
 use Rattle.mc_lower.specs.Worlds.{stage_of}
 use Rattle.mc_lower.proofs.Calling.{passed_on}
 use Rattle.mc_lower.proofs.builder.Builder.pass.Goals as goal

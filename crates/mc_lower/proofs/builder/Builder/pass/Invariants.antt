@@ -1,6 +1,6 @@
 use Rattle.std.proofs.Common.{drop}
-use Rattle.mc_lowering.specs.Graphs.{Stage}
-use Rattle.mc_lowering.specs.Lowering.{Passes}
+use Rattle.mc_lower_spec.specs.Graphs.{Stage}
+use Rattle.mc_lower_spec.specs.Lowering.{Passes}
 use Rattle.mc_lower.specs.Worlds.{World, Agrees, stage_of}
 use Rattle.mc_lower.specs.Knowns.{Keeps}
 use Rattle.mc_lower.proofs.builder.Builder.pass.Given as goal

@@ -3,9 +3,9 @@ use Rattle.mc_lower.specs.Knowns.{known}
 use Rattle.mc_lower.specs.Ready.{IsActionReady, IsNamed}
 use Rattle.std.proofs.Common.{[], refl}
 use Rattle.std.proofs.Common.{sym, subst}
-use Rattle.mc_resolved.specs.Programs.{assign}
-use Rattle.mc_resolved.specs.Views.{action_of, right_of}
-use Rattle.mc_lowering.specs.Lowering.{Performs, performs_add, performs_subtract}
+use Rattle.mc_semantics.specs.Resolved.Programs.{assign}
+use Rattle.mc_semantics.specs.Resolved.Views.{action_of, right_of}
+use Rattle.mc_lower_spec.specs.Lowering.{Performs, performs_add, performs_subtract}
 use Rattle.mc_lower.specs.Worlds.{stage_of}
 use Rattle.mc_lower.proofs.builder.Builder.perform.Goals as goal
 

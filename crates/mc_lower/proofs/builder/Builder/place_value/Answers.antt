@@ -1,9 +1,9 @@
 use Rattle.std.proofs.Common.{◌≡◌, refl, sym, subst, length, map, arith}
 use Rattle.std.proofs.lemmas.Bool.Decides.{nat_tests}
 use Rattle.mc_flow.specs.declared.instr.Operand.TheVariants.{Var}
-use Rattle.mc_resolved.specs.Programs.{value}
-use Rattle.mc_resolved.specs.Views.{field_of}
-use Rattle.mc_lowering.specs.Values.{Evaluates, of_variable, Walks}
+use Rattle.mc_semantics.specs.Resolved.Programs.{value}
+use Rattle.mc_semantics.specs.Resolved.Views.{field_of}
+use Rattle.mc_lower_spec.specs.Values.{Evaluates, of_variable, Walks}
 use Rattle.mc_lower.specs.Worlds.{stage_of}
 use Rattle.mc_lower.proofs.Agreeing.{is_none}
 use Rattle.mc_lower.proofs.Assigning.{field_computed}

@@ -1,6 +1,6 @@
 use Rattle.std.proofs.Common.{map, subst}
-use Rattle.mc_resolved.specs.Views.{field_of}
-use Rattle.mc_lowering.specs.Graphs.{Undefines}
+use Rattle.mc_semantics.specs.Resolved.Views.{field_of}
+use Rattle.mc_lower_spec.specs.Graphs.{Undefines}
 use Rattle.mc_lower.specs.Worlds.{stage_of}
 use Rattle.mc_lower.proofs.Assigning.{field_put, walked_some}
 use Rattle.mc_lower.proofs.builder.Builder.put_into_field.Goals as goal

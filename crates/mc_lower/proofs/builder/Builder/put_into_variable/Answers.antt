@@ -1,4 +1,4 @@
-use Rattle.mc_lowering.specs.Values.{puts_variable}
+use Rattle.mc_lower_spec.specs.Values.{puts_variable}
 use Rattle.mc_lower.proofs.builder.Builder.put_into_variable.Goals as goal
 
 pub returns-clause-leads : goal.returns-clause-leads

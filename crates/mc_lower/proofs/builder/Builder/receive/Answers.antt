@@ -5,8 +5,8 @@ use Rattle.mc_lower.proofs.Agreeing.{one_more}
 use Rattle.mc_lower.proofs.Having.{received_same, with_none}
 use Rattle.std.proofs.Common.{◌≡◌, ◌+◌, ◌-◌, ◌++◌, suc, [], ◌∷◌, refl, sym, ap, subst, ◌∙◌, arith}
 use Rattle.std.proofs.lemmas.List.{append-nil, append_assoc}
-use Rattle.mc_resolved.specs.Views.{function_of}
-use Rattle.mc_lowering.specs.Lowering.{Receives, receives_none}
+use Rattle.mc_semantics.specs.Resolved.Views.{function_of}
+use Rattle.mc_lower_spec.specs.Lowering.{Receives, receives_none}
 use Rattle.mc_lower.specs.Worlds.{stage_of}
 use Rattle.mc_lower.proofs.Calling.{received_on}
 use Rattle.mc_lower.proofs.builder.Builder.receive.Goals as goal

@@ -1,8 +1,8 @@
 use Rattle.std.proofs.Common.{◌-◌, ◌++◌, List}
 use Rattle.mc_base.specs.declared.ids.VarId.{VarId}
-use Rattle.mc_resolved.specs.Views.{function_of}
-use Rattle.mc_lowering.specs.Graphs.{Stage}
-use Rattle.mc_lowering.specs.Lowering.{Receives}
+use Rattle.mc_semantics.specs.Resolved.Views.{function_of}
+use Rattle.mc_lower_spec.specs.Graphs.{Stage}
+use Rattle.mc_lower_spec.specs.Lowering.{Receives}
 use Rattle.mc_lower.specs.Worlds.{World, Agrees, stage_of}
 use Rattle.mc_lower.specs.Knowns.{known, with_owners}
 use Rattle.mc_lower.specs.Ready.{locals_to}

@@ -3,9 +3,9 @@ use Rattle.mc_lower.specs.Knowns.{known}
 use Rattle.mc_lower.specs.Ready.{IsPlainReady, IsRightReady}
 use Rattle.std.proofs.Common.{[], refl}
 use Rattle.std.proofs.Common.{Some, sym, subst}
-use Rattle.mc_resolved.specs.Programs.{returns}
-use Rattle.mc_resolved.specs.Views.{right_of}
-use Rattle.mc_lowering.specs.Lowering.{Lowers}
+use Rattle.mc_semantics.specs.Resolved.Programs.{returns}
+use Rattle.mc_semantics.specs.Resolved.Views.{right_of}
+use Rattle.mc_lower_spec.specs.Lowering.{Lowers}
 use Rattle.mc_lower.specs.Left.{around_of}
 use Rattle.mc_lower.specs.Worlds.{stage_of}
 use Rattle.mc_lower.proofs.builder.Builder.return_right.Goals as goal

@@ -1,4 +1,4 @@
-use Rattle.mc_resolved.specs.Views.{right_of}
+use Rattle.mc_semantics.specs.Resolved.Views.{right_of}
 use Rattle.mc_lower.specs.Left.{around_of}
 use Rattle.mc_lower.proofs.Meeting.{returned_value}
 use Rattle.mc_lower.proofs.builder.Builder.return_value.Goals as goal

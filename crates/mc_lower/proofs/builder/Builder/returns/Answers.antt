@@ -4,9 +4,9 @@ use Rattle.mc_lower.specs.Ready.{IsReturnReady}
 use Rattle.std.proofs.Common.{[], refl}
 use Rattle.std.proofs.Common.{sym, subst}
 use Rattle.std.specs.Prelude.{option_map}
-use Rattle.mc_resolved.specs.Programs.{returns as returning}
-use Rattle.mc_resolved.specs.Views.{right_of}
-use Rattle.mc_lowering.specs.Lowering.{Lowers}
+use Rattle.mc_semantics.specs.Resolved.Programs.{returns as returning}
+use Rattle.mc_semantics.specs.Resolved.Views.{right_of}
+use Rattle.mc_lower_spec.specs.Lowering.{Lowers}
 use Rattle.mc_lower.specs.Left.{around_of}
 use Rattle.mc_lower.specs.Worlds.{stage_of}
 use Rattle.mc_lower.proofs.Meeting.{returned_nothing}

@@ -1,5 +1,5 @@
 use Rattle.mc_lower.specs.Left.{Rest}
-use Rattle.mc_lowering.specs.Graphs.{Stage}
+use Rattle.mc_lower_spec.specs.Graphs.{Stage}
 use Rattle.mc_lower.specs.Worlds.{World, Agrees, stage_of}
 use Rattle.mc_lower.specs.Knowns.{known}
 use Rattle.mc_lower.specs.Ready.{Ready}

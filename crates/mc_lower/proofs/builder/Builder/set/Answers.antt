@@ -1,6 +1,6 @@
 use Rattle.std.proofs.Common.{ap, ◌∙◌}
-use Rattle.mc_lowering.specs.Graphs.{point}
-use Rattle.mc_lowering.specs.Values.{sets}
+use Rattle.mc_lower_spec.specs.Graphs.{point}
+use Rattle.mc_lower_spec.specs.Values.{sets}
 use Rattle.mc_lower.specs.Valued.{operation_of}
 use Rattle.mc_lower.specs.Worlds.{settled}
 use Rattle.mc_lower.proofs.Agreeing.{appended, targets}

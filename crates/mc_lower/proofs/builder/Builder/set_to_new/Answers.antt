@@ -1,6 +1,6 @@
 use Rattle.std.proofs.Common.{ap, ◌∙◌}
 use Rattle.mc_flow.specs.Steps.{field_count}
-use Rattle.mc_lowering.specs.Lowering.{sets_allocated}
+use Rattle.mc_lower_spec.specs.Lowering.{sets_allocated}
 use Rattle.mc_lower.proofs.builder.Builder.set_to_new.Goals as goal
 
 pub returns-clause-leads : goal.returns-clause-leads

@@ -1,6 +1,6 @@
 use Rattle.std.proofs.Common.{subst}
-use Rattle.mc_resolved.specs.Views.{expression_of}
-use Rattle.mc_lowering.specs.Graphs.{Undefines}
+use Rattle.mc_semantics.specs.Resolved.Views.{expression_of}
+use Rattle.mc_lower_spec.specs.Graphs.{Undefines}
 use Rattle.mc_lower.specs.Valued.{IsValue}
 use Rattle.mc_lower.specs.Worlds.{stage_of}
 use Rattle.mc_lower.proofs.Assigning.{set_ready, set_computed}

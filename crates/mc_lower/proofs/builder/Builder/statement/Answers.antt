@@ -1,14 +1,14 @@
-use Rattle.mc_resolved.specs.Programs.{declaration}
+use Rattle.mc_semantics.specs.Resolved.Programs.{declaration}
 use Rattle.mc_lower.proofs.Readying.{needs_return, ready_declaration, ready_left, ready_same, ready_simple}
 use Rattle.mc_lower.specs.Knowns.{known}
 use Rattle.std.proofs.Common.{refl}
-use Rattle.mc_length.specs.Lengths.{declared}
+use Rattle.mc_lower_spec.specs.Length.Lengths.{declared}
 use Rattle.mc_lower.specs.Ready.{Later}
 use Rattle.std.proofs.Common.{map, ap, ◌∙◌, sym, subst}
 use Rattle.std.specs.Prelude.{option_map}
-use Rattle.mc_resolved.specs.Programs.{returns}
-use Rattle.mc_resolved.specs.Views.{function_of, initial_of, right_of, statement_of}
-use Rattle.mc_lowering.specs.Lowering.{Declares, Lowers, declarations, simples, empties}
+use Rattle.mc_semantics.specs.Resolved.Programs.{returns}
+use Rattle.mc_semantics.specs.Resolved.Views.{function_of, initial_of, right_of, statement_of}
+use Rattle.mc_lower_spec.specs.Lowering.{Declares, Lowers, declarations, simples, empties}
 use Rattle.mc_lower.specs.Left.{around_of}
 use Rattle.mc_lower.specs.Worlds.{stage_of}
 use Rattle.mc_lower.proofs.Resting.{copied_map, pushed}

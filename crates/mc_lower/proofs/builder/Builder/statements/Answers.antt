@@ -1,11 +1,11 @@
 use Rattle.mc_lower.proofs.Readying.{ready_left, ready_statements, ready_two}
 use Rattle.std.proofs.Common.{refl}
-use Rattle.mc_length.specs.Lengths.{all_declared}
+use Rattle.mc_lower_spec.specs.Length.Lengths.{all_declared}
 use Rattle.std.proofs.Common.{◌≡◌, ◌∷◌, arith, ◌-◌, List, length, map, take, drop, sym, ap, ◌∙◌, subst}
 use Rattle.std.proofs.lemmas.List.{take_rest}
-use Rattle.mc_resolved.specs.declared.program.Statement.{Statement}
-use Rattle.mc_resolved.specs.Views.{statement_of, stmts_of}
-use Rattle.mc_lowering.specs.Lowering.{LowersAll, lowers_none, lowers_next}
+use Rattle.mc_semantics.specs.declared.resolved.program.Statement.{Statement}
+use Rattle.mc_semantics.specs.Resolved.Views.{statement_of, stmts_of}
+use Rattle.mc_lower_spec.specs.Lowering.{LowersAll, lowers_none, lowers_next}
 use Rattle.mc_lower.specs.Left.{around_of}
 use Rattle.mc_lower.specs.Worlds.{stage_of}
 use Rattle.mc_lower.proofs.Agreeing.{first_of, is_none}

@@ -1,6 +1,6 @@
 use Rattle.std.proofs.Common.{subst}
 use Rattle.mc_flow.specs.declared.instr.Operand.TheVariants.{Var}
-use Rattle.mc_lowering.specs.Values.{Puts}
+use Rattle.mc_lower_spec.specs.Values.{Puts}
 use Rattle.mc_lower.specs.Valued.{target_of}
 use Rattle.mc_lower.specs.Worlds.{stage_of}
 use Rattle.mc_lower.proofs.builder.Builder.take_result.Goals as goal

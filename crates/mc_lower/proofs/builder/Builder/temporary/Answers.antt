@@ -1,7 +1,7 @@
 use Rattle.std.proofs.Common.{sym, ◌∙◌}
 use Rattle.mc_lower.proofs.Having.{with_none}
 use Rattle.std.proofs.Common.{subst}
-use Rattle.mc_lowering.specs.Graphs.{temporary, Creates, uses_first, uses_again}
+use Rattle.mc_lower_spec.specs.Graphs.{temporary, Creates, uses_first, uses_again}
 use Rattle.mc_lower.specs.Worlds.{stage_of}
 use Rattle.mc_lower.proofs.builder.Builder.temporary.Goals as goal
 

@@ -1,6 +1,6 @@
 use Rattle.std.proofs.Common.{◌≡◌, ℕ, length}
-use Rattle.mc_resolved.specs.Views.{condition_of}
-use Rattle.mc_lowering.specs.Values.{Tests}
+use Rattle.mc_semantics.specs.Resolved.Views.{condition_of}
+use Rattle.mc_lower_spec.specs.Values.{Tests}
 use Rattle.mc_lower.specs.Valued.{Testing, froms}
 use Rattle.mc_lower.specs.Worlds.{World, Agrees, stage_of}
 use Rattle.mc_lower.specs.Knowns.{known, with_all, with_label}

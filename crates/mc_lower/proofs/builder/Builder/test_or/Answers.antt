@@ -1,11 +1,11 @@
 use Rattle.std.proofs.Common.{subst, sym, length}
-use Rattle.mc_lowering.specs.Graphs.{stage}
+use Rattle.mc_lower_spec.specs.Graphs.{stage}
 use Rattle.mc_lower.specs.declared.builder.Label.{Label}
 use Rattle.mc_lower.specs.Valued.{TestsOn, tests_on}
 use Rattle.mc_lower.specs.Worlds.{stage_of}
 use Rattle.mc_lower.proofs.Having.{test_over}
 use Rattle.mc_lower.proofs.Waiting.{popped}
-use Rattle.mc_resolved.specs.Views.{condition_of}
+use Rattle.mc_semantics.specs.Resolved.Views.{condition_of}
 use Rattle.mc_lower.proofs.builder.Builder.test_or.Goals as goal
 
 pub returns-clause-leads : goal.returns-clause-leads

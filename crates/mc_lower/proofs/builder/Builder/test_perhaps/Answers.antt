@@ -1,6 +1,6 @@
 use Rattle.std.proofs.Common.{sym, subst, length}
 use Rattle.std.specs.Prelude.{option_map}
-use Rattle.mc_resolved.specs.Views.{condition_of}
+use Rattle.mc_semantics.specs.Resolved.Views.{condition_of}
 use Rattle.mc_lower.specs.Valued.{TestsPerhapsOn}
 use Rattle.mc_lower.specs.Worlds.{stage_of}
 use Rattle.mc_lower.proofs.Testing.{perhaps_some, perhaps_none}

@@ -2,11 +2,11 @@ use Rattle.mc_lower.proofs.Readying.{last_under, ready_turn, ready_turn_none, re
 use Rattle.std.proofs.Common.{◌∙◌}
 use Rattle.std.proofs.Common.{ap, ◌∙◌, subst, sym}
 use Rattle.std.specs.Prelude.{option_map}
-use Rattle.mc_resolved.specs.Views.{head_of, simple_of}
-use Rattle.mc_lowering.specs.Lowering.{Finishes, finishes, finishes_none}
+use Rattle.mc_semantics.specs.Resolved.Views.{head_of, simple_of}
+use Rattle.mc_lower_spec.specs.Lowering.{Finishes, finishes, finishes_none}
 use Rattle.mc_lower.specs.Worlds.{stage_of}
 use Rattle.mc_flow.specs.declared.instr.Instr.TheVariants.{Skip}
-use Rattle.mc_lowering.specs.Graphs.{point}
+use Rattle.mc_lower_spec.specs.Graphs.{point}
 use Rattle.mc_lower.specs.declared.lines.Awaited.{Awaited}
 use Rattle.mc_lower.specs.Knowns.{with_label}
 use Rattle.mc_lower.proofs.Agreeing.{appended_there, targets}

@@ -5,8 +5,8 @@ use Rattle.mc_lower.proofs.Having.{kind_at}
 use Rattle.std.proofs.Common.{◌∙◌}
 use Rattle.std.proofs.Common.{◌≡◌, ◌<◌, ◌+◌, refl, length, get_or, arith}
 use Rattle.std.proofs.lemmas.Option.{slice_get-get_or}
-use Rattle.mc_resolved.specs.declared.program.FieldAt.{FieldAt as FieldCode}
-use Rattle.mc_resolved.specs.Views.{field_of}
+use Rattle.mc_semantics.specs.declared.resolved.program.FieldAt.{FieldAt as FieldCode}
+use Rattle.mc_semantics.specs.Resolved.Views.{field_of}
 use Rattle.mc_lower.specs.Worlds.{stage_of}
 use Rattle.mc_lower.proofs.Valuing.{walked_to, walked_on}
 use Rattle.mc_lower.proofs.builder.Builder.walk.Goals as goal

@@ -2,8 +2,8 @@ use Rattle.mc_lower.proofs.Readying.{needs_while, ready_while, ready_same}
 use Rattle.mc_lower.specs.Knowns.{known, with_label}
 use Rattle.mc_lower.specs.Ready.{IsTestReady}
 use Rattle.std.proofs.Common.{◌∷◌, ap, ◌∙◌, subst, sym}
-use Rattle.mc_resolved.specs.Views.{condition_of, statement_of}
-use Rattle.mc_lowering.specs.Lowering.{Lowers}
+use Rattle.mc_semantics.specs.Resolved.Views.{condition_of, statement_of}
+use Rattle.mc_lower_spec.specs.Lowering.{Lowers}
 use Rattle.mc_lower.specs.declared.tasks.Task.{Task}
 use Rattle.mc_lower.specs.Left.{around_of}
 use Rattle.mc_lower.specs.Valued.{TestsOn}

@@ -1,5 +1,5 @@
 use Rattle.std.proofs.Common.{◌≡◌, map, take}
-use Rattle.mc_ast.specs.Views.{struct_of}
+use Rattle.mc_c_syntax.specs.Ast.Views.{struct_of}
 use Rattle.mc_resolve.specs.Named.{declared_names}
 use Rattle.mc_resolve.proofs.fields.FieldNames.new.Given as goal
 

@@ -2,10 +2,10 @@ use Rattle.std.proofs.Common.{◌≤◌, ap, ◌∙◌, map, length, arith, Bor}
 use Rattle.std.specs.Prelude.{filter}
 use Rattle.std.proofs.lemmas.List.{take_all}
 use Rattle.std.proofs.lemmas.Bool.Decides.{nat_tests}
-use Rattle.mc_ast.specs.Trees.{FunctionTree}
-use Rattle.mc_ast.specs.Views.{function_of}
-use Rattle.mc_ast.specs.declared.trees.Function.{Function}
-use Rattle.mc_types.specs.Tables.{is_defined}
+use Rattle.mc_c_syntax.specs.Ast.Trees.{FunctionTree}
+use Rattle.mc_c_syntax.specs.Ast.Views.{function_of}
+use Rattle.mc_c_syntax.specs.declared.ast.trees.Function.{Function}
+use Rattle.mc_c_types.specs.Tables.{is_defined}
 use Rattle.mc_resolve.proofs.FunctionNumbers.{filter_seen}
 use Rattle.mc_resolve.proofs.functions.FunctionNames.new.Goals as goal
 

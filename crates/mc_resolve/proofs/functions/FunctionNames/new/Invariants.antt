@@ -1,7 +1,7 @@
 use Rattle.std.proofs.Common.{◌≡◌, map, take}
 use Rattle.std.specs.Prelude.{filter}
-use Rattle.mc_ast.specs.Views.{function_of}
-use Rattle.mc_types.specs.Tables.{is_defined}
+use Rattle.mc_c_syntax.specs.Ast.Views.{function_of}
+use Rattle.mc_c_types.specs.Tables.{is_defined}
 use Rattle.mc_resolve.proofs.functions.FunctionNames.new.Given as goal
 
 abbrev pub invariant-loop-function : goal.invariant-loop-function

@@ -1,4 +1,4 @@
-use Rattle.mc_ast.specs.Names.{is_same}
+use Rattle.mc_c_syntax.specs.Ast.Names.{is_same}
 use Rattle.mc_resolve.proofs.FunctionNumbers.{number_of_none, number_of_some}
 use Rattle.mc_resolve.proofs.functions.FunctionNames.number.Goals as goal
 

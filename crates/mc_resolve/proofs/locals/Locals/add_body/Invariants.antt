@@ -1,5 +1,5 @@
 use Rattle.std.proofs.Common.{◌≡◌, ◌++◌, map}
-use Rattle.mc_types.specs.Held.{tables_held, variable_held}
+use Rattle.mc_c_types.specs.Held.{tables_held, variable_held}
 use Rattle.mc_resolve.specs.Gathers.{left_variables, rest_steps}
 use Rattle.mc_resolve.proofs.locals.Locals.add_body.Given as goal
 

@@ -1,7 +1,7 @@
 use Rattle.std.proofs.Common.{◌≡◌, ◌++◌, map, take}
-use Rattle.mc_ast.specs.Views.{initial_of}
-use Rattle.mc_types.specs.Held.{tables_held, variable_held}
-use Rattle.mc_types.specs.Tables.{variable_of}
+use Rattle.mc_c_syntax.specs.Ast.Views.{initial_of}
+use Rattle.mc_c_types.specs.Held.{tables_held, variable_held}
+use Rattle.mc_c_types.specs.Tables.{variable_of}
 use Rattle.mc_resolve.proofs.locals.Locals.add_items.Given as goal
 
 abbrev pub invariant-loop-item : goal.invariant-loop-item

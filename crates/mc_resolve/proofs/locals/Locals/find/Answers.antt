@@ -1,8 +1,8 @@
 use Rattle.std.proofs.Common.{ap, ◌∙◌, List}
 use Rattle.std.specs.Prelude.{◌==◌, ◌&&◌, position}
 use Rattle.indexmap.specs.IndexMap.{get_by}
-use Rattle.mc_meaning.specs.Configs.{is_place}
-use Rattle.mc_types.specs.declared.scope.Named.{Named}
+use Rattle.mc_semantics.specs.Configs.{is_place}
+use Rattle.mc_c_types.specs.declared.scope.Named.{Named}
 use Rattle.mc_resolve.specs.declared.locals.PlaceKey.{PlaceKey}
 use Rattle.mc_resolve.proofs.locals.Locals.find.Goals as goal
 

@@ -1,8 +1,8 @@
 use Rattle.std.proofs.Common.{sym, ◌∙◌, not}
-use Rattle.mc_meaning.specs.Configs.{is_place}
-use Rattle.mc_types.specs.Held.{variable_held}
-use Rattle.mc_types.specs.Tables.{Variable}
-use Rattle.mc_types.specs.declared.scope.Named.{Named}
+use Rattle.mc_semantics.specs.Configs.{is_place}
+use Rattle.mc_c_types.specs.Held.{variable_held}
+use Rattle.mc_c_types.specs.Tables.{Variable}
+use Rattle.mc_c_types.specs.declared.scope.Named.{Named}
 use Rattle.mc_resolve.proofs.FieldNumbers.{prefix_map}
 use Rattle.mc_resolve.proofs.FunctionNumbers.{number_of_none, number_of_some}
 use Rattle.mc_resolve.proofs.locals.Locals.number.Goals as goal

@@ -1,7 +1,7 @@
 use Rattle.std.proofs.Common.{ℕ, ap}
-use Rattle.mc_types.specs.Held.{tables_held}
-use Rattle.mc_meaning.specs.Values.{struct_behind}
-use Rattle.mc_resolved.specs.Programs.{FieldAt}
+use Rattle.mc_c_types.specs.Held.{tables_held}
+use Rattle.mc_semantics.specs.Values.{struct_behind}
+use Rattle.mc_semantics.specs.Resolved.Programs.{FieldAt}
 use Rattle.mc_resolve.proofs.FieldNumbers.{field_number_of}
 use Rattle.mc_resolve.proofs.naming.NamesHere.field.Goals as goal
 

@@ -1,4 +1,4 @@
-use Rattle.mc_types.specs.Held.{tables_held}
+use Rattle.mc_c_types.specs.Held.{tables_held}
 use Rattle.mc_resolve.proofs.FunctionNumbers.{field_count_of}
 use Rattle.mc_resolve.proofs.naming.NamesHere.field_count.Goals as goal
 

@@ -1,7 +1,7 @@
 use Rattle.std.proofs.Common.{◌≡◌, ◌++◌, map, drop}
-use Rattle.mc_resolved.specs.Resolving.{resolved_fields}
-use Rattle.mc_resolved.specs.Views.{field_of}
-use Rattle.mc_types.specs.Held.{tables_held}
+use Rattle.mc_semantics.specs.Resolved.Resolving.{resolved_fields}
+use Rattle.mc_semantics.specs.Resolved.Views.{field_of}
+use Rattle.mc_c_types.specs.Held.{tables_held}
 use Rattle.mc_resolve.proofs.naming.NamesHere.field_row.Given as goal
 
 abbrev pub invariant-loop-field : goal.invariant-loop-field

@@ -1,6 +1,6 @@
 use Rattle.std.proofs.Common.{Some, None, sym, ◌∙◌}
 use Rattle.std.proofs.lemmas.List.{length-map}
-use Rattle.mc_types.specs.Held.{variable_held}
+use Rattle.mc_c_types.specs.Held.{variable_held}
 use Rattle.mc_resolve.specs.Named.{naming_at, visible_at}
 use Rattle.mc_resolve.proofs.Seeing.{number_found}
 use Rattle.mc_resolve.proofs.naming.NamesHere.variable.Goals as goal

@@ -1,5 +1,5 @@
 use Rattle.std.proofs.Common.{Some, None}
-use Rattle.mc_types.specs.Held.{variable_held}
+use Rattle.mc_c_types.specs.Held.{variable_held}
 use Rattle.mc_resolve.specs.Named.{visible_at}
 use Rattle.mc_resolve.proofs.Seeing.{type_found}
 use Rattle.mc_resolve.proofs.naming.NamesHere.variable_type.Goals as goal

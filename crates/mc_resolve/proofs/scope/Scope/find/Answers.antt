@@ -1,7 +1,7 @@
 use Rattle.std.proofs.Common.{ap, ◌∙◌, reverse}
 use Rattle.std.specs.Prelude.{find, option_map}
-use Rattle.mc_ast.specs.Names.{is_same}
-use Rattle.mc_types.specs.Held.{variable_held}
+use Rattle.mc_c_syntax.specs.Ast.Names.{is_same}
+use Rattle.mc_c_types.specs.Held.{variable_held}
 use Rattle.mc_resolve.proofs.Seeing.{found_held}
 use Rattle.mc_resolve.proofs.scope.Scope.find.Goals as goal
 

@@ -1,5 +1,5 @@
 use Rattle.std.proofs.Common.{[], ◌∷◌, sym, subst}
-use Rattle.mc_graph.specs.Edges.{nodes_of}
+use Rattle.mc_state.specs.Graph.Edges.{nodes_of}
 use Rattle.mc_state.specs.State.{State}
 use Rattle.mc_state.specs.Fits.{AreNodes}
 use Rattle.mc_symbolic.specs.Kept.{seen}

@@ -1,5 +1,5 @@
 use Rattle.std.proofs.Common.{IfOk, Ok, Err, Result}
-use Rattle.mc_graph.specs.Graph.{block_starts}
+use Rattle.mc_state.specs.Graph.Graph.{block_starts}
 use Rattle.mc_symbolic.proofs.Canonical.{canonical_same}
 use Rattle.mc_symbolic.proofs.state.State.canon.Goals as goal
 

@@ -1,4 +1,4 @@
-use Rattle.mc_graph.specs.Graph.{block_starts}
+use Rattle.mc_state.specs.Graph.Graph.{block_starts}
 use Rattle.mc_state.specs.Known.{is_false}
 use Rattle.mc_symbolic.proofs.Starts.{behind, false_same, told}
 use Rattle.mc_symbolic.specs.Kept.{seen}

@@ -1,4 +1,4 @@
-use Rattle.mc_graph.specs.Graph.{block_starts}
+use Rattle.mc_state.specs.Graph.Graph.{block_starts}
 use Rattle.mc_symbolic.proofs.Starts.{false_same, follows_to, follows_from}
 use Rattle.mc_symbolic.proofs.state.State.known.Goals as goal
 

@@ -1,5 +1,5 @@
 use Rattle.std.proofs.Common.{sym}
-use Rattle.mc_graph.specs.Graph.{edge_with}
+use Rattle.mc_state.specs.Graph.Graph.{edge_with}
 use Rattle.mc_symbolic.specs.Kept.{seen}
 use Rattle.mc_symbolic.proofs.Kept.{block_there, bounded_without, same_less, same_without}
 use Rattle.mc_symbolic.proofs.state.State.take_edge.Goals as goal

@@ -1,8 +1,0 @@
-use Rattle.std.proofs.Common.{◌≡◌, ◌++◌, length, reverse}
-use Rattle.mc_alarms.proofs.sides.take_edges.Given as goal
-
-abbrev pub invariant-loop : goal.invariant-loop
-invariant-loop l = record {
-  count : length l.edges.items ≡ l.counter;
-  taken : reverse l.fn.made.items ≡ l.edges.items ++ reverse l.made.items;
-}

@@ -1,5 +1,0 @@
-use Rattle.mc_alarms.specs.Walks.{AreCovered, IsWalk}
-use Rattle.mc_alarms.proofs.walk.Walk.follow.Given as goal
-
-abbrev pub invariant-loop-number : goal.invariant-loop-number
-invariant-loop-number l = IsWalk l.flow l.defs l.self × AreCovered l.defs l.self.proof.branches

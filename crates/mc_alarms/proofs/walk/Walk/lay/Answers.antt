@@ -1,6 +1,0 @@
-use Rattle.std.proofs.Common.{not, refl}
-use Rattle.mc_alarms.proofs.SideLines.{told_sound}
-use Rattle.mc_alarms.proofs.walk.Walk.lay.Goals as goal
-
-pub returns-clause-sound : goal.returns-clause-sound
-returns-clause-sound c = told_sound c.turn.new.self.proof c.is_false.result (not c.is_false.result) c.is_false.ensures refl

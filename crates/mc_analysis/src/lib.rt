@@ -1,8 +1,0 @@
-//! What can be found of a flow graph: a certificate that nothing fails, or where something may.
-#![tactic(auto)]
-
-mod analysis;
-mod finding;
-
-pub use analysis::{Analysis, Findings};
-pub use finding::analyse;

@@ -1,8 +1,0 @@
-use Rattle.std.proofs.Common.{◌≡◌, take, map}
-use Rattle.mc_graph.specs.Edges.{moved_edge}
-use Rattle.mc_renaming.specs.Images.{image}
-use Rattle.mc_state.specs.State.{with_edges}
-use Rattle.mc_anew.proofs.numbered.put_edges.Given as goal
-
-abbrev pub invariant-loop-entry : goal.invariant-loop-entry
-invariant-loop-entry l = l.fresh ≡ with_edges l.fn.fresh (map (λ e. moved_edge (image l.renaming) e.1) (take l.entry-index l.edges))

@@ -1,0 +1,10 @@
+use Rattle.mc_app.specs.Words.Commands.{analyse_app}
+use Rattle.mc_app.proofs.words.words.analyse_of.Goals as goal
+
+pub returns-in_err-number : goal.returns-in_err-number
+returns-in_err-number c = λ words named rows.
+    rw c.from_residual-in_err-number.ensures (λ a asks. c.in_err-number.ensures analyse_app words rows a.rounds asks.rounds)
+
+pub returns-in_err-number-2 : goal.returns-in_err-number-2
+returns-in_err-number-2 c = λ words named rows.
+    rw c.from_residual-in_err-number-2.ensures (λ a asks. c.in_err-number-2.ensures analyse_app words rows a.disjuncts asks.disjuncts)

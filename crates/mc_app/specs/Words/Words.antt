@@ -1,0 +1,62 @@
+-- What words ask for.
+use Rattle.std.specs.Prelude.{◌≡◌, ℕ, List, [], ◌∷◌, Ok, Option, Some, codes, option_map}
+use Rattle.std.specs.Str.Parse.{ParsesUnsigned}
+use Rattle.clap.specs.Words.{App, first_of, matches_of}
+use Rattle.clap.specs.Faults.{fault_of}
+use Rattle.clap.specs.Walk.{one_of}
+use Rattle.mc_app.specs.declared.words.words.Request.{Request}
+use Rattle.mc_app.specs.declared.words.words.Request.TheVariants as request
+use Rattle.mc_app.specs.declared.words.words.Check.{Check}
+use Rattle.mc_app.specs.declared.words.words.Run.{Run}
+use Rattle.mc_app.specs.declared.words.words.Analyse.{Analyse}
+use Rattle.mc_app.specs.Words.Commands.{analyse_app, check_app, run_app}
+
+-- the words begin with this one, and the command of that name finds no fault in them
+abbrev pub IsFor : List ℕ → App → List (List ℕ) → Type 0
+IsFor name app words = ((rest : List (List ℕ)) × (words ≡ name ∷ rest)) × (fault_of app words ≡ [])
+
+-- the word that a command reads at one of its names
+abbrev pub Reads : App → List (List ℕ) → List ℕ → List ℕ → Type 0
+Reads app words id word = first_of id (matches_of app words) ≡ Some word
+
+-- the word that a command reads at a name which may be left out, if there is one
+abbrev pub ReadsPerhaps : App → List (List ℕ) → List ℕ → Option (List ℕ) → Type 0
+ReadsPerhaps app words id word = first_of id (matches_of app words) ≡ word
+
+-- the number that a command reads at one of its names
+abbrev pub ReadsNumber : App → List (List ℕ) → List ℕ → ℕ → Type 0
+ReadsNumber app words id n =
+    (number : List ℕ) × (one_of id (matches_of app words) ≡ Some number) × ParsesUnsigned {E = Unit {0}} 64 10 number (Ok n)
+
+-- the words are a `check` with these files and this entry
+pub record AsksCheck (words : List (List ℕ)) (c : Check) : Type 0 where
+  pub named : IsFor (codes "check") check_app words
+  pub program : Reads check_app words (codes "program") c.program.now
+  pub definitions : Reads check_app words (codes "definitions") c.definitions.now
+  pub document : Reads check_app words (codes "document") c.document.now
+  pub start : Reads check_app words (codes "entry") c.start.now
+
+-- the words are a `run` with these files, this entry and so much fuel
+pub record AsksRun (words : List (List ℕ)) (c : Run) : Type 0 where
+  pub named : IsFor (codes "run") run_app words
+  pub program : Reads run_app words (codes "program") c.program.now
+  pub definitions : Reads run_app words (codes "definitions") c.definitions.now
+  pub script : Reads run_app words (codes "script") c.script.now
+  pub start : Reads run_app words (codes "entry") c.start.now
+  pub fuel : ReadsNumber run_app words (codes "fuel") c.fuel
+
+-- the words are an `analyse` with these files, this entry, these limits and this document, if there is one
+pub record AsksAnalyse (words : List (List ℕ)) (c : Analyse) : Type 0 where
+  pub named : IsFor (codes "analyse") analyse_app words
+  pub program : Reads analyse_app words (codes "program") c.program.now
+  pub definitions : Reads analyse_app words (codes "definitions") c.definitions.now
+  pub start : Reads analyse_app words (codes "entry") c.start.now
+  pub rounds : ReadsNumber analyse_app words (codes "rounds") c.rounds
+  pub disjuncts : ReadsNumber analyse_app words (codes "disjuncts") c.disjuncts
+  pub document : ReadsPerhaps analyse_app words (codes "document") (option_map (λ s. s.now) c.document)
+
+-- the words ask for this
+abbrev pub Asks : List (List ℕ) → Request → Type 0
+Asks words (request.Check c) = AsksCheck words c
+Asks words (request.Run c) = AsksRun words c
+Asks words (request.Analyse c) = AsksAnalyse words c

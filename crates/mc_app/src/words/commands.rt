@@ -1,0 +1,97 @@
+// The commands, as `clap` reads them.
+ghost use Rattle.std.specs.Prelude.{◌≡◌, IfOk, codes, false};
+ghost use Rattle.clap.specs.Words.{app_of, rule_of};
+ghost use Rattle.mc_app.specs.Words.Commands.{analyse_app, check_app, entry_option, free_option, number_option, option, place, run_app, three_files, two_files};
+
+use clap::builder::ValueParser;
+use clap::{Arg, Command};
+use std::alloc::{AllocError, Global};
+
+/// A word that has to be there.
+fn place<'w>(alloc: Global, id: &'w str) -> Arg<'w>
+    ensures rule { rule_of result ≡ place id.entry.now }
+    ensures local { result.global ≡ false }
+{
+    Arg::new(alloc, id).required(true)
+}
+
+/// `--id VALUE`, with its value where it is left out.
+fn option<'w>(alloc: Global, id: &'w str, default: &'w str) -> Arg<'w>
+    ensures rule { rule_of result ≡ option id.entry.now default.entry.now }
+    ensures local { result.global ≡ false }
+{
+    Arg::new(alloc, id).long(id).default_value(default)
+}
+
+/// `--id VALUE`, which may be left out.
+fn free_option<'w>(alloc: Global, id: &'w str) -> Arg<'w>
+    ensures rule { rule_of result ≡ free_option id.entry.now }
+    ensures local { result.global ≡ false }
+{
+    Arg::new(alloc, id).long(id)
+}
+
+/// `--id NUMBER`, likewise, from 1 to a number.
+fn number<'w>(alloc: Global, id: &'w str, default: &'w str, most: u64) -> Arg<'w>
+    ensures rule { rule_of result ≡ number_option id.entry.now default.entry.now most }
+    ensures local { result.global ≡ false }
+{
+    option(alloc, id, default).value_parser(ValueParser::Unsigned(1, most))
+}
+
+/// The function that runs begin with.
+fn entry<'w>(alloc: Global) -> Arg<'w>
+    ensures rule { rule_of result ≡ entry_option }
+    ensures local { result.global ≡ false }
+{
+    option(alloc, "entry", "main")
+}
+
+/// A command over a program and definitions.
+fn two_files<'w>(alloc: Global, name: &'w str) -> Result<Command<'w>, AllocError>
+    ensures { IfOk result (λ c. app_of c ≡ two_files name.entry.now) }
+{
+    let command = Command::new(alloc, name)
+        .arg(place(alloc, "program"))?
+        .arg(place(alloc, "definitions"))?;
+    Ok(command)
+}
+
+/// A command over a program, definitions and a third file, which begins with an entry.
+fn three_files<'w>(alloc: Global, name: &'w str, third: &'w str) -> Result<Command<'w>, AllocError>
+    ensures { IfOk result (λ c. app_of c ≡ three_files name.entry.now third.entry.now) }
+{
+    let command = two_files(alloc, name)?
+        .arg(place(alloc, third))?
+        .arg(entry(alloc))?;
+    Ok(command)
+}
+
+/// `check PROGRAM DEFINITIONS DOCUMENT [--entry F]`.
+pub fn check<'w>(alloc: Global) -> Result<Command<'w>, AllocError>
+    ensures { IfOk result (λ c. app_of c ≡ check_app) }
+{
+    let command = three_files(alloc, "check", "document")?;
+    Ok(command)
+}
+
+/// `run PROGRAM DEFINITIONS SCRIPT [--entry F] [--fuel N]`.
+pub fn run<'w>(alloc: Global) -> Result<Command<'w>, AllocError>
+    ensures { IfOk result (λ c. app_of c ≡ run_app) }
+{
+    let fuel = number(alloc, "fuel", "100000", 10_000_000);
+    let command = three_files(alloc, "run", "script")?.arg(fuel)?;
+    Ok(command)
+}
+
+/// `analyse PROGRAM DEFINITIONS [--entry F] [--rounds N] [--disjuncts N] [--document FILE]`.
+pub fn analyse<'w>(alloc: Global) -> Result<Command<'w>, AllocError>
+    ensures { IfOk result (λ c. app_of c ≡ analyse_app) }
+{
+    let command = two_files(alloc, "analyse")?
+        .arg(entry(alloc))?
+        .arg(number(alloc, "rounds", "30", 100))?
+        .arg(number(alloc, "disjuncts", "16", 64))?
+        .arg(free_option(alloc, "document"))?;
+    Ok(command)
+}

@@ -1,0 +1,3 @@
+pub mod ComputeLemmas
+pub mod InstructionsLemmas
+pub mod StepLemmas

@@ -1,0 +1,3 @@
+pub mod Compute
+pub mod Instructions
+pub mod Step

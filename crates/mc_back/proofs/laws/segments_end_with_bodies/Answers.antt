@@ -1,5 +1,0 @@
-use Rattle.mc_back.proofs.Ends.{seg_ends}
-use Rattle.mc_back.proofs.laws.segments_end_with_bodies.Goals as goal
-
-pub returns : goal.returns
-returns c = let p = c.parts_regroup.ensures in seg_ends p.commutes p.left p.right p.adds_empty

@@ -1,7 +1,0 @@
-use Rattle.std.proofs.Common.{refl}
-use Rattle.mc_simple.proofs.Phrases.{then_same}
-use Rattle.mc_body.proofs.Beginnings.{next_same}
-use Rattle.mc_body.proofs.begin.begin_condition.Goals as goal
-
-pub returns : goal.returns
-returns c = (refl, λ aliases. rw c.in_ok-inner.ensures.ok (next_same (then_same c.new-fresh.ensures)))

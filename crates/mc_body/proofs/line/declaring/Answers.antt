@@ -1,5 +1,0 @@
-use Rattle.mc_simple.proofs.Phrases.{then_same}
-use Rattle.mc_body.proofs.line.declaring.Goals as goal
-
-pub returns : goal.returns
-returns c = λ aliases. rw c.in_ok-reader.ensures.ok (then_same (c.behind_base-fresh.ensures aliases))

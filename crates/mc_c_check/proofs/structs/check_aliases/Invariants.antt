@@ -1,0 +1,10 @@
+use Rattle.std.proofs.Common.{◌≡◌, flat_map, drop}
+use Rattle.mc_c_syntax.specs.Ast.Views.{aliased_of}
+use Rattle.mc_c_types.specs.Faults.{alias_faults, aliased_base}
+use Rattle.mc_c_types.specs.First.{told_of}
+use Rattle.mc_c_types.specs.Held.{tables_held}
+use Rattle.mc_c_check.proofs.structs.check_aliases.Given as goal
+
+abbrev pub invariant-loop-declarator : goal.invariant-loop-declarator
+invariant-loop-declarator l =
+    told_of l.told.fault (flat_map (alias_faults (tables_held l.tables) (aliased_base (aliased_of l.aliased))) (drop l.declarator-index l.declarators)) ≡ told_of l.initial.told.fault (flat_map (alias_faults (tables_held l.tables) (aliased_base (aliased_of l.aliased))) l.declarators)

@@ -1,0 +1,4 @@
+pub mod NumbersLemmas
+pub mod PlacesLemmas
+pub mod PrintedLemmas
+pub mod SpellingLemmas

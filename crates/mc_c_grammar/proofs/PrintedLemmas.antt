@@ -1,0 +1,15 @@
+pub mod Lexing
+pub mod Alike
+pub mod AlikeExpressions
+pub mod AlikeConditions
+pub mod AlikeSimples
+pub mod AlikeStatements
+pub mod AlikeUnits
+pub mod Spelled
+pub mod SpelledExpressions
+pub mod SpelledSimples
+pub mod SpelledStatements
+pub mod SpelledUnits
+pub mod Lexed
+pub mod Printed
+pub mod SameWords

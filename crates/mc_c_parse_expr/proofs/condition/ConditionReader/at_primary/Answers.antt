@@ -1,0 +1,23 @@
+use Rattle.std.proofs.Common.{subst}
+use Rattle.mc_c_syntax.specs.Ast.Trees.{plain}
+use Rattle.mc_c_parse_expr.specs.declared.primary.PrimaryStep.{PrimaryStep}
+use Rattle.mc_c_parse_expr.specs.Primaries.{CompletesPrimary, StepsPrimary, primary_marks}
+use Rattle.mc_c_parse_expr.specs.Conditions.{Joins, BehindCondition, condition_marks}
+use Rattle.mc_c_parse_expr.proofs.Turns.{turn_takes, turn_closes, turn_finds}
+use Rattle.mc_c_parse_expr.proofs.Conditions.{primary_ends_at, steps_same}
+use Rattle.mc_c_parse_expr.proofs.condition.ConditionReader.at_primary.Goals as goal
+
+pub returns-in-Taken : goal.returns-in-Taken
+returns-in-Taken c =
+    let P : PrimaryStep → Type 0 = StepsPrimary (CompletesPrimary c.args.primary) c.args.token.now in
+    turn_takes primary_marks condition_marks (CompletesPrimary c.args.primary) (CompletesPrimary c.in-Taken.primary) (λ e. Joins c.args.self.now.pending (plain e) (BehindCondition c.args.self.now.groups)) c.args.token.now (subst P c.in-Taken.is c.in_ok-primary.ensures) (primary_ends_at c.args.self.now.groups c.args.self.now.pending c.args.token.now)
+
+pub returns-in-Closed : goal.returns-in-Closed
+returns-in-Closed c =
+    let P : PrimaryStep → Type 0 = StepsPrimary (CompletesPrimary c.args.primary) c.args.token.now in
+    turn_closes (subst P c.in-Closed.is c.in_ok-primary.ensures)
+
+pub returns-in_ok-step-in-Found : goal.returns-in_ok-step-in-Found
+returns-in_ok-step-in-Found c =
+    let P : PrimaryStep → Type 0 = StepsPrimary (CompletesPrimary c.args.primary) c.args.token.now in
+    steps_same _ _ (turn_finds (subst P c.in-Found.is c.in_ok-primary.ensures)) c.in_ok-step-in-Found.ensures

@@ -1,0 +1,13 @@
+use Rattle.mc_c_parse_simple.proofs.Phrases.{then_moves, then_closes, then_stuck}
+use Rattle.mc_c_parse_simple.specs.Sizes.{CompletesSize, IsSizeStep}
+use Rattle.std.proofs.Common.{subst}
+use Rattle.mc_c_parse_simple.proofs.allocation.in_size.Goals as goal
+
+pub returns-in-Taken : goal.returns-in-Taken
+returns-in-Taken c = λ aliases e. then_moves (subst (λ s. IsSizeStep aliases (CompletesSize aliases c.args.size) c.args.token.now s) c.in-Taken.is (c.in_ok-size.ensures aliases e))
+
+pub returns-in-Closed : goal.returns-in-Closed
+returns-in-Closed c = λ aliases e. then_closes (subst (λ s. IsSizeStep aliases (CompletesSize aliases c.args.size) c.args.token.now s) c.in-Closed.is (c.in_ok-size.ensures aliases e))
+
+pub returns-in-Stuck : goal.returns-in-Stuck
+returns-in-Stuck c = λ aliases e. then_stuck (subst (λ s. IsSizeStep aliases (CompletesSize aliases c.args.size) c.args.token.now s) c.in-Stuck.is (c.in_ok-size.ensures aliases e))

@@ -1,0 +1,4 @@
+pub mod AstLemmas
+pub mod LexLemmas
+pub mod NamesLemmas
+pub mod VisibleLemmas

@@ -1,0 +1,4 @@
+pub mod Ast
+pub mod Lex
+pub mod Names
+pub mod Visible

@@ -1,7 +1,0 @@
-use Rattle.mc_canon.specs.Order.{Added}
-use Rattle.mc_canon.specs.Gaps.{PairsGiveOf}
-use Rattle.mc_canon.proofs.Lists.{Below}
-use Rattle.mc_canon.proofs.gaps.put_pairs.Given as goal
-
-abbrev pub invariant-loop-i : goal.invariant-loop-i
-invariant-loop-i l = Added (Below (PairsGiveOf l.pure l.left.lost l.starts l.inside l.nodes) l.i) l.initial.list.items l.list.items

@@ -1,7 +1,0 @@
-use Rattle.std.proofs.Common.{◌≡◌, ◌≢◌, ℕ, ◌<◌, slice_get, Some, pos}
-use Rattle.mc_base.specs.declared.ids.NodeId.{NodeId}
-use Rattle.mc_canon.specs.Gaps.{ArePair, IsMoved}
-use Rattle.mc_canon.proofs.gaps.start_gives.Given as goal
-
-abbrev pub invariant-loop-j : goal.invariant-loop-j
-invariant-loop-j l = (j : ℕ) (x y : NodeId) → j < l.j → ArePair l.starts l.i j x y → IsMoved l.pure x y (pos 0) l.gap → ⊥

@@ -1,6 +1,0 @@
-use Rattle.std.proofs.Common.{ℕ, ◌<◌}
-use Rattle.mc_canon.specs.Gaps.{StartGives}
-use Rattle.mc_canon.proofs.gaps.starts_give.Given as goal
-
-abbrev pub invariant-loop-i : goal.invariant-loop-i
-invariant-loop-i l = (i : ℕ) → i < l.i → StartGives l.pure l.starts l.gap i → ⊥

@@ -1,8 +1,0 @@
-use Rattle.mc_canon.proofs.Lists.{put_added}
-use Rattle.mc_canon.proofs.order.put_in.Goals as goal
-
-pub returns-in_ok-insert-in-At : goal.returns-in_ok-insert-in-At
-returns-in_ok-insert-in-At c =
-    let k = rw c.deref.ensures.value at c.in-At.ensures in
-    let e = c.in_ok-insert-in-At.ensures.items in
-    rw e (put_added c.args.list.now.items c.in-At.place c.args.atom k.0 k.1 k.2)

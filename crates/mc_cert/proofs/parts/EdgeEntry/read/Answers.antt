@@ -1,6 +1,0 @@
-use Rattle.serde_json.specs.View.{view}
-use Rattle.mc_cert.proofs.PartForms.{no_edge}
-use Rattle.mc_cert.proofs.parts.EdgeEntry.read.Goals as goal
-
-pub returns-in-None : goal.returns-in-None
-returns-in-None c = λ y fits. no_edge (view c.args.value.now) c.in-None.ensures y

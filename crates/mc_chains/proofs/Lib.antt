@@ -1,6 +1,0 @@
-mod Final
-mod Assertion
-mod Places
-mod Judging
-mod AnewMade
-mod NewStates

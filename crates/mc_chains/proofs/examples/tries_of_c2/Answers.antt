@@ -1,9 +1,0 @@
-use Rattle.std.proofs.Common.{refl}
-use Rattle.mc_search.specs.Search.{options, tries}
-use Rattle.mc_state.specs.Known.{has_kind}
-use Rattle.mc_fold.specs.ChangeJudges.{is_there}
-use Rattle.mc_chains.proofs.examples.tries_of_c2.Goals as goal
-
-pub returns : goal.returns
-unfolding options tries has_kind is_there
-returns c = record { opened = λ k. refl; too_early = λ k. refl; no_tries = λ k. refl; wrong = λ k. refl; done = λ k. refl }

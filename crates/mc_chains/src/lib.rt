@@ -1,9 +1,0 @@
-//! Chains of passes: lines that change the states of cuts, legal chains, and what is said of them. There is no code
-//! here; each law is what a function with no body ensures.
-#![tactic(auto)]
-
-mod examples;
-mod laws;
-
-pub use examples::{assertion_alarms, joins_of_c3, tries_of_c2};
-pub use laws::{changes_are_judged, final_chains_find_faults, numbering_makes_well};

@@ -1,0 +1,4 @@
+pub mod Answered
+pub mod Forms
+pub mod Gaps
+pub mod JumpLemmas

@@ -1,0 +1,6 @@
+use Rattle.std.proofs.Common.{◌≡◌, ◌++◌, map, take}
+use Rattle.mc_cover.specs.declared.goals.Mark.TheVariants.{BySeg}
+use Rattle.mc_cover.proofs.search.listing.push_segs.Given as goal
+
+abbrev pub invariant-loop-id : goal.invariant-loop-id
+invariant-loop-id l = l.all.items ≡ l.fn.all.items ++ map BySeg (take l.id-index l.ids)

@@ -1,6 +1,0 @@
-use Rattle.std.proofs.Common.{◌≡◌, drop}
-use Rattle.mc_covering.specs.Terms.{all_near}
-use Rattle.mc_covering.proofs.names.all_near.Given as goal
-
-abbrev pub invariant-loop-term : goal.invariant-loop-term
-invariant-loop-term l = all_near l.terms ≡ all_near (drop l.term-index l.terms)

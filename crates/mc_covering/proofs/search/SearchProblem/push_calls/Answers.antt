@@ -1,8 +1,0 @@
-use Rattle.mc_covering.proofs.Asked.{settled}
-use Rattle.mc_covering.proofs.Pushed.{pushed_goals}
-use Rattle.mc_covering.proofs.search.SearchProblem.push_calls.Goals as goal
-
-pub returns-clause-pushed : goal.returns-clause-pushed
-returns-clause-pushed c =
-    let own = c.args.self.now.told in
-    pushed_goals _ _ c.args.cells.now.items _ c.args.rest c.in_ok-top.top (c.in_ok-top.ensures own.0 (settled c.args.self.now.state.now c.is_told.ensures own.0 own.1))

@@ -1,0 +1,5 @@
+use Rattle.std.proofs.Common.{◌≡◌, take, map}
+use Rattle.mc_def_read.proofs.judged.kinds_of.Given as goal
+
+abbrev pub invariant-loop-param : goal.invariant-loop-param
+invariant-loop-param l = l.kinds ≡ map (λ p. p.kind) (take l.param-index l.params)

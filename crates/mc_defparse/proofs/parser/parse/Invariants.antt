@@ -1,7 +1,0 @@
-use Rattle.std.proofs.Common.{take}
-use Rattle.mc_defparse.specs.Files.{CompletesFile}
-use Rattle.mc_defparse.proofs.WholeLemmas.{Behind}
-use Rattle.mc_defparse.proofs.parser.parse.Given as goal
-
-abbrev pub invariant-loop-token : goal.invariant-loop-token
-invariant-loop-token l = Behind (take l.token-index l.tokens) (CompletesFile l.reader)

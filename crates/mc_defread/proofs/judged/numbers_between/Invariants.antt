@@ -1,6 +1,0 @@
-use Rattle.std.proofs.Common.{◌≡◌}
-use Rattle.mc_defs.specs.Conditions.{numbers_from}
-use Rattle.mc_defread.proofs.judged.numbers_between.Given as goal
-
-abbrev pub invariant-loop-i : goal.invariant-loop-i
-invariant-loop-i l = l.numbers ≡ numbers_from l.first l.i

@@ -1,6 +1,0 @@
-use Rattle.mc_defs.proofs.SmallHeaps.{null_list, two_list, two_long, two_tree}
-use Rattle.mc_defs.proofs.NotHere as proof
-use Rattle.mc_defs.proofs.examples.example_predicates.Goals as goal
-
-pub returns : goal.returns
-returns c = record { empty_list = null_list; two_cells = two_list; length_two = two_long; no_length_three = proof.no_three; tree = two_tree; no_tree = proof.no_tree }

@@ -1,8 +1,0 @@
-use Rattle.std.proofs.Common.{◌≡◌, length, ◌+◌}
-use Rattle.std.specs.Prelude.{drop, ◌↔◌}
-use Rattle.mc_defs.specs.Conditions.{numbers_from}
-use Rattle.mc_defs.proofs.fits.are_consecutive.Given as goal
-
-abbrev pub invariant-loop-i : goal.invariant-loop-i
-invariant-loop-i l =
-    (l.numbers ≡ numbers_from l.first (length l.numbers)) ↔ (drop l.i l.numbers ≡ numbers_from (l.first + l.i) (length (drop l.i l.numbers)))

@@ -1,7 +1,0 @@
-use Rattle.std.proofs.Common.{◌≡◌, length}
-use Rattle.std.specs.Prelude.{drop, ◌↔◌}
-use Rattle.mc_defs.specs.Conditions.{ArgsFit}
-use Rattle.mc_defs.proofs.fits.args_fit.Given as goal
-
-abbrev pub invariant-loop-i : goal.invariant-loop-i
-invariant-loop-i l = (length l.args ≡ length l.params) × (ArgsFit l.names l.args l.params ↔ ArgsFit l.names (drop l.i l.args) (drop l.i l.params))

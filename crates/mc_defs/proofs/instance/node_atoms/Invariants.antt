@@ -1,6 +1,0 @@
-use Rattle.std.proofs.Common.{◌≡◌, map, take}
-use Rattle.mc_defs.specs.Instances.{atom_of}
-use Rattle.mc_defs.proofs.instance.node_atoms.Given as goal
-
-abbrev pub invariant-loop-atom : goal.invariant-loop-atom
-invariant-loop-atom l = l.made ≡ map (atom_of l.names) (take l.atom-index l.atoms)

@@ -1,5 +1,0 @@
-use Rattle.mc_defs.proofs.Heights.{sat_is_monotone, seg_is_monotone}
-use Rattle.mc_defs.proofs.laws.heights_grow.Goals as goal
-
-pub returns : goal.returns
-returns c = record { predicates = sat_is_monotone; segments = seg_is_monotone }

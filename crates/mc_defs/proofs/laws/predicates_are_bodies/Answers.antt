@@ -1,5 +1,0 @@
-use Rattle.mc_defs.proofs.Heights.{sat_unfolds, sat_folds}
-use Rattle.mc_defs.proofs.laws.predicates_are_bodies.Goals as goal
-
-pub returns : goal.returns
-returns c = record { unfolds = sat_unfolds; folds = sat_folds }

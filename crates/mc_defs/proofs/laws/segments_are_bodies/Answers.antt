@@ -1,5 +1,0 @@
-use Rattle.mc_defs.proofs.Segments.{seg_begins, seg_of_body}
-use Rattle.mc_defs.proofs.laws.segments_are_bodies.Goals as goal
-
-pub returns : goal.returns
-returns c = record { begins = seg_begins; of_body = seg_of_body }

@@ -1,5 +1,0 @@
-use Rattle.mc_defs.proofs.Segments.{seg_then_sat, seg_then_seg}
-use Rattle.mc_defs.proofs.laws.segments_join.Goals as goal
-
-pub returns : goal.returns
-returns c = record { predicate = seg_then_sat; segment = seg_then_seg }

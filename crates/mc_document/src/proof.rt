@@ -1,0 +1,13 @@
+//! The open document of a certificate or a chain, to which lines are applied one after the other.
+
+mod beginning;
+mod fault;
+mod first;
+mod places;
+mod proof;
+mod stack;
+mod stage;
+
+pub use fault::{ApplyFault, Complete};
+pub use mc_check_line::Branch;
+pub use proof::Proof;

@@ -1,8 +1,0 @@
-use Rattle.mc_examples.proofs.Jumping as jump
-use Rattle.mc_examples.proofs.jumps.example_of_jump.Goals as goal
-
-pub returns : goal.returns
-returns c =
-    let truth = c.derived_is_true.ensures.derived in
-    let sound = c.derived_is_true.ensures.not_false in
-    jump.jumps truth sound

@@ -1,5 +1,0 @@
-use Rattle.mc_expression.proofs.ConditionStarts.{condition_same}
-use Rattle.mc_expression.proofs.condition.ConditionReader.new.Goals as goal
-
-pub returns : goal.returns
-returns c = condition_same _ _ c.new.ensures c.fresh.ensures

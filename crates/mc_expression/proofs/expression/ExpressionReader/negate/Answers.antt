@@ -1,5 +1,0 @@
-use Rattle.mc_expression.proofs.Operands.{negate_moves}
-use Rattle.mc_expression.proofs.expression.ExpressionReader.negate.Goals as goal
-
-pub returns : goal.returns
-returns c = negate_moves c.args.self.now.groups c.args.self.now.pending _ c.args.token.now c.requires c.in_ok-push.ensures

@@ -1,9 +1,0 @@
-use Rattle.std.proofs.Common.{◌≡◌, ◌∙◌, ◌∷◌, subst}
-use Rattle.mc_expression.specs.declared.expression.Pending.{Pending}
-use Rattle.mc_expression.proofs.Operands.{open_moves}
-use Rattle.mc_expression.proofs.expression.ExpressionReader.open_group.Goals as goal
-
-pub returns : goal.returns
-returns c =
-    let P : Pending → Type 0 = λ p. c.push.new.self ≡ record { place = c.args.token.now.place; outer = p } ∷ c.args.self.now.groups in
-    open_moves c.args.self.now.groups _ c.args.self.now.pending _ c.args.token.now c.requires (subst P c.replace-outer.ensures.value c.in_ok-push.ensures) (c.replace-outer.ensures.after ∙ c.fresh.ensures)

@@ -1,0 +1,21 @@
+use Rattle.std.proofs.Common.{rules, ◌≡◌, List, subst}
+use Rattle.mc_lines.specs.declared.cert.line.Line.{Line}
+use Rattle.mc_lines.specs.Written.Written.{IsWritten}
+use Rattle.mc_find.proofs.AnalysisLemmas.Spelled.{spelled}
+use Rattle.mc_find.proofs.analysis.finding.alarming.Goals as goal
+
+pub returns : goal.returns
+returns c =
+    let chain = c.args.chain in
+    let text = c.in_ok-document.document.items in
+    let same : c.as_slice.result.now ≡ c.args.chain.lines.items = search rules in
+    let written = subst (λ (lines : List Line). IsWritten lines text) same c.in_ok-document.ensures in
+    record {
+      lines = chain.lines.items;
+      stuck = c.requires.chain.stuck;
+      spelled = spelled chain.lines.items text written;
+      chain = c.requires.chain.chain;
+      report = c.requires.chain.report;
+      counted = c.requires.chain.counted;
+      some = c.requires.some;
+    }

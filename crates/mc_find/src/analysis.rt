@@ -1,0 +1,7 @@
+//! What can be found of a flow graph: a certificate that nothing fails, or where something may.
+
+mod analysis;
+mod finding;
+
+pub use analysis::{Analysis, Findings};
+pub use finding::analyse;

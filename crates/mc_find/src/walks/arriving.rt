@@ -1,0 +1,204 @@
+// Branches that come to a cut.
+use crate::matching::{Step, Trail, shrink};
+use crate::walks::Attempt;
+use crate::walks::heads::{Head, atoms_at, joint_atoms};
+use crate::walks::walking::Way;
+use mc_base::{EdgeId, Items, NoMemory, NodeId, PointId};
+use mc_check_line::jump::fits;
+use mc_find_view::sight::{Seen, look};
+use mc_lines::cert::Line;
+use mc_symbolic::State;
+
+/// Where a branch lands: the head, the images of its nodes and the edges for its edges, and how the walk goes on.
+#[derive(Drop)]
+pub struct Landing {
+    pub head: usize,
+    pub images: Vec<NodeId>,
+    pub edges: Vec<EdgeId>,
+    pub way: Way,
+}
+
+impl Attempt<'_> {
+    /// The head with the shape of what was seen.
+    fn head_like(&self, cut: PointId, seen: &Seen) -> Option<usize> {
+        for (place, head) in self.heads.as_slice().iter().enumerate() {
+            if head.has_shape(cut, seen) {
+                return Some(place);
+            }
+        }
+        None
+    }
+
+    /// How many heads a cut has.
+    fn heads_at(&self, cut: PointId) -> usize {
+        let mut count = 0usize;
+        for head in self.heads.as_slice() {
+            if head.cut == cut && !head.is_dropped {
+                count = count.saturating_add(1);
+            }
+        }
+        count
+    }
+
+    /// A new head of what was seen.
+    fn add_head(&mut self, cut: PointId, state: &State, seen: Seen) -> Result<Way, NoMemory> {
+        if self.heads_at(cut) >= self.limits.keys {
+            return Ok(Way::Crowded(cut));
+        }
+        let Some(atoms) = atoms_at(self.alloc, state.known(), seen.images.as_slice())? else {
+            return Ok(Way::Stuck);
+        };
+        let mut raw = seen.raw;
+        raw.atoms = Items::of(atoms);
+        let Some(made) = self.paths.state_of(&raw)? else {
+            return Ok(Way::Stuck);
+        };
+        self.heads.push(Head {
+            cut,
+            raw,
+            state: made,
+            flags: seen.flags,
+            round: 1,
+            lines: Vec::new(self.alloc),
+            is_stale: true,
+            is_dropped: false,
+        })?;
+        if self.step_at(cut) == Step::Match {
+            return self.absorb(cut);
+        }
+        Ok(Way::On)
+    }
+
+    /// Joins what is known at an arrival into a head.
+    fn join_into(
+        &mut self,
+        place: usize,
+        state: &State,
+        images: &[NodeId],
+    ) -> Result<Way, NoMemory> {
+        let Some(head) = self.heads.get_mut(place) else {
+            return Ok(Way::Stuck);
+        };
+        head.round = head.round.saturating_add(1);
+        let known = state.known();
+        let thresholds = self.paths.thresholds();
+        let joint = joint_atoms(
+            self.alloc,
+            thresholds,
+            &head.state,
+            known,
+            images,
+            head.round,
+        )?;
+        let Some(atoms) = joint else {
+            return Ok(Way::Stuck);
+        };
+        head.raw.atoms = Items::of(atoms);
+        let Some(made) = self.paths.state_of(&head.raw)? else {
+            return Ok(Way::Stuck);
+        };
+        head.state = made;
+        head.is_stale = true;
+        Ok(Way::On)
+    }
+
+    /// Lets a head take an arrival of its shape.
+    pub fn meet_head(
+        &mut self,
+        place: usize,
+        state: &State,
+        images: &[NodeId],
+        edges: &[EdgeId],
+    ) -> Result<Way, NoMemory> {
+        let unmet = match self.heads.as_slice().get(place) {
+            Some(head) => fits(state, &head.state, images, edges),
+            None => return Ok(Way::Stuck),
+        };
+        match unmet {
+            None => Ok(Way::On),
+            Some(8) => self.join_into(place, state, images),
+            Some(_) => Ok(Way::Stuck),
+        }
+    }
+
+    /// Counts what folding a state takes, as so many lines more; whether that is left.
+    fn charge(&mut self, state: &State) -> bool {
+        let edges = state.edges().len() as u64;
+        let work = edges.saturating_mul(edges).saturating_mul(edges) / 64;
+        self.left = self.left.saturating_sub(work);
+        self.left > 0
+    }
+
+    /// Lands at a head.
+    fn land_any(
+        &mut self,
+        cut: PointId,
+        trail: &mut Trail<'_>,
+    ) -> Result<Option<Landing>, NoMemory> {
+        let Some(state) = trail.state() else {
+            return Ok(None);
+        };
+        let seen = look(self.alloc, self.task.sight, state, cut)?;
+        if let Some(place) = self.head_like(cut, &seen) {
+            return Ok(Some(self.land(place, state, seen)?));
+        }
+        if let Some(landing) = self.fit_head(cut, &seen, trail)? {
+            return Ok(Some(landing));
+        }
+        match trail.state() {
+            Some(state) => Ok(Some(self.land_new(cut, state, seen)?)),
+            None => Ok(None),
+        }
+    }
+
+    /// Ends the first branch, which has come to a cut: its state is folded, and a head takes it.
+    pub fn arrive(&mut self, cut: PointId, lines: &mut Vec<Line>) -> Result<Way, NoMemory> {
+        let mut trail = Trail::new(self.alloc, self.paths.split()?);
+        match trail.state() {
+            Some(state) => {
+                if !self.charge(state) {
+                    return Ok(Way::TooLong);
+                }
+            }
+            None => return Ok(Way::Stuck),
+        }
+        shrink(self.alloc, self.manner(cut), cut, &mut trail)?;
+        let Some(landing) = self.land_any(cut, &mut trail)? else {
+            return Ok(Way::Stuck);
+        };
+        trail.hand_over(lines)?;
+        lines.push(Line::L13(
+            landing.head as u64,
+            Items::of(landing.images),
+            Items::of(landing.edges),
+        ))?;
+        Ok(landing.way)
+    }
+
+    /// Lands at a head of the same shape.
+    fn land(&mut self, head: usize, state: &State, seen: Seen) -> Result<Landing, NoMemory> {
+        let images = seen.images;
+        let edges = seen.edges;
+        let way = self.meet_head(head, state, images.as_slice(), edges.as_slice())?;
+        Ok(Landing {
+            head,
+            images,
+            edges,
+            way,
+        })
+    }
+
+    /// Lands at a new head.
+    fn land_new(&mut self, cut: PointId, state: &State, seen: Seen) -> Result<Landing, NoMemory> {
+        let images = Vec::from_slice(self.alloc, seen.images.as_slice())?;
+        let edges = Vec::from_slice(self.alloc, seen.edges.as_slice())?;
+        let head = self.heads.len();
+        let way = self.add_head(cut, state, seen)?;
+        Ok(Landing {
+            head,
+            images,
+            edges,
+            way,
+        })
+    }
+}

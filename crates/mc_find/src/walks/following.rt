@@ -1,0 +1,43 @@
+// The next line of a branch that follows the program.
+use crate::matching::Branch;
+use crate::walks::Attempt;
+use mc_base::NoMemory;
+use mc_find_paths::next::{accessed, at_end, at_start, instance};
+use mc_flow::Instr;
+use mc_lines::cert::Line;
+
+impl Attempt<'_> {
+    /// The line that unfolds an edge which starts at the node that is accessed.
+    fn unfolding(&self, branch: &Branch, code: &Instr) -> Option<Line> {
+        match accessed(&branch.state, code) {
+            Some(node) => at_start(&branch.state, node),
+            None => None,
+        }
+    }
+
+    /// The line that unfolds a segment from its end where the node is accessed.
+    fn unfolding_back(&self, branch: &Branch, code: &Instr) -> Option<Line> {
+        match accessed(&branch.state, code) {
+            Some(node) => at_end(&branch.state, self.task.sight.defs, node),
+            None => None,
+        }
+    }
+
+    /// The next line of a branch by its instruction: what is accessed is unfolded first, from each start and from each end,
+    /// also where a block is there, since two at one node can't be. None where the instruction lacks something.
+    pub fn next_by_code(&self, branch: &Branch) -> Result<Option<Line>, NoMemory> {
+        let Some(code) = self.paths.code() else {
+            return Ok(None);
+        };
+        if let Some(line) = self.unfolding(branch, code) {
+            return Ok(Some(line));
+        }
+        if self.paths.lacks()? {
+            return Ok(None);
+        }
+        match self.unfolding_back(branch, code) {
+            Some(line) => Ok(Some(line)),
+            None => Ok(instance(&branch.state, code)),
+        }
+    }
+}

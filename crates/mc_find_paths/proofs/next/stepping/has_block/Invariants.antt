@@ -1,0 +1,10 @@
+use Rattle.std.proofs.Common.{◌≡◌, drop}
+use Rattle.std.specs.List.{list_any}
+use Rattle.mc_state.specs.Known.{Test, Tells}
+use Rattle.mc_rules_steps.specs.Judges.{is_block_at}
+use Rattle.mc_find_paths.proofs.next.stepping.has_block.Given as goal
+
+abbrev pub invariant-loop-edge : goal.invariant-loop-edge
+invariant-loop-edge l =
+    (know : Test) → Tells know l.state
+    → list_any (is_block_at know l.node) (drop l.edge-index l.state.graph.edges) ≡ list_any (is_block_at know l.node) l.state.graph.edges

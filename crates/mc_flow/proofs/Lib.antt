@@ -1,0 +1,2 @@
+pub mod DefsLemmas
+pub mod HeapLemmas

@@ -1,6 +1,0 @@
-use Rattle.mc_fold.proofs.Determined.{spare_determined, merge_determined, drop_determined}
-use Rattle.mc_fold.proofs.WrittenOnce.{forget_determined}
-use Rattle.mc_fold.proofs.laws.naming_is_determined.Goals as goal
-
-pub returns : goal.returns
-returns c = record { spare = spare_determined; merge = merge_determined; drop_edge = drop_determined; forget = forget_determined }

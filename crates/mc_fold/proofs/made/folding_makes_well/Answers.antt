@@ -1,5 +1,0 @@
-use Rattle.mc_fold.proofs.MadeEdges.{fold_ind_made, fold_seg_made}
-use Rattle.mc_fold.proofs.made.folding_makes_well.Goals as goal
-
-pub returns : goal.returns
-returns c = record { ind = fold_ind_made c.folding_is_sound.ensures.ind; seg = fold_seg_made c.folding_is_sound.ensures.seg }

@@ -1,6 +1,0 @@
-use Rattle.std.proofs.Common.{◌+◌}
-use Rattle.mc_folding.proofs.Lists.{rest_whole}
-use Rattle.mc_folding.proofs.calls.behind.Goals as goal
-
-pub returns : goal.returns
-returns c = rest_whole c.args.calls.now (c.args.place + 1)

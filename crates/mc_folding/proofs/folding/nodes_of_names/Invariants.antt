@@ -1,6 +1,0 @@
-use Rattle.std.proofs.Common.{◌≡◌, ◌++◌, drop, map}
-use Rattle.mc_defs.specs.Instances.{node_of}
-use Rattle.mc_folding.proofs.folding.nodes_of_names.Given as goal
-
-abbrev pub invariant-loop-name : goal.invariant-loop-name
-invariant-loop-name l = l.args ++ map (node_of l.nodes) (drop l.name-index l.names) ≡ map (node_of l.nodes) l.names

@@ -1,0 +1,3 @@
+pub mod AlarmsLemmas
+pub mod EndingLemmas
+pub mod ReportLemmas

@@ -1,0 +1,43 @@
+use Rattle.std.proofs.Common.{◌≡◌, ◌+◌, ◌∙◌, ℕ, true, ap, refl, sym, subst}
+use Rattle.std.specs.Prelude.{Err}
+use Rattle.mc_document.specs.declared.proof.fault.ApplyFault.{ApplyFault}
+use Rattle.mc_document.specs.Proof.Positions.{Applies}
+use Rattle.mc_follow.specs.Alarms.Walks.{goes_on}
+use Rattle.mc_follow.proofs.AlarmsLemmas.Followed.{goes_further, refused_nowhere, refused_stays, same_followed, turns}
+use Rattle.mc_follow.proofs.AlarmsLemmas.Going.{goes_by_rule}
+use Rattle.mc_follow.proofs.alarms.walk.Walk.apply.Goals as goal
+
+pub returns-in-Ok-clause-follows : goal.returns-in-Ok-clause-follows
+returns-in-Ok-clause-follows c =
+    let flow = c.args.flow.now in
+    let defs = c.args.defs.now in
+    let old = c.args.self.now in
+    let goes : goes_on c.args.line ≡ true = sym c.goes_on.ensures ∙ c.if-not-goes_on.false in
+    same_followed flow defs _ c.push.new.self.items c.apply.new.self old.text.items old.text.items c.in_ok-ended.ended
+    c.in_ok-push-in-Ok.ensures.items refl
+    (goes_further c.documents_are_followed.ensures flow defs c.requires.followed.valid c.branches_are_followed.ensures old.lines.items c.args.line old.proof c.apply.new.self old.text.items
+    old.ended c.in_ok-ended.ended goes c.requires.may c.requires.followed c.in-Ok.ensures
+    (c.in_ok-ended.ensures ∙ ap (λ (n : ℕ). old.ended + n) c.ending.ensures))
+
+pub returns-in-Err-Premise-clause-follows : goal.returns-in-Err-Premise-clause-follows
+returns-in-Err-Premise-clause-follows c =
+    let old = c.args.self.now in
+    let told = subst (λ (f : ApplyFault). Applies c.args.line old.proof c.apply.new.self (Err f)) c.in-Err-Premise.field-0-is c.in-Err-Premise.ensures in
+    refused_stays c.args.flow.now c.args.defs.now old.lines.items old.proof c.apply.new.self old.text.items old.ended told.1 c.requires.followed
+
+pub returns-in-Err-Premise-clause-refused : goal.returns-in-Err-Premise-clause-refused
+returns-in-Err-Premise-clause-refused c = λ e.
+    let old = c.args.self.now in
+    let told = subst (λ (f : ApplyFault). Applies c.args.line old.proof c.apply.new.self (Err f)) c.in-Err-Premise.field-0-is c.in-Err-Premise.ensures in (
+      told.1,
+      λ goes.
+          refused_nowhere c.documents_are_followed.ensures c.args.flow.now c.args.defs.now old.lines.items old.proof old.text.items old.ended c.requires.followed
+          c.args.line _ (goes_by_rule c.args.line goes) told.0,
+    )
+
+pub returns-in-Ok-clause-turned : goal.returns-in-Ok-clause-turned
+returns-in-Ok-clause-turned c = λ e.
+    let old = c.args.self.now in
+    let goes : goes_on c.args.line ≡ true = sym c.goes_on.ensures ∙ c.if-not-goes_on.false in
+    turns c.documents_are_followed.ensures c.args.flow.now c.args.defs.now c.requires.followed.valid old.lines.items c.args.line old.proof c.apply.new.self old.text.items
+    old.ended (goes_by_rule c.args.line goes) c.requires.followed c.in-Ok.ensures

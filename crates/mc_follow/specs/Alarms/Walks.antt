@@ -1,0 +1,187 @@
+-- A chain that is being written.
+use Rattle.std.specs.Prelude.{◌≡◌, ◌+◌, ℕ, Bool, true, false, List, [], ◌∷◌, ◌++◌, Option, Some, None, Ok, map, option_and_then}
+use Rattle.std.specs.List.{AllByRecursion}
+use Rattle.mc_base.specs.declared.plain.Kind.TheVariants.{Ptr}
+use Rattle.mc_lines.specs.declared.cert.line.Line.{Line}
+use Rattle.mc_lines.specs.declared.cert.line.Line.TheVariants as line
+use Rattle.mc_flow.specs.declared.defs.rules.Def.{Def}
+use Rattle.mc_flow.specs.declared.graph.Flow.{Flow}
+use Rattle.mc_flow.specs.Valid.{IsValid}
+use Rattle.mc_state.specs.Graph.Graph.{Edges}
+use Rattle.mc_pure.specs.Pure.{HasKind}
+use Rattle.mc_state.specs.declared.line.Form.TheVariants.{Chain}
+use Rattle.mc_state.specs.declared.line.Version.TheVariants.{One}
+use Rattle.mc_state.specs.declared.raw_state.RawState.{RawState}
+use Rattle.mc_state.specs.Covers.{Cover}
+use Rattle.mc_state.specs.Facts.{IsFalse}
+use Rattle.mc_state.specs.Fits.{ArgsFit}
+use Rattle.mc_state.specs.State.{State}
+use Rattle.mc_state.specs.Terms.{plain}
+use Rattle.mc_kernel.specs.Branches.{IsPlain, Path}
+use Rattle.mc_kernel.specs.Instances.{IsInstance}
+use Rattle.mc_kernel.specs.Judges.{Knowledge}
+use Rattle.mc_kernel.specs.Readings.{Reading, ruling}
+use Rattle.mc_kernel.specs.Reading.Documents.{IsJudge, reading_document}
+use Rattle.mc_state.specs.Known.{Test, Tells}
+use Rattle.mc_kernel.specs.Progress.Asked.{at_code, false_or_null}
+use Rattle.mc_kernel.specs.Progress.Progress.{IsInside, advances}
+use Rattle.mc_document.specs.Proof.Lines.{setting_at}
+use Rattle.mc_document.specs.Proof.Positions.{Position, Stands}
+use Rattle.mc_follow.specs.Report.Report.{AreAlarmLines}
+use Rattle.mc_state.specs.declared.goal.Goal.{Goal}
+use Rattle.mc_rules_steps.specs.declared.gap.Gap.{Gap}
+use Rattle.mc_rules_steps.specs.Operands.{code_at}
+use Rattle.mc_rules_steps.specs.Unmet.{IsUnmet}
+use Rattle.mc_follow.specs.declared.alarms.following.Act.{Act}
+use Rattle.mc_follow.specs.declared.alarms.following.Act.TheVariants.{Apply, EndSide, Code, Rest}
+use Rattle.mc_follow.specs.declared.alarms.walk.Walk.{Walk}
+
+-- the line is one of a rule that ends no branch as stuck
+abbrev pub goes_on : Line → Bool
+goes_on (line.Header version form) = false
+goes_on (line.Cut p) = false
+goes_on (line.Head p raw) = false
+goes_on line.Pass = false
+goes_on line.End = false
+goes_on line.C1 = false
+goes_on other = true
+
+-- how many branches a line ends, whatever rules a predicate has
+abbrev pub ending : Line → ℕ
+ending line.S17 = 1
+ending line.L12 = 1
+ending (line.L13 j images edges) = 1
+ending (line.L14 edge) = 1
+ending line.C1 = 1
+ending other = 0
+
+-- how many branches are ended by lines
+abbrev pub ended_by : List Line → ℕ
+ended_by [] = 0
+ended_by (l ∷ lines) = ending l + ended_by lines
+
+-- each branch is at a point of the flow graph, and none is closing
+abbrev pub AreOpen : Flow → List Path → Type 0
+AreOpen flow branches = AllByRecursion (λ b. IsInside flow b × (b.closing ≡ false)) branches
+
+-- ---- side branches
+
+-- a side branch's goal fits its state, and has a cover there unless the state is false
+pub record IsCovered (defs : List Def) (s : State) (goal : Goal) : Type 0 where
+  pub at : HasKind s.kinds Ptr goal.at
+  pub args : ArgsFit defs s.kinds goal.pred goal.args
+  pub cover : (IsFalse s → ⊥) → (left : Edges) × Cover defs s goal.pred (plain goal.at) (map plain goal.args) s.graph.edges left
+
+-- the first open branch is a side branch whose goal has a cover
+pub record IsAtCovered (defs : List Def) (p : Position) : Type 0 where
+  pub first : Path
+  pub others : List Path
+  pub branches_are : p.branches ≡ first ∷ others
+  pub goal : Goal
+  pub side : first.goal ≡ Some goal
+  pub covered : IsCovered defs first.state goal
+
+-- each open side branch has a cover
+abbrev pub AreCovered : List Def → List Path → Type 0
+AreCovered defs branches = AllByRecursion (λ b. (goal : Goal) → b.goal ≡ Some goal → IsCovered defs b.state goal) branches
+
+-- ---- walks
+
+-- whoever judges rightly, the lines behind the header are read up to here, and the text is the lines of the stuck branches
+pub record IsReadTo (k : Knowledge) (well : RawState → Bool) (flow : Flow) (defs : List Def) (lines : List Line) (p : Position)
+    (text : List ℕ) : Type 0 where
+  pub last : Reading
+  pub read : reading_document k well flow defs Chain lines ≡ Ok last
+  pub stands : Stands k well last p
+  pub alarms : AreAlarmLines flow defs last.stuck text
+
+-- the lines are those of a chain of a valid flow graph, which is read up to here behind its pass, with so many ended
+-- branches
+pub record IsFollowed (flow : Flow) (defs : List Def) (lines : List Line) (p : Position) (text : List ℕ) (ended : ℕ) : Type 0 where
+  pub valid : IsValid flow defs
+  pub behind : List Line
+  pub spelled : lines ≡ line.Header One Chain ∷ behind
+  pub of_flow : p.flow ≡ flow
+  pub of_defs : p.defs ≡ defs
+  pub begun : p.stage ≡ ruling
+  pub reads : (k : Knowledge) (well : RawState → Bool) → IsJudge k well flow defs → IsReadTo k well flow defs behind p text
+  pub counted : ended ≡ ended_by lines
+  pub form_is : p.form ≡ Chain
+  pub no_cuts : p.cuts ≡ []
+  pub open_are : AreOpen flow p.branches
+
+-- a walk has followed its lines
+abbrev pub IsWalk : Flow → List Def → Walk → Type 0
+IsWalk flow defs walk = IsFollowed flow defs walk.lines.items walk.proof walk.text.items walk.ended
+
+-- ---- the first open branch
+
+-- it is a side branch
+pub record IsAtSide (p : Position) : Type 0 where
+  pub first : Path
+  pub others : List Path
+  pub branches_are : p.branches ≡ first ∷ others
+  pub goal : Goal
+  pub side : first.goal ≡ Some goal
+
+-- it is no side branch, and neither false nor has it an edge at null
+pub record IsAtCode (p : Position) : Type 0 where
+  pub first : Path
+  pub others : List Path
+  pub branches_are : p.branches ≡ first ∷ others
+  pub plain : IsPlain first
+  pub nothing_first : (know : Test) → Tells know first.state → false_or_null know first.state.graph.edges ≡ None
+
+-- it is no side branch, and a line ends it as false, or unfolds an edge at null
+pub record IsAtFirst (l : Line) (p : Position) : Type 0 where
+  pub first : Path
+  pub others : List Path
+  pub branches_are : p.branches ≡ first ∷ others
+  pub plain : IsPlain first
+  pub asked : (know : Test) → Tells know first.state → false_or_null know first.state.graph.edges ≡ Some l
+
+-- what it asks for
+abbrev pub IsAct : Position → Act → Type 0
+IsAct p (Apply l) = IsAtFirst l p
+IsAct p EndSide = IsAtSide p
+IsAct p Code = IsAtCode p
+IsAct p Rest = p.branches ≡ []
+
+-- a line advances it, where it is no side branch
+abbrev pub MayApply : Line → Position → Type 0
+MayApply l p = (b : Path) (others : List Path) → p.branches ≡ b ∷ others → IsPlain b → advances l ≡ true
+
+-- a line is no instance there
+abbrev pub IsNowhere : Flow → List Def → Line → Position → Type 0
+IsNowhere flow defs l p = (b : Path) (others next : List Path) → p.branches ≡ b ∷ others → IsInstance flow defs (setting_at p) l b next → ⊥
+
+-- a line is surely read there: it goes on, may be applied, and is an instance
+pub record IsSure (flow : Flow) (defs : List Def) (l : Line) (p : Position) : Type 0 where
+  pub goes : goes_on l ≡ true
+  pub may : MayApply l p
+  pub there : IsNowhere flow defs l p → ⊥
+
+-- its instruction is not unmet
+abbrev pub IsMet : Flow → List Def → Position → Type 0
+IsMet flow defs p = (b : Path) (others : List Path) (gap : Gap) → p.branches ≡ b ∷ others → IsUnmet flow defs b.point b.state gap → ⊥
+
+-- its instruction asks for this line
+abbrev pub IsCodeLine : Flow → List Def → Position → Option Line → Type 0
+IsCodeLine flow defs p asked =
+    (b : Path) (others : List Path) (know : Test) → p.branches ≡ b ∷ others → Tells know b.state
+    → asked ≡ option_and_then (at_code know defs b.state) (code_at flow b.point)
+
+-- ---- what a line made of it
+
+-- a line was read at the first branch: it is an instance there, and what it gives comes in the branch's place
+pub record IsTurned (flow : Flow) (defs : List Def) (l : Line) (old new : Position) : Type 0 where
+  pub first : Path
+  pub others : List Path
+  pub branches_are : old.branches ≡ first ∷ others
+  pub next : List Path
+  pub instance : IsInstance flow defs (setting_at old) l first next
+  pub come : new.branches ≡ next ++ others
+
+-- the first branch is gone
+abbrev pub IsFirstGone : Position → Position → Type 0
+IsFirstGone old new = (b : Path) (others : List Path) → old.branches ≡ b ∷ others → new.branches ≡ others

@@ -1,0 +1,14 @@
+//! The alarms of a program without loops: the chain of one pass in which every branch is followed, each instruction that
+//! lacks something is stuck, and the report of it.
+
+mod applying;
+mod following;
+mod laws;
+mod lines;
+mod outcome;
+mod sides;
+mod walk;
+mod whole;
+
+pub use outcome::{Document, Outcome};
+pub use whole::alarms;

@@ -1,7 +1,0 @@
-use Rattle.std.proofs.Common.{◌≡◌}
-use Rattle.mc_pure.specs.Whole.{kinds_without}
-use Rattle.mc_forget.specs.Left.{only_kinds, first_kinds}
-use Rattle.mc_forget.proofs.forgetting.others.Given as goal
-
-abbrev pub invariant-loop-node : goal.invariant-loop-node
-invariant-loop-node l = l.rest ≡ only_kinds (kinds_without (first_kinds l.node-index l.pure.kinds) l.lost)

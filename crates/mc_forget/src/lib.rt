@@ -1,8 +1,0 @@
-//! Nodes of symbolic states that are forgotten.
-#![tactic(auto)]
-
-mod forgetting;
-mod named;
-
-pub use forgetting::forget;
-pub use named::is_unnamed;

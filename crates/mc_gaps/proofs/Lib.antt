@@ -1,0 +1,2 @@
+pub mod LackingLemmas
+pub mod UnmetLemmas

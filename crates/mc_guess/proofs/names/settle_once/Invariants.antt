@@ -1,6 +1,0 @@
-use Rattle.std.proofs.Common.{◌≡◌, drop}
-use Rattle.mc_state.specs.Guess.{by_atoms}
-use Rattle.mc_guess.proofs.names.settle_once.Given as goal
-
-abbrev pub invariant-loop-atom : goal.invariant-loop-atom
-invariant-loop-atom l = by_atoms l.fn.names.items l.atoms ≡ by_atoms l.names.items (drop l.atom-index l.atoms)

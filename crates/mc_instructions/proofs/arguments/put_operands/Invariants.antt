@@ -1,6 +1,0 @@
-use Rattle.std.proofs.Common.{drop}
-use Rattle.mc_instructions.proofs.Knowing.{AreLeft}
-use Rattle.mc_instructions.proofs.arguments.put_operands.Given as goal
-
-abbrev pub invariant-loop-o : goal.invariant-loop-o
-invariant-loop-o l = AreLeft l.fn.s l.os l.s l.args (drop l.o-index l.os)

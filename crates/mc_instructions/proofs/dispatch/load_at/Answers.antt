@@ -1,9 +1,0 @@
-use Rattle.std.proofs.Common.{Some, sym, subst}
-use Rattle.mc_flow.specs.declared.instr.Instr.{Instr}
-use Rattle.mc_step.specs.Judges.{loading}
-use Rattle.mc_stepping.specs.Stepped.{Steps}
-use Rattle.mc_instructions.proofs.dispatch.load_at.Goals as goal
-
-pub returns-in-Load : goal.returns-in-Load
-returns-in-Load c = λ know tells.
-    subst (λ (i : Instr). Steps (loading know (Some i) c.args.s) c.args.s c.load.result) (sym c.in-Load.is) (c.load.ensures know tells)

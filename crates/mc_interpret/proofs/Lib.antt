@@ -1,3 +1,0 @@
-mod Asking
-mod Entries
-pub mod Runs

@@ -1,6 +1,0 @@
-use Rattle.mc_join.specs.Parts.{DifferenceAt}
-use Rattle.mc_join.proofs.Gaining.{below_more, gains_some}
-use Rattle.mc_join.proofs.differences.put_differences_of.Goals as goal
-
-pub loop-j-preserved : goal.loop-j-preserved
-loop-j-preserved c = below_more (DifferenceAt c.args.left.now c.args.right.now c.args.pairs.now c.args.i) c.loop-j.j c.args.joint.now c.loop-j.joint c.put_some.new.joint c.loop-j.invariant (gains_some _ c.difference.result c.loop-j.joint c.put_some.new.joint c.difference.ensures c.in_ok-put_some.ensures)

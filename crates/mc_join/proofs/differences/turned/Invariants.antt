@@ -1,6 +1,0 @@
-use Rattle.std.proofs.Common.{◌≡◌, take}
-use Rattle.mc_join.specs.Parts.{turned}
-use Rattle.mc_join.proofs.differences.turned.Given as goal
-
-abbrev pub invariant-loop-pair : goal.invariant-loop-pair
-invariant-loop-pair l = l.back.items ≡ turned (take l.pair-index l.pairs)

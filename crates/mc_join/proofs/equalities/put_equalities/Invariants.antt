@@ -1,6 +1,0 @@
-use Rattle.mc_join.specs.Gains.{Gains}
-use Rattle.mc_join.specs.Parts.{EqualityAt, Below}
-use Rattle.mc_join.proofs.equalities.put_equalities.Given as goal
-
-abbrev pub invariant-loop-i : goal.invariant-loop-i
-invariant-loop-i l = Gains (Below (λ i. Below (EqualityAt l.left l.right l.pairs i) i) l.i) l.initial.joint l.joint

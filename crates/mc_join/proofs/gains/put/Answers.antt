@@ -1,9 +1,0 @@
-use Rattle.std.proofs.Common.{refl}
-use Rattle.mc_join.proofs.Gaining.{gains_one, gains_none}
-use Rattle.mc_join.proofs.gains.put.Goals as goal
-
-pub returns-then-not-allows : goal.returns-then-not-allows
-returns-then-not-allows c = gains_none c.args.joint.now c.args.atom.now (c.if-not-allows.ensures.no refl)
-
-pub returns : goal.returns
-returns c = gains_one c.args.joint.now c.assume.new.self c.args.atom.now (c.if-not-allows.ensures.yes refl) c.in_ok-assume.ensures.ok

@@ -1,0 +1,6 @@
+pub mod Final
+pub mod Assertion
+pub mod Places
+pub mod Judging
+pub mod AnewMade
+pub mod NewStates

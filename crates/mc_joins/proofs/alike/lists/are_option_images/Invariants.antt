@@ -1,0 +1,11 @@
+use Rattle.std.proofs.Common.{◌≡◌, length, drop, map}
+use Rattle.std.specs.Prelude.{option_map}
+use Rattle.mc_base.specs.Nodes.{moved}
+use Rattle.mc_pure_ops.specs.Renaming.Images.{image}
+use Rattle.mc_joins.proofs.alike.lists.are_option_images.Given as goal
+
+abbrev pub invariant-loop-i : goal.invariant-loop-i
+invariant-loop-i l = record {
+  lengths : length l.from ≡ length l.to;
+  forth : map (option_map (moved (image l.renaming))) (drop l.i l.from) ≡ drop l.i l.to → map (option_map (moved (image l.renaming))) l.from ≡ l.to;
+}

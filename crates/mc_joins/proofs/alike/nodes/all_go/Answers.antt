@@ -1,0 +1,23 @@
+use Rattle.std.proofs.Common.{◌≡◌, ◌<◌, ◌≤◌, length, true, false, refl, arith}
+use Rattle.mc_base.specs.declared.ids.NodeId.{NodeId}
+use Rattle.mc_pure_ops.specs.Renaming.Images.{image}
+use Rattle.mc_joins.specs.Alike.Alike.{way_back, Goes}
+use Rattle.mc_joins.proofs.AlikeLemmas.Images.{each_here, each_more, each_all}
+use Rattle.mc_joins.proofs.alike.nodes.all_go.Goals as goal
+
+pub returns-then-not-goes : goal.returns-then-not-goes
+returns-then-not-goes c =
+    let ys = c.nodes-node-items.result.now in (
+      λ t. let w : false ≡ true = t in absurd (cc w),
+      λ all. let w = c.if-not-goes.ensures.1 (each_here (λ (n : NodeId). Goes (image c.args.renaming.now) (way_back (image c.args.renaming.now) c.args.state.now) c.args.state.now.kinds c.args.other.now.kinds n) ys _ c.nodes-node-items.ensures c.loop-node.node-index _ (omega arith) all) in absurd (cc w),
+    )
+
+pub loop-node-preserved : goal.loop-node-preserved
+loop-node-preserved c =
+    let ys = c.nodes-node-items.result.now in
+    each_more (λ (n : NodeId). Goes (image c.args.renaming.now) (way_back (image c.args.renaming.now) c.args.state.now) c.args.state.now.kinds c.args.other.now.kinds n) ys _ c.nodes-node-items.ensures c.loop-node.node-index _ (omega arith) c.loop-node.invariant (c.if-not-goes.ensures.0 refl)
+
+pub returns : goal.returns
+returns c =
+    let ys = c.nodes-node-items.result.now in
+    (λ t. each_all (λ (n : NodeId). Goes (image c.args.renaming.now) (way_back (image c.args.renaming.now) c.args.state.now) c.args.state.now.kinds c.args.other.now.kinds n) ys _ c.nodes-node-items.ensures c.loop-node.node-index (omega arith) c.loop-node.invariant, λ all. refl)

@@ -1,6 +1,0 @@
-mod Decided
-mod MadeOr
-mod Known
-mod Ranged
-mod Lacking
-mod Judging

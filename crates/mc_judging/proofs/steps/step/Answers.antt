@@ -1,9 +1,0 @@
-use Rattle.std.proofs.Common.{sym}
-use Rattle.mc_judging.specs.Judging.{path}
-use Rattle.mc_judging.proofs.Answered.{stands}
-use Rattle.mc_judging.proofs.steps.step.Goals as goal
-
-pub returns : goal.returns
-returns c = λ k asked.
-    let b = path c.args.branch in
-    stands _ b _ _ (sym c.if-not-may_step.ensures) (c.answer_of.ensures _ b.state (c.step-given.ensures (k.know b.state) k.range asked.given.tells asked.given.ranges))

@@ -1,0 +1,25 @@
+use Rattle.mc_kernel.proofs.ReadingLemmas.Made.{Makes}
+use Rattle.mc_kernel.proofs.ReadingLemmas.Rules.{Right}
+use Rattle.mc_kernel.proofs.ReadingLemmas.Agree as agree
+use Rattle.mc_kernel.proofs.reading.judges_agree.Goals as goal
+
+pub returns : goal.returns
+returns c =
+    let makes : Makes = record {
+      steps = c.steps_are_well_made.ensures;
+      ind = c.unfolding_is_well_made.ensures.ind;
+      seg = c.unfolding_is_well_made.ensures.seg;
+      back = c.back_is_well_made.ensures;
+      fold_ind = c.folding_makes_well.ensures.ind;
+      fold_seg = c.folding_makes_well.ensures.seg;
+      close = c.segments_make_well.ensures.close;
+      join = c.segments_make_well.ensures.join;
+      empty_seg = c.segments_make_well.ensures.empty;
+      spare = c.naming_makes_well.ensures.spare;
+      merge = c.naming_makes_well.ensures.merge;
+      drop_edge = c.naming_makes_well.ensures.drop_edge;
+      forget = c.naming_makes_well.ensures.forget;
+      unknown = c.numbers_stay_bounded.ensures.unknown;
+    } in
+    let right : Right = record { judged = c.lines_are_judged.ensures.judged; makes = makes } in
+    agree.judges_agree right

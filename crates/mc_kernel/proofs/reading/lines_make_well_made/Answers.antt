@@ -1,0 +1,22 @@
+use Rattle.mc_kernel.proofs.ReadingLemmas.Made.{Makes, lines_make_well_made}
+use Rattle.mc_kernel.proofs.reading.lines_make_well_made.Goals as goal
+
+pub returns : goal.returns
+returns c =
+    let makes : Makes = record {
+      steps = c.steps_are_well_made.ensures;
+      ind = c.unfolding_is_well_made.ensures.ind;
+      seg = c.unfolding_is_well_made.ensures.seg;
+      back = c.back_is_well_made.ensures;
+      fold_ind = c.folding_makes_well.ensures.ind;
+      fold_seg = c.folding_makes_well.ensures.seg;
+      close = c.segments_make_well.ensures.close;
+      join = c.segments_make_well.ensures.join;
+      empty_seg = c.segments_make_well.ensures.empty;
+      spare = c.naming_makes_well.ensures.spare;
+      merge = c.naming_makes_well.ensures.merge;
+      drop_edge = c.naming_makes_well.ensures.drop_edge;
+      forget = c.naming_makes_well.ensures.forget;
+      unknown = c.numbers_stay_bounded.ensures.unknown;
+    } in
+    lines_make_well_made makes

@@ -1,0 +1,35 @@
+-- Lines of documents that stand out of place, and cuts that are none.
+use Rattle.std.specs.Prelude.{◌≡◌, ℕ, Bool, [], ◌∷◌, Err}
+use Rattle.mc_lines.specs.declared.cert.line.Line.{Line}
+use Rattle.mc_flow.specs.Defs.Examples.{defs}
+use Rattle.mc_state.specs.declared.line.Form.{Form}
+use Rattle.mc_state.specs.declared.line.Form.TheVariants.{Certificate, Chain}
+use Rattle.mc_state.specs.declared.raw_state.RawState.{RawState}
+use Rattle.mc_kernel.specs.Branches.{roots}
+use Rattle.mc_kernel.specs.Examples.{at, loop_flow, loop_state}
+use Rattle.mc_kernel.specs.Judges.{Knowledge}
+use Rattle.mc_kernel.specs.Readings.{Reading, heading, ruling, finished, begun, reading_line}
+
+-- a line fails a premise where these lines of a document of the loop are read, whatever its rules are judged by
+abbrev pub Refuses : Reading → Line → ℕ → Type 0
+Refuses r l premise = (k : Knowledge) (well : RawState → Bool) → reading_line k well loop_flow defs l r ≡ Err premise
+
+-- ["cut",1] is read
+abbrev pub one_cut : Form → Reading
+one_cut form = record (begun form) { cuts = at 1 ∷ [] }
+
+-- ["cut",1] and ["cut",5] are read, and a head at 5
+abbrev pub one_head : Reading
+one_head = record (begun Certificate) { stage = heading; cuts = at 1 ∷ at 5 ∷ []; heads = (at 5, loop_state) ∷ [] }
+
+-- the pass of a chain is read, and the entry is open
+abbrev pub one_pass : Reading
+one_pass = record (one_cut Chain) { stage = ruling; branches = roots loop_flow [] }
+
+-- every branch of that pass is closed
+abbrev pub closed_pass : Reading
+closed_pass = record (one_cut Chain) { stage = ruling }
+
+-- the end of a certificate is read
+abbrev pub one_end : Reading
+one_end = record (one_cut Certificate) { stage = finished }

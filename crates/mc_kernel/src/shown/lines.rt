@@ -1,0 +1,45 @@
+// Lines that stand out of place.
+ghost use Rattle.std.specs.Prelude.{[]};
+ghost use Rattle.mc_lines.specs.declared.cert.line.Line.TheVariants.{Header, Cut, Head, Pass, End, S1, C1, C2, C3};
+ghost use Rattle.mc_state.specs.declared.line.Form.TheVariants.{Certificate, Chain};
+ghost use Rattle.mc_state.specs.declared.line.Version.TheVariants.{One};
+ghost use Rattle.mc_kernel.specs.Examples.{at, loop_state};
+ghost use Rattle.mc_kernel.specs.Readings.{begun};
+ghost use Rattle.mc_kernel.specs.Shown.Lines.{Refuses, one_cut, one_head, one_pass, closed_pass, one_end};
+
+/// A cut at an input, at no point, twice, and behind a head; a head where the loop's head is no cut, at no cut,
+/// before the last head, and in a chain; and a header.
+pub fn cuts_and_heads_out_of_place()
+    ensures input { Refuses (begun Certificate) (Cut (at 2)) 3 }
+    ensures no_point { Refuses (begun Certificate) (Cut (at 9)) 3 }
+    ensures twice { Refuses (one_cut Certificate) (Cut (at 1)) 4 }
+    ensures before { Refuses (one_cut Certificate) (Cut (at 0)) 4 }
+    ensures late { Refuses one_head (Cut (at 5)) 1 }
+    ensures uncut { Refuses (begun Certificate) (Head (at 1) loop_state) 1 }
+    ensures no_cut { Refuses (one_cut Certificate) (Head (at 5) loop_state) 3 }
+    ensures order { Refuses one_head (Head (at 1) loop_state) 3 }
+    ensures in_chain { Refuses (one_cut Chain) (Head (at 1) loop_state) 1 }
+    ensures behind_rules { Refuses one_pass (Head (at 1) loop_state) 1 }
+    ensures header { Refuses (one_cut Certificate) (Header One Certificate) 1 }
+{}
+
+/// A rule where the loop's head is no cut, before a pass, and where no branch is open; a pass in a certificate, and
+/// one behind a pass that changed nothing; a pass and the end where the loop's head is no cut; the end where the
+/// roots or other branches are open, and before a pass; steps of chains that are not judged yet; and lines behind the
+/// end.
+pub fn rules_out_of_place()
+    ensures uncut { Refuses (begun Certificate) S1 1 }
+    ensures no_pass { Refuses (one_cut Chain) S1 1 }
+    ensures no_branch { Refuses closed_pass C1 1 }
+    ensures in_certificate { Refuses (one_cut Certificate) Pass 1 }
+    ensures again { Refuses closed_pass Pass 3 }
+    ensures pass_uncut { Refuses (begun Chain) Pass 1 }
+    ensures end_uncut { Refuses (begun Certificate) End 1 }
+    ensures roots_open { Refuses (one_cut Certificate) End 3 }
+    ensures end_first { Refuses (one_cut Chain) End 1 }
+    ensures still_open { Refuses one_pass End 3 }
+    ensures new_state { Refuses one_pass (C2 []) 1 }
+    ensures joined { Refuses one_pass (C3 0 []) 1 }
+    ensures behind_end { Refuses one_end End 1 }
+    ensures rule_behind_end { Refuses one_end S1 1 }
+{}

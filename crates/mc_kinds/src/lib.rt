@@ -1,6 +1,0 @@
-//! The values of resolved programs are of the kinds that are wanted, where the programs are well typed.
-#![tactic(auto)]
-
-mod laws;
-
-pub use laws::{resolved_programs_are_well_made, typedefs_are_known, typedefs_matter};

@@ -1,9 +1,0 @@
-//! What the instruction at a point lacks at a state, shapes too: decided.
-#![tactic(auto)]
-
-mod covers;
-mod gap;
-mod laws;
-mod shapes;
-
-pub use gap::lacking_at;

@@ -1,6 +1,0 @@
-use Rattle.std.proofs.Common.{◌≡◌}
-use Rattle.mc_length.specs.Waiting.{total}
-use Rattle.mc_length.proofs.statements.Counter.run.Given as goal
-
-abbrev pub invariant-tasks : goal.invariant-tasks
-invariant-tasks l = total l.self l.tasks ≡ total l.fn.self l.fn.tasks

@@ -1,3 +1,0 @@
-mod Adding
-mod Choosing
-mod Writing

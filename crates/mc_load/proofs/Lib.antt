@@ -1,0 +1,3 @@
+pub mod InputsLemmas
+pub mod LoweredLemmas
+pub mod ReadLemmas

@@ -1,0 +1,5 @@
+pub mod KindsLemmas
+pub mod LowerableLemmas
+pub mod ScopedLemmas
+pub mod SingleLemmas
+pub mod ValidLemmas

@@ -1,0 +1,7 @@
+pub mod Graphs
+pub mod Values
+pub mod Lowering
+pub mod Runs
+pub mod Scopes
+pub mod Examples
+pub mod Length

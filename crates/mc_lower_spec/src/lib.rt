@@ -1,0 +1,12 @@
+//! Lowering as a relation: which flow graphs a resolved program has, calls inlined, and how many points (`length`).
+//!
+//! Stands on `mc_semantics`; called by `mc_lower_laws` and `mc_lower`.
+#![tactic(auto)]
+
+mod laws;
+pub mod length;
+
+pub use laws::{
+    runs_match, safe_flow_graphs_mean_safe_programs, small_programs_are_lowered,
+    small_programs_are_scoped,
+};

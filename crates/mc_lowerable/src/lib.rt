@@ -1,6 +1,0 @@
-//! Resolved programs of typed trees can be lowered.
-#![tactic(auto)]
-
-mod laws;
-
-pub use laws::resolved_programs_are_lowerable;

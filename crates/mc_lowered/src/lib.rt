@@ -1,6 +1,0 @@
-//! The flow graph of a program that was read, with its definitions.
-#![tactic(auto)]
-
-mod graphs;
-
-pub use graphs::{TooLong, graph};

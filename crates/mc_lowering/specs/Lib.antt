@@ -1,6 +1,0 @@
-pub mod Graphs
-pub mod Values
-pub mod Lowering
-pub mod Runs
-pub mod Scopes
-pub mod Examples

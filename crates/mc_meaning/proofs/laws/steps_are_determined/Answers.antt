@@ -1,5 +1,0 @@
-use Rattle.mc_meaning.proofs.Determined.{one_step}
-use Rattle.mc_meaning.proofs.laws.steps_are_determined.Goals as goal
-
-pub returns : goal.returns
-returns c = λ program config choices one other r s. one_step program config choices one other r s

@@ -1,5 +1,0 @@
-mod Small
-mod SmallExpressions
-mod SmallSimples
-mod SmallStatements
-mod SmallUnits

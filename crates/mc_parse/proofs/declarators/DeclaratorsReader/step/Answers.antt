@@ -1,4 +1,0 @@
-use Rattle.mc_parse.proofs.declarators.DeclaratorsReader.step.Goals as goal
-
-pub returns-in-None : goal.returns-in-None
-returns-in-None c = rw c.in-None.is (c.behind_declarator.ensures _ c.requires)

@@ -1,7 +1,0 @@
-use Rattle.mc_ast.specs.Views.{function_of}
-use Rattle.mc_parse.specs.Functions.{CompletesFunction}
-use Rattle.mc_parse.proofs.Threads.{put_is}
-use Rattle.mc_parse.proofs.function.FunctionReader.step_before_body.Goals as goal
-
-pub returns : goal.returns
-returns c = λ aliases known. put_is (CompletesFunction aliases) function_of _ c.args.token.now _ c.put.new.reader c.in_ok-took.took c.in_ok-took.ensures (rw c.replace-reader.ensures.value at (c.in_ok-step.ensures aliases known))

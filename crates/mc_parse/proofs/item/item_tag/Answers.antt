@@ -1,8 +1,0 @@
-use Rattle.mc_parse.proofs.ItemLemmas.{tag_name, tag_stuck}
-use Rattle.mc_parse.proofs.item.item_tag.Goals as goal
-
-pub returns-in_ok-name-in-Name : goal.returns-in_ok-name-in-Name
-returns-in_ok-name-in-Name c = λ aliases. rw c.in_ok-name-in-Name.ensures (tag_name _ (rw c.in-Name.is at c.requires))
-
-pub returns-in_default : goal.returns-in_default
-returns-in_default c = λ aliases. tag_stuck _ _ c.requires c.in_default.not-Name

@@ -1,9 +1,0 @@
-use Rattle.mc_parse.proofs.ItemLemmas.{tagged_opens, tagged_bare, brace_no_typedef}
-use Rattle.mc_parse.proofs.Threads.{if_ok, same_step}
-use Rattle.mc_parse.proofs.typedef.typedef_tagged.Goals as goal
-
-pub returns-in-OpenBrace : goal.returns-in-OpenBrace
-returns-in-OpenBrace c = λ aliases. rw (c.new.ensures.none, c.new.ensures.starts) (tagged_opens aliases _ _ _ _ (rw c.in-OpenBrace.is at c.requires) (brace_no_typedef _ _ (rw c.in-OpenBrace.is at c.requires)))
-
-pub returns-in_default : goal.returns-in_default
-returns-in_default c = if_ok c.typedef_names.result (λ step says aliases. same_step _ _ (tagged_bare aliases _ _ _ _ _ c.requires c.in_default.not-OpenBrace) step (rw (c.new-reader.ensures.none, c.new-reader.ensures.starts) at (says aliases))) c.typedef_names.ensures

@@ -1,7 +1,0 @@
-use Rattle.mc_places.proofs.Lexed.{tokens_in_order}
-use Rattle.mc_places.proofs.Within.{within_ascends}
-use Rattle.mc_places.proofs.WithinUnits.{unit_within}
-use Rattle.mc_places.proofs.laws.declared_places_ascend.Goals as goal
-
-pub returns : goal.returns
-returns c = λ text tokens unit lexed spelled. within_ascends (unit_within spelled) (tokens_in_order lexed)

@@ -1,6 +1,0 @@
-use Rattle.std.proofs.Common.{⊎_elim, arith}
-use Rattle.mc_places.specs.Examples.{at}
-use Rattle.mc_places.proofs.laws.small_programs_have_places.Goals as goal
-
-pub returns-clause-twice : goal.returns-clause-twice
-returns-clause-twice c = λ up. ⊎_elim (λ line. omega arith) (λ column. omega arith) (up 3 4 (at 0) (omega arith) (omega arith))

@@ -1,5 +1,0 @@
-use Rattle.mc_printed.proofs.Printed.{apart}
-use Rattle.mc_printed.proofs.laws.printing_tells_programs_apart.Goals as goal
-
-pub returns : goal.returns
-returns c = λ text another unit other was that. apart c.readings_are_unique.ensures c.trees_are_unique.ensures c.printed_words_are_read.ensures was that

@@ -1,6 +1,0 @@
-mod Operands
-mod Judged
-mod Unfolding
-mod Instructions
-mod Advancing
-mod Staying

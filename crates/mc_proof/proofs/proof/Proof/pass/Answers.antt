@@ -1,8 +1,0 @@
-use Rattle.mc_proof.proofs.proof.Proof.pass.Goals as goal
-
-pub invariant_of-self : goal.invariant_of-self
-invariant_of-self c = record {
-  valid = c.self.invariant.valid;
-  heads = c.self.invariant.heads;
-  branches = c.in_ok-self-inside.ensures.made c.self.inside.defs.now tt;
-}

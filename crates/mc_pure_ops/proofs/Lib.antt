@@ -1,0 +1,4 @@
+pub mod CanonLemmas
+pub mod JoinLemmas
+pub mod RenamedLemmas
+pub mod RenamingLemmas

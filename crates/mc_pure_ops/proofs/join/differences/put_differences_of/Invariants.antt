@@ -1,0 +1,6 @@
+use Rattle.mc_pure_ops.specs.Join.Gains.{Gains}
+use Rattle.mc_pure_ops.specs.Join.Parts.{DifferenceAt, Below}
+use Rattle.mc_pure_ops.proofs.join.differences.put_differences_of.Given as goal
+
+abbrev pub invariant-loop-j : goal.invariant-loop-j
+invariant-loop-j l = Gains (Below (DifferenceAt l.left l.right l.pairs l.i) l.j) l.initial.joint l.joint

@@ -1,0 +1,4 @@
+pub mod Canon
+pub mod Join
+pub mod Renamed
+pub mod Renaming

@@ -1,7 +1,0 @@
-use Rattle.std.proofs.Common.{take}
-use Rattle.mc_ranges.specs.Ends.{IsInt}
-use Rattle.mc_ranges.specs.Thresholds.{IsNearestAbove}
-use Rattle.mc_ranges.proofs.ends.nearest_above.Given as goal
-
-abbrev pub invariant-loop-threshold : goal.invariant-loop-threshold
-invariant-loop-threshold l = IsNearestAbove (take l.threshold-index l.thresholds) l.number l.nearest × IsInt l.nearest

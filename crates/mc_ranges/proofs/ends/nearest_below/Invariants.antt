@@ -1,7 +1,0 @@
-use Rattle.std.proofs.Common.{take}
-use Rattle.mc_ranges.specs.Ends.{IsInt}
-use Rattle.mc_ranges.specs.Thresholds.{IsNearestBelow}
-use Rattle.mc_ranges.proofs.ends.nearest_below.Given as goal
-
-abbrev pub invariant-loop-threshold : goal.invariant-loop-threshold
-invariant-loop-threshold l = IsNearestBelow (take l.threshold-index l.thresholds) l.number l.nearest × IsInt l.nearest

@@ -1,6 +1,0 @@
-use Rattle.std.proofs.Common.{◌≡◌, take}
-use Rattle.mc_state.specs.State.{with_atoms}
-use Rattle.mc_raw.proofs.building.put_atoms.Given as goal
-
-abbrev pub invariant-loop-atom : goal.invariant-loop-atom
-invariant-loop-atom l = l.state ≡ with_atoms l.initial.state (take l.atom-index l.atoms)

@@ -1,4 +1,0 @@
-use Rattle.mc_read.proofs.laws.programs_have_distinct_places.Goals as goal
-
-pub returns : goal.returns
-returns c = λ text unit read. c.declared_places_ascend.ensures text read.tokens unit read.lexes read.spells

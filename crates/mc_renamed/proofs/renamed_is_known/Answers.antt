@@ -1,8 +1,0 @@
-use Rattle.mc_renamed.proofs.Gathering.{images_are_one_list, renamed_fits}
-use Rattle.mc_renamed.proofs.renamed_is_known.Goals as goal
-
-pub returns-clause-one : goal.returns-clause-one
-returns-clause-one c = images_are_one_list
-
-pub returns-clause-fits : goal.returns-clause-fits
-returns-clause-fits c = renamed_fits

@@ -1,5 +1,0 @@
-use Rattle.mc_report.proofs.Written.{UpTo}
-use Rattle.mc_report.proofs.heads.certificate_report.Given as goal
-
-abbrev pub invariant-loop-line : goal.invariant-loop-line
-invariant-loop-line l = UpTo l.flow l.defs l.lines l.line-index l.points.items l.text.items

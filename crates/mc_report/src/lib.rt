@@ -1,9 +1,0 @@
-//! The report of an analysis: the lines of stuck branches and of the states of cuts, and whole reports.
-#![tactic(auto)]
-
-mod gaps;
-mod heads;
-mod lines;
-
-pub use heads::certificate_report;
-pub use lines::{push_alarm, push_count, push_head};

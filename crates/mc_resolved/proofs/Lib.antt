@@ -1,8 +1,0 @@
-mod Blocks
-mod Holding
-mod Knowing
-mod Computing
-mod Moving
-mod Passing
-mod Stepping
-mod Running

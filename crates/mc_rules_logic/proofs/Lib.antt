@@ -1,0 +1,4 @@
+pub mod BackLemmas
+pub mod FoldLemmas
+pub mod ListedLemmas
+pub mod UnfoldLemmas

@@ -1,0 +1,5 @@
+pub mod Back
+pub mod Fold
+pub mod Listed
+pub mod Rule
+pub mod Unfold

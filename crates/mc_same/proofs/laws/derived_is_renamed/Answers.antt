@@ -1,5 +1,0 @@
-use Rattle.mc_same.proofs.Moving.{follows_renamed, false_renamed}
-use Rattle.mc_same.proofs.laws.derived_is_renamed.Goals as goal
-
-pub returns : goal.returns
-returns c = record { follows = follows_renamed; is_false = false_renamed }

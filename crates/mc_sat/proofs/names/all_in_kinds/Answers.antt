@@ -1,5 +1,0 @@
-use Rattle.mc_sat.proofs.Fixed.{other_count}
-use Rattle.mc_sat.proofs.names.all_in_kinds.Goals as goal
-
-pub returns-then-kinds-names : goal.returns-then-kinds-names
-returns-then-kinds-names c = other_count c.args.kinds.now c.args.names.now c.if-kinds-names.true

@@ -1,5 +1,0 @@
-use Rattle.mc_scoped.proofs.Trees.{safe_trees}
-use Rattle.mc_scoped.proofs.laws.safe_flow_graphs_mean_safe_trees.Goals as goal
-
-pub returns : goal.returns
-returns c = safe_trees c.resolved_programs_are_scoped.ensures c.safe_flow_graphs_mean_safe_programs.ensures c.resolved_programs_run_alike.ensures.runs

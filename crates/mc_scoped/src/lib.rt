@@ -1,6 +1,0 @@
-//! What is written in a resolved program is in scope, so its flow graph runs as the program does.
-#![tactic(auto)]
-
-mod laws;
-
-pub use laws::{resolved_programs_are_scoped, safe_flow_graphs_mean_safe_trees};

@@ -1,6 +1,0 @@
-use Rattle.serde_json.specs.View.{view}
-use Rattle.mc_script.proofs.Forms.{no_line}
-use Rattle.mc_script.proofs.read.line_in_value.Goals as goal
-
-pub returns-in-None : goal.returns-in-None
-returns-in-None c = λ l fits. no_line (view c.args.value.now) c.in-None.ensures l

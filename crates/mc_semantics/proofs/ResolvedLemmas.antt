@@ -1,0 +1,8 @@
+pub mod Blocks
+pub mod Holding
+pub mod Knowing
+pub mod Computing
+pub mod Moving
+pub mod Passing
+pub mod Stepping
+pub mod Running

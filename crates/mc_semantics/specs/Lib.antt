@@ -1,0 +1,9 @@
+pub mod Configs
+pub mod Examples
+pub mod Laws
+pub mod Moves
+pub mod Steps
+pub mod Values
+pub mod Resolved
+pub mod Waiting
+pub mod Worked

@@ -1,0 +1,3 @@
+pub mod SatLemmas
+pub mod SearchLemmas
+pub mod TriesLemmas

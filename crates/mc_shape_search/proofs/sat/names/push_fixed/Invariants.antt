@@ -1,0 +1,6 @@
+use Rattle.std.proofs.Common.{◌≡◌, drop}
+use Rattle.mc_shape_search.specs.Sat.Names.{with_fixed}
+use Rattle.mc_shape_search.proofs.sat.names.push_fixed.Given as goal
+
+abbrev pub invariant-loop-atom : goal.invariant-loop-atom
+invariant-loop-atom l = with_fixed l.fn.names.items l.atoms ≡ with_fixed l.names.items (drop l.atom-index l.atoms)

@@ -1,0 +1,3 @@
+pub mod Sat
+pub mod Search
+pub mod Tries

@@ -1,5 +1,0 @@
-use Rattle.mc_simple.proofs.Ends.{base_can_end}
-use Rattle.mc_simple.proofs.base.bases_can_end.Goals as goal
-
-pub returns : goal.returns
-returns c = λ aliases reader. base_can_end aliases reader

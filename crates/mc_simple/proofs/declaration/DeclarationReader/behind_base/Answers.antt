@@ -1,5 +1,0 @@
-use Rattle.mc_simple.proofs.Phrases.{same_same}
-use Rattle.mc_simple.proofs.declaration.DeclarationReader.behind_base.Goals as goal
-
-pub returns : goal.returns
-returns c = λ aliases. rw c.new.ensures.items same_same

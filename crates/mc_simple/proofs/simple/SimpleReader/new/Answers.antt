@@ -1,5 +1,0 @@
-use Rattle.mc_simple.proofs.Phrases.{same_same}
-use Rattle.mc_simple.proofs.simple.SimpleReader.new.Goals as goal
-
-pub returns : goal.returns
-returns c = λ aliases. same_same

@@ -1,6 +1,0 @@
-//! A resolved program with its structs has one flow graph at most.
-#![tactic(auto)]
-
-mod laws;
-
-pub use laws::flow_graphs_are_one;

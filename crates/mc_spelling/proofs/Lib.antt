@@ -1,7 +1,0 @@
-mod Agree
-mod UniqueExpressions
-mod UniqueConditions
-mod UniqueSimples
-mod UniqueStatements
-pub mod UniqueUnits
-pub mod Parts

@@ -1,5 +1,0 @@
-use Rattle.mc_spelling.proofs.UniqueUnits.{one_unit}
-use Rattle.mc_spelling.proofs.laws.trees_are_unique.Goals as goal
-
-pub returns : goal.returns
-returns c = λ tokens one other r s. one_unit r s

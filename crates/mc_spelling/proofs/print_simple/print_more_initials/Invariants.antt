@@ -1,7 +1,0 @@
-use Rattle.std.proofs.Common.{drop, map}
-use Rattle.mc_ast.specs.Views.{initial_of}
-use Rattle.mc_spelling.specs.Words.{Continues, more_words, initial_words}
-use Rattle.mc_spelling.proofs.print_simple.print_more_initials.Given as goal
-
-abbrev pub invariant-loop-initial : goal.invariant-loop-initial
-invariant-loop-initial l = Continues l.initial.out.items (more_words initial_words (map initial_of l.initials)) l.out.items (more_words initial_words (map initial_of (drop l.initial-index l.initials)))

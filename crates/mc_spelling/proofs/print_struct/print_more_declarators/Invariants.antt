@@ -1,6 +1,0 @@
-use Rattle.std.proofs.Common.{drop}
-use Rattle.mc_spelling.specs.Words.{Continues, more_words, declarator_words}
-use Rattle.mc_spelling.proofs.print_struct.print_more_declarators.Given as goal
-
-abbrev pub invariant-loop-declarator : goal.invariant-loop-declarator
-invariant-loop-declarator l = Continues l.initial.out.items (more_words declarator_words l.declarators) l.out.items (more_words declarator_words (drop l.declarator-index l.declarators))

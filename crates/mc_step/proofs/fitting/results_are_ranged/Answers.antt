@@ -1,5 +1,0 @@
-use Rattle.mc_step.proofs.WhatFits as proof
-use Rattle.mc_step.proofs.fitting.results_are_ranged.Goals as goal
-
-pub returns : goal.returns
-returns c = record { sums = proof.sums_are; differences = proof.differences_are; products = proof.products_are }

@@ -1,5 +1,0 @@
-use Rattle.mc_step.proofs.Causes as proof
-use Rattle.mc_step.proofs.judged_laws.causes_are_one.Goals as goal
-
-pub returns : goal.returns
-returns c = proof.causes_are_one

@@ -1,5 +1,0 @@
-use Rattle.mc_step.proofs.JudgedBlocks as proof
-use Rattle.mc_step.proofs.judged_laws.fields_are_there.Goals as goal
-
-pub returns : goal.returns
-returns c = proof.fields_there

@@ -1,5 +1,0 @@
-use Rattle.mc_step.proofs.Gaps as proof
-use Rattle.mc_step.proofs.laws.unmet_has_no_step.Goals as goal
-
-pub returns : goal.returns
-returns c = proof.unmet_has_no_step c.contradictions_are_false.ensures.one_node

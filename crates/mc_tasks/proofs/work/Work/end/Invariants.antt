@@ -1,5 +1,0 @@
-use Rattle.std.proofs.Common.{length}
-use Rattle.mc_tasks.proofs.work.Work.end.Given as goal
-
-abbrev pub decreases-tasks : goal.decreases-tasks
-decreases-tasks l = length l.self.tasks

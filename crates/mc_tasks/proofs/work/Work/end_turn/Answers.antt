@@ -1,7 +1,0 @@
-use Rattle.std.proofs.Common.{◌∙◌}
-use Rattle.mc_tasks.proofs.Rows.{turn_passes}
-use Rattle.mc_tasks.proofs.work.Work.end_turn.Goals as goal
-
-pub loop-task-preserved-in-Perform : goal.loop-task-preserved-in-Perform
-loop-task-preserved-in-Perform c =
-    c.loop-task.invariant ∙ turn_passes c.loop-task.self.values.items c.loop-task.self.tasks c.pop.new.self c.in-Some.task c.in-Perform.field-0 c.in-Perform.field-1 c.in-Some.ensures c.in-Perform.is

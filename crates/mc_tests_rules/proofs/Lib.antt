@@ -1,0 +1,2 @@
+pub mod RulesTriedLemmas
+pub mod StepsTriedLemmas

@@ -1,0 +1,4 @@
+//! What is left to do of small programs, by hand.
+
+#[cfg(test)]
+mod tests;

@@ -1,0 +1,223 @@
+// Guesses from blocks.
+use crate::guesses_tried::cases::{Case, first_wrong};
+use crate::guesses_tried::predicates::{BACK, EITHER, KEEP, LENGTH, NODE, ONLY, PAIR};
+use crate::guesses_tried::states::PlainEdge::{Block, Ind};
+use mc_base::{Atom, EdgeId, NodeId};
+use std::test::Fail;
+
+static CASES: [Case; 18] = [
+    Case {
+        name: "a block that ends in null",
+        edges: &[Block(1, NODE, &[Some(NodeId(6)), Some(NodeId(0))])],
+        atoms: &[],
+        used: &[],
+        pred: LENGTH,
+        at: (1, 0),
+        stop: None,
+        want: &[(0, 1)],
+    },
+    Case {
+        name: "two blocks",
+        edges: &[
+            Block(1, NODE, &[Some(NodeId(6)), Some(NodeId(2))]),
+            Block(2, NODE, &[Some(NodeId(7)), Some(NodeId(0))]),
+        ],
+        atoms: &[],
+        used: &[],
+        pred: LENGTH,
+        at: (1, 0),
+        stop: None,
+        want: &[(0, 2)],
+    },
+    Case {
+        name: "a block at an equal node",
+        edges: &[
+            Block(2, NODE, &[Some(NodeId(6)), Some(NodeId(3))]),
+            Ind(3, KEEP, &[7]),
+        ],
+        atoms: &[Atom::Eq(NodeId(2), NodeId(1), 0)],
+        used: &[],
+        pred: KEEP,
+        at: (1, 0),
+        stop: None,
+        want: &[(7, 0)],
+    },
+    Case {
+        name: "a block elsewhere",
+        edges: &[Block(2, NODE, &[Some(NodeId(6)), Some(NodeId(0))])],
+        atoms: &[],
+        used: &[],
+        pred: LENGTH,
+        at: (1, 0),
+        stop: None,
+        want: &[(0, 0)],
+    },
+    Case {
+        name: "a block of another struct",
+        edges: &[Block(1, PAIR, &[Some(NodeId(2)), Some(NodeId(0))])],
+        atoms: &[],
+        used: &[],
+        pred: LENGTH,
+        at: (1, 0),
+        stop: None,
+        want: &[(0, 0)],
+    },
+    Case {
+        name: "a field that is not known",
+        edges: &[Block(1, NODE, &[None, Some(NodeId(0))])],
+        atoms: &[],
+        used: &[],
+        pred: LENGTH,
+        at: (1, 0),
+        stop: None,
+        want: &[(0, 0)],
+    },
+    Case {
+        name: "a used block",
+        edges: &[Block(1, NODE, &[Some(NodeId(6)), Some(NodeId(0))])],
+        atoms: &[],
+        used: &[EdgeId(0)],
+        pred: LENGTH,
+        at: (1, 0),
+        stop: None,
+        want: &[(0, 0)],
+    },
+    Case {
+        name: "a used block that follows",
+        edges: &[
+            Block(2, NODE, &[Some(NodeId(6)), Some(NodeId(0))]),
+            Block(1, NODE, &[Some(NodeId(6)), Some(NodeId(2))]),
+        ],
+        atoms: &[],
+        used: &[EdgeId(0)],
+        pred: LENGTH,
+        at: (1, 0),
+        stop: None,
+        want: &[(0, 1)],
+    },
+    Case {
+        name: "a block that leads to itself",
+        edges: &[Block(1, NODE, &[Some(NodeId(6)), Some(NodeId(1))])],
+        atoms: &[],
+        used: &[],
+        pred: LENGTH,
+        at: (1, 0),
+        stop: None,
+        want: &[(0, 1)],
+    },
+    Case {
+        name: "two blocks in a circle",
+        edges: &[
+            Block(1, NODE, &[Some(NodeId(6)), Some(NodeId(2))]),
+            Block(2, NODE, &[Some(NodeId(6)), Some(NodeId(1))]),
+        ],
+        atoms: &[],
+        used: &[],
+        pred: LENGTH,
+        at: (1, 0),
+        stop: None,
+        want: &[(0, 2)],
+    },
+    Case {
+        name: "a field that is a parameter",
+        edges: &[Block(1, PAIR, &[Some(NodeId(2)), Some(NodeId(3))])],
+        atoms: &[],
+        used: &[],
+        pred: BACK,
+        at: (1, 0),
+        stop: None,
+        want: &[(2, 0)],
+    },
+    Case {
+        name: "a call keeps what has a term",
+        edges: &[
+            Block(1, PAIR, &[Some(NodeId(2)), Some(NodeId(3))]),
+            Block(3, PAIR, &[Some(NodeId(4)), Some(NodeId(0))]),
+        ],
+        atoms: &[],
+        used: &[],
+        pred: BACK,
+        at: (1, 0),
+        stop: None,
+        want: &[(2, 0)],
+    },
+    Case {
+        name: "a call before an equality",
+        edges: &[Block(1, NODE, &[Some(NodeId(6)), Some(NodeId(2))])],
+        atoms: &[],
+        used: &[],
+        pred: KEEP,
+        at: (1, 0),
+        stop: None,
+        want: &[(0, 0)],
+    },
+    Case {
+        name: "a field before a call",
+        edges: &[
+            Block(1, NODE, &[Some(NodeId(6)), Some(NodeId(2))]),
+            Ind(2, ONLY, &[3, 7]),
+        ],
+        atoms: &[],
+        used: &[],
+        pred: ONLY,
+        at: (1, 0),
+        stop: None,
+        want: &[(0, 0), (6, 0)],
+    },
+    Case {
+        name: "the first rule, not the least block",
+        edges: &[
+            Block(1, NODE, &[Some(NodeId(6)), Some(NodeId(5))]),
+            Block(1, PAIR, &[Some(NodeId(2)), Some(NodeId(3))]),
+        ],
+        atoms: &[],
+        used: &[],
+        pred: EITHER,
+        at: (1, 0),
+        stop: None,
+        want: &[(2, 0)],
+    },
+    Case {
+        name: "the only rule whose block is there",
+        edges: &[Block(1, NODE, &[Some(NodeId(6)), Some(NodeId(5))])],
+        atoms: &[],
+        used: &[],
+        pred: EITHER,
+        at: (1, 0),
+        stop: None,
+        want: &[(5, 0)],
+    },
+    Case {
+        name: "the least block of a rule",
+        edges: &[
+            Block(1, PAIR, &[Some(NodeId(2)), Some(NodeId(3))]),
+            Block(1, PAIR, &[Some(NodeId(4)), Some(NodeId(3))]),
+        ],
+        atoms: &[],
+        used: &[],
+        pred: EITHER,
+        at: (1, 0),
+        stop: None,
+        want: &[(2, 0)],
+    },
+    Case {
+        name: "the least block of which all is known",
+        edges: &[
+            Block(1, PAIR, &[Some(NodeId(2)), None]),
+            Block(1, PAIR, &[Some(NodeId(4)), Some(NodeId(3))]),
+        ],
+        atoms: &[],
+        used: &[],
+        pred: EITHER,
+        at: (1, 0),
+        stop: None,
+        want: &[(4, 0)],
+    },
+];
+
+#[test]
+fn blocks_are_asked_after_edges(rt: HostRuntime) -> Result<(), Fail> {
+    let wrong = first_wrong(rt.alloc(), &CASES)?;
+    assert_eq!(rt; wrong, None);
+    Ok(())
+}

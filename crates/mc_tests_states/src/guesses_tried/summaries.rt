@@ -1,0 +1,192 @@
+// Guesses from edges of the predicate.
+use crate::guesses_tried::cases::{Case, first_wrong};
+use crate::guesses_tried::predicates::{CHAIN, KEEP, LATE, LENGTH, NODE, OTHER};
+use crate::guesses_tried::states::PlainEdge::{Block, Ind, Seg};
+use mc_base::{Atom, EdgeId, NodeId};
+use std::test::Fail;
+
+static CASES: [Case; 16] = [
+    Case {
+        name: "an Ind",
+        edges: &[Ind(1, LENGTH, &[6])],
+        atoms: &[],
+        used: &[],
+        pred: LENGTH,
+        at: (1, 0),
+        stop: None,
+        want: &[(6, 0)],
+    },
+    Case {
+        name: "an Ind at an equal node",
+        edges: &[Ind(2, LENGTH, &[6])],
+        atoms: &[Atom::Eq(NodeId(1), NodeId(2), 0)],
+        used: &[],
+        pred: LENGTH,
+        at: (1, 0),
+        stop: None,
+        want: &[(6, 0)],
+    },
+    Case {
+        name: "an Ind elsewhere",
+        edges: &[Ind(2, LENGTH, &[6])],
+        atoms: &[],
+        used: &[],
+        pred: LENGTH,
+        at: (1, 0),
+        stop: None,
+        want: &[(0, 0)],
+    },
+    Case {
+        name: "an Ind of another predicate",
+        edges: &[Ind(1, LENGTH, &[6])],
+        atoms: &[],
+        used: &[],
+        pred: KEEP,
+        at: (1, 0),
+        stop: None,
+        want: &[(0, 0)],
+    },
+    Case {
+        name: "several arguments",
+        edges: &[Ind(1, CHAIN, &[8, 6, 7])],
+        atoms: &[],
+        used: &[],
+        pred: CHAIN,
+        at: (1, 0),
+        stop: None,
+        want: &[(8, 0), (6, 0), (7, 0)],
+    },
+    Case {
+        name: "a Seg",
+        edges: &[Seg(1, &[6], LENGTH, 2, &[7])],
+        atoms: &[],
+        used: &[],
+        pred: LENGTH,
+        at: (1, 0),
+        stop: None,
+        want: &[(6, 0)],
+    },
+    Case {
+        name: "a Seg that ends there",
+        edges: &[Seg(1, &[6], LENGTH, 2, &[7])],
+        atoms: &[],
+        used: &[],
+        pred: LENGTH,
+        at: (2, 0),
+        stop: None,
+        want: &[(0, 0)],
+    },
+    Case {
+        name: "a Seg before an Ind",
+        edges: &[Seg(1, &[6], LENGTH, 2, &[7]), Ind(1, LENGTH, &[8])],
+        atoms: &[],
+        used: &[],
+        pred: LENGTH,
+        at: (1, 0),
+        stop: None,
+        want: &[(6, 0)],
+    },
+    Case {
+        name: "an Ind before a Seg",
+        edges: &[Ind(1, LENGTH, &[8]), Seg(1, &[6], LENGTH, 2, &[7])],
+        atoms: &[],
+        used: &[],
+        pred: LENGTH,
+        at: (1, 0),
+        stop: None,
+        want: &[(8, 0)],
+    },
+    Case {
+        name: "the first is used",
+        edges: &[Seg(1, &[6], LENGTH, 2, &[7]), Ind(1, LENGTH, &[8])],
+        atoms: &[],
+        used: &[EdgeId(0)],
+        pred: LENGTH,
+        at: (1, 0),
+        stop: None,
+        want: &[(8, 0)],
+    },
+    Case {
+        name: "both are used",
+        edges: &[Seg(1, &[6], LENGTH, 2, &[7]), Ind(1, LENGTH, &[8])],
+        atoms: &[],
+        used: &[EdgeId(1), EdgeId(0)],
+        pred: LENGTH,
+        at: (1, 0),
+        stop: None,
+        want: &[(0, 0)],
+    },
+    Case {
+        name: "a block before an Ind",
+        edges: &[
+            Block(1, NODE, &[Some(NodeId(6)), Some(NodeId(2))]),
+            Ind(1, LENGTH, &[8]),
+        ],
+        atoms: &[],
+        used: &[],
+        pred: LENGTH,
+        at: (1, 0),
+        stop: None,
+        want: &[(8, 0)],
+    },
+    Case {
+        name: "an Ind beyond a block",
+        edges: &[
+            Block(1, NODE, &[Some(NodeId(6)), Some(NodeId(2))]),
+            Ind(2, LENGTH, &[8]),
+        ],
+        atoms: &[],
+        used: &[],
+        pred: LENGTH,
+        at: (1, 0),
+        stop: None,
+        want: &[(8, 1)],
+    },
+    Case {
+        name: "an Ind beyond two blocks",
+        edges: &[
+            Block(2, NODE, &[Some(NodeId(6)), Some(NodeId(3))]),
+            Block(1, NODE, &[Some(NodeId(6)), Some(NodeId(2))]),
+            Ind(3, LENGTH, &[8]),
+        ],
+        atoms: &[],
+        used: &[],
+        pred: LENGTH,
+        at: (1, 0),
+        stop: None,
+        want: &[(8, 2)],
+    },
+    Case {
+        name: "an Ind beyond a block of which nothing is taken",
+        edges: &[
+            Block(1, NODE, &[Some(NodeId(6)), Some(NodeId(2))]),
+            Ind(2, LATE, &[8]),
+        ],
+        atoms: &[],
+        used: &[],
+        pred: LATE,
+        at: (1, 0),
+        stop: None,
+        want: &[(0, 0)],
+    },
+    Case {
+        name: "an Ind beyond a block, of another predicate",
+        edges: &[
+            Block(1, NODE, &[Some(NodeId(6)), Some(NodeId(2))]),
+            Ind(2, LENGTH, &[8]),
+        ],
+        atoms: &[],
+        used: &[],
+        pred: OTHER,
+        at: (1, 0),
+        stop: None,
+        want: &[(0, 0)],
+    },
+];
+
+#[test]
+fn edges_are_asked_next(rt: HostRuntime) -> Result<(), Fail> {
+    let wrong = first_wrong(rt.alloc(), &CASES)?;
+    assert_eq!(rt; wrong, None);
+    Ok(())
+}

@@ -1,7 +1,0 @@
-use Rattle.std.proofs.Common.{◌≡◌}
-use Rattle.mc_ast.specs.Views.{expression_of}
-use Rattle.mc_types.specs.Faults.{first_place}
-use Rattle.mc_types.proofs.expressions.first_place.Given as goal
-
-abbrev pub invariant-loop-current : goal.invariant-loop-current
-invariant-loop-current l = first_place (expression_of l.current) ≡ first_place (expression_of l.expression)

@@ -1,5 +1,0 @@
-use Rattle.mc_types.proofs.Wells.{is_told_once}
-use Rattle.mc_types.proofs.laws.first_fault_is_told_once.Goals as goal
-
-pub returns : goal.returns
-returns c = is_told_once

@@ -1,5 +1,0 @@
-use Rattle.mc_unfold.proofs.RulesMade.{rules_made, equals_formed, rule_of_fitting}
-use Rattle.mc_unfold.proofs.laws.rules_are_made.Goals as goal
-
-pub returns : goal.returns
-returns c = record { fits = rule_of_fitting; rules = rules_made; equal = equals_formed }

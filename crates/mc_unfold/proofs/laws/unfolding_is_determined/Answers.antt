@@ -1,5 +1,0 @@
-use Rattle.mc_unfold.proofs.Determined.{ind_determined, seg_determined}
-use Rattle.mc_unfold.proofs.laws.unfolding_is_determined.Goals as goal
-
-pub returns : goal.returns
-returns c = record { ind = ind_determined; seg = seg_determined }

@@ -1,7 +1,0 @@
-use Rattle.std.proofs.Common.{◌≡◌, ◌++◌, Some, drop, map}
-use Rattle.mc_defs.specs.Instances.{node_of}
-use Rattle.mc_unfolding.proofs.opening.block_edge.Given as goal
-
-abbrev pub invariant-loop-name : goal.invariant-loop-name
-invariant-loop-name l =
-    l.fields ++ map (λ name. Some (node_of l.nodes name)) (drop l.name-index l.rule.contents) ≡ map (λ name. Some (node_of l.nodes name)) l.rule.contents

@@ -1,7 +1,0 @@
-use Rattle.std.proofs.Common.{◌≡◌, ◌++◌, drop}
-use Rattle.mc_unfold.specs.Unfolded.{equal_atoms}
-use Rattle.mc_unfolding.proofs.opening.put_equal.Given as goal
-
-abbrev pub invariant-loop-i : goal.invariant-loop-i
-invariant-loop-i l =
-    l.atoms.items ++ equal_atoms (drop l.i l.left) (drop l.i l.right) ≡ l.fn.atoms.items ++ equal_atoms l.left l.right

@@ -1,9 +1,0 @@
-use Rattle.std.proofs.Common.{◌≡◌, ◌++◌, length}
-use Rattle.mc_visible.specs.Lasts.{names_held}
-use Rattle.mc_visible.proofs.stack.NameStack.push_all.Given as goal
-
-abbrev pub invariant-loop-name : goal.invariant-loop-name
-invariant-loop-name l = l.self ++ names_held l.names ≡ l.fn.self ++ names_held l.fn.names
-
-abbrev pub decreases-loop-name : goal.decreases-loop-name
-decreases-loop-name l = length l.names

@@ -1,6 +1,0 @@
-//! Names in order, of which later ones hide earlier ones, and the last place of each found by hash.
-#![tactic(auto)]
-
-mod stack;
-
-pub use stack::NameStack;

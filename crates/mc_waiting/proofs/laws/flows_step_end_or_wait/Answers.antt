@@ -1,5 +1,0 @@
-use Rattle.mc_waiting.proofs.Flows.{one_of_three}
-use Rattle.mc_waiting.proofs.laws.flows_step_end_or_wait.Goals as goal
-
-pub returns : goal.returns
-returns c = λ flow defs valid n choices left config leads. one_of_three flow defs valid n choices left config leads

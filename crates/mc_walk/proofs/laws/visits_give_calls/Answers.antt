@@ -1,5 +1,0 @@
-use Rattle.mc_walk.proofs.Calls.{calls_given}
-use Rattle.mc_walk.proofs.laws.visits_give_calls.Goals as goal
-
-pub returns : goal.returns
-returns c = calls_given

@@ -1,5 +1,0 @@
-use Rattle.mc_walk.proofs.Faults.{faults_given}
-use Rattle.mc_walk.proofs.laws.visits_give_faults.Goals as goal
-
-pub returns : goal.returns
-returns c = faults_given

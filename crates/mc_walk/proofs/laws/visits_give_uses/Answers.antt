@@ -1,5 +1,0 @@
-use Rattle.mc_walk.proofs.Uses.{uses_given}
-use Rattle.mc_walk.proofs.laws.visits_give_uses.Goals as goal
-
-pub returns : goal.returns
-returns c = uses_given
