@@ -172,7 +172,8 @@ OnlyTargetChanges words old new = (name : List ℕ) → (IsTarget words name →
 -- the file that the words name for the document is as it was, or holds the front of one whose answer has its cause
 abbrev pub TargetHoldsPart : List (List ℕ) → Holds → Holds → Type 0
 TargetHoldsPart words old new =
-    (name : List ℕ) → IsTarget words name → (new name ≡ old name) ⊎ ((a : Answer) × IsWhyWords old words a × HoldsFront old new name (document_of a))
+    (name : List ℕ) → IsTarget words name → (new name ≡ old name)
+    ⊎ ((a : Answer) × IsWhyWords old words a × HoldsFront old new name (document_of a))
 
 -- ---- calls
 
@@ -196,4 +197,6 @@ EndsWith holds after words old new status = Answers holds after words old new st
 abbrev pub PrintsPart : (holds after : Holds) → List (List ℕ) → Option (List ℕ) → Option (List ℕ) → Type 0
 PrintsPart holds after words old new =
     WhereTold old (λ before. (now : List ℕ) × (new ≡ Some now) × ((now ≡ before)
-    ⊎ ((a : Answer) × (n : ℕ) × IsWhyWords holds words a × ((name : List ℕ) → IsTarget words name → HoldsDocument holds after name (document_of a)) × (now ≡ before ++ take n (text_of a)))))
+    ⊎ ((a : Answer) × (n : ℕ) × IsWhyWords holds words a
+    × ((name : List ℕ) → IsTarget words name → HoldsDocument holds after name (document_of a))
+    × (now ≡ before ++ take n (text_of a)))))

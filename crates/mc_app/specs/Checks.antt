@@ -39,7 +39,8 @@ IsSafeUnit start unit defs =
 -- the texts are a program and its definitions, with which no run of the program has a fault
 abbrev pub IsSafe : (start text definitions : List ℕ) → Type 0
 IsSafe start text definitions =
-    (unit : UnitTree) × IsProgramHere start text unit × ((defs : List Def) × AreDefinitions unit defs definitions × IsSafeUnit start unit defs)
+    (unit : UnitTree) × IsProgramHere start text unit
+    × ((defs : List Def) × AreDefinitions unit defs definitions × IsSafeUnit start unit defs)
 
 -- where the program and its definitions are told, no run of the program has a fault
 abbrev pub IsSafeWhereTold : Holds → Sources → Type 0

@@ -37,7 +37,8 @@ fn analyse_bound(alloc: Global, names: Analyse<'_>, bound: &Bound) -> Result<Ana
     requires well_formed { IsWellFormed names.start.now (unit_of bound.now.typed.unit) }
     requires start { bound.now.typed.entry ≡ names.start.now }
     ensures why { IfOk result (λ found. IsWhyAnalysed names.entry (unit_of bound.now.typed.unit) bound.now.defs found) }
-    ensures safe { IfOk result (λ found. (f : Findings) → found ≡ Analysed.Found (Safe f) → IsSafeUnit names.entry.start.now (unit_of bound.now.typed.unit) bound.now.defs) }
+    ensures safe { IfOk result (λ found. (f : Findings) → found ≡ Analysed.Found (Safe f)
+        → IsSafeUnit names.entry.start.now (unit_of bound.now.typed.unit) bound.now.defs) }
 {
     // For the proof alone: a certificate means a safe flow graph, and that a safe program.
     certificates_are_safe();
@@ -61,7 +62,8 @@ pub fn answer_analysis<F: Files>(
     names: Analyse<'_>,
 ) -> Result<Answer, FileFault>
     ensures why { IfOk result (λ a. (words : List (List ℕ)) → AsksAnalyse words names.entry → IsWhyWords (F.holds files.old) words a) }
-    ensures safe { IfOk result (λ a. (f : Findings) → a ≡ Answer.Analysed (Analysed.Found (Safe f)) → IsSafeWhereTold (F.holds files.old) (sources_of (Meant.Analyse names.entry))) }
+    ensures safe { IfOk result (λ a. (f : Findings) → a ≡ Answer.Analysed (Analysed.Found (Safe f))
+        → IsSafeWhereTold (F.holds files.old) (sources_of (Meant.Analyse names.entry))) }
     ensures same { Stays (F.holds files.old) (F.holds files.new) }
     ensures cause { HasCause (F.faults files.old) (F.faults files.new) result }
 {

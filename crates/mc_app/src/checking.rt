@@ -39,7 +39,8 @@ fn check<F: Files>(
     requires well_formed { IsWellFormed names.start.now (unit_of bound.now.typed.unit) }
     requires start { bound.now.typed.entry ≡ names.start.now }
     ensures why { IfOk result (λ found. IsWhyChecked (F.holds files.old) names.entry (unit_of bound.now.typed.unit) bound.now.defs found) }
-    ensures safe { IfOk result (λ found. found ≡ Checked.Judged Verdict.Safe → IsSafeUnit names.entry.start.now (unit_of bound.now.typed.unit) bound.now.defs) }
+    ensures safe { IfOk result (λ found. found ≡ Checked.Judged Verdict.Safe
+        → IsSafeUnit names.entry.start.now (unit_of bound.now.typed.unit) bound.now.defs) }
     ensures same { Stays (F.holds files.old) (F.holds files.new) }
     ensures cause { HasCause (F.faults files.old) (F.faults files.new) result }
 {
@@ -64,7 +65,8 @@ pub fn answer_check<F: Files>(
     names: Check<'_>,
 ) -> Result<Answer, FileFault>
     ensures why { IfOk result (λ a. (words : List (List ℕ)) → AsksCheck words names.entry → IsWhyWords (F.holds files.old) words a) }
-    ensures safe { IfOk result (λ a. a ≡ Answer.Checked (Checked.Judged Verdict.Safe) → IsSafeWhereTold (F.holds files.old) (sources_of (Meant.Check names.entry))) }
+    ensures safe { IfOk result (λ a. a ≡ Answer.Checked (Checked.Judged Verdict.Safe)
+        → IsSafeWhereTold (F.holds files.old) (sources_of (Meant.Check names.entry))) }
     ensures same { Stays (F.holds files.old) (F.holds files.new) }
     ensures cause { HasCause (F.faults files.old) (F.faults files.new) result }
 {

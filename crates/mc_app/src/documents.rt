@@ -25,7 +25,8 @@ fn next_heard<F: Files>(
 ) -> Result<u64, FileFault>
     requires before { at < size }
     requires valid { IsValid judge.old.flow.now judge.old.defs.now }
-    ensures heard { IfOk result (λ n. (piece : List ℕ) × (length piece ≡ n) × Hears piece judge.old judge.new × WhereTold (F.holds files.old name.now) (λ bytes. piece ≡ take n (drop at bytes))) }
+    ensures heard { IfOk result (λ n. (piece : List ℕ) × (length piece ≡ n) × Hears piece judge.old judge.new
+        × WhereTold (F.holds files.old name.now) (λ bytes. piece ≡ take n (drop at bytes))) }
     ensures within { WhereTold (F.holds files.old name.now) (λ bytes. IfOk result (λ n. n ≤ length bytes - at)) }
     ensures ended { WhereTold (F.holds files.old name.now) (λ bytes. IfOk result (λ n. n ≡ 0 → 0 < length buf.old → length bytes ≤ at)) }
     ensures bound { IfOk result (λ n. at + n ≤ size) }
@@ -51,7 +52,8 @@ fn hear<F: Files>(
     requires room { 0 < length buf.old }
     requires valid { IsValid judge.old.flow.now judge.old.defs.now }
     requires fresh { IsHeard [] judge.old }
-    ensures heard { OnOk result ((text : List ℕ) × IsHeard text judge.new × WhereTold (F.holds files.old name.now) (λ bytes. size ≡ length bytes → text ≡ bytes)) }
+    ensures heard { OnOk result ((text : List ℕ) × IsHeard text judge.new
+        × WhereTold (F.holds files.old name.now) (λ bytes. size ≡ length bytes → text ≡ bytes)) }
     ensures same_judge { StaysFor judge.old judge.new }
     ensures same { Stays (F.holds files.old) (F.holds files.new) }
     ensures cause { HasCause (F.faults files.old) (F.faults files.new) result }

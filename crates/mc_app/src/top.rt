@@ -30,7 +30,8 @@ fn answered<F: Files>(
     request: Request<'_>,
 ) -> Result<Answer, FileFault>
     ensures why { IfOk result (λ a. (words : List (List ℕ)) → Asks words request.entry → IsWhyWords (F.holds files.old) words a) }
-    ensures safe { IfOk result (λ a. (words : List (List ℕ)) → Asks words request.entry → status_of a ≡ Status.Good → AsksForSafety request.entry → IsSafeWhereTold (F.holds files.old) (sources_of request.entry)) }
+    ensures safe { IfOk result (λ a. (words : List (List ℕ)) → Asks words request.entry → status_of a ≡ Status.Good
+        → AsksForSafety request.entry → IsSafeWhereTold (F.holds files.old) (sources_of request.entry)) }
     ensures same { Stays (F.holds files.old) (F.holds files.new) }
     ensures cause { HasCause (F.faults files.old) (F.faults files.new) result }
 {
@@ -67,7 +68,8 @@ fn found<'w, F: Files>(
     files: &mut F,
 ) -> Result<Reply<'w>, FileFault>
     ensures why { IfOk result (λ f. IsWhyWords (F.holds files.old) (map string_bytes words.entry.now) f.answer) }
-    ensures safe { IfOk result (λ f. status_of f.answer ≡ Status.Good → IsSafeForWords (F.holds files.old) (map string_bytes words.entry.now)) }
+    ensures safe { IfOk result (λ f. status_of f.answer ≡ Status.Good
+        → IsSafeForWords (F.holds files.old) (map string_bytes words.entry.now)) }
     ensures target { IfOk result (λ f. HasTarget (map string_bytes words.entry.now) (option_map (λ s. s.now) f.target)) }
     ensures same { Stays (F.holds files.old) (F.holds files.new) }
     ensures cause { HasCause (F.faults files.old) (F.faults files.new) result }
@@ -87,7 +89,8 @@ fn found<'w, F: Files>(
 
 // Writes the document of an answer into the file that it goes into.
 fn keep<F: Files>(files: &mut F, reply: &Reply<'_>) -> Result<(), FileFault>
-    ensures kept { Keeps (F.holds files.old) (F.holds files.new) (option_map (λ s. s.now) reply.now.target) (document_of reply.now.answer) result }
+    ensures kept { Keeps (F.holds files.old) (F.holds files.new) (option_map (λ s. s.now) reply.now.target)
+        (document_of reply.now.answer) result }
     ensures cause { HasCause (F.faults files.old) (F.faults files.new) result }
 {
     let Some(name) = reply.target else {
@@ -130,11 +133,13 @@ pub fn memcad<F: Files, K: Sink>(
     ensures safe { result ≡ Status.Good → IsSafeForWords (F.holds files.old) (map string_bytes words.now) }
     // Each answer has its cause, leaves its document and prints its text. A call without an answer ran out of memory, or the
     // device failed.
-    ensures why { EndsWith (F.holds files.old) (F.holds files.new) (map string_bytes words.now) (K.written out.old) (K.written out.new) result }
+    ensures why { EndsWith (F.holds files.old) (F.holds files.new) (map string_bytes words.now) (K.written out.old)
+        (K.written out.new) result }
     ensures device { result ≡ Status.Device → Rose (F.faults files.old) (F.faults files.new) ⊎ Rose (K.faults out.old) (K.faults out.new) }
     ensures only_device { (F.faults files.old < F.faults files.new) ⊎ (K.faults out.old < K.faults out.new) → result ≡ Status.Device }
     // Another status prints nothing, or the front of the text of an answer that has its cause, whose document stands by then.
-    ensures prints_part { PrintsPart (F.holds files.old) (F.holds files.new) (map string_bytes words.now) (K.written out.old) (K.written out.new) }
+    ensures prints_part { PrintsPart (F.holds files.old) (F.holds files.new) (map string_bytes words.now)
+        (K.written out.old) (K.written out.new) }
     // No file changes, but the one that the words name for the document, which is as it was or holds the front of one.
     ensures same { OnlyTargetChanges (map string_bytes words.now) (F.holds files.old) (F.holds files.new) }
     ensures leaves_part { TargetHoldsPart (map string_bytes words.now) (F.holds files.old) (F.holds files.new) }

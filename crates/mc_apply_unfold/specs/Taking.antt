@@ -42,7 +42,9 @@ pub record TakesRuleBack (s : State) (g : SegParts) (rule : Rule) : Type 0 where
   pub atoms : AllByRecursion (IsWellFormed (with_nodes s rule.names).kinds) (map (atom_of (new_nodes s rule)) rule.atoms)
   pub ends : (place : ℕ) (call : Call)
       → slice_get rule.calls place ≡ Some call → call.pred.0 ≡ g.pred.0
-      → AllByRecursion (IsWellFormed (with_nodes s rule.names).kinds) (equal_atoms (node_of (new_nodes s rule) call.at ∷ map (node_of (new_nodes s rule)) call.args) (g.stop ∷ g.ends))
+      → AllByRecursion (IsWellFormed (with_nodes s rule.names).kinds)
+      (equal_atoms (node_of (new_nodes s rule) call.at ∷ map (node_of (new_nodes s rule)) call.args)
+      (g.stop ∷ g.ends))
 
 -- in a state that is made for the definitions an Ind takes each rule of its predicate
 abbrev pub IndTakesRules : Type 0

@@ -14,7 +14,8 @@ number_in functions name = position_or_len (λ f. is_same f.name.text name) func
 
 -- a call, by numbers
 abbrev pub edge_of : List FunctionTree → CallSite → Edge
-edge_of functions site = record { caller = number_in functions site.caller; callee = number_in functions site.callee.text; place = site.callee.place }
+edge_of functions site = record
+    { caller = number_in functions site.caller; callee = number_in functions site.callee.text; place = site.callee.place }
 
 -- both numbers are below the count
 abbrev pub IsWithin : ℕ → Edge → Type 0

@@ -17,7 +17,8 @@ use std::alloc::{AllocError, Global};
 
 /// Notes which names among these arguments of a shape command are not visible.
 fn check_arguments(told: &mut FirstFault, sight: VisibleNames, arguments: &[Argument])
-    ensures { told.new.fault ≡ told_of told.old.fault (flat_map (shape_argument_faults (variables_held sight.entry.scope.now)) arguments.now) }
+    ensures { told.new.fault ≡ told_of told.old.fault
+        (flat_map (shape_argument_faults (variables_held sight.entry.scope.now)) arguments.now) }
 {
     for argument in arguments {
         sight.check_argument(told, argument);
@@ -49,7 +50,9 @@ fn check_declared(
     base: &Base,
     declarator: &Declarator,
 )
-    ensures { told.new.fault ≡ told_of told.old.fault (declarator_faults (tables_held tables.now) base.now declarator.now ++ unless (is_none (type_in walk.now.scope.own declarator.now.name.text)) Twice declarator.now.name.place) }
+    ensures { told.new.fault
+        ≡ told_of told.old.fault (declarator_faults (tables_held tables.now) base.now declarator.now
+        ++ unless (is_none (type_in walk.now.scope.own declarator.now.name.text)) Twice declarator.now.name.place) }
 {
     check_declarator(told, tables, base, declarator);
     told.unless(
@@ -68,7 +71,9 @@ fn check_part<'a>(
     returned: Option<VariableType>,
     part: Part<'a>,
 ) -> Result<(), AllocError>
-    ensures { OnOk result (told.new.fault ≡ told_of told.old.fault (part_faults (tables_held tables.now) returned walk.now.scope (part_of part.entry))) }
+    ensures { OnOk result (told.new.fault
+        ≡ told_of told.old.fault
+        (part_faults (tables_held tables.now) returned walk.now.scope (part_of part.entry))) }
 {
     let sight = VisibleNames {
         tables,
@@ -124,7 +129,9 @@ pub fn check_body<'a>(
     tables: &NameTables<'a>,
     function: &'a Function,
 ) -> Result<(), AllocError>
-    ensures { OnOk result (told.new.fault ≡ told_of told.old.fault (body_faults (tables_held tables.now) (function_of function.now) (function_of function.now).body)) }
+    ensures { OnOk result (told.new.fault
+        ≡ told_of told.old.fault (body_faults (tables_held tables.now) (function_of function.now)
+        (function_of function.now).body)) }
 {
     visits_give_faults();
     let returned = tables.returned_type(&function.returned);

@@ -78,7 +78,9 @@ fn body_calls<'a>(
     tables: &NameTables<'a>,
     function: &'a Function,
 ) -> Result<Items<&'a Name>, AllocError>
-    ensures { IfOk result (λ names. names_held names ≡ flat_map visit_calls (body_visits (tables_held tables.now) (function_of function.now) (function_of function.now).body)) }
+    ensures { IfOk result (λ names. names_held names
+        ≡ flat_map visit_calls (body_visits (tables_held tables.now) (function_of function.now)
+        (function_of function.now).body)) }
 {
     let mut names = Items::new(alloc);
     let mut walk = Walk::new(alloc, tables, function)?;
@@ -107,7 +109,9 @@ fn add_calls(
     caller: &Text,
     callees: &[&Name],
 ) -> Result<(), AllocError>
-    ensures { OnOk result (edges.new ≡ edges.old ++ map (edge_of (tables_held tables.now).functions) (map (λ n. record { caller = caller.now; callee = n }) (names_held callees.now))) }
+    ensures { OnOk result (edges.new ≡ edges.old
+        ++ map (edge_of (tables_held tables.now).functions)
+        (map (λ n. record { caller = caller.now; callee = n }) (names_held callees.now))) }
 {
     let caller = number(tables, caller);
     for name in callees {
@@ -147,7 +151,8 @@ pub fn collect_edges<'a>(
     tables: &NameTables<'a>,
     items: &'a [Item],
 ) -> Result<Items<Edge>, AllocError>
-    ensures { IfOk result (λ edges. edges ≡ map (edge_of (tables_held tables.now).functions) (flat_map item_sites (map item_of items.now))) }
+    ensures { IfOk result (λ edges. edges
+        ≡ map (edge_of (tables_held tables.now).functions) (flat_map item_sites (map item_of items.now))) }
 {
     let mut edges = Items::new(alloc);
     for item in items {

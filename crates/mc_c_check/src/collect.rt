@@ -92,7 +92,9 @@ pub fn aliased_meaning(tables: &NameTables, aliased: &Aliased) -> BaseType
 
 /// Adds what a typedef makes of names.
 fn add_typedef<'a>(tables: &mut NameTables<'a>, tree: &'a Typedef) -> Result<(), AllocError>
-    ensures aliases { OnOk result (map alias_held tables.new.aliases ≡ aliases_behind (structs_held tables.old.structs) (map alias_held tables.old.aliases) (typedef (typedef_of tree.now))) }
+    ensures aliases { OnOk result (map alias_held tables.new.aliases
+        ≡ aliases_behind (structs_held tables.old.structs) (map alias_held tables.old.aliases)
+        (typedef (typedef_of tree.now))) }
     ensures structs { OnOk result (tables.new.structs ≡ tables.old.structs) }
     ensures functions { OnOk result (tables.new.functions ≡ tables.old.functions) }
 {
@@ -108,7 +110,9 @@ fn add_typedef<'a>(tables: &mut NameTables<'a>, tree: &'a Typedef) -> Result<(),
 
 /// Adds what the typedefs among these items make of names.
 fn add_aliases<'a>(tables: &mut NameTables<'a>, items: &'a [Item]) -> Result<(), AllocError>
-    ensures aliases { OnOk result (map alias_held tables.new.aliases ≡ aliases_of (structs_held tables.old.structs) (map alias_held tables.old.aliases) (map item_of items.now)) }
+    ensures aliases { OnOk result (map alias_held tables.new.aliases
+        ≡ aliases_of (structs_held tables.old.structs) (map alias_held tables.old.aliases)
+        (map item_of items.now)) }
     ensures structs { OnOk result (tables.new.structs ≡ tables.old.structs) }
     ensures functions { OnOk result (tables.new.functions ≡ tables.old.functions) }
 {

@@ -16,7 +16,8 @@ use std::alloc::{AllocError, Global};
 
 /// Notes that the result of a function has no type.
 fn check_returned(told: &mut FirstFault, tables: &NameTables, function: &Function)
-    ensures { told.new.fault ≡ told_of told.old.fault (returned_faults (tables_held tables.now) (function_of function.now) function.now.returned) }
+    ensures { told.new.fault ≡ told_of told.old.fault
+        (returned_faults (tables_held tables.now) (function_of function.now) function.now.returned) }
 {
     match &function.returned {
         Returned::Void(_) => {}
@@ -26,7 +27,8 @@ fn check_returned(told: &mut FirstFault, tables: &NameTables, function: &Functio
 
 /// Notes which of these parameters have no type.
 fn check_parameters(told: &mut FirstFault, tables: &NameTables, parameters: &[Parameter])
-    ensures { told.new.fault ≡ told_of told.old.fault (flat_map (λ p. declarator_faults (tables_held tables.now) p.base p.declarator) parameters.now) }
+    ensures { told.new.fault ≡ told_of told.old.fault
+        (flat_map (λ p. declarator_faults (tables_held tables.now) p.base p.declarator) parameters.now) }
 {
     for parameter in parameters {
         check_declarator(told, tables, &parameter.base, &parameter.declarator);
@@ -97,7 +99,8 @@ pub fn check_items<'a>(
     tables: &NameTables<'a>,
     items: &'a [Item],
 ) -> Result<(), AllocError>
-    ensures { OnOk result (told.new.fault ≡ told_of told.old.fault (flat_map (item_tree_faults (tables_held tables.now)) (map item_of items.now))) }
+    ensures { OnOk result (told.new.fault
+        ≡ told_of told.old.fault (flat_map (item_tree_faults (tables_held tables.now)) (map item_of items.now))) }
 {
     for item in items {
         check_item(alloc, told, tables, item)?;

@@ -55,7 +55,8 @@ fn add_fields(
     base: &Base,
     declarators: &[Declarator],
 ) -> Result<(), AllocError>
-    ensures { OnOk result (infos.new ≡ infos.old ++ map (λ d. field_info (variable_of (tables_held tables.now) base.now d)) declarators.now) }
+    ensures { OnOk result (infos.new ≡ infos.old
+        ++ map (λ d. field_info (variable_of (tables_held tables.now) base.now d)) declarators.now) }
 {
     for declarator in declarators {
         infos.push(field_info(alloc, tables, base, declarator)?)?;

@@ -41,7 +41,9 @@ fn parameter_type(tables: &NameTables, parameter: &Parameter) -> VariableType
 
 /// Whether parameters agree one by one.
 fn same_parameters(tables: &NameTables, left: &[Parameter], right: &[Parameter]) -> bool
-    ensures { result ≡ all_agree (map (λ p. (variable_of (tables_held tables.now) p.base p.declarator).type) left.now) (map (λ p. (variable_of (tables_held tables.now) p.base p.declarator).type) right.now) }
+    ensures { result ≡ all_agree (map (λ p.
+        (variable_of (tables_held tables.now) p.base p.declarator).type) left.now)
+        (map (λ p. (variable_of (tables_held tables.now) p.base p.declarator).type) right.now) }
 {
     if left.len() != right.len() {
         return false;
@@ -89,7 +91,9 @@ fn check_prototype(
     function: &Function,
     others: &[&Function],
 )
-    ensures { told.new.fault ≡ told_of told.old.fault (unless (not (list_any (λ f. is_other (tables_held tables.now) (function_of function.now) (function_of f.now)) others.now)) Mismatch function.now.name.place) }
+    ensures { told.new.fault ≡ told_of told.old.fault
+        (unless (not (list_any (λ f. is_other (tables_held tables.now) (function_of function.now)
+        (function_of f.now)) others.now)) Mismatch function.now.name.place) }
 {
     let fault = Fault {
         name: FaultName::Mismatch,
@@ -134,7 +138,8 @@ fn is_one_result(left: Option<VariableType>, right: Option<VariableType>) -> boo
 
 /// Whether parameters have the same types one by one.
 fn are_one(tables: &NameTables, left: &[Parameter], right: &[Parameter]) -> bool
-    ensures { IsTrue result → map (λ p. (variable_of (tables_held tables.now) p.base p.declarator).type) left.now ≡ map (λ p. (variable_of (tables_held tables.now) p.base p.declarator).type) right.now }
+    ensures { IsTrue result → map (λ p. (variable_of (tables_held tables.now) p.base p.declarator).type) left.now
+        ≡ map (λ p. (variable_of (tables_held tables.now) p.base p.declarator).type) right.now }
 {
     if left.len() != right.len() {
         return false;
@@ -187,7 +192,9 @@ fn check_prototypes(
     told: &mut FirstFault,
     tables: &NameTables,
 ) -> Result<(), AllocError>
-    ensures { OnOk result (told.new.fault ≡ told_of told.old.fault (prototype_faults (tables_held tables.now) [] (tables_held tables.now).functions)) }
+    ensures { OnOk result (told.new.fault
+        ≡ told_of told.old.fault (prototype_faults (tables_held tables.now) []
+        (tables_held tables.now).functions)) }
 {
     let functions = tables.functions.as_slice();
     let mut before = Groups::new(alloc);

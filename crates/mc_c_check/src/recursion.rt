@@ -78,7 +78,8 @@ pub fn check_recursion<'a>(
     tables: &NameTables<'a>,
     items: &'a [Item],
 ) -> Result<(), AllocError>
-    ensures { OnOk result (let edges = map (edge_of (tables_held tables.now).functions) (flat_map item_sites (map item_of items.now)) in IsToldWith edges edges told.old.fault told.new.fault) }
+    ensures { OnOk result (let edges = map (edge_of (tables_held tables.now).functions)
+        (flat_map item_sites (map item_of items.now)) in IsToldWith edges edges told.old.fault told.new.fault) }
 {
     let edges = collect_edges(alloc, tables, items)?;
     check_edges(alloc, told, edges.as_slice(), tables.functions.len())?;

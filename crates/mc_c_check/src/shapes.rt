@@ -56,7 +56,8 @@ fn argument_place(argument: &Argument) -> Place
 
 /// Notes which arguments are not of their kinds.
 fn check_kinds(told: &mut FirstFault, sight: VisibleNames, kinds: &[Kind], arguments: &[Argument])
-    ensures { told.new.fault ≡ told_of told.old.fault (given_faults kinds.now (map (argument_given (variables_held sight.entry.scope.now)) arguments.now)) }
+    ensures { told.new.fault ≡ told_of told.old.fault
+        (given_faults kinds.now (map (argument_given (variables_held sight.entry.scope.now)) arguments.now)) }
 {
     for (i, argument) in arguments.iter().enumerate() {
         if i < kinds.len() {
@@ -165,7 +166,9 @@ fn check_parts<'a>(
     defs: &[Def],
     function: &'a Function,
 ) -> Result<(), AllocError>
-    ensures { OnOk result (told.new.fault ≡ told_of told.old.fault (flat_map (λ v. flat_map (use_faults defs.now) (visit_uses v)) (body_visits (tables_held tables.now) (function_of function.now) (function_of function.now).body))) }
+    ensures { OnOk result (told.new.fault
+        ≡ told_of told.old.fault (flat_map (λ v. flat_map (use_faults defs.now) (visit_uses v))
+        (body_visits (tables_held tables.now) (function_of function.now) (function_of function.now).body))) }
 {
     let mut walk = Walk::new(alloc, tables, function)?;
     while let Some(part) = walk.next(tables)? {
@@ -182,7 +185,9 @@ fn check_function<'a>(
     defs: &[Def],
     function: &'a Function,
 ) -> Result<(), AllocError>
-    ensures { OnOk result (told.new.fault ≡ told_of told.old.fault (flat_map (use_faults defs.now) (body_uses (tables_held tables.now) (function_of function.now) (function_of function.now).body))) }
+    ensures { OnOk result (told.new.fault
+        ≡ told_of told.old.fault (flat_map (use_faults defs.now)
+        (body_uses (tables_held tables.now) (function_of function.now) (function_of function.now).body))) }
 {
     visits_give_uses();
     check_parts(alloc, told, tables, defs, function)?;
@@ -197,7 +202,9 @@ fn check_item<'a>(
     defs: &[Def],
     item: &'a Item,
 ) -> Result<(), AllocError>
-    ensures { OnOk result (told.new.fault ≡ told_of told.old.fault (flat_map (use_faults defs.now) (item_uses (tables_held tables.now) (item_of item.now)))) }
+    ensures { OnOk result (told.new.fault
+        ≡ told_of told.old.fault (flat_map (use_faults defs.now)
+        (item_uses (tables_held tables.now) (item_of item.now)))) }
 {
     match item {
         Item::Struct(_) => Ok(()),
@@ -217,7 +224,10 @@ fn check_items<'a>(
     defs: &[Def],
     items: &'a [Item],
 ) -> Result<(), AllocError>
-    ensures { OnOk result (told.new.fault ≡ told_of told.old.fault (flat_map (λ item. flat_map (use_faults defs.now) (item_uses (tables_held tables.now) item)) (map item_of items.now))) }
+    ensures { OnOk result (told.new.fault
+        ≡ told_of told.old.fault (flat_map
+        (λ item. flat_map (use_faults defs.now) (item_uses (tables_held tables.now) item))
+        (map item_of items.now))) }
 {
     for item in items {
         check_item(alloc, told, tables, defs, item)?;

@@ -52,7 +52,9 @@ fn check_declarators(
 
 /// Notes which of these fields have no type.
 fn check_fields(told: &mut FirstFault, tables: &NameTables, fields: &[Field])
-    ensures { told.new.fault ≡ told_of told.old.fault (flat_map (λ field. flat_map (declarator_faults (tables_held tables.now) field.base) field.declarators) (map field_of fields.now)) }
+    ensures { told.new.fault ≡ told_of told.old.fault
+        (flat_map (λ field. flat_map (declarator_faults (tables_held tables.now) field.base) field.declarators)
+        (map field_of fields.now)) }
 {
     for field in fields {
         check_declarators(told, tables, &field.base, field.declarators.as_slice());
@@ -145,7 +147,8 @@ fn check_alias(
     aliased: &Aliased,
     declarator: &Declarator,
 )
-    ensures { told.new.fault ≡ told_of told.old.fault (alias_faults (tables_held tables.now) (aliased_base (aliased_of aliased.now)) declarator.now) }
+    ensures { told.new.fault ≡ told_of told.old.fault
+        (alias_faults (tables_held tables.now) (aliased_base (aliased_of aliased.now)) declarator.now) }
 {
     let star = declarator.pointer;
     check_aliased_base(told, tables, aliased, star);
@@ -163,7 +166,8 @@ fn check_aliases(
     aliased: &Aliased,
     declarators: &[Declarator],
 )
-    ensures { told.new.fault ≡ told_of told.old.fault (flat_map (alias_faults (tables_held tables.now) (aliased_base (aliased_of aliased.now))) declarators.now) }
+    ensures { told.new.fault ≡ told_of told.old.fault
+        (flat_map (alias_faults (tables_held tables.now) (aliased_base (aliased_of aliased.now))) declarators.now) }
 {
     for declarator in declarators {
         check_alias(told, tables, aliased, declarator);

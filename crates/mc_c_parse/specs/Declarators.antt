@@ -13,7 +13,8 @@ use Rattle.mc_c_parse.specs.Threads.{Then, StepIs}
 
 -- a declarator's name, behind the `*` at this place
 pub data IsPointed (place : Place) : Tokens → Tokens → Declarator → Type 0 where
-  pointed : {name : Token} {rest : Tokens} → IsName name → IsPointed place (name ∷ rest) rest (record { pointer = Some place; name = name_of name })
+  pointed : {name : Token} {rest : Tokens} → IsName name
+      → IsPointed place (name ∷ rest) rest (record { pointer = Some place; name = name_of name })
 
 -- the tokens, up to the rest, complete what the reader has read to this declarator
 abbrev pub CompletesDeclarator : DeclaratorReader → Tokens → Tokens → Declarator → Type 0

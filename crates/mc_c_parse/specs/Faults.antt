@@ -31,7 +31,8 @@ abbrev pub left_out : List (List ℕ)
 left_out =
     codes "goto" ∷ codes "switch" ∷ codes "case" ∷ codes "union" ∷ codes "enum" ∷ codes "char" ∷ codes "short" ∷ codes "long"
     ∷ codes "unsigned" ∷ codes "signed" ∷ codes "float" ∷ codes "double" ∷ codes "const" ∷ codes "volatile" ∷ codes "extern"
-    ∷ codes "[" ∷ codes "&" ∷ codes "/" ∷ codes "%" ∷ codes "<<" ∷ codes ">>" ∷ codes "?" ∷ codes "." ∷ codes "|" ∷ codes "^" ∷ codes "~" ∷ codes "#" ∷ codes "\"" ∷ codes "'" ∷ []
+    ∷ codes "[" ∷ codes "&" ∷ codes "/" ∷ codes "%" ∷ codes "<<" ∷ codes ">>" ∷ codes "?" ∷ codes "." ∷ codes "|"
+    ∷ codes "^" ∷ codes "~" ∷ codes "#" ∷ codes "\"" ∷ codes "'" ∷ []
 
 -- this mark in the place of a token
 abbrev pub as_mark : List ℕ → Token → Token
@@ -60,7 +61,8 @@ pub record IsInnerCall (before : Tokens) (token : Token) : Type 0 where
 
 -- a name could stand in the place of a `*`, with a `,` or a `(` in that of the token behind it
 abbrev pub DeclaresBehind : Tokens → Token → Token → Type 0
-DeclaresBehind first star token = CanBegin (first ++ as_name star ∷ as_mark (codes ",") token ∷ []) ⊎ CanBegin (first ++ as_name star ∷ as_mark (codes "(") token ∷ [])
+DeclaresBehind first star token = CanBegin (first ++ as_name star ∷ as_mark (codes ",") token ∷ [])
+    ⊎ CanBegin (first ++ as_name star ∷ as_mark (codes "(") token ∷ [])
 
 -- a pointer to a pointer: `*` behind the `*` of a declarator or a result, where a name could stand with a `,` or a `(` behind it
 pub record IsInnerPointer (before : Tokens) (token : Token) : Type 0 where
@@ -73,7 +75,8 @@ pub record IsInnerPointer (before : Tokens) (token : Token) : Type 0 where
 
 -- the parameters of a function could stand here, or the end of fields or of a typedef
 abbrev pub IsOutside : Tokens → Token → Type 0
-IsOutside before token = (CanStand before (codes "(") token × (CanStand before (codes "=") token → ⊥)) ⊎ (CanStand before (codes ",") token × CanStand before (codes ";") token)
+IsOutside before token = (CanStand before (codes "(") token × (CanStand before (codes "=") token → ⊥))
+    ⊎ (CanStand before (codes ",") token × CanStand before (codes ";") token)
 
 -- a variable outside every function, or a value of one: `;`, `=` or `,` behind a name that is no expression
 pub record IsOuterVariable (before : Tokens) (token : Token) : Type 0 where
@@ -97,8 +100,10 @@ IsFaultAt before token NoMemory = Unit {0}
 
 -- the fault is at the first token that no program can have there
 abbrev pub IsFaultOf : Tokens → ParseFault → Type 0
-IsFaultOf tokens (Unexpected place) = (before : Tokens) × (token : Token) × StopsAt tokens before token × IsFaultAt before token (Unexpected place)
-IsFaultOf tokens (LeftOut text place) = (before : Tokens) × (token : Token) × StopsAt tokens before token × IsFaultAt before token (LeftOut text place)
+IsFaultOf tokens (Unexpected place) = (before : Tokens) × (token : Token) × StopsAt tokens before token
+    × IsFaultAt before token (Unexpected place)
+IsFaultOf tokens (LeftOut text place) = (before : Tokens) × (token : Token) × StopsAt tokens before token
+    × IsFaultAt before token (LeftOut text place)
 IsFaultOf tokens NoMemory = Unit {0}
 
 -- no token is the end of the text

@@ -18,8 +18,10 @@ use Rattle.mc_c_parse.specs.Declarators.{IsDeclaratorsEnd, CompletesDeclarators}
 
 -- the tokens, up to the rest, complete what the reader has read to these fields of one base
 abbrev pub CompletesField : List (List ℕ) → FieldReader → Tokens → Tokens → FieldTree → Type 0
-CompletesField aliases (FieldReader.Base reader) = Then (CompletesBase aliases reader) (λ base. Then IsDeclaratorsEnd (λ ds. Gives (record { base = base; declarators = ds })))
-CompletesField aliases (FieldReader.Declarators base reader) = Then (CompletesDeclarators reader) (λ ds. Gives (record { base = base; declarators = ds }))
+CompletesField aliases (FieldReader.Base reader) = Then (CompletesBase aliases reader)
+    (λ base. Then IsDeclaratorsEnd (λ ds. Gives (record { base = base; declarators = ds })))
+CompletesField aliases (FieldReader.Declarators base reader) = Then (CompletesDeclarators reader)
+    (λ ds. Gives (record { base = base; declarators = ds }))
 
 -- behind these fields: more of them, and a `}`
 abbrev pub EndsFields : List (List ℕ) → List FieldTree → Tokens → Tokens → List FieldTree → Type 0
@@ -36,13 +38,15 @@ CompletesFields aliases reader = FieldsFrom aliases (map field_of reader.done.it
 
 -- behind `struct S {`
 abbrev pub CompletesStruct : List (List ℕ) → StructReader → Tokens → Tokens → StructTree → Type 0
-CompletesStruct aliases reader = Then (CompletesFields aliases reader.fields) (λ fs. Gives (record { place = reader.place; name = reader.name; fields = fs }))
+CompletesStruct aliases reader = Then (CompletesFields aliases reader.fields)
+    (λ fs. Gives (record { place = reader.place; name = reader.name; fields = fs }))
 
 abbrev pub FieldStepIs : List (List ℕ) → FieldReader → Token → Step FieldReader Field → Type 0
 FieldStepIs aliases reader token step = StepIs (CompletesField aliases) field_of (CompletesField aliases reader) token step
 
 abbrev pub FieldsStepIs : List (List ℕ) → List FieldTree → Option FieldReader → Token → Step FieldsReader (Vec Field Global) → Type 0
-FieldsStepIs aliases fs current token step = StepIs (CompletesFields aliases) (λ v. map field_of v.items) (FieldsFrom aliases fs current) token step
+FieldsStepIs aliases fs current token step = StepIs (CompletesFields aliases) (λ v. map field_of v.items)
+    (FieldsFrom aliases fs current) token step
 
 abbrev pub StructStepIs : List (List ℕ) → StructReader → Token → Step StructReader Struct → Type 0
 StructStepIs aliases reader token step = StepIs (CompletesStruct aliases) struct_of (CompletesStruct aliases reader) token step

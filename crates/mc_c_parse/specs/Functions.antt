@@ -40,11 +40,15 @@ pub data IsHeaderOf (base : Base) : Tokens → Tokens → Header → Type 0 wher
 
 -- the same, behind what it gives
 pub data IsNamed (returned : Returned) : Tokens → Tokens → Header → Type 0 where
-  named : {name before : Token} {rest : Tokens} → IsName name → IsMark (codes "(") before → IsNamed returned (name ∷ before ∷ rest) rest (record { returned = returned; name = name_of name })
+  named : {name before : Token} {rest : Tokens} → IsName name
+      → IsMark (codes "(") before → IsNamed returned (name ∷ before ∷ rest) rest
+      (record { returned = returned; name = name_of name })
 
 -- the same, behind its name
 pub data IsOpened (returned : Returned) (name : Name) : Tokens → Tokens → Header → Type 0 where
-  opened : {before : Token} {rest : Tokens} → IsMark (codes "(") before → IsOpened returned name (before ∷ rest) rest (record { returned = returned; name = name })
+  opened : {before : Token} {rest : Tokens}
+      → IsMark (codes "(") before → IsOpened returned name (before ∷ rest) rest
+      (record { returned = returned; name = name })
 
 -- the tokens, up to the rest, complete what the reader has read to this head of a function
 abbrev pub CompletesHeader : List (List ℕ) → HeaderReader → Tokens → Tokens → Header → Type 0
@@ -59,17 +63,25 @@ HeaderStepIs aliases reader token step = StepIs (CompletesHeader aliases) (λ he
 
 -- the body of a function with this head and these parameters, or the `;` of its prototype
 abbrev pub EndsFunction : List (List ℕ) → Option Place → Header → ParametersTree → Tokens → Tokens → FunctionTree → Type 0
-EndsFunction aliases static_place header parameters = Then (λ tokens rest body. IsBody aliases body tokens rest) (λ body. Gives (record { static_place = static_place; returned = header.returned; name = header.name; parameters = parameters; body = body }))
+EndsFunction aliases static_place header parameters = Then (λ tokens rest body. IsBody aliases body tokens rest)
+    (λ body. Gives
+    (record
+    { static_place = static_place; returned = header.returned; name = header.name; parameters = parameters; body = body }))
 
 -- the parameters and the body
 abbrev pub BehindHeader : List (List ℕ) → Option Place → Header → Tokens → Tokens → FunctionTree → Type 0
-BehindHeader aliases static_place header = Then (IsParametersEnd aliases) (λ parameters. EndsFunction aliases static_place header parameters)
+BehindHeader aliases static_place header = Then (IsParametersEnd aliases)
+    (λ parameters. EndsFunction aliases static_place header parameters)
 
 -- the tokens, up to the rest, complete what the reader has read to this function
 abbrev pub CompletesFunction : List (List ℕ) → FunctionReader → Tokens → Tokens → FunctionTree → Type 0
-CompletesFunction aliases (FunctionReader.Header static_place reader) = Then (CompletesHeader aliases reader) (λ header. BehindHeader aliases static_place header)
-CompletesFunction aliases (FunctionReader.Parameters static_place header reader) = Then (CompletesParameters aliases reader) (λ parameters. EndsFunction aliases static_place header parameters)
-CompletesFunction aliases (FunctionReader.Behind signature) = EndsFunction aliases signature.static_place signature.header (parameters_of signature.parameters)
+CompletesFunction aliases (FunctionReader.Header static_place reader) = Then (CompletesHeader aliases reader)
+    (λ header. BehindHeader aliases static_place header)
+CompletesFunction aliases (FunctionReader.Parameters static_place header reader) = Then
+    (CompletesParameters aliases reader) (λ parameters. EndsFunction aliases static_place header parameters)
+CompletesFunction aliases
+    (FunctionReader.Behind signature) = EndsFunction aliases signature.static_place signature.header
+    (parameters_of signature.parameters)
 CompletesFunction aliases (FunctionReader.Body signature place reader) = Then (CompletesBody aliases reader.value)
     (λ ss. Gives (record {
       static_place = signature.static_place;
@@ -84,7 +96,8 @@ abbrev pub FunctionStepIs : List (List ℕ) → FunctionReader → Token → Ste
 FunctionStepIs aliases reader token step = StepIs (CompletesFunction aliases) function_of (CompletesFunction aliases reader) token step
 
 abbrev pub FunctionTookIs : List (List ℕ) → (reader behind : FunctionReader) → Token → Took Function → Type 0
-FunctionTookIs aliases reader behind token took = TookIs function_of (CompletesFunction aliases reader) (CompletesFunction aliases behind) token took
+FunctionTookIs aliases reader behind token took = TookIs function_of (CompletesFunction aliases reader)
+    (CompletesFunction aliases behind) token took
 
 -- the reader is within a body
 abbrev pub IsWithinBody : FunctionReader → Type 0
@@ -98,4 +111,11 @@ abbrev pub IsBehindBody : FunctionReader → List Stmt → FunctionTree → Type
 IsBehindBody (FunctionReader.Header static_place reader) ss f = ⊥
 IsBehindBody (FunctionReader.Parameters static_place header reader) ss f = ⊥
 IsBehindBody (FunctionReader.Behind signature) ss f = ⊥
-IsBehindBody (FunctionReader.Body signature place reader) ss f = f ≡ record { static_place = signature.static_place; returned = signature.header.returned; name = signature.header.name; parameters = parameters_of signature.parameters; body = Some (record { place = place; statements = ss }) }
+IsBehindBody (FunctionReader.Body signature place reader) ss f = f
+    ≡ record {
+      static_place = signature.static_place;
+      returned = signature.header.returned;
+      name = signature.header.name;
+      parameters = parameters_of signature.parameters;
+      body = Some (record { place = place; statements = ss });
+    }

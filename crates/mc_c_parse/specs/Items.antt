@@ -33,21 +33,24 @@ pub data IsTagged {X : Type 0} (aliases : List (List ℕ)) (place : Place) (name
 
 -- behind `struct`: a name and the same
 pub data IsTagOf {X : Type 0} (tagged : Name → Tokens → Tokens → X → Type 0) : Tokens → Tokens → X → Type 0 where
-  tag_of : {name : Token} {tokens rest : Tokens} {x : X} → IsName name → tagged (name_of name) tokens rest x → IsTagOf tagged (name ∷ tokens) rest x
+  tag_of : {name : Token} {tokens rest : Tokens} {x : X} → IsName name → tagged (name_of name) tokens rest x
+      → IsTagOf tagged (name ∷ tokens) rest x
 
 -- behind what a typedef gives names to
 abbrev pub EndsTypedef : Place → AliasedTree → Tokens → Tokens → TypedefTree → Type 0
 EndsTypedef place aliased = Then IsDeclaratorsEnd (λ ds. Gives (record { place = place; aliased = aliased; declarators = ds }))
 
 abbrev pub TaggedTypedef : List (List ℕ) → (word : Place) → (struct : Place) → Name → Tokens → Tokens → TypedefTree → Type 0
-TaggedTypedef aliases word struct name = IsTagged aliases struct name (λ s. EndsTypedef word (of_struct s)) (EndsTypedef word (of_base (Base.Struct struct name)))
+TaggedTypedef aliases word struct name = IsTagged aliases struct name (λ s. EndsTypedef word (of_struct s))
+    (EndsTypedef word (of_base (Base.Struct struct name)))
 
 abbrev pub TypedefFrom : List (List ℕ) → Place → TypedefPart → Tokens → Tokens → TypedefTree → Type 0
 TypedefFrom aliases place TypedefPart.Start = Then (λ tokens rest a. IsAliased aliases a tokens rest) (λ a. EndsTypedef place a)
 TypedefFrom aliases place (TypedefPart.Tag struct) = IsTagOf (λ name. TaggedTypedef aliases place struct name)
 TypedefFrom aliases place (TypedefPart.Tagged struct name) = TaggedTypedef aliases place struct name
 TypedefFrom aliases place (TypedefPart.Struct reader) = Then (CompletesStruct aliases reader) (λ s. EndsTypedef place (of_struct s))
-TypedefFrom aliases place (TypedefPart.Declarators aliased reader) = Then (CompletesDeclarators reader) (λ ds. Gives (record { place = place; aliased = aliased_of aliased; declarators = ds }))
+TypedefFrom aliases place (TypedefPart.Declarators aliased reader) = Then (CompletesDeclarators reader)
+    (λ ds. Gives (record { place = place; aliased = aliased_of aliased; declarators = ds }))
 
 abbrev pub CompletesTypedef : List (List ℕ) → TypedefReader → Tokens → Tokens → TypedefTree → Type 0
 CompletesTypedef aliases reader = TypedefFrom aliases reader.place reader.part

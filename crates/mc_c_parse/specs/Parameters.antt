@@ -17,8 +17,10 @@ use Rattle.mc_c_parse.specs.Declarators.{CompletesDeclarator}
 
 -- the tokens, up to the rest, complete what the reader has read to this parameter
 abbrev pub CompletesParameter : List (List ℕ) → ParameterReader → Tokens → Tokens → Parameter → Type 0
-CompletesParameter aliases (ParameterReader.Base reader) = Then (CompletesBase aliases reader) (λ base. Then (λ tokens rest d. IsDeclarator d tokens rest) (λ d. Gives (record { base = base; declarator = d })))
-CompletesParameter aliases (ParameterReader.Declarator base reader) = Then (CompletesDeclarator reader) (λ d. Gives (record { base = base; declarator = d }))
+CompletesParameter aliases (ParameterReader.Base reader) = Then (CompletesBase aliases reader)
+    (λ base. Then (λ tokens rest d. IsDeclarator d tokens rest) (λ d. Gives (record { base = base; declarator = d })))
+CompletesParameter aliases (ParameterReader.Declarator base reader) = Then (CompletesDeclarator reader)
+    (λ d. Gives (record { base = base; declarator = d }))
 
 -- a `)` behind the word `void` at this place
 pub data IsVoidEnd (place : Place) : Tokens → Tokens → ParametersTree → Type 0 where
@@ -38,11 +40,13 @@ IsParametersEnd aliases tokens rest all = (after : Token) × IsParameters aliase
 abbrev pub CompletesParameters : List (List ℕ) → ParametersReader → Tokens → Tokens → ParametersTree → Type 0
 CompletesParameters aliases ParametersReader.Start = IsParametersEnd aliases
 CompletesParameters aliases (ParametersReader.Void place) = IsVoidEnd place
-CompletesParameters aliases (ParametersReader.Parameter done reader) = Then (CompletesParameter aliases reader) (λ p. EndsParameters aliases (done.items ++ p ∷ []))
+CompletesParameters aliases (ParametersReader.Parameter done reader) = Then (CompletesParameter aliases reader)
+    (λ p. EndsParameters aliases (done.items ++ p ∷ []))
 CompletesParameters aliases (ParametersReader.Behind done) = EndsParameters aliases done.items
 
 abbrev pub ParameterStepIs : List (List ℕ) → ParameterReader → Token → Step ParameterReader Parameter → Type 0
 ParameterStepIs aliases reader token step = StepIs (CompletesParameter aliases) (λ p. p) (CompletesParameter aliases reader) token step
 
 abbrev pub ParametersStepIs : List (List ℕ) → ParametersReader → Token → Step ParametersReader Parameters → Type 0
-ParametersStepIs aliases reader token step = StepIs (CompletesParameters aliases) parameters_of (CompletesParameters aliases reader) token step
+ParametersStepIs aliases reader token step = StepIs (CompletesParameters aliases) parameters_of
+    (CompletesParameters aliases reader) token step

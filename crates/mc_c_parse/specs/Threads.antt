@@ -16,7 +16,8 @@ abbrev pub Gives : {X : Type 0} → X → Tokens → Tokens → X → Type 0
 Gives x tokens rest y = (rest ≡ tokens) × (y ≡ x)
 
 -- the step is that of a reader at this token: `completes` says what completes a reader, and `of` what it has read
-abbrev pub StepIs : {R T X : Type 0} → (R → Tokens → Tokens → X → Type 0) → (T → X) → (Tokens → Tokens → X → Type 0) → Token → Step R T → Type 0
+abbrev pub StepIs : {R T X : Type 0} → (R → Tokens → Tokens → X → Type 0) → (T → X) → (Tokens → Tokens → X → Type 0)
+    → Token → Step R T → Type 0
 StepIs completes of now token (Taken reader) = Takes [] now (completes reader) token
 StepIs completes of now token (Closed t) = Closes now token (of t)
 StepIs completes of now token Stuck = IsStuckAt now token

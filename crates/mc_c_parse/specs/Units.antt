@@ -20,7 +20,8 @@ types_behind aliases (i ∷ is) = types_behind (introduced i ++ aliases) is
 -- behind these items, and what has been read of another one: the tokens complete the program
 abbrev pub ItemsFrom : List (List ℕ) → List ItemTree → Option ItemReader → Tokens → UnitTree → Type 0
 ItemsFrom aliases is None tokens all = MoreItems aliases is tokens all
-ItemsFrom aliases is (Some reader) tokens all = (i : ItemTree) × (mid : Tokens) × CompletesItem aliases reader tokens mid i × MoreItems (introduced i ++ aliases) (is ++ i ∷ []) mid all
+ItemsFrom aliases is (Some reader) tokens all = (i : ItemTree) × (mid : Tokens)
+    × CompletesItem aliases reader tokens mid i × MoreItems (introduced i ++ aliases) (is ++ i ∷ []) mid all
 
 -- the tokens complete what the reader has read to this program
 abbrev pub CompletesUnit : UnitReader → Tokens → UnitTree → Type 0

@@ -30,7 +30,8 @@ impl BaseReader {
         alias: bool,
     ) -> Result<BaseStep, AllocError>
         requires { IsClass token.now class }
-        ensures { IfOk result (λ step. (aliases : List (List ℕ)) → is_in aliases token.now.text ≡ alias → BaseStepIs aliases self token.now step) }
+        ensures { IfOk result (λ step. (aliases : List (List ℕ)) → is_in aliases token.now.text ≡ alias
+            → BaseStepIs aliases self token.now step) }
     {
         match self {
             BaseReader::Start => base_start(alloc, token, class, alias),
@@ -46,7 +47,8 @@ fn base_start(
     alias: bool,
 ) -> Result<BaseStep, AllocError>
     requires { IsClass token.now class }
-    ensures { IfOk result (λ step. (aliases : List (List ℕ)) → is_in aliases token.now.text ≡ alias → BaseStepIs aliases BaseReader.Start token.now step) }
+    ensures { IfOk result (λ step. (aliases : List (List ℕ)) → is_in aliases token.now.text ≡ alias
+        → BaseStepIs aliases BaseReader.Start token.now step) }
 {
     match class {
         Class::Int => Ok(Step::Closed(Base::Int(token.place))),

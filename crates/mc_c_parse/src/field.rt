@@ -31,7 +31,8 @@ impl FieldReader {
         alias: bool,
     ) -> Result<FieldStep, AllocError>
         requires { IsClass token.now class }
-        ensures { IfOk result (λ step. (aliases : List (List ℕ)) → is_in aliases token.now.text ≡ alias → FieldStepIs aliases self token.now step) }
+        ensures { IfOk result (λ step. (aliases : List (List ℕ)) → is_in aliases token.now.text ≡ alias
+            → FieldStepIs aliases self token.now step) }
     {
         match self {
             FieldReader::Base(reader) => match reader.step(alloc, token, class, alias)? {

@@ -45,7 +45,8 @@ impl FieldsReader {
         alias: bool,
     ) -> Result<FieldsStep, AllocError>
         requires { IsClass token.now class }
-        ensures { IfOk result (λ step. (aliases : List (List ℕ)) → is_in aliases token.now.text ≡ alias → FieldsStepIs aliases (map field_of self.done.items) self.current token.now step) }
+        ensures { IfOk result (λ step. (aliases : List (List ℕ)) → is_in aliases token.now.text ≡ alias
+            → FieldsStepIs aliases (map field_of self.done.items) self.current token.now step) }
     {
         let FieldsReader { done, current } = self;
         match current {
@@ -63,7 +64,8 @@ fn behind_field(
     alias: bool,
 ) -> Result<FieldsStep, AllocError>
     requires { IsClass token.now class }
-    ensures { IfOk result (λ step. (aliases : List (List ℕ)) → is_in aliases token.now.text ≡ alias → FieldsStepIs aliases (map field_of done.items) None token.now step) }
+    ensures { IfOk result (λ step. (aliases : List (List ℕ)) → is_in aliases token.now.text ≡ alias
+        → FieldsStepIs aliases (map field_of done.items) None token.now step) }
 {
     match class {
         Class::CloseBrace => {
@@ -93,7 +95,8 @@ fn within_field(
     alias: bool,
 ) -> Result<FieldsStep, AllocError>
     requires { IsClass token.now class }
-    ensures { IfOk result (λ step. (aliases : List (List ℕ)) → is_in aliases token.now.text ≡ alias → FieldsStepIs aliases (map field_of done.items) (Some reader) token.now step) }
+    ensures { IfOk result (λ step. (aliases : List (List ℕ)) → is_in aliases token.now.text ≡ alias
+        → FieldsStepIs aliases (map field_of done.items) (Some reader) token.now step) }
 {
     match reader.step(alloc, token, class, alias)? {
         Step::Taken(reader) => Ok(Step::Taken(FieldsReader {

@@ -59,7 +59,8 @@ impl FunctionReader {
         alias: bool,
     ) -> Result<FunctionTook, AllocError>
         requires { IsClass token.now class }
-        ensures { IfOk result (λ took. (aliases : List (List ℕ)) → is_in aliases token.now.text ≡ alias → FunctionTookIs aliases self.old self.new token.now took) }
+        ensures { IfOk result (λ took. (aliases : List (List ℕ)) → is_in aliases token.now.text ≡ alias
+            → FunctionTookIs aliases self.old self.new token.now took) }
     {
         match self {
             FunctionReader::Body(_, _, reader) => match reader.step(token, class, alias)? {
@@ -105,7 +106,8 @@ impl FunctionReader {
     ) -> Result<FunctionTook, AllocError>
         requires class { IsClass token.now class }
         requires before { IsWithinBody self.old → ⊥ }
-        ensures { IfOk result (λ took. (aliases : List (List ℕ)) → is_in aliases token.now.text ≡ alias → FunctionTookIs aliases self.old self.new token.now took) }
+        ensures { IfOk result (λ took. (aliases : List (List ℕ)) → is_in aliases token.now.text ≡ alias
+            → FunctionTookIs aliases self.old self.new token.now took) }
     {
         let reader = mem::replace(self, FunctionReader::new(None));
         let step = reader.moved_before_body(alloc, token, class, alias)?;
@@ -122,7 +124,8 @@ impl FunctionReader {
     ) -> Result<FunctionStep, AllocError>
         requires class { IsClass token.now class }
         requires before { IsWithinBody self → ⊥ }
-        ensures { IfOk result (λ step. (aliases : List (List ℕ)) → is_in aliases token.now.text ≡ alias → FunctionStepIs aliases self token.now step) }
+        ensures { IfOk result (λ step. (aliases : List (List ℕ)) → is_in aliases token.now.text ≡ alias
+            → FunctionStepIs aliases self token.now step) }
     {
         match self {
             FunctionReader::Header(static_place, reader) => {
@@ -147,7 +150,8 @@ pub fn within_header(
     alias: bool,
 ) -> Result<FunctionStep, AllocError>
     requires { IsClass token.now class }
-    ensures { IfOk result (λ step. (aliases : List (List ℕ)) → is_in aliases token.now.text ≡ alias → FunctionStepIs aliases (FunctionReader.Header static_place reader) token.now step) }
+    ensures { IfOk result (λ step. (aliases : List (List ℕ)) → is_in aliases token.now.text ≡ alias
+        → FunctionStepIs aliases (FunctionReader.Header static_place reader) token.now step) }
 {
     match reader.step(alloc, token, class, alias)? {
         Step::Taken(reader) => Ok(Step::Taken(FunctionReader::Header(static_place, reader))),
@@ -170,7 +174,8 @@ fn within_parameters(
     alias: bool,
 ) -> Result<FunctionStep, AllocError>
     requires { IsClass token.now class }
-    ensures { IfOk result (λ step. (aliases : List (List ℕ)) → is_in aliases token.now.text ≡ alias → FunctionStepIs aliases (FunctionReader.Parameters static_place header reader) token.now step) }
+    ensures { IfOk result (λ step. (aliases : List (List ℕ)) → is_in aliases token.now.text ≡ alias
+        → FunctionStepIs aliases (FunctionReader.Parameters static_place header reader) token.now step) }
 {
     match reader.step(alloc, token, class, alias)? {
         Step::Taken(reader) => Ok(Step::Taken(FunctionReader::Parameters(
@@ -208,7 +213,14 @@ fn behind_signature(
 }
 
 fn function_of(signature: Signature, body: Option<Body>) -> Function
-    ensures { result ≡ record { static_place = signature.static_place; returned = signature.header.returned; name = signature.header.name; parameters = signature.parameters; body = body } }
+    ensures { result
+        ≡ record {
+          static_place = signature.static_place;
+          returned = signature.header.returned;
+          name = signature.header.name;
+          parameters = signature.parameters;
+          body = body;
+        } }
 {
     Function {
         static_place: signature.static_place,

@@ -43,7 +43,8 @@ impl HeaderReader {
         alias: bool,
     ) -> Result<HeaderStep, AllocError>
         requires { IsClass token.now class }
-        ensures { IfOk result (λ step. (aliases : List (List ℕ)) → is_in aliases token.now.text ≡ alias → HeaderStepIs aliases self token.now step) }
+        ensures { IfOk result (λ step. (aliases : List (List ℕ)) → is_in aliases token.now.text ≡ alias
+            → HeaderStepIs aliases self token.now step) }
     {
         match self {
             HeaderReader::Start => header_start(alloc, token, class, alias),
@@ -62,7 +63,8 @@ fn header_start(
     alias: bool,
 ) -> Result<HeaderStep, AllocError>
     requires { IsClass token.now class }
-    ensures { IfOk result (λ step. (aliases : List (List ℕ)) → is_in aliases token.now.text ≡ alias → HeaderStepIs aliases HeaderReader.Start token.now step) }
+    ensures { IfOk result (λ step. (aliases : List (List ℕ)) → is_in aliases token.now.text ≡ alias
+        → HeaderStepIs aliases HeaderReader.Start token.now step) }
 {
     match class {
         Class::Void => {
@@ -81,7 +83,8 @@ fn header_base(
     alias: bool,
 ) -> Result<HeaderStep, AllocError>
     requires { IsClass token.now class }
-    ensures { IfOk result (λ step. (aliases : List (List ℕ)) → is_in aliases token.now.text ≡ alias → HeaderStepIs aliases (HeaderReader.Base reader) token.now step) }
+    ensures { IfOk result (λ step. (aliases : List (List ℕ)) → is_in aliases token.now.text ≡ alias
+        → HeaderStepIs aliases (HeaderReader.Base reader) token.now step) }
 {
     match reader.step(alloc, token, class, alias)? {
         Step::Taken(reader) => Ok(Step::Taken(HeaderReader::Base(reader))),
@@ -132,7 +135,8 @@ fn header_name(
 }
 
 fn header_end(returned: Returned, name: Name, class: Class) -> HeaderStep
-    ensures { (aliases : List (List ℕ)) (token : Token) → IsClass token class → HeaderStepIs aliases (HeaderReader.Named returned name) token result }
+    ensures { (aliases : List (List ℕ)) (token : Token) → IsClass token class
+        → HeaderStepIs aliases (HeaderReader.Named returned name) token result }
 {
     match class {
         Class::OpenParen => Step::Closed(Header { returned, name }),

@@ -50,7 +50,8 @@ impl ItemReader {
         alias: bool,
     ) -> Result<ItemTook, AllocError>
         requires { IsClass token.now class }
-        ensures { IfOk result (λ took. (aliases : List (List ℕ)) → is_in aliases token.now.text ≡ alias → ItemTookIs aliases self.old self.new token.now took) }
+        ensures { IfOk result (λ took. (aliases : List (List ℕ)) → is_in aliases token.now.text ≡ alias
+            → ItemTookIs aliases self.old self.new token.now took) }
     {
         match self {
             ItemReader::Function(reader) => match reader.step(alloc, token, class, alias)? {
@@ -73,7 +74,8 @@ impl ItemReader {
     ) -> Result<ItemTook, AllocError>
         requires class { IsClass token.now class }
         requires beside { IsWithinFunction self.old → ⊥ }
-        ensures { IfOk result (λ took. (aliases : List (List ℕ)) → is_in aliases token.now.text ≡ alias → ItemTookIs aliases self.old self.new token.now took) }
+        ensures { IfOk result (λ took. (aliases : List (List ℕ)) → is_in aliases token.now.text ≡ alias
+            → ItemTookIs aliases self.old self.new token.now took) }
     {
         let reader = mem::replace(self, ItemReader::Start);
         let step = reader.moved_beside_functions(alloc, token, class, alias)?;
@@ -90,7 +92,8 @@ impl ItemReader {
     ) -> Result<ItemStep, AllocError>
         requires class { IsClass token.now class }
         requires beside { IsWithinFunction self → ⊥ }
-        ensures { IfOk result (λ step. (aliases : List (List ℕ)) → is_in aliases token.now.text ≡ alias → ItemStepIs aliases self token.now step) }
+        ensures { IfOk result (λ step. (aliases : List (List ℕ)) → is_in aliases token.now.text ≡ alias
+            → ItemStepIs aliases self token.now step) }
     {
         match self {
             ItemReader::Start => item_start(alloc, token, class, alias),
@@ -111,7 +114,8 @@ fn item_start(
     alias: bool,
 ) -> Result<ItemStep, AllocError>
     requires { IsClass token.now class }
-    ensures { IfOk result (λ step. (aliases : List (List ℕ)) → is_in aliases token.now.text ≡ alias → ItemStepIs aliases ItemReader.Start token.now step) }
+    ensures { IfOk result (λ step. (aliases : List (List ℕ)) → is_in aliases token.now.text ≡ alias
+        → ItemStepIs aliases ItemReader.Start token.now step) }
 {
     match class {
         Class::Struct => Ok(Step::Taken(ItemReader::Tag(token.place))),
@@ -154,7 +158,8 @@ fn item_tagged(
     alias: bool,
 ) -> Result<ItemStep, AllocError>
     requires { IsClass token.now class }
-    ensures { IfOk result (λ step. (aliases : List (List ℕ)) → is_in aliases token.now.text ≡ alias → ItemStepIs aliases (ItemReader.Tagged place name) token.now step) }
+    ensures { IfOk result (λ step. (aliases : List (List ℕ)) → is_in aliases token.now.text ≡ alias
+        → ItemStepIs aliases (ItemReader.Tagged place name) token.now step) }
 {
     match class {
         Class::OpenBrace => Ok(Step::Taken(ItemReader::Struct(StructReader {
@@ -177,7 +182,8 @@ fn item_struct(
     alias: bool,
 ) -> Result<ItemStep, AllocError>
     requires { IsClass token.now class }
-    ensures { IfOk result (λ step. (aliases : List (List ℕ)) → is_in aliases token.now.text ≡ alias → ItemStepIs aliases (ItemReader.Struct reader) token.now step) }
+    ensures { IfOk result (λ step. (aliases : List (List ℕ)) → is_in aliases token.now.text ≡ alias
+        → ItemStepIs aliases (ItemReader.Struct reader) token.now step) }
 {
     match reader.step(alloc, token, class, alias)? {
         Step::Taken(reader) => Ok(Step::Taken(ItemReader::Struct(reader))),
@@ -187,7 +193,8 @@ fn item_struct(
 }
 
 fn item_closing(structure: Struct, class: Class) -> ItemStep
-    ensures { (aliases : List (List ℕ)) (token : Token) → IsClass token class → ItemStepIs aliases (ItemReader.Closing structure) token result }
+    ensures { (aliases : List (List ℕ)) (token : Token) → IsClass token class
+        → ItemStepIs aliases (ItemReader.Closing structure) token result }
 {
     match class {
         Class::Semicolon => Step::Closed(Item::Struct(structure)),
@@ -203,7 +210,8 @@ fn item_typedef(
     alias: bool,
 ) -> Result<ItemStep, AllocError>
     requires { IsClass token.now class }
-    ensures { IfOk result (λ step. (aliases : List (List ℕ)) → is_in aliases token.now.text ≡ alias → ItemStepIs aliases (ItemReader.Typedef reader) token.now step) }
+    ensures { IfOk result (λ step. (aliases : List (List ℕ)) → is_in aliases token.now.text ≡ alias
+        → ItemStepIs aliases (ItemReader.Typedef reader) token.now step) }
 {
     match reader.step(alloc, token, class, alias)? {
         Step::Taken(reader) => Ok(Step::Taken(ItemReader::Typedef(reader))),

@@ -117,7 +117,9 @@ fn declares_behind(
     token: &Token,
 ) -> Result<bool, AllocError>
     requires { HasNoEnd first.now }
-    ensures { IfOk result (λ can. MatchBool can (DeclaresBehind first.now star.now token.now) (¬ DeclaresBehind first.now star.now token.now)) }
+    ensures { IfOk result
+        (λ can. MatchBool can (DeclaresBehind first.now star.now token.now)
+        (¬ DeclaresBehind first.now star.now token.now)) }
 {
     let with_comma = [name_like(alloc, star)?, mark_at(alloc, b",", token.place)?];
     if can_begin(alloc, first, &with_comma)? {

@@ -31,7 +31,8 @@ impl ParameterReader {
         alias: bool,
     ) -> Result<ParameterStep, AllocError>
         requires { IsClass token.now class }
-        ensures { IfOk result (λ step. (aliases : List (List ℕ)) → is_in aliases token.now.text ≡ alias → ParameterStepIs aliases self token.now step) }
+        ensures { IfOk result (λ step. (aliases : List (List ℕ)) → is_in aliases token.now.text ≡ alias
+            → ParameterStepIs aliases self token.now step) }
     {
         match self {
             ParameterReader::Base(reader) => match reader.step(alloc, token, class, alias)? {

@@ -36,7 +36,8 @@ impl ParametersReader {
         alias: bool,
     ) -> Result<ParametersStep, AllocError>
         requires { IsClass token.now class }
-        ensures { IfOk result (λ step. (aliases : List (List ℕ)) → is_in aliases token.now.text ≡ alias → ParametersStepIs aliases self token.now step) }
+        ensures { IfOk result (λ step. (aliases : List (List ℕ)) → is_in aliases token.now.text ≡ alias
+            → ParametersStepIs aliases self token.now step) }
     {
         match self {
             ParametersReader::Start => first_parameter(alloc, token, class, alias),
@@ -56,7 +57,8 @@ fn first_parameter(
     alias: bool,
 ) -> Result<ParametersStep, AllocError>
     requires { IsClass token.now class }
-    ensures { IfOk result (λ step. (aliases : List (List ℕ)) → is_in aliases token.now.text ≡ alias → ParametersStepIs aliases ParametersReader.Start token.now step) }
+    ensures { IfOk result (λ step. (aliases : List (List ℕ)) → is_in aliases token.now.text ≡ alias
+        → ParametersStepIs aliases ParametersReader.Start token.now step) }
 {
     match class {
         Class::CloseParen => Ok(Step::Closed(Parameters::Empty)),
@@ -69,7 +71,8 @@ fn first_parameter(
 }
 
 fn behind_void(place: Place, class: Class) -> ParametersStep
-    ensures { (aliases : List (List ℕ)) (token : Token) → IsClass token class → ParametersStepIs aliases (ParametersReader.Void place) token result }
+    ensures { (aliases : List (List ℕ)) (token : Token) → IsClass token class
+        → ParametersStepIs aliases (ParametersReader.Void place) token result }
 {
     match class {
         Class::CloseParen => Step::Closed(Parameters::Void(place)),
@@ -86,7 +89,8 @@ fn within_parameter(
     alias: bool,
 ) -> Result<ParametersStep, AllocError>
     requires { IsClass token.now class }
-    ensures { IfOk result (λ step. (aliases : List (List ℕ)) → is_in aliases token.now.text ≡ alias → ParametersStepIs aliases (ParametersReader.Parameter done reader) token.now step) }
+    ensures { IfOk result (λ step. (aliases : List (List ℕ)) → is_in aliases token.now.text ≡ alias
+        → ParametersStepIs aliases (ParametersReader.Parameter done reader) token.now step) }
 {
     match reader.step(alloc, token, class, alias)? {
         Step::Taken(reader) => Ok(Step::Taken(ParametersReader::Parameter(done, reader))),
@@ -99,7 +103,8 @@ fn within_parameter(
 }
 
 fn behind_parameter(done: Vec<Parameter>, class: Class) -> ParametersStep
-    ensures { (aliases : List (List ℕ)) (token : Token) → IsClass token class → ParametersStepIs aliases (ParametersReader.Behind done) token result }
+    ensures { (aliases : List (List ℕ)) (token : Token) → IsClass token class
+        → ParametersStepIs aliases (ParametersReader.Behind done) token result }
 {
     match class {
         Class::Comma => Step::Taken(ParametersReader::Parameter(

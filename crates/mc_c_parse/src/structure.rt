@@ -32,7 +32,8 @@ impl StructReader {
         alias: bool,
     ) -> Result<StructStep, AllocError>
         requires { IsClass token.now class }
-        ensures { IfOk result (λ step. (aliases : List (List ℕ)) → is_in aliases token.now.text ≡ alias → StructStepIs aliases self token.now step) }
+        ensures { IfOk result (λ step. (aliases : List (List ℕ)) → is_in aliases token.now.text ≡ alias
+            → StructStepIs aliases self token.now step) }
     {
         let StructReader {
             place,

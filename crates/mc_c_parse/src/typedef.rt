@@ -48,7 +48,8 @@ impl TypedefReader {
         alias: bool,
     ) -> Result<TypedefStep, AllocError>
         requires { IsClass token.now class }
-        ensures { IfOk result (λ step. (aliases : List (List ℕ)) → is_in aliases token.now.text ≡ alias → TypedefStepIs aliases self.place self.part token.now step) }
+        ensures { IfOk result (λ step. (aliases : List (List ℕ)) → is_in aliases token.now.text ≡ alias
+            → TypedefStepIs aliases self.place self.part token.now step) }
     {
         let TypedefReader { place, part } = self;
         match part {
@@ -85,7 +86,8 @@ fn typedef_start(
     alias: bool,
 ) -> Result<TypedefStep, AllocError>
     requires { IsClass token.now class }
-    ensures { IfOk result (λ step. (aliases : List (List ℕ)) → is_in aliases token.now.text ≡ alias → TypedefStepIs aliases place TypedefPart.Start token.now step) }
+    ensures { IfOk result (λ step. (aliases : List (List ℕ)) → is_in aliases token.now.text ≡ alias
+        → TypedefStepIs aliases place TypedefPart.Start token.now step) }
 {
     match class {
         Class::Int => {
@@ -170,7 +172,8 @@ fn typedef_struct(
     alias: bool,
 ) -> Result<TypedefStep, AllocError>
     requires { IsClass token.now class }
-    ensures { IfOk result (λ step. (aliases : List (List ℕ)) → is_in aliases token.now.text ≡ alias → TypedefStepIs aliases place (TypedefPart.Struct reader) token.now step) }
+    ensures { IfOk result (λ step. (aliases : List (List ℕ)) → is_in aliases token.now.text ≡ alias
+        → TypedefStepIs aliases place (TypedefPart.Struct reader) token.now step) }
 {
     match reader.step(alloc, token, class, alias)? {
         Step::Taken(reader) => Ok(Step::Taken(TypedefReader {
@@ -194,7 +197,8 @@ fn typedef_names(
     class: Class,
 ) -> Result<TypedefStep, AllocError>
     requires { IsClass token.now class }
-    ensures { IfOk result (λ step. (aliases : List (List ℕ)) → TypedefStepIs aliases place (TypedefPart.Declarators aliased reader) token.now step) }
+    ensures { IfOk result (λ step. (aliases : List (List ℕ))
+        → TypedefStepIs aliases place (TypedefPart.Declarators aliased reader) token.now step) }
 {
     match reader.step(alloc, token, class)? {
         Step::Taken(reader) => Ok(Step::Taken(TypedefReader {

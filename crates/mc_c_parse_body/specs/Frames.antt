@@ -18,19 +18,23 @@ abbrev pub InBlock : List (List ℕ) → List Stmt → (List Stmt → Tokens →
 InBlock aliases before next = InTurn (Listed aliases before) (λ ss. Expects (Class.CloseBrace ∷ []) (next ss))
 
 -- behind the first part of an `if`: an `else` with the second part, or no `else`
-pub data BehindFirst (aliases : List (List ℕ)) (place : Place) (c : Cond) (next : Stmt → Tokens → Tokens → List Stmt → Type 0) (s : Stmt) : Tokens → Tokens → List Stmt → Type 0 where
-  only : {tokens rest : Tokens} {all : List Stmt} → IsNoElse tokens → next (if_only place c s) tokens rest all → BehindFirst aliases place c next s tokens rest all
+pub data BehindFirst (aliases : List (List ℕ)) (place : Place) (c : Cond)
+    (next : Stmt → Tokens → Tokens → List Stmt → Type 0) (s : Stmt) : Tokens → Tokens → List Stmt → Type 0 where
+  only : {tokens rest : Tokens} {all : List Stmt} → IsNoElse tokens → next (if_only place c s) tokens rest all
+      → BehindFirst aliases place c next s tokens rest all
   otherwise : {t : Stmt} {token : Token} {tokens mid rest : Tokens} {all : List Stmt} → IsWord (codes "else") token
       → IsStatement aliases t tokens mid → next (if_else place c s t) mid rest all
       → BehindFirst aliases place c next s (token ∷ tokens) rest all
 
 -- behind the body of a `do`
 abbrev pub BehindDo : Place → (Stmt → Tokens → Tokens → List Stmt → Type 0) → Stmt → Tokens → Tokens → List Stmt → Type 0
-BehindDo place next s = Expects (Class.While ∷ Class.OpenParen ∷ []) (InTurn Conditions (λ c. Expects (Class.CloseParen ∷ Class.Semicolon ∷ []) (next (do_loop place s c))))
+BehindDo place next s = Expects (Class.While ∷ Class.OpenParen ∷ [])
+    (InTurn Conditions (λ c. Expects (Class.CloseParen ∷ Class.Semicolon ∷ []) (next (do_loop place s c))))
 
 -- behind a statement in this frame
 abbrev pub Inside : List (List ℕ) → Frame → (Stmt → Tokens → Tokens → List Stmt → Type 0) → Stmt → Tokens → Tokens → List Stmt → Type 0
-Inside aliases (Frame.Block place before) next s = InBlock aliases (map statement_of before.items ++ s ∷ []) (λ ss. next (block place (stmts_of ss)))
+Inside aliases (Frame.Block place before) next s = InBlock aliases (map statement_of before.items ++ s ∷ [])
+    (λ ss. next (block place (stmts_of ss)))
 Inside aliases (Frame.If place c) next s = BehindFirst aliases place (condition_of c) next s
 Inside aliases (Frame.Else place c first) next s = next (if_else place (condition_of c) (statement_of first.value) s)
 Inside aliases (Frame.While place c) next s = next (while_loop place (condition_of c) s)
@@ -45,7 +49,8 @@ Behind aliases (frame ∷ frames) body s = Inside aliases frame (Behind aliases 
 -- where a statement begins; at the end of a block or the body its `}` may stand
 abbrev pub AtStart : List (List ℕ) → List Frame → List Stmt → Tokens → Tokens → List Stmt → Type 0
 AtStart aliases [] body = InBlock aliases body Ended
-AtStart aliases (Frame.Block place before ∷ frames) body = InBlock aliases (map statement_of before.items) (λ ss. Behind aliases frames body (block place (stmts_of ss)))
+AtStart aliases (Frame.Block place before ∷ frames) body = InBlock aliases (map statement_of before.items)
+    (λ ss. Behind aliases frames body (block place (stmts_of ss)))
 AtStart aliases (Frame.If place c ∷ frames) body = InTurn (Statements aliases) (Behind aliases (Frame.If place c ∷ frames) body)
 AtStart aliases (Frame.Else place c s ∷ frames) body = InTurn (Statements aliases) (Behind aliases (Frame.Else place c s ∷ frames) body)
 AtStart aliases (Frame.While place c ∷ frames) body = InTurn (Statements aliases) (Behind aliases (Frame.While place c ∷ frames) body)

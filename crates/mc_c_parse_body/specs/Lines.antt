@@ -41,8 +41,10 @@ BehindName aliases name tokens rest s = IsSimple aliases s (token_of name ∷ to
 -- the tokens complete what was read of a line
 abbrev pub CompletesLine : List (List ℕ) → LineReader → Tokens → Tokens → Start → Type 0
 CompletesLine aliases LineReader.Start = Starts aliases
-CompletesLine aliases (LineReader.Struct place) = Next IsName (λ name. DeclarationLine (BehindBase aliases (Base.Struct place (name_of name))))
-CompletesLine aliases (LineReader.Alias known) = Either (DeclarationLine (BehindBase aliases (Base.Alias known.name))) (SimpleLine (BehindName aliases known.name))
+CompletesLine aliases (LineReader.Struct place) = Next IsName
+    (λ name. DeclarationLine (BehindBase aliases (Base.Struct place (name_of name))))
+CompletesLine aliases (LineReader.Alias known) = Either
+    (DeclarationLine (BehindBase aliases (Base.Alias known.name))) (SimpleLine (BehindName aliases known.name))
 CompletesLine aliases (LineReader.Declaration reader) = DeclarationLine (CompletesDeclaration aliases reader.value)
 CompletesLine aliases (LineReader.Simple reader) = SimpleLine (CompletesSimple aliases reader.value)
 

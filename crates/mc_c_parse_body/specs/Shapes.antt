@@ -30,11 +30,13 @@ Arguments tokens rest a = IsArgument a tokens rest
 
 -- the number behind a `-`
 pub data BehindMinus (place : Place) : Tokens → Tokens → Argument → Type 0 where
-  negative : {n : ℕ} {token : Token} {tokens : Tokens} → IsNumber token n → BehindMinus place (token ∷ tokens) tokens (Argument.Negative n place)
+  negative : {n : ℕ} {token : Token} {tokens : Tokens} → IsNumber token n
+      → BehindMinus place (token ∷ tokens) tokens (Argument.Negative n place)
 
 -- behind these last arguments, up to the `)`
 abbrev pub BehindArguments : Shape → List Argument → Tokens → Tokens → Stmt → Type 0
-BehindArguments shape args = InTurn (λ tokens rest all. MoreArguments args tokens all rest) (λ all. Expects (Class.CloseParen ∷ []) (Ended (shaped shape all)))
+BehindArguments shape args = InTurn (λ tokens rest all. MoreArguments args tokens all rest)
+    (λ all. Expects (Class.CloseParen ∷ []) (Ended (shaped shape all)))
 
 -- behind an argument of this use
 abbrev pub BehindUse : Use → Argument → Tokens → Tokens → Stmt → Type 0

@@ -37,10 +37,12 @@ BehindValue place next r = Expects (Class.Semicolon ∷ []) (next (returns place
 
 -- behind `return`
 abbrev pub BehindReturn : List (List ℕ) → Place → (Stmt → Tokens → Tokens → List Stmt → Type 0) → Tokens → Tokens → List Stmt → Type 0
-BehindReturn aliases place next = Either (Expects (Class.Semicolon ∷ []) (next (returns place None))) (InTurn (Rights aliases) (BehindValue place next))
+BehindReturn aliases place next = Either (Expects (Class.Semicolon ∷ []) (next (returns place None)))
+    (InTurn (Rights aliases) (BehindValue place next))
 
 -- behind all that stands in the parentheses of a `for`
-abbrev pub BehindLast : List (List ℕ) → Place → Start → Option Cond → (Stmt → Tokens → Tokens → List Stmt → Type 0) → Option SimpleTree → Tokens → Tokens → List Stmt → Type 0
+abbrev pub BehindLast : List (List ℕ) → Place → Start → Option Cond → (Stmt → Tokens → Tokens → List Stmt → Type 0)
+    → Option SimpleTree → Tokens → Tokens → List Stmt → Type 0
 BehindLast aliases place start c next last = Expects (Class.CloseParen
     ∷ []) (InTurn (Statements aliases) (λ s. next (for_loop (record {
       place = place;
@@ -50,28 +52,36 @@ BehindLast aliases place start c next last = Expects (Class.CloseParen
     }) s)))
 
 -- at the last part in the parentheses of a `for`
-abbrev pub AtLast : List (List ℕ) → Place → Start → (Stmt → Tokens → Tokens → List Stmt → Type 0) → Option Cond → Tokens → Tokens → List Stmt → Type 0
+abbrev pub AtLast : List (List ℕ) → Place → Start → (Stmt → Tokens → Tokens → List Stmt → Type 0) → Option Cond
+    → Tokens → Tokens → List Stmt → Type 0
 AtLast aliases place start next c = InTurn (MaybeSimples aliases) (BehindLast aliases place start c next)
 
 -- behind the condition of a `for`
-abbrev pub BehindForCondition : List (List ℕ) → Place → Start → (Stmt → Tokens → Tokens → List Stmt → Type 0) → Option Cond → Tokens → Tokens → List Stmt → Type 0
+abbrev pub BehindForCondition : List (List ℕ) → Place → Start → (Stmt → Tokens → Tokens → List Stmt → Type 0)
+    → Option Cond → Tokens → Tokens → List Stmt → Type 0
 BehindForCondition aliases place start next c = Expects (Class.Semicolon ∷ []) (AtLast aliases place start next c)
 
 -- at the condition of a `for`
-abbrev pub AtForCondition : List (List ℕ) → Place → (Stmt → Tokens → Tokens → List Stmt → Type 0) → Start → Tokens → Tokens → List Stmt → Type 0
+abbrev pub AtForCondition : List (List ℕ) → Place → (Stmt → Tokens → Tokens → List Stmt → Type 0) → Start → Tokens
+    → Tokens → List Stmt → Type 0
 AtForCondition aliases place next start = InTurn MaybeConditions (BehindForCondition aliases place start next)
 
 -- behind a condition of this purpose
-abbrev pub BehindPurpose : List (List ℕ) → Purpose → (Stmt → Tokens → Tokens → List Stmt → Type 0) → Cond → Tokens → Tokens → List Stmt → Type 0
+abbrev pub BehindPurpose : List (List ℕ) → Purpose → (Stmt → Tokens → Tokens → List Stmt → Type 0) → Cond → Tokens
+    → Tokens → List Stmt → Type 0
 BehindPurpose aliases (Purpose.Assert place) next c = Expects (Class.CloseParen ∷ Class.Semicolon ∷ []) (next (assert place c))
 BehindPurpose aliases (Purpose.Assume place) next c = Expects (Class.CloseParen ∷ Class.Semicolon ∷ []) (next (assume place c))
-BehindPurpose aliases (Purpose.If place) next c = Expects (Class.CloseParen ∷ []) (InTurn (Statements aliases) (BehindFirst aliases place c next))
-BehindPurpose aliases (Purpose.While place) next c = Expects (Class.CloseParen ∷ []) (InTurn (Statements aliases) (λ s. next (while_loop place c s)))
-BehindPurpose aliases (Purpose.Do place s) next c = Expects (Class.CloseParen ∷ Class.Semicolon ∷ []) (next (do_loop place (statement_of s) c))
+BehindPurpose aliases (Purpose.If place) next c = Expects (Class.CloseParen ∷ [])
+    (InTurn (Statements aliases) (BehindFirst aliases place c next))
+BehindPurpose aliases (Purpose.While place) next c = Expects (Class.CloseParen ∷ [])
+    (InTurn (Statements aliases) (λ s. next (while_loop place c s)))
+BehindPurpose aliases (Purpose.Do place s) next c = Expects (Class.CloseParen ∷ Class.Semicolon ∷ [])
+    (next (do_loop place (statement_of s) c))
 BehindPurpose aliases (Purpose.For place start) next c = BehindForCondition aliases place (start_of start) next (Some c)
 
 -- behind a line of this purpose
-abbrev pub BehindLine : List (List ℕ) → LinePurpose → (Stmt → Tokens → Tokens → List Stmt → Type 0) → Start → Tokens → Tokens → List Stmt → Type 0
+abbrev pub BehindLine : List (List ℕ) → LinePurpose → (Stmt → Tokens → Tokens → List Stmt → Type 0) → Start → Tokens
+    → Tokens → List Stmt → Type 0
 BehindLine aliases (LinePurpose.Statement place) next start = next (line_of place start)
 BehindLine aliases (LinePurpose.For place) next start = AtForCondition aliases place next start
 
@@ -85,10 +95,12 @@ AtState aliases nest State.Start = AtStart aliases (frames_of nest) (body_of nes
 AtState aliases nest (State.Behind s) = Around aliases nest (statement_of s)
 AtState aliases nest (State.Line purpose reader) = InTurn (CompletesLine aliases reader) (BehindLine aliases purpose (Around aliases nest))
 AtState aliases nest (State.Freed place reader) = InTurn (CompletesExpression reader.value) (BehindFreed place (Around aliases nest))
-AtState aliases nest (State.Condition purpose reader) = InTurn (CompletesCondition reader.value) (BehindPurpose aliases purpose (Around aliases nest))
+AtState aliases nest (State.Condition purpose reader) = InTurn (CompletesCondition reader.value)
+    (BehindPurpose aliases purpose (Around aliases nest))
 AtState aliases nest (State.Return place) = BehindReturn aliases place (Around aliases nest)
 AtState aliases nest (State.Value place reader) = InTurn (CompletesRight aliases reader.value) (BehindValue place (Around aliases nest))
 AtState aliases nest (State.ForCondition place start) = AtForCondition aliases place (Around aliases nest) (start_of start)
 AtState aliases nest (State.ForLast place start c) = AtLast aliases place (start_of start) (Around aliases nest) (option_map condition_of c)
-AtState aliases nest (State.Last place start c reader) = InTurn (CompletesSimple aliases reader.value) (λ last. BehindLast aliases place (start_of start) (option_map condition_of c) (Around aliases nest) (Some last))
+AtState aliases nest (State.Last place start c reader) = InTurn (CompletesSimple aliases reader.value)
+    (λ last. BehindLast aliases place (start_of start) (option_map condition_of c) (Around aliases nest) (Some last))
 AtState aliases nest (State.Shape reader) = InTurn (CompletesShape reader) (BehindShape (Around aliases nest))

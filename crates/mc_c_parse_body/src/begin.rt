@@ -39,7 +39,8 @@ pub fn at_start(
     requires kind { IsClass token.now class }
     requires ready { reader.old.expected ≡ None }
     ensures { (aliases : List (List ℕ)) → is_in aliases token.now.text ≡ alias
-        → IfOk result (IsBodyStep (AtStart aliases (frames_of reader.old.nest) (body_of reader.old.nest)) (CompletesBody aliases reader.new) token.now) }
+        → IfOk result (IsBodyStep (AtStart aliases (frames_of reader.old.nest) (body_of reader.old.nest))
+        (CompletesBody aliases reader.new) token.now) }
 {
     match class {
         Class::CloseBrace => Ok(close(reader, token)),
@@ -51,7 +52,9 @@ pub fn at_start(
 fn close(reader: &mut BodyReader, token: &Token) -> BodyStep
     requires kind { IsClass token.now Class.CloseBrace }
     requires ready { reader.old.expected ≡ None }
-    ensures { (aliases : List (List ℕ)) → IsBodyStep (AtStart aliases (frames_of reader.old.nest) (body_of reader.old.nest)) (CompletesBody aliases reader.new) token.now result }
+    ensures { (aliases : List (List ℕ))
+        → IsBodyStep (AtStart aliases (frames_of reader.old.nest) (body_of reader.old.nest))
+        (CompletesBody aliases reader.new) token.now result }
 {
     match reader.nest.frames.pop() {
         None => {
@@ -66,7 +69,9 @@ fn close(reader: &mut BodyReader, token: &Token) -> BodyStep
 fn close_frame(reader: &mut BodyReader, frame: Frame, token: &Token) -> BodyStep
     requires kind { IsClass token.now Class.CloseBrace }
     requires ready { reader.old.expected ≡ None }
-    ensures { (aliases : List (List ℕ)) → IsBodyStep (AtStart aliases (frame ∷ frames_of reader.old.nest) (body_of reader.old.nest)) (CompletesBody aliases reader.new) token.now result }
+    ensures { (aliases : List (List ℕ))
+        → IsBodyStep (AtStart aliases (frame ∷ frames_of reader.old.nest) (body_of reader.old.nest))
+        (CompletesBody aliases reader.new) token.now result }
 {
     match frame {
         Frame::Block(place, statements) => {
@@ -92,7 +97,8 @@ fn begin(
     requires kind { IsClass token.now class }
     requires ready { reader.old.expected ≡ None }
     ensures { (aliases : List (List ℕ)) → is_in aliases token.now.text ≡ alias
-        → IfOk result (IsBodyStep (InTurn (Statements aliases) (Around aliases reader.old.nest)) (CompletesBody aliases reader.new) token.now) }
+        → IfOk result (IsBodyStep (InTurn (Statements aliases) (Around aliases reader.old.nest))
+        (CompletesBody aliases reader.new) token.now) }
 {
     let place = token.place;
     match class {
@@ -158,7 +164,12 @@ fn begin_condition(reader: &mut BodyReader, purpose: Purpose) -> Result<BodyStep
 /// Behind the word of a shape command.
 fn begin_shape(reader: &mut BodyReader, command: Command, place: Place) -> BodyStep
     ensures step { result ≡ BodyStep.Taken }
-    ensures becomes { reader.new ≡ record { nest = reader.old.nest; expected = Some Phrase.Open; state = State.Shape (ShapeReader.Predicate command place) } }
+    ensures becomes { reader.new ≡ record {
+      nest = reader.old.nest;
+      expected = Some Phrase.Open;
+      state = State.Shape
+          (ShapeReader.Predicate command place);
+    } }
 {
     reader.expected = Some(Phrase::Open);
     reader.state = State::Shape(ShapeReader::Predicate(command, place));
@@ -178,7 +189,12 @@ fn begin_word(reader: &mut BodyReader, phrase: Phrase, statement: Statement) -> 
 /// Behind `for`.
 fn begin_for(reader: &mut BodyReader, place: Place) -> BodyStep
     ensures step { result ≡ BodyStep.Taken }
-    ensures becomes { reader.new ≡ record { nest = reader.old.nest; expected = Some Phrase.Open; state = State.Line (LinePurpose.For place) LineReader.Start } }
+    ensures becomes { reader.new ≡ record {
+      nest = reader.old.nest;
+      expected = Some Phrase.Open;
+      state = State.Line
+          (LinePurpose.For place) LineReader.Start;
+    } }
 {
     reader.expected = Some(Phrase::Open);
     reader.state = State::Line(LinePurpose::For(place), LineReader::Start);
@@ -204,7 +220,9 @@ fn begin_line(
     requires kind { IsClass token.now class }
     requires ready { reader.old.expected ≡ None }
     ensures { (aliases : List (List ℕ)) → is_in aliases token.now.text ≡ alias
-        → IfOk result (IsBodyStep (AtState aliases reader.old.nest (State.Line (LinePurpose.Statement token.now.place) LineReader.Start)) (CompletesBody aliases reader.new) token.now) }
+        → IfOk result (IsBodyStep (AtState aliases reader.old.nest
+        (State.Line (LinePurpose.Statement token.now.place) LineReader.Start))
+        (CompletesBody aliases reader.new) token.now) }
 {
     reader.state = State::Line(LinePurpose::Statement(token.place), LineReader::Start);
     in_line(reader, token, class, alias)

@@ -70,7 +70,9 @@ fn behind_freed(
     class: Class,
 ) -> BodyStep
     requires { IsClass token.now class }
-    ensures { (aliases : List (List ℕ)) → IsBodyStep (BehindFreed place (Around aliases reader.old.nest) (expression_of freed)) (CompletesBody aliases reader.new) token.now result }
+    ensures { (aliases : List (List ℕ))
+        → IsBodyStep (BehindFreed place (Around aliases reader.old.nest) (expression_of freed))
+        (CompletesBody aliases reader.new) token.now result }
 {
     reader.state = State::Behind(Statement::Free(place, freed));
     expect(reader, Phrase::CloseSemicolon, token, class)
@@ -114,7 +116,8 @@ fn behind_condition(
     requires { IsClass token.now class }
     ensures { (purpose : Purpose) (inner : Box ConditionReader Global)
         → reader.old.state ≡ State.Condition purpose inner → (aliases : List (List ℕ))
-        → IfOk result (IsBodyStep (BehindPurpose aliases purpose (Around aliases reader.old.nest) (condition_of condition)) (CompletesBody aliases reader.new) token.now) }
+        → IfOk result (IsBodyStep (BehindPurpose aliases purpose (Around aliases reader.old.nest)
+        (condition_of condition)) (CompletesBody aliases reader.new) token.now) }
 {
     match &mut reader.state {
         State::Condition(purpose, _) => {
@@ -135,7 +138,8 @@ fn behind_purpose(
 ) -> Result<BodyStep, AllocError>
     requires { IsClass token.now class }
     ensures { (aliases : List (List ℕ))
-        → IfOk result (IsBodyStep (BehindPurpose aliases purpose (Around aliases reader.old.nest) (condition_of condition)) (CompletesBody aliases reader.new) token.now) }
+        → IfOk result (IsBodyStep (BehindPurpose aliases purpose (Around aliases reader.old.nest)
+        (condition_of condition)) (CompletesBody aliases reader.new) token.now) }
 {
     match purpose {
         Purpose::Assert(place) => {
@@ -210,7 +214,9 @@ pub fn in_line(
 fn behind_line(reader: &mut BodyReader, purpose: LinePurpose, start: ForStart) -> BodyStep
     requires { reader.old.expected ≡ None }
     ensures step { result ≡ BodyStep.Taken }
-    ensures same { (aliases : List (List ℕ)) → IsSame (CompletesBody aliases reader.new) (BehindLine aliases purpose (Around aliases reader.old.nest) (start_of start)) }
+    ensures same { (aliases : List (List ℕ))
+        → IsSame (CompletesBody aliases reader.new)
+        (BehindLine aliases purpose (Around aliases reader.old.nest) (start_of start)) }
 {
     match purpose {
         LinePurpose::Statement(place) => {
@@ -299,7 +305,9 @@ fn behind_value(
     class: Class,
 ) -> BodyStep
     requires { IsClass token.now class }
-    ensures { (aliases : List (List ℕ)) → IsBodyStep (BehindValue place (Around aliases reader.old.nest) (right_of value)) (CompletesBody aliases reader.new) token.now result }
+    ensures { (aliases : List (List ℕ))
+        → IsBodyStep (BehindValue place (Around aliases reader.old.nest) (right_of value))
+        (CompletesBody aliases reader.new) token.now result }
 {
     reader.state = State::Behind(Statement::Return(place, Some(value)));
     expect(reader, Phrase::Semicolon, token, class)
@@ -315,7 +323,9 @@ pub fn at_for_condition(
 ) -> Result<BodyStep, AllocError>
     requires kind { IsClass token.now class }
     requires ready { reader.old.expected ≡ None }
-    ensures { (aliases : List (List ℕ)) → IfOk result (IsBodyStep (AtState aliases reader.old.nest (State.ForCondition place start)) (CompletesBody aliases reader.new) token.now) }
+    ensures { (aliases : List (List ℕ))
+        → IfOk result (IsBodyStep (AtState aliases reader.old.nest (State.ForCondition place start))
+        (CompletesBody aliases reader.new) token.now) }
 {
     match class {
         Class::Semicolon => {
@@ -345,7 +355,8 @@ pub fn at_last(
     requires kind { IsClass token.now class }
     requires ready { reader.old.expected ≡ None }
     ensures { (aliases : List (List ℕ)) → is_in aliases token.now.text ≡ alias
-        → IfOk result (IsBodyStep (AtState aliases reader.old.nest (State.ForLast place start condition)) (CompletesBody aliases reader.new) token.now) }
+        → IfOk result (IsBodyStep (AtState aliases reader.old.nest (State.ForLast place start condition))
+        (CompletesBody aliases reader.new) token.now) }
 {
     match class {
         Class::CloseParen => {

@@ -54,7 +54,8 @@ impl LineReader {
         alias: bool,
     ) -> Result<LineStep, AllocError>
         requires { IsClass token.now class }
-        ensures { (aliases : List (List ℕ)) → is_in aliases token.now.text ≡ alias → IfOk result (IsLineStep (CompletesLine aliases self.old) (CompletesLine aliases self.new) token.now) }
+        ensures { (aliases : List (List ℕ)) → is_in aliases token.now.text ≡ alias
+            → IfOk result (IsLineStep (CompletesLine aliases self.old) (CompletesLine aliases self.new) token.now) }
     {
         match self {
             LineReader::Start => at_line(self, alloc, token, class, alias),
@@ -78,7 +79,8 @@ fn at_line(
     alias: bool,
 ) -> Result<LineStep, AllocError>
     requires { IsClass token.now class }
-    ensures { (aliases : List (List ℕ)) → is_in aliases token.now.text ≡ alias → IfOk result (IsLineStep (Starts aliases) (CompletesLine aliases line.new) token.now) }
+    ensures { (aliases : List (List ℕ)) → is_in aliases token.now.text ≡ alias
+        → IfOk result (IsLineStep (Starts aliases) (CompletesLine aliases line.new) token.now) }
 {
     match class {
         Class::Semicolon => Ok(LineStep::Closed(ForStart::Nothing)),
@@ -97,7 +99,8 @@ fn at_line(
 
 /// A reader of a declaration behind its base.
 fn declaring(alloc: Global, base: Base) -> Result<LineReader, AllocError>
-    ensures { IfOk result (λ line. (aliases : List (List ℕ)) → IsSame (CompletesLine aliases line) (DeclarationLine (BehindBase aliases base))) }
+    ensures { IfOk result (λ line. (aliases : List (List ℕ))
+        → IsSame (CompletesLine aliases line) (DeclarationLine (BehindBase aliases base))) }
 {
     let fresh = DeclarationReader::behind_base(alloc, base);
     let reader = Box::new(alloc, fresh)?;
@@ -106,7 +109,8 @@ fn declaring(alloc: Global, base: Base) -> Result<LineReader, AllocError>
 
 /// A reader of the rest of a simple statement.
 fn performing(alloc: Global, fresh: SimpleReader) -> Result<LineReader, AllocError>
-    ensures { IfOk result (λ line. (aliases : List (List ℕ)) → IsSame (CompletesLine aliases line) (SimpleLine (CompletesSimple aliases fresh))) }
+    ensures { IfOk result (λ line. (aliases : List (List ℕ))
+        → IsSame (CompletesLine aliases line) (SimpleLine (CompletesSimple aliases fresh))) }
 {
     let reader = Box::new(alloc, fresh)?;
     Ok(LineReader::Simple(reader))
@@ -120,7 +124,8 @@ fn at_name(
     alias: bool,
 ) -> Result<LineStep, AllocError>
     requires { IsName token.now }
-    ensures { (aliases : List (List ℕ)) → is_in aliases token.now.text ≡ alias → IfOk result (IsLineStep (Starts aliases) (CompletesLine aliases line.new) token.now) }
+    ensures { (aliases : List (List ℕ)) → is_in aliases token.now.text ≡ alias
+        → IfOk result (IsLineStep (Starts aliases) (CompletesLine aliases line.new) token.now) }
 {
     let name = name_at(alloc, token)?;
     if alias {
@@ -141,7 +146,9 @@ fn behind_struct(
     class: Class,
 ) -> Result<LineStep, AllocError>
     requires { IsClass token.now class }
-    ensures { (aliases : List (List ℕ)) → IfOk result (IsLineStep (CompletesLine aliases (LineReader.Struct place)) (CompletesLine aliases line.new) token.now) }
+    ensures { (aliases : List (List ℕ))
+        → IfOk result (IsLineStep (CompletesLine aliases (LineReader.Struct place))
+        (CompletesLine aliases line.new) token.now) }
 {
     match class {
         Class::Name => {
@@ -182,7 +189,9 @@ fn behind_known(
     alias: bool,
 ) -> Result<LineStep, AllocError>
     requires { IsClass token.now class }
-    ensures { (aliases : List (List ℕ)) → is_in aliases token.now.text ≡ alias → IfOk result (IsLineStep (CompletesLine aliases (LineReader.Alias known)) (CompletesLine aliases line.new) token.now) }
+    ensures { (aliases : List (List ℕ)) → is_in aliases token.now.text ≡ alias
+        → IfOk result (IsLineStep (CompletesLine aliases (LineReader.Alias known))
+        (CompletesLine aliases line.new) token.now) }
 {
     match class {
         Class::Name => declare(line, alloc, known.name, token, class, alias),
@@ -224,7 +233,9 @@ fn perform(
     alias: bool,
 ) -> Result<LineStep, AllocError>
     requires { IsClass token.now class }
-    ensures { (aliases : List (List ℕ)) → is_in aliases token.now.text ≡ alias → IfOk result (IsLineStep (SimpleLine (CompletesSimple aliases reader)) (CompletesLine aliases line.new) token.now) }
+    ensures { (aliases : List (List ℕ)) → is_in aliases token.now.text ≡ alias
+        → IfOk result (IsLineStep (SimpleLine (CompletesSimple aliases reader))
+        (CompletesLine aliases line.new) token.now) }
 {
     let mut reader = Box::new(alloc, reader)?;
     let step = in_simple(&mut reader, token, class, alias)?;
@@ -241,7 +252,8 @@ fn in_declaration(
 ) -> Result<LineStep, AllocError>
     requires { IsClass token.now class }
     ensures { (aliases : List (List ℕ)) → is_in aliases token.now.text ≡ alias
-        → IfOk result (IsLineStep (DeclarationLine (CompletesDeclaration aliases reader.old)) (DeclarationLine (CompletesDeclaration aliases reader.new)) token.now) }
+        → IfOk result (IsLineStep (DeclarationLine (CompletesDeclaration aliases reader.old))
+        (DeclarationLine (CompletesDeclaration aliases reader.new)) token.now) }
 {
     let step = reader.step(token, class, alias)?;
     match step {
@@ -262,7 +274,8 @@ fn in_simple(
 ) -> Result<LineStep, AllocError>
     requires { IsClass token.now class }
     ensures { (aliases : List (List ℕ)) → is_in aliases token.now.text ≡ alias
-        → IfOk result (IsLineStep (SimpleLine (CompletesSimple aliases reader.old)) (SimpleLine (CompletesSimple aliases reader.new)) token.now) }
+        → IfOk result (IsLineStep (SimpleLine (CompletesSimple aliases reader.old))
+        (SimpleLine (CompletesSimple aliases reader.new)) token.now) }
 {
     let step = reader.step(token, class, alias)?;
     match step {
@@ -275,7 +288,9 @@ fn in_simple(
 /// Behind a simple statement, at its `;`.
 fn behind_simple(simple: Simple, token: &Token, class: Class) -> LineStep
     requires { IsClass token.now class }
-    ensures { (aliases : List (List ℕ)) (reader : SimpleReader) → IsLineStep (BehindSimple (simple_of simple)) (SimpleLine (CompletesSimple aliases reader)) token.now result }
+    ensures { (aliases : List (List ℕ)) (reader : SimpleReader)
+        → IsLineStep (BehindSimple (simple_of simple))
+        (SimpleLine (CompletesSimple aliases reader)) token.now result }
 {
     match class {
         Class::Semicolon => LineStep::Closed(ForStart::Simple(simple)),

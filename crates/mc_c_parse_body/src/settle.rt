@@ -84,7 +84,8 @@ fn settle(
     class: Class,
 ) -> Result<Settled, AllocError>
     requires { IsClass token.now class }
-    ensures { IfOk result (λ settled. (aliases : List (List ℕ)) → AgreeAt (Around aliases nest (statement_of statement)) (AtSettled aliases settled) token.now) }
+    ensures { IfOk result (λ settled. (aliases : List (List ℕ))
+        → AgreeAt (Around aliases nest (statement_of statement)) (AtSettled aliases settled) token.now) }
 {
     let Nest {
         alloc,
@@ -148,7 +149,8 @@ fn turned(
 ) -> Result<Turn, AllocError>
     requires { IsClass token.now class }
     ensures { IfOk result (λ turn. (aliases : List (List ℕ)) (frames : List Frame) (body : List Stmt)
-        → AgreeAt (Inside aliases frame (Behind aliases frames body) (statement_of statement)) (AtTurn aliases frames body turn) token.now) }
+        → AgreeAt (Inside aliases frame (Behind aliases frames body) (statement_of statement))
+        (AtTurn aliases frames body turn) token.now) }
 {
     match frame {
         Frame::Block(place, mut statements) => {
@@ -183,7 +185,8 @@ fn first_part(
 ) -> Result<Turn, AllocError>
     requires { IsClass token.now class }
     ensures { IfOk result (λ turn. (aliases : List (List ℕ)) (frames : List Frame) (body : List Stmt)
-        → AgreeAt (BehindFirst aliases place (condition_of condition) (Behind aliases frames body) (statement_of statement)) (AtTurn aliases frames body turn) token.now) }
+        → AgreeAt (BehindFirst aliases place (condition_of condition) (Behind aliases frames body)
+        (statement_of statement)) (AtTurn aliases frames body turn) token.now) }
 {
     match class {
         Class::Else => Ok(Turn::Else(Frame::Else(place, condition, Box::new(alloc, statement)?))),
@@ -198,7 +201,9 @@ fn first_part(
 fn behind_else(reader: &mut BodyReader, token: &Token, class: Class) -> BodyStep
     requires kind { IsClass token.now class }
     requires ready { reader.old.expected ≡ None }
-    ensures { (aliases : List (List ℕ)) → IsBodyStep (AtSettled aliases (Settled.Else reader.old.nest)) (CompletesBody aliases reader.new) token.now result }
+    ensures { (aliases : List (List ℕ))
+        → IsBodyStep (AtSettled aliases (Settled.Else reader.old.nest))
+        (CompletesBody aliases reader.new) token.now result }
 {
     match class {
         Class::Else => {
@@ -218,7 +223,9 @@ fn behind_do(
     class: Class,
 ) -> Result<BodyStep, AllocError>
     requires { IsClass token.now class }
-    ensures { (aliases : List (List ℕ)) → IfOk result (IsBodyStep (AtSettled aliases (Settled.Do reader.old.nest place part)) (CompletesBody aliases reader.new) token.now) }
+    ensures { (aliases : List (List ℕ))
+        → IfOk result (IsBodyStep (AtSettled aliases (Settled.Do reader.old.nest place part))
+        (CompletesBody aliases reader.new) token.now) }
 {
     let alloc = reader.nest.alloc;
     let fresh = ConditionReader::new(alloc);

@@ -128,7 +128,8 @@ impl BodyReader {
     /// Takes a token, or answers why not. `alias` says whether a typedef introduced the token's text.
     pub fn step(&mut self, token: &Token, class: Class, alias: bool) -> Result<BodyStep, AllocError>
         requires { IsClass token.now class }
-        ensures { (aliases : List (List ℕ)) → is_in aliases token.now.text ≡ alias → IfOk result (IsBodyStep (CompletesBody aliases self.old) (CompletesBody aliases self.new) token.now) }
+        ensures { (aliases : List (List ℕ)) → is_in aliases token.now.text ≡ alias
+            → IfOk result (IsBodyStep (CompletesBody aliases self.old) (CompletesBody aliases self.new) token.now) }
     {
         match self.expected {
             Some(phrase) => Ok(expect(self, phrase, token, class)),

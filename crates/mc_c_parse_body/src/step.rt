@@ -28,7 +28,9 @@ use std::mem;
 /// Takes the first token of a phrase.
 pub fn expect(reader: &mut BodyReader, phrase: Phrase, token: &Token, class: Class) -> BodyStep
     requires { IsClass token.now class }
-    ensures { (aliases : List (List ℕ)) → IsBodyStep (Expects (classes_of phrase) (AtState aliases reader.old.nest reader.old.state)) (CompletesBody aliases reader.new) token.now result }
+    ensures { (aliases : List (List ℕ))
+        → IsBodyStep (Expects (classes_of phrase) (AtState aliases reader.old.nest reader.old.state))
+        (CompletesBody aliases reader.new) token.now result }
 {
     if phrase.begins_with(class) {
         reader.expected = phrase.behind();

@@ -66,12 +66,14 @@ IsOperand [] = IsOne
 IsOperand (place ∷ places) = IsDenied
 
 -- behind the operand c: what completes it with `&&` and `||`, up to what ends that
-pub data Joins (pending : ConditionPending) (c : Cond) (ends : Cond → Tokens → Tokens → Cond → Type 0) (tokens rest : Tokens) (x : Cond) : Type 0 where
+pub data Joins (pending : ConditionPending) (c : Cond) (ends : Cond → Tokens → Tokens → Cond → Type 0)
+    (tokens rest : Tokens) (x : Cond) : Type 0 where
   joins : {b d : Cond} {mid more : Tokens} → Boths (both_of pending.both (denied pending.bangs c)) tokens b mid
       → Eithers (either_of pending.either b) mid d more → ends d more rest x → Joins pending c ends tokens rest x
 
 -- behind an expression with which an operand begins: it is the operand, or is compared
-pub data MaybeCompared (pending : ConditionPending) (e : Expr) (ends : Cond → Tokens → Tokens → Cond → Type 0) : Tokens → Tokens → Cond → Type 0 where
+pub data MaybeCompared (pending : ConditionPending) (e : Expr)
+    (ends : Cond → Tokens → Tokens → Cond → Type 0) : Tokens → Tokens → Cond → Type 0 where
   alone : {tokens rest : Tokens} {x : Cond} → Joins pending (plain e) ends tokens rest x → MaybeCompared pending e ends tokens rest x
   compared : {mark : Token} {comparison : Comparison} {b : Expr} {tokens mid rest : Tokens} {x : Cond}
       → IsMark (mark_of comparison) mark → IsSum b tokens mid
@@ -83,24 +85,30 @@ BehindParens pending place (plain e) ends = InTurn (BehindOperand (parens place 
 BehindParens pending place c ends = Joins pending (enclosed place c) ends
 
 -- the same, where a `!` may stand before the parentheses: behind it they are no expression
-abbrev pub BehindClose : List Place → ConditionPending → Place → Cond → (Cond → Tokens → Tokens → Cond → Type 0) → Tokens → Tokens → Cond → Type 0
+abbrev pub BehindClose : List Place → ConditionPending → Place → Cond → (Cond → Tokens → Tokens → Cond → Type 0)
+    → Tokens → Tokens → Cond → Type 0
 BehindClose [] pending place c ends = BehindParens pending place c ends
 BehindClose (bang ∷ bangs) pending place c ends = Joins pending (enclosed place c) ends
 
 -- behind the condition c, within these parentheses
 abbrev pub BehindCondition : List ConditionGroup → Cond → Tokens → Tokens → Cond → Type 0
 BehindCondition [] c tokens rest x = (rest ≡ tokens) × (x ≡ c)
-BehindCondition (g ∷ gs) c tokens rest x = (more : Tokens) × Marked (codes ")") tokens more × BehindClose g.outer.bangs g.outer g.place c (BehindCondition gs) more rest x
+BehindCondition (g ∷ gs) c tokens rest x = (more : Tokens) × Marked (codes ")") tokens more
+    × BehindClose g.outer.bangs g.outer g.place c (BehindCondition gs) more rest x
 
 -- where an operand comes next
 abbrev pub AtConditionOperand : List ConditionGroup → ConditionPending → Tokens → Tokens → Cond → Type 0
-AtConditionOperand groups pending = InTurn (λ tokens rest c. IsOperand pending.bangs c tokens rest) (λ c. Joins pending c (BehindCondition groups))
+AtConditionOperand groups pending = InTurn (λ tokens rest c. IsOperand pending.bangs c tokens rest)
+    (λ c. Joins pending c (BehindCondition groups))
 
 abbrev pub AtConditionSpot : ConditionSpot → List ConditionGroup → ConditionPending → Tokens → Tokens → Cond → Type 0
 AtConditionSpot ConditionSpot.Operand groups pending = AtConditionOperand groups pending
-AtConditionSpot (ConditionSpot.Primary p) groups pending = InTurn (CompletesPrimary p) (λ e. Joins pending (plain e) (BehindCondition groups))
-AtConditionSpot (ConditionSpot.Sum r) groups pending = InTurn (CompletesExpression r) (λ e. MaybeCompared pending e (BehindCondition groups))
-AtConditionSpot (ConditionSpot.Compared side r) groups pending = InTurn (CompletesExpression r) (λ b. Joins pending (compare side.mark (expression_of side.left) b) (BehindCondition groups))
+AtConditionSpot (ConditionSpot.Primary p) groups pending = InTurn (CompletesPrimary p)
+    (λ e. Joins pending (plain e) (BehindCondition groups))
+AtConditionSpot (ConditionSpot.Sum r) groups pending = InTurn (CompletesExpression r)
+    (λ e. MaybeCompared pending e (BehindCondition groups))
+AtConditionSpot (ConditionSpot.Compared side r) groups pending = InTurn (CompletesExpression r)
+    (λ b. Joins pending (compare side.mark (expression_of side.left) b) (BehindCondition groups))
 AtConditionSpot (ConditionSpot.Whole c) groups pending = Joins pending (whole_of c) (BehindCondition groups)
 
 -- no reader of expressions stands here
@@ -129,7 +137,8 @@ AtEither groups c = InTurn (λ tokens rest d. Eithers c tokens d rest) (BehindCo
 
 -- the marks with which a whole condition goes on
 abbrev pub condition_marks : List (List ℕ)
-condition_marks = codes "+" ∷ codes "-" ∷ codes "*" ∷ codes "->" ∷ codes "==" ∷ codes "!=" ∷ codes "<" ∷ codes "<=" ∷ codes ">" ∷ codes ">=" ∷ codes "&&" ∷ codes "||" ∷ []
+condition_marks = codes "+" ∷ codes "-" ∷ codes "*" ∷ codes "->" ∷ codes "==" ∷ codes "!=" ∷ codes "<" ∷ codes "<="
+    ∷ codes ">" ∷ codes ">=" ∷ codes "&&" ∷ codes "||" ∷ []
 
 -- what a step says of what completes the reader now, and behind the token
 abbrev pub StepsCondition : (now behind : Tokens → Tokens → Cond → Type 0) → Token → ConditionStep → Type 0
@@ -145,8 +154,10 @@ IsSeen whole (Err other) = (other ≡ whole) × IsProper (whole_of whole)
 -- the first token of a variable or field, or of `input()`, behind a `!`
 abbrev pub BeginsDenied : Token → Option Primary → Type 0
 BeginsDenied token None = IsStuckAt (λ tokens rest c. IsDenied c tokens rest) token
-BeginsDenied token (Some p) = Moves (λ tokens rest c. IsDenied c tokens rest) (λ tokens rest c. (e : Expr) × (c ≡ plain e) × CompletesPrimary p tokens rest e) token
+BeginsDenied token (Some p) = Moves (λ tokens rest c. IsDenied c tokens rest)
+    (λ tokens rest c. (e : Expr) × (c ≡ plain e) × CompletesPrimary p tokens rest e) token
 
 -- behind these parentheses a reader stands so
 abbrev pub IsEnclosed : List Place → Place → Cond → ConditionSpot → Type 0
-IsEnclosed bangs place c spot = (groups : List ConditionGroup) (pending : ConditionPending) → IsSame (AtConditionSpot spot groups pending) (BehindClose bangs pending place c (BehindCondition groups))
+IsEnclosed bangs place c spot = (groups : List ConditionGroup) (pending : ConditionPending)
+    → IsSame (AtConditionSpot spot groups pending) (BehindClose bangs pending place c (BehindCondition groups))

@@ -39,7 +39,8 @@ sum_of (Some (Summed.Plus a)) t = plus (expression_of a) t
 sum_of (Some (Summed.Difference a)) t = difference (expression_of a) t
 
 -- behind the operand u: what completes its product and its sum, up to what ends that
-pub data GoesOn (pending : Pending) (u : Expr) (ends : Expr → Tokens → Tokens → Expr → Type 0) (tokens rest : Tokens) (e : Expr) : Type 0 where
+pub data GoesOn (pending : Pending) (u : Expr) (ends : Expr → Tokens → Tokens → Expr → Type 0) (tokens rest : Tokens)
+    (e : Expr) : Type 0 where
   goes_on : {t s : Expr} {mid more : Tokens}
       → Factors (product_of pending.factor (negated pending.minuses u)) tokens t mid
       → Terms (sum_of pending.sum t) mid s more → ends s more rest e → GoesOn pending u ends tokens rest e
@@ -47,7 +48,8 @@ pub data GoesOn (pending : Pending) (u : Expr) (ends : Expr → Tokens → Token
 -- behind the sum s, within these parentheses
 abbrev pub Behind : List Group → Expr → Tokens → Tokens → Expr → Type 0
 Behind [] s tokens rest e = (rest ≡ tokens) × (e ≡ s)
-Behind (g ∷ gs) s tokens rest e = (more : Tokens) × Marked (codes ")") tokens more × GoesOn g.outer (parens g.place s) (Behind gs) more rest e
+Behind (g ∷ gs) s tokens rest e = (more : Tokens) × Marked (codes ")") tokens more
+    × GoesOn g.outer (parens g.place s) (Behind gs) more rest e
 
 -- behind the beginning s of a sum, where no `*` stands
 abbrev pub AtSum : List Group → Expr → Tokens → Tokens → Expr → Type 0

@@ -13,14 +13,16 @@ use Rattle.mc_c_parse_expr.specs.declared.primary.PrimaryStep.{PrimaryStep}
 
 -- these tokens, up to the rest, complete it
 pub data CompletesPrimary : Primary → Tokens → Tokens → Expr → Type 0 where
-  behind_left : {l : LeftValue} {all : Left} {tokens rest : Tokens} → Fields (left_of l) tokens all rest → CompletesPrimary (Primary.Left l) tokens rest (value all)
+  behind_left : {l : LeftValue} {all : Left} {tokens rest : Tokens} → Fields (left_of l) tokens all rest
+      → CompletesPrimary (Primary.Left l) tokens rest (value all)
   behind_arrow : {l : LeftValue} {all : Left} {name : Token} {tokens rest : Tokens} → IsName name
       → Fields (record { name = l.name; fields = l.fields.items ++ name_of name ∷ [] }) tokens all rest
       → CompletesPrimary (Primary.Arrow l) (name ∷ tokens) rest (value all)
   behind_input : {place : Place} {before after : Token} {tokens : Tokens}
       → IsMark (codes "(") before → IsMark (codes ")") after
       → CompletesPrimary (Primary.Input place) (before ∷ after ∷ tokens) tokens (input place)
-  behind_open : {place : Place} {after : Token} {tokens : Tokens} → IsMark (codes ")") after → CompletesPrimary (Primary.InputOpen place) (after ∷ tokens) tokens (input place)
+  behind_open : {place : Place} {after : Token} {tokens : Tokens} → IsMark (codes ")") after
+      → CompletesPrimary (Primary.InputOpen place) (after ∷ tokens) tokens (input place)
 
 -- the marks with which a variable or field goes on
 abbrev pub primary_marks : List (List ℕ)

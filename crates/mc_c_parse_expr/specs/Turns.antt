@@ -4,7 +4,8 @@ use Rattle.mc_base.specs.declared.text.token.Token.{Token}
 use Rattle.mc_c_syntax.specs.Ast.Names.{Tokens, IsMark}
 
 -- the first up to some token, and from there the next
-pub data InTurn {X Y : Type 0} (first : Tokens → Tokens → X → Type 0) (next : X → Tokens → Tokens → Y → Type 0) (tokens rest : Tokens) (y : Y) : Type 0 where
+pub data InTurn {X Y : Type 0} (first : Tokens → Tokens → X → Type 0) (next : X → Tokens → Tokens → Y → Type 0)
+    (tokens rest : Tokens) (y : Y) : Type 0 where
   in_turn : {x : X} {mid : Tokens} → first tokens mid x → next x mid rest y → InTurn first next tokens rest y
 
 -- the tokens begin with this mark, and go on with the rest

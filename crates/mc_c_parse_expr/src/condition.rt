@@ -185,7 +185,9 @@ impl ConditionReader {
 
     fn at_operand(&mut self, token: &Token, class: Class) -> Result<ConditionStep, AllocError>
         requires { IsClass token.now class }
-        ensures { IfOk result (λ step. StepsCondition (AtConditionOperand self.old.groups self.old.pending) (CompletesCondition self.new) token.now step) }
+        ensures { IfOk result
+            (λ step. StepsCondition (AtConditionOperand self.old.groups self.old.pending)
+            (CompletesCondition self.new) token.now step) }
     {
         match class {
             Class::Bang => {
@@ -232,7 +234,9 @@ impl ConditionReader {
         requires class { IsClass token.now class }
         requires no_bang { class ≢ Class.Bang }
         requires no_parens { class ≢ Class.OpenParen }
-        ensures { IfOk result (λ step. StepsCondition (AtConditionOperand self.old.groups self.old.pending) (CompletesCondition self.new) token.now step) }
+        ensures { IfOk result
+            (λ step. StepsCondition (AtConditionOperand self.old.groups self.old.pending)
+            (CompletesCondition self.new) token.now step) }
     {
         if self.pending.bangs.is_empty() {
             let step = self.begin_sum(token, class)?;
@@ -251,7 +255,10 @@ impl ConditionReader {
     /// Takes the first token of an expression.
     fn begin_sum(&mut self, token: &Token, class: Class) -> Result<ConditionStep, AllocError>
         requires { IsClass token.now class }
-        ensures { IfOk result (λ step. StepsCondition (InTurn (λ tokens rest e. IsSum e tokens rest) (λ e. MaybeCompared self.old.pending e (BehindCondition self.old.groups))) (CompletesCondition self.new) token.now step) }
+        ensures { IfOk result (λ step. StepsCondition
+            (InTurn (λ tokens rest e. IsSum e tokens rest)
+            (λ e. MaybeCompared self.old.pending e (BehindCondition self.old.groups)))
+            (CompletesCondition self.new) token.now step) }
     {
         let mut reader = ExpressionReader::new(self.alloc);
         match reader.step(token, class)? {
@@ -274,7 +281,10 @@ impl ConditionReader {
         class: Class,
     ) -> Result<ConditionStep, AllocError>
         requires { IsClass token.now class }
-        ensures { IfOk result (λ step. StepsCondition (AtConditionSpot (ConditionSpot.Primary primary) self.old.groups self.old.pending) (CompletesCondition self.new) token.now step) }
+        ensures { IfOk result
+            (λ step. StepsCondition
+            (AtConditionSpot (ConditionSpot.Primary primary) self.old.groups self.old.pending)
+            (CompletesCondition self.new) token.now step) }
     {
         match primary.step(self.alloc, token, class)? {
             PrimaryStep::Taken(primary) => {
@@ -300,7 +310,9 @@ impl ConditionReader {
         class: Class,
     ) -> Result<ConditionStep, AllocError>
         requires { IsClass token.now class }
-        ensures { IfOk result (λ step. StepsCondition (MaybeCompared self.old.pending (expression_of sum) (BehindCondition self.old.groups)) (CompletesCondition self.new) token.now step) }
+        ensures { IfOk result (λ step. StepsCondition
+            (MaybeCompared self.old.pending (expression_of sum) (BehindCondition self.old.groups))
+            (CompletesCondition self.new) token.now step) }
     {
         match class {
             Class::Compare(mark) => {
@@ -323,7 +335,9 @@ impl ConditionReader {
         class: Class,
     ) -> Result<ConditionStep, AllocError>
         requires { IsClass token.now class }
-        ensures { IfOk result (λ step. StepsCondition (Joins self.old.pending (at_right self.old.spot (expression_of right)) (BehindCondition self.old.groups)) (CompletesCondition self.new) token.now step) }
+        ensures { IfOk result (λ step. StepsCondition
+            (Joins self.old.pending (at_right self.old.spot (expression_of right))
+            (BehindCondition self.old.groups)) (CompletesCondition self.new) token.now step) }
     {
         let spot = mem::replace(&mut self.spot, ConditionSpot::Operand);
         let step = self.behind_whole(compared(spot, right), token, class)?;
@@ -337,7 +351,9 @@ impl ConditionReader {
         class: Class,
     ) -> Result<ConditionStep, AllocError>
         requires { IsClass token.now class }
-        ensures { IfOk result (λ step. StepsCondition (Joins self.old.pending (whole_of operand) (BehindCondition self.old.groups)) (CompletesCondition self.new) token.now step) }
+        ensures { IfOk result (λ step. StepsCondition
+            (Joins self.old.pending (whole_of operand) (BehindCondition self.old.groups))
+            (CompletesCondition self.new) token.now step) }
     {
         let operand = with_bangs(self.alloc, &mut self.pending.bangs, operand)?;
         let whole = joined(self.alloc, self.pending.both.take(), operand)?;
@@ -364,7 +380,8 @@ impl ConditionReader {
         requires class { IsClass token.now class }
         requires no_and { class ≢ Class.And }
         requires idle { self.old.pending ≡ nothing }
-        ensures { IfOk result (λ step. StepsCondition (AtEither self.old.groups (whole_of whole)) (CompletesCondition self.new) token.now step) }
+        ensures { IfOk result (λ step. StepsCondition (AtEither self.old.groups (whole_of whole))
+            (CompletesCondition self.new) token.now step) }
     {
         match class {
             Class::Or => {
@@ -390,7 +407,8 @@ impl ConditionReader {
     /// Takes a `)`.
     fn close(&mut self, whole: Whole, token: &Token) -> Result<ConditionStep, AllocError>
         requires { IsMark (codes ")") token.now }
-        ensures { IfOk result (λ step. StepsCondition (AtEither self.old.groups (whole_of whole)) (CompletesCondition self.new) token.now step) }
+        ensures { IfOk result (λ step. StepsCondition (AtEither self.old.groups (whole_of whole))
+            (CompletesCondition self.new) token.now step) }
     {
         match self.groups.pop() {
             Some(ConditionGroup { place, outer }) => {

@@ -147,7 +147,9 @@ impl ExpressionReader {
 
     fn at_operand(&mut self, token: &Token, class: Class) -> Result<ExpressionStep, AllocError>
         requires { IsClass token.now class }
-        ensures { IfOk result (λ step. StepsExpression (AtOperand self.old.groups self.old.pending) (CompletesExpression self.new) token.now step) }
+        ensures { IfOk result
+            (λ step. StepsExpression (AtOperand self.old.groups self.old.pending)
+            (CompletesExpression self.new) token.now step) }
     {
         match class {
             Class::Minus => {
@@ -209,7 +211,9 @@ impl ExpressionReader {
         class: Class,
     ) -> Result<ExpressionStep, AllocError>
         requires { IsClass token.now class }
-        ensures { IfOk result (λ step. StepsExpression (AtSpot (Spot.Primary primary) self.old.groups self.old.pending) (CompletesExpression self.new) token.now step) }
+        ensures { IfOk result
+            (λ step. StepsExpression (AtSpot (Spot.Primary primary) self.old.groups self.old.pending)
+            (CompletesExpression self.new) token.now step) }
     {
         match primary.step(self.alloc, token, class)? {
             PrimaryStep::Taken(primary) => {
@@ -235,7 +239,9 @@ impl ExpressionReader {
         class: Class,
     ) -> Result<ExpressionStep, AllocError>
         requires { IsClass token.now class }
-        ensures { IfOk result (λ step. StepsExpression (GoesOn self.old.pending (expression_of operand) (Behind self.old.groups)) (CompletesExpression self.new) token.now step) }
+        ensures { IfOk result (λ step. StepsExpression
+            (GoesOn self.old.pending (expression_of operand) (Behind self.old.groups))
+            (CompletesExpression self.new) token.now step) }
     {
         let operand = with_minuses(self.alloc, &mut self.pending.minuses, operand)?;
         let product = multiplied(self.alloc, self.pending.factor.take(), operand)?;
@@ -262,7 +268,8 @@ impl ExpressionReader {
         requires class { IsClass token.now class }
         requires no_star { class ≢ Class.Star }
         requires idle { self.old.pending ≡ nothing }
-        ensures { IfOk result (λ step. StepsExpression (AtSum self.old.groups (expression_of sum)) (CompletesExpression self.new) token.now step) }
+        ensures { IfOk result (λ step. StepsExpression (AtSum self.old.groups (expression_of sum))
+            (CompletesExpression self.new) token.now step) }
     {
         match class {
             Class::Plus => {
@@ -292,7 +299,8 @@ impl ExpressionReader {
     /// Takes a `)`.
     fn close(&mut self, sum: Expression, token: &Token) -> Result<ExpressionStep, AllocError>
         requires { IsMark (codes ")") token.now }
-        ensures { IfOk result (λ step. StepsExpression (AtSum self.old.groups (expression_of sum)) (CompletesExpression self.new) token.now step) }
+        ensures { IfOk result (λ step. StepsExpression (AtSum self.old.groups (expression_of sum))
+            (CompletesExpression self.new) token.now step) }
     {
         match self.groups.pop() {
             Some(Group { place, outer }) => {

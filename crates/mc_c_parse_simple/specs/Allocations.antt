@@ -37,7 +37,10 @@ ClosingCast aliases cast = Next (IsMark (codes ")")) (λ after. BehindCast alias
 
 -- behind the base of a cast
 abbrev pub BehindCastBase : List (List ℕ) → Place → Base → Tokens → Tokens → Malloc → Type 0
-BehindCastBase aliases place base = Either (Next (IsMark (codes "*")) (λ star. ClosingCast aliases (record { place = place; base = base; pointer = Some star.place }))) (ClosingCast aliases (record { place = place; base = base; pointer = None }))
+BehindCastBase aliases place base = Either
+    (Next (IsMark (codes "*")) (λ star. ClosingCast aliases
+    (record { place = place; base = base; pointer = Some star.place })))
+    (ClosingCast aliases (record { place = place; base = base; pointer = None }))
 
 -- behind the `(` of a cast
 abbrev pub InCast : List (List ℕ) → Place → Tokens → Tokens → Malloc → Type 0

@@ -30,7 +30,8 @@ BehindArgument name es e = BehindArguments name (es ++ e ∷ [])
 
 -- what stands in the parentheses of a call, with their end
 abbrev pub FirstArgument : Name → List Expr → Tokens → Tokens → CallTree → Type 0
-FirstArgument name es = Either (Next (IsMark (codes ")")) (λ after. Ended (record { function = name; arguments = es }))) (InTurn Sums (BehindArgument name es))
+FirstArgument name es = Either (Next (IsMark (codes ")"))
+    (λ after. Ended (record { function = name; arguments = es }))) (InTurn Sums (BehindArgument name es))
 
 -- behind the `(` of a call
 abbrev pub BehindCallParens : Name → Tokens → Tokens → CallTree → Type 0

@@ -43,14 +43,18 @@ abbrev pub BehindDeclarator : List (List ℕ) → Base → List InitialTree → 
 BehindDeclarator aliases base is d = Either (BehindInitial aliases base is (record {
   declarator = d;
   value = None;
-})) (Next (IsMark (codes "=")) (λ mark. InTurn (Rights aliases) (λ r. BehindInitial aliases base is (record { declarator = d; value = Some r }))))
+})) (Next (IsMark (codes "=")) (λ mark. InTurn (Rights aliases)
+    (λ r. BehindInitial aliases base is (record { declarator = d; value = Some r }))))
 
 -- the tokens complete what was read of a declaration
-abbrev pub CompletesDeclarationState : List (List ℕ) → Base → List InitialTree → DeclarationState → Tokens → Tokens → DeclarationTree → Type 0
+abbrev pub CompletesDeclarationState : List (List ℕ) → Base → List InitialTree → DeclarationState → Tokens → Tokens
+    → DeclarationTree → Type 0
 CompletesDeclarationState aliases base is DeclarationState.Start = BehindComma aliases base is
-CompletesDeclarationState aliases base is (DeclarationState.Pointer place) = Next IsName (λ name. BehindDeclarator aliases base is (record { pointer = Some place; name = name_of name }))
+CompletesDeclarationState aliases base is (DeclarationState.Pointer place) = Next IsName
+    (λ name. BehindDeclarator aliases base is (record { pointer = Some place; name = name_of name }))
 CompletesDeclarationState aliases base is (DeclarationState.Named d) = BehindDeclarator aliases base is d
-CompletesDeclarationState aliases base is (DeclarationState.Value d reader) = InTurn (CompletesRight aliases reader) (λ r. BehindInitial aliases base is (record { declarator = d; value = Some r }))
+CompletesDeclarationState aliases base is (DeclarationState.Value d reader) = InTurn (CompletesRight aliases reader)
+    (λ r. BehindInitial aliases base is (record { declarator = d; value = Some r }))
 
 abbrev pub CompletesDeclaration : List (List ℕ) → DeclarationReader → Tokens → Tokens → DeclarationTree → Type 0
 CompletesDeclaration aliases reader = CompletesDeclarationState aliases reader.base (map initial_of reader.items.items) reader.state
@@ -72,7 +76,8 @@ IsDeclarationMove aliases now token (DeclarationMove.Closed d) = Closes now toke
 IsDeclarationMove aliases now token DeclarationMove.Stuck = IsStuckAt now token
 
 -- what a step of the reader says, of what completes it now and behind the token
-abbrev pub IsDeclarationStep : (Tokens → Tokens → DeclarationTree → Type 0) → (Tokens → Tokens → DeclarationTree → Type 0) → Token → DeclarationStep → Type 0
+abbrev pub IsDeclarationStep : (Tokens → Tokens → DeclarationTree → Type 0)
+    → (Tokens → Tokens → DeclarationTree → Type 0) → Token → DeclarationStep → Type 0
 IsDeclarationStep now behind token DeclarationStep.Taken = Takes [] now behind token
 IsDeclarationStep now behind token (DeclarationStep.Closed d) = Closes now token (declaration_of d)
 IsDeclarationStep now behind token DeclarationStep.Stuck = IsStuckAt now token

@@ -64,15 +64,18 @@ BehindRightParens aliases place = Either (AsExpression (InParens place Sums)) (A
 
 -- behind a `(` and the name of a type
 abbrev pub BehindParensAlias : List (List ℕ) → Place → Name → Tokens → Tokens → Right → Type 0
-BehindParensAlias aliases place name = Either (AsExpression (InParens place (BehindName name))) (AsAllocation (BehindCastBase aliases place (Base.Alias name)))
+BehindParensAlias aliases place name = Either (AsExpression (InParens place (BehindName name)))
+    (AsAllocation (BehindCastBase aliases place (Base.Alias name)))
 
 -- behind a `(`, the name of a type and a `*`
 abbrev pub BehindParensStar : List (List ℕ) → Place → Name → Place → Tokens → Tokens → Right → Type 0
-BehindParensStar aliases place name star = Either (AsExpression (InParens place (BehindTimes name))) (AsAllocation (ClosingCast aliases (record { place = place; base = Base.Alias name; pointer = Some star })))
+BehindParensStar aliases place name star = Either (AsExpression (InParens place (BehindTimes name)))
+    (AsAllocation (ClosingCast aliases (record { place = place; base = Base.Alias name; pointer = Some star })))
 
 -- behind the name of a type in parentheses
 abbrev pub BehindEnclosed : List (List ℕ) → Place → Name → Tokens → Tokens → Right → Type 0
-BehindEnclosed aliases place name = Either (AsExpression (BehindOperand (parens place (named name)))) (AsAllocation (BehindCast aliases (record { place = place; base = Base.Alias name; pointer = None })))
+BehindEnclosed aliases place name = Either (AsExpression (BehindOperand (parens place (named name))))
+    (AsAllocation (BehindCast aliases (record { place = place; base = Base.Alias name; pointer = None })))
 
 -- the tokens complete what was read of a right side
 abbrev pub CompletesRightState : List (List ℕ) → RightState → Tokens → Tokens → Right → Type 0

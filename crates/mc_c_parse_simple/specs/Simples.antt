@@ -51,9 +51,12 @@ just name = record { name = name; fields = [] }
 
 -- behind a variable or field
 pub data BehindLeft (aliases : List (List ℕ)) (l : Left) : Tokens → Tokens → SimpleTree → Type 0 where
-  assigns : {r : Right} {mark : Token} {tokens rest : Tokens} → IsMark (codes "=") mark → IsRight aliases r tokens rest → BehindLeft aliases l (mark ∷ tokens) rest (assign l r)
-  adds : {e : Expr} {mark : Token} {tokens rest : Tokens} → IsMark (codes "+=") mark → IsSum e tokens rest → BehindLeft aliases l (mark ∷ tokens) rest (add l e)
-  subtracts : {e : Expr} {mark : Token} {tokens rest : Tokens} → IsMark (codes "-=") mark → IsSum e tokens rest → BehindLeft aliases l (mark ∷ tokens) rest (subtract l e)
+  assigns : {r : Right} {mark : Token} {tokens rest : Tokens} → IsMark (codes "=") mark
+      → IsRight aliases r tokens rest → BehindLeft aliases l (mark ∷ tokens) rest (assign l r)
+  adds : {e : Expr} {mark : Token} {tokens rest : Tokens} → IsMark (codes "+=") mark → IsSum e tokens rest
+      → BehindLeft aliases l (mark ∷ tokens) rest (add l e)
+  subtracts : {e : Expr} {mark : Token} {tokens rest : Tokens} → IsMark (codes "-=") mark → IsSum e tokens rest
+      → BehindLeft aliases l (mark ∷ tokens) rest (subtract l e)
   increments : {mark : Token} {tokens : Tokens} → IsMark (codes "++") mark → BehindLeft aliases l (mark ∷ tokens) tokens (increment l)
   decrements : {mark : Token} {tokens : Tokens} → IsMark (codes "--") mark → BehindLeft aliases l (mark ∷ tokens) tokens (decrement l)
 
@@ -63,7 +66,8 @@ InLeft aliases l = InTurn (MoreFields l) (BehindLeft aliases)
 
 -- behind a name with which a statement begins
 abbrev pub BehindSimpleName : List (List ℕ) → Name → Tokens → Tokens → SimpleTree → Type 0
-BehindSimpleName aliases name = Either (InLeft aliases (just name)) (Next (IsMark (codes "(")) (λ before. InTurn (BehindCallParens name) (λ c. Ended (call c))))
+BehindSimpleName aliases name = Either (InLeft aliases (just name))
+    (Next (IsMark (codes "(")) (λ before. InTurn (BehindCallParens name) (λ c. Ended (call c))))
 
 -- behind `++x` or `--x`, or a field of x
 abbrev pub InFirst : Change → Place → Left → Tokens → Tokens → SimpleTree → Type 0
@@ -74,12 +78,14 @@ abbrev pub CompletesSimpleState : List (List ℕ) → SimpleState → Tokens →
 CompletesSimpleState aliases SimpleState.Start = Simples aliases
 CompletesSimpleState aliases (SimpleState.First change place) = Next IsName (λ name. InFirst change place (just (name_of name)))
 CompletesSimpleState aliases (SimpleState.FirstLeft change place l) = InFirst change place (left_of l)
-CompletesSimpleState aliases (SimpleState.FirstArrow change place l) = Next IsName (λ name. InFirst change place (with_field (left_of l) (name_of name)))
+CompletesSimpleState aliases (SimpleState.FirstArrow change place l) = Next IsName
+    (λ name. InFirst change place (with_field (left_of l) (name_of name)))
 CompletesSimpleState aliases (SimpleState.Named name) = BehindSimpleName aliases name
 CompletesSimpleState aliases (SimpleState.Left l) = InLeft aliases (left_of l)
 CompletesSimpleState aliases (SimpleState.Arrow l) = Next IsName (λ name. InLeft aliases (with_field (left_of l) (name_of name)))
 CompletesSimpleState aliases (SimpleState.Assign l reader) = InTurn (CompletesRight aliases reader) (λ r. Ended (assign (left_of l) r))
-CompletesSimpleState aliases (SimpleState.ChangeBy change l reader) = InTurn (CompletesExpression reader.value) (λ e. Ended (changed_by change (left_of l) e))
+CompletesSimpleState aliases (SimpleState.ChangeBy change l reader) = InTurn (CompletesExpression reader.value)
+    (λ e. Ended (changed_by change (left_of l) e))
 CompletesSimpleState aliases (SimpleState.Call reader) = InTurn (CompletesCall reader) (λ c. Ended (call c))
 CompletesSimpleState aliases (SimpleState.Done simple) = Ended (simple_of simple)
 

@@ -39,7 +39,8 @@ BehindParens aliases place = Either (InTurn (Bases aliases) (BehindType place)) 
 
 -- behind `sizeof`
 abbrev pub BehindSizeof : List (List ℕ) → Place → Tokens → Tokens → Size → Type 0
-BehindSizeof aliases place = Either (Next (IsMark (codes "(")) (λ before. BehindParens aliases place)) (Next (IsMark (codes "*")) (λ star. BehindStar place))
+BehindSizeof aliases place = Either (Next (IsMark (codes "(")) (λ before. BehindParens aliases place))
+    (Next (IsMark (codes "*")) (λ star. BehindStar place))
 
 -- the tokens complete what was read of a size
 abbrev pub CompletesSize : List (List ℕ) → SizeReader → Tokens → Tokens → Size → Type 0

@@ -67,7 +67,8 @@ impl AllocationReader {
         alias: bool,
     ) -> Result<AllocationStep, AllocError>
         requires { IsClass token.now class }
-        ensures { (aliases : List (List ℕ)) → is_in aliases token.now.text ≡ alias → IfOk result (IsAllocationStep aliases (CompletesAllocation aliases self) token.now) }
+        ensures { (aliases : List (List ℕ)) → is_in aliases token.now.text ≡ alias
+            → IfOk result (IsAllocationStep aliases (CompletesAllocation aliases self) token.now) }
     {
         match self {
             AllocationReader::Base(place, base) => in_base(alloc, place, base, token, class, alias),
@@ -92,7 +93,9 @@ fn in_base(
     alias: bool,
 ) -> Result<AllocationStep, AllocError>
     requires { IsClass token.now class }
-    ensures { (aliases : List (List ℕ)) → is_in aliases token.now.text ≡ alias → IfOk result (IsAllocationStep aliases (InTurn (CompletesBase aliases base) (BehindCastBase aliases place)) token.now) }
+    ensures { (aliases : List (List ℕ)) → is_in aliases token.now.text ≡ alias
+        → IfOk result (IsAllocationStep aliases
+        (InTurn (CompletesBase aliases base) (BehindCastBase aliases place)) token.now) }
 {
     match base.step(alloc, token, class, alias)? {
         BaseStep::Taken(base) => Ok(AllocationStep::Taken(AllocationReader::Base(place, base))),
@@ -166,7 +169,9 @@ fn in_size(
     alias: bool,
 ) -> Result<AllocationStep, AllocError>
     requires { IsClass token.now class }
-    ensures { (aliases : List (List ℕ)) → is_in aliases token.now.text ≡ alias → IfOk result (IsAllocationStep aliases (InTurn (CompletesSize aliases size) (BehindSize cast place)) token.now) }
+    ensures { (aliases : List (List ℕ)) → is_in aliases token.now.text ≡ alias
+        → IfOk result (IsAllocationStep aliases
+        (InTurn (CompletesSize aliases size) (BehindSize cast place)) token.now) }
 {
     match size.step(alloc, token, class, alias)? {
         SizeStep::Taken(size) => Ok(AllocationStep::Taken(AllocationReader::Size(

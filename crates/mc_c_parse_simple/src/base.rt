@@ -36,7 +36,8 @@ impl BaseReader {
         alias: bool,
     ) -> Result<BaseStep, AllocError>
         requires { IsClass token.now class }
-        ensures { (aliases : List (List ℕ)) → is_in aliases token.now.text ≡ alias → IfOk result (IsBaseStep aliases (CompletesBase aliases self) token.now) }
+        ensures { (aliases : List (List ℕ)) → is_in aliases token.now.text ≡ alias
+            → IfOk result (IsBaseStep aliases (CompletesBase aliases self) token.now) }
     {
         match self {
             BaseReader::Start => start(alloc, token, class, alias),
@@ -47,7 +48,8 @@ impl BaseReader {
 
 fn start(alloc: Global, token: &Token, class: Class, alias: bool) -> Result<BaseStep, AllocError>
     requires { IsClass token.now class }
-    ensures { (aliases : List (List ℕ)) → is_in aliases token.now.text ≡ alias → IfOk result (IsBaseStep aliases (Bases aliases) token.now) }
+    ensures { (aliases : List (List ℕ)) → is_in aliases token.now.text ≡ alias
+        → IfOk result (IsBaseStep aliases (Bases aliases) token.now) }
 {
     match class {
         Class::Int => Ok(BaseStep::Closed(Base::Int(token.place))),

@@ -118,7 +118,8 @@ fn in_argument(
     class: Class,
 ) -> Result<CallStep, AllocError>
     requires { IsClass token.now class }
-    ensures { IfOk result (IsCallStep (InTurn (CompletesExpression reader.value) (BehindArgument function (expressions_of arguments.items))) token.now) }
+    ensures { IfOk result (IsCallStep (InTurn (CompletesExpression reader.value)
+        (BehindArgument function (expressions_of arguments.items))) token.now) }
 {
     match reader.step(token, class)? {
         ExpressionStep::Taken => Ok(CallStep::Taken(CallReader {

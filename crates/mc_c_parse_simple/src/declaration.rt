@@ -118,7 +118,10 @@ impl DeclarationReader {
     ) -> Result<DeclarationStep, AllocError>
         requires class { IsClass token.now class }
         requires beside { IsInInitial self.old → ⊥ }
-        ensures { (aliases : List (List ℕ)) → IfOk result (IsDeclarationStep (CompletesDeclaration aliases self.old) (CompletesDeclaration aliases self.new) token.now) }
+        ensures { (aliases : List (List ℕ))
+            → IfOk result
+            (IsDeclarationStep (CompletesDeclaration aliases self.old)
+            (CompletesDeclaration aliases self.new) token.now) }
     {
         let step = self.taken(token.place).moved(token, class)?;
         Ok(self.put(step))
@@ -142,7 +145,10 @@ impl DeclarationReader {
         requires { IsClass token.now class }
         ensures { (declarator : Declarator) (reader : RightReader)
             → self.state ≡ DeclarationState.Value declarator reader → (aliases : List (List ℕ))
-            → IfOk result (IsDeclarationMove aliases (BehindInitial aliases self.base (map initial_of self.items.items) (record { declarator = declarator; value = Some (right_of right) })) token.now) }
+            → IfOk result
+            (IsDeclarationMove aliases
+            (BehindInitial aliases self.base (map initial_of self.items.items)
+            (record { declarator = declarator; value = Some (right_of right) })) token.now) }
     {
         let DeclarationReader {
             alloc,
@@ -209,7 +215,8 @@ fn start(
     class: Class,
 ) -> Result<DeclarationMove, AllocError>
     requires { IsClass token.now class }
-    ensures { (aliases : List (List ℕ)) → IfOk result (IsDeclarationMove aliases (BehindComma aliases base (map initial_of items.items)) token.now) }
+    ensures { (aliases : List (List ℕ))
+        → IfOk result (IsDeclarationMove aliases (BehindComma aliases base (map initial_of items.items)) token.now) }
 {
     match class {
         Class::Star => Ok(DeclarationMove::Taken(DeclarationReader {
@@ -245,7 +252,9 @@ fn behind_star(
 ) -> Result<DeclarationMove, AllocError>
     requires { IsClass token.now class }
     ensures { (aliases : List (List ℕ))
-        → IfOk result (IsDeclarationMove aliases (Next IsName (λ name. BehindDeclarator aliases base (map initial_of items.items) (record { pointer = Some place; name = name_of name }))) token.now) }
+        → IfOk result (IsDeclarationMove aliases
+        (Next IsName (λ name. BehindDeclarator aliases base (map initial_of items.items)
+        (record { pointer = Some place; name = name_of name }))) token.now) }
 {
     match class {
         Class::Name => {
@@ -274,7 +283,10 @@ fn behind_declarator(
     class: Class,
 ) -> Result<DeclarationMove, AllocError>
     requires { IsClass token.now class }
-    ensures { (aliases : List (List ℕ)) → IfOk result (IsDeclarationMove aliases (BehindDeclarator aliases base (map initial_of items.items) declarator) token.now) }
+    ensures { (aliases : List (List ℕ))
+        → IfOk result
+        (IsDeclarationMove aliases
+        (BehindDeclarator aliases base (map initial_of items.items) declarator) token.now) }
 {
     match class {
         Class::Assign => {
@@ -304,7 +316,8 @@ fn behind_initial(
     class: Class,
 ) -> DeclarationMove
     requires { IsClass token.now class }
-    ensures { (aliases : List (List ℕ)) → IsDeclarationMove aliases (BehindInitials aliases base (map initial_of items.items)) token.now result }
+    ensures { (aliases : List (List ℕ))
+        → IsDeclarationMove aliases (BehindInitials aliases base (map initial_of items.items)) token.now result }
 {
     match class {
         Class::Comma => DeclarationMove::Taken(DeclarationReader {

@@ -95,7 +95,9 @@ impl RightReader {
         alias: bool,
     ) -> Result<RightStep, AllocError>
         requires { IsClass token.now class }
-        ensures { (aliases : List (List ℕ)) → is_in aliases token.now.text ≡ alias → IfOk result (IsRightStep (CompletesRight aliases self.old) (CompletesRight aliases self.new) token.now) }
+        ensures { (aliases : List (List ℕ)) → is_in aliases token.now.text ≡ alias
+            → IfOk result
+            (IsRightStep (CompletesRight aliases self.old) (CompletesRight aliases self.new) token.now) }
     {
         match &mut self.state {
             RightState::Sum(reader) => match reader.step(token, class)? {
@@ -116,7 +118,9 @@ impl RightReader {
     ) -> Result<RightStep, AllocError>
         requires class { IsClass token.now class }
         requires beside { IsInSum self.old → ⊥ }
-        ensures { (aliases : List (List ℕ)) → is_in aliases token.now.text ≡ alias → IfOk result (IsRightStep (CompletesRight aliases self.old) (CompletesRight aliases self.new) token.now) }
+        ensures { (aliases : List (List ℕ)) → is_in aliases token.now.text ≡ alias
+            → IfOk result
+            (IsRightStep (CompletesRight aliases self.old) (CompletesRight aliases self.new) token.now) }
     {
         let alloc = self.alloc;
         let reader = mem::replace(self, RightReader::new(alloc));
@@ -135,7 +139,8 @@ impl RightReader {
     fn moved(self, token: &Token, class: Class, alias: bool) -> Result<RightMove, AllocError>
         requires class { IsClass token.now class }
         requires beside { IsInSum self → ⊥ }
-        ensures { (aliases : List (List ℕ)) → is_in aliases token.now.text ≡ alias → IfOk result (IsRightMove aliases (CompletesRight aliases self) token.now) }
+        ensures { (aliases : List (List ℕ)) → is_in aliases token.now.text ≡ alias
+            → IfOk result (IsRightMove aliases (CompletesRight aliases self) token.now) }
     {
         let RightReader { alloc, state } = self;
         match state {
@@ -217,7 +222,8 @@ fn opened(
     alias: bool,
 ) -> Result<RightMove, AllocError>
     requires { IsClass token.now class }
-    ensures { (aliases : List (List ℕ)) → is_in aliases token.now.text ≡ alias → IfOk result (IsRightMove aliases (BehindRightParens aliases place) token.now) }
+    ensures { (aliases : List (List ℕ)) → is_in aliases token.now.text ≡ alias
+        → IfOk result (IsRightMove aliases (BehindRightParens aliases place) token.now) }
 {
     match class {
         Class::Int => {
@@ -247,7 +253,8 @@ fn opened_name(
     alias: bool,
 ) -> Result<RightMove, AllocError>
     requires { IsName token.now }
-    ensures { (aliases : List (List ℕ)) → is_in aliases token.now.text ≡ alias → IfOk result (IsRightMove aliases (BehindRightParens aliases place) token.now) }
+    ensures { (aliases : List (List ℕ)) → is_in aliases token.now.text ≡ alias
+        → IfOk result (IsRightMove aliases (BehindRightParens aliases place) token.now) }
 {
     let name = name_at(alloc, token)?;
     if alias {
@@ -273,7 +280,8 @@ fn in_cast(
     alias: bool,
 ) -> Result<RightMove, AllocError>
     requires { IsClass token.now class }
-    ensures { (aliases : List (List ℕ)) → is_in aliases token.now.text ≡ alias → IfOk result (IsRightMove aliases (AsAllocation (InCast aliases place)) token.now) }
+    ensures { (aliases : List (List ℕ)) → is_in aliases token.now.text ≡ alias
+        → IfOk result (IsRightMove aliases (AsAllocation (InCast aliases place)) token.now) }
 {
     let reader = AllocationReader::Base(place, BaseReader::Start);
     let step = in_allocation(alloc, reader, token, class, alias)?;
@@ -342,7 +350,8 @@ fn opened_star(
 
 // A reader of what is left of an expression behind a name and a `*`.
 fn behind_times(alloc: Global, name: Name, star: Place) -> Result<ExpressionReader, AllocError>
-    ensures { IfOk result (λ reader. (place : Place) → IsSame (InParens place (CompletesExpression reader)) (InParens place (BehindTimes name))) }
+    ensures { IfOk result (λ reader. (place : Place)
+        → IsSame (InParens place (CompletesExpression reader)) (InParens place (BehindTimes name))) }
 {
     let text = Text::of(alloc, b"*")?;
     let token = Token {
@@ -398,7 +407,9 @@ fn in_parens(
     class: Class,
 ) -> Result<RightMove, AllocError>
     requires { IsClass token.now class }
-    ensures { (aliases : List (List ℕ)) → IfOk result (IsRightMove aliases (AsExpression (InParens place (CompletesExpression reader.value))) token.now) }
+    ensures { (aliases : List (List ℕ))
+        → IfOk result (IsRightMove aliases
+        (AsExpression (InParens place (CompletesExpression reader.value))) token.now) }
 {
     match reader.step(token, class)? {
         ExpressionStep::Taken => Ok(RightMove::Taken(RightReader {
@@ -421,7 +432,8 @@ fn behind_parens(
     class: Class,
 ) -> Result<RightMove, AllocError>
     requires { IsClass token.now class }
-    ensures { (aliases : List (List ℕ)) → IfOk result (IsRightMove aliases (AsExpression (ClosingParens place (expression_of inner))) token.now) }
+    ensures { (aliases : List (List ℕ))
+        → IfOk result (IsRightMove aliases (AsExpression (ClosingParens place (expression_of inner))) token.now) }
 {
     match class {
         Class::CloseParen => {
@@ -489,7 +501,8 @@ fn in_allocation(
     alias: bool,
 ) -> Result<RightMove, AllocError>
     requires { IsClass token.now class }
-    ensures { (aliases : List (List ℕ)) → is_in aliases token.now.text ≡ alias → IfOk result (IsRightMove aliases (AsAllocation (CompletesAllocation aliases reader)) token.now) }
+    ensures { (aliases : List (List ℕ)) → is_in aliases token.now.text ≡ alias
+        → IfOk result (IsRightMove aliases (AsAllocation (CompletesAllocation aliases reader)) token.now) }
 {
     match reader.step(alloc, token, class, alias)? {
         AllocationStep::Taken(reader) => Ok(RightMove::Taken(RightReader {

@@ -111,7 +111,9 @@ impl SimpleReader {
         alias: bool,
     ) -> Result<SimpleStep, AllocError>
         requires { IsClass token.now class }
-        ensures { (aliases : List (List ℕ)) → is_in aliases token.now.text ≡ alias → IfOk result (IsSimpleStep (CompletesSimple aliases self.old) (CompletesSimple aliases self.new) token.now) }
+        ensures { (aliases : List (List ℕ)) → is_in aliases token.now.text ≡ alias
+            → IfOk result
+            (IsSimpleStep (CompletesSimple aliases self.old) (CompletesSimple aliases self.new) token.now) }
     {
         let alloc = self.alloc;
         match &mut self.state {
@@ -145,7 +147,9 @@ impl SimpleReader {
     ) -> Result<SimpleStep, AllocError>
         requires class { IsClass token.now class }
         requires beside { IsInValue self.old → ⊥ }
-        ensures { (aliases : List (List ℕ)) → is_in aliases token.now.text ≡ alias → IfOk result (IsSimpleStep (CompletesSimple aliases self.old) (CompletesSimple aliases self.new) token.now) }
+        ensures { (aliases : List (List ℕ)) → is_in aliases token.now.text ≡ alias
+            → IfOk result
+            (IsSimpleStep (CompletesSimple aliases self.old) (CompletesSimple aliases self.new) token.now) }
     {
         let alloc = self.alloc;
         let reader = mem::replace(self, SimpleReader::new(alloc));
@@ -219,7 +223,9 @@ fn first(
     class: Class,
 ) -> Result<SimpleMove, AllocError>
     requires { IsClass token.now class }
-    ensures { (aliases : List (List ℕ)) → IfOk result (IsSimpleMove aliases (Next IsName (λ name. InFirst change place (just (name_of name)))) token.now) }
+    ensures { (aliases : List (List ℕ))
+        → IfOk result (IsSimpleMove aliases
+        (Next IsName (λ name. InFirst change place (just (name_of name)))) token.now) }
 {
     match class {
         Class::Name => {
@@ -266,7 +272,9 @@ fn first_arrow(
     class: Class,
 ) -> Result<SimpleMove, AllocError>
     requires { IsClass token.now class }
-    ensures { (aliases : List (List ℕ)) → IfOk result (IsSimpleMove aliases (Next IsName (λ name. InFirst change place (with_field (left_of left) (name_of name)))) token.now) }
+    ensures { (aliases : List (List ℕ))
+        → IfOk result (IsSimpleMove aliases
+        (Next IsName (λ name. InFirst change place (with_field (left_of left) (name_of name)))) token.now) }
 {
     match class {
         Class::Name => {
@@ -360,7 +368,9 @@ fn behind_arrow(
     class: Class,
 ) -> Result<SimpleMove, AllocError>
     requires { IsClass token.now class }
-    ensures { (aliases : List (List ℕ)) → IfOk result (IsSimpleMove aliases (Next IsName (λ name. InLeft aliases (with_field (left_of left) (name_of name)))) token.now) }
+    ensures { (aliases : List (List ℕ))
+        → IfOk result (IsSimpleMove aliases
+        (Next IsName (λ name. InLeft aliases (with_field (left_of left) (name_of name)))) token.now) }
 {
     match class {
         Class::Name => {
@@ -382,7 +392,8 @@ fn in_call(
     class: Class,
 ) -> Result<SimpleMove, AllocError>
     requires { IsClass token.now class }
-    ensures { (aliases : List (List ℕ)) → IfOk result (IsSimpleMove aliases (InTurn (CompletesCall reader) (λ c. Ended (call c))) token.now) }
+    ensures { (aliases : List (List ℕ))
+        → IfOk result (IsSimpleMove aliases (InTurn (CompletesCall reader) (λ c. Ended (call c))) token.now) }
 {
     match reader.step(token, class)? {
         CallStep::Taken(reader) => Ok(SimpleMove::Taken(SimpleReader {

@@ -47,7 +47,8 @@ impl SizeReader {
         alias: bool,
     ) -> Result<SizeStep, AllocError>
         requires { IsClass token.now class }
-        ensures { (aliases : List (List ℕ)) → is_in aliases token.now.text ≡ alias → IfOk result (IsSizeStep aliases (CompletesSize aliases self) token.now) }
+        ensures { (aliases : List (List ℕ)) → is_in aliases token.now.text ≡ alias
+            → IfOk result (IsSizeStep aliases (CompletesSize aliases self) token.now) }
     {
         match self {
             SizeReader::Start => Ok(start(token, class)),
@@ -90,7 +91,8 @@ fn behind_parens(
     alias: bool,
 ) -> Result<SizeStep, AllocError>
     requires { IsClass token.now class }
-    ensures { (aliases : List (List ℕ)) → is_in aliases token.now.text ≡ alias → IfOk result (IsSizeStep aliases (BehindParens aliases place) token.now) }
+    ensures { (aliases : List (List ℕ)) → is_in aliases token.now.text ≡ alias
+        → IfOk result (IsSizeStep aliases (BehindParens aliases place) token.now) }
 {
     match class {
         Class::Star => Ok(SizeStep::Taken(SizeReader::ParensStar(place))),
@@ -110,7 +112,8 @@ fn in_base(
     alias: bool,
 ) -> Result<SizeStep, AllocError>
     requires { IsClass token.now class }
-    ensures { (aliases : List (List ℕ)) → is_in aliases token.now.text ≡ alias → IfOk result (IsSizeStep aliases (InTurn (CompletesBase aliases base) (BehindType place)) token.now) }
+    ensures { (aliases : List (List ℕ)) → is_in aliases token.now.text ≡ alias
+        → IfOk result (IsSizeStep aliases (InTurn (CompletesBase aliases base) (BehindType place)) token.now) }
 {
     match base.step(alloc, token, class, alias)? {
         BaseStep::Taken(base) => Ok(SizeStep::Taken(SizeReader::Base(place, base))),

@@ -103,7 +103,8 @@ behind_fields t type (field ∷ fields) = behind_fields t (unwrap_or (field_in t
 abbrev pub field_faults : Tables → VariableType → List Name → List Fault
 field_faults t type [] = []
 field_faults t type (field ∷ fields) =
-    unless (is_some (field_in t type field.text)) Unknown field.place ++ field_faults t (unwrap_or (field_in t type field.text) Anything) fields
+    unless (is_some (field_in t type field.text)) Unknown field.place
+    ++ field_faults t (unwrap_or (field_in t type field.text) Anything) fields
 
 -- the type of a variable
 abbrev pub variable_type : List Variable → Name → VariableType
@@ -195,7 +196,8 @@ argument_faults t vs (p ∷ ps) (e ∷ es) = no_fit t vs (variable_of t p.base p
 abbrev pub callee_faults : Tables → List Variable → CallTree → Option FunctionTree → List Fault
 callee_faults t vs c None = unless false Unknown c.function.place
 callee_faults t vs c (Some f) =
-    unless (length c.arguments == length (listed_parameters f.parameters)) Arity c.function.place ++ argument_faults t vs (listed_parameters f.parameters) c.arguments
+    unless (length c.arguments == length (listed_parameters f.parameters)) Arity c.function.place
+    ++ argument_faults t vs (listed_parameters f.parameters) c.arguments
 
 -- the faults of a call: of its name and number of arguments, then of its arguments
 abbrev pub call_faults : Tables → List Variable → CallTree → List Fault
@@ -239,7 +241,9 @@ size_faults t vs (Size.OfValue p name) = pointed_faults vs name
 abbrev pub cast_faults : Tables → VariableType → Option Cast → List Fault
 cast_faults t wanted None = []
 cast_faults t wanted (Some c) =
-    base_faults t c.base c.pointer ++ unless (is_declarable (meaning_of t c.base) c.pointer && agree wanted (declared_type (meaning_of t c.base) c.pointer)) Mismatch c.place
+    base_faults t c.base c.pointer ++ unless
+    (is_declarable (meaning_of t c.base) c.pointer
+    && agree wanted (declared_type (meaning_of t c.base) c.pointer)) Mismatch c.place
 
 -- a right side fits where the type is wanted, and `malloc` allocates what is pointed to
 abbrev pub right_faults : Tables → List Variable → VariableType → Right → List Fault
@@ -247,7 +251,8 @@ right_faults t vs wanted (expression e) = expression_faults t vs e ++ no_fit t v
 right_faults t vs wanted (result_of c) =
     call_faults t vs c ++ unless (call_fits t wanted (called_function t c.function.text)) Mismatch c.function.place
 right_faults t vs wanted (allocation m) =
-    cast_faults t wanted m.cast ++ size_faults t vs m.size ++ unless (allocates wanted (size_meaning t vs m.size)) BadSizeof (size_place m.size)
+    cast_faults t wanted m.cast ++ size_faults t vs m.size
+    ++ unless (allocates wanted (size_meaning t vs m.size)) BadSizeof (size_place m.size)
 
 -- ---- simple statements and declarations
 -- what `++` and the like change is an `int`
@@ -280,7 +285,8 @@ item_faults t base s item =
 -- the faults of declarators, each of which sees those before it
 abbrev pub items_faults : Tables → Base → Scope → List InitialTree → List Fault
 items_faults t base s [] = []
-items_faults t base s (item ∷ items) = item_faults t base s item ++ items_faults t base (declare s (variable_of t base item.declarator)) items
+items_faults t base s (item ∷ items) = item_faults t base s item
+    ++ items_faults t base (declare s (variable_of t base item.declarator)) items
 
 -- the faults of a declaration
 abbrev pub declaration_faults : Tables → Scope → DeclarationTree → List Fault
@@ -344,7 +350,8 @@ abbrev mutual
   statement_faults c s (free p e) = expression_faults c.tables (visible s) e ++ no_pointer c.tables (visible s) e
   statement_faults c s (assert p d) = condition_faults c.tables (visible s) d
   statement_faults c s (assume p d) = condition_faults c.tables (visible s) d
-  statement_faults c s (assume_shape p predicate x args) = variable_faults (visible s) x ++ flat_map (shape_argument_faults (visible s)) args
+  statement_faults c s (assume_shape p predicate x args) = variable_faults (visible s) x
+      ++ flat_map (shape_argument_faults (visible s)) args
   statement_faults c s (assert_shape p predicate a args) = flat_map (shape_argument_faults (visible s)) (a ∷ args)
   statement_faults c s (assert_empty p) = []
   statement_faults c s (if_only p d a) = condition_faults c.tables (visible s) d ++ statement_faults c s a
@@ -371,7 +378,8 @@ struct_faults t s =
 
 -- a typedef may name a struct itself, also one that is not defined
 abbrev pub alias_faults : Tables → Base → Declarator → List Fault
-alias_faults t base d = base_faults t base d.pointer ++ unless (is_none d.pointer || is_declarable (meaning_of t base) d.pointer) Mismatch (declarator_place d)
+alias_faults t base d = base_faults t base d.pointer
+    ++ unless (is_none d.pointer || is_declarable (meaning_of t base) d.pointer) Mismatch (declarator_place d)
 
 -- what a typedef names: a base, or the struct that it defines
 abbrev pub aliased_base : AliasedTree → Base
@@ -423,7 +431,8 @@ is_other t f g = is_same f.name.text g.name.text && not (is_defined f && is_defi
 -- each function has the type that earlier prototypes of its name have
 abbrev pub prototype_faults : Tables → List FunctionTree → List FunctionTree → List Fault
 prototype_faults t before [] = []
-prototype_faults t before (f ∷ fs) = unless (not (list_any (is_other t f) before)) Mismatch f.name.place ++ prototype_faults t (f ∷ before) fs
+prototype_faults t before (f ∷ fs) = unless (not (list_any (is_other t f) before)) Mismatch f.name.place
+    ++ prototype_faults t (f ∷ before) fs
 
 -- the names that an item introduces as types
 abbrev pub typedef_names : ItemTree → List Name

@@ -18,7 +18,10 @@ number_of FaultName.Arity = 7
 -- the first is told rather than the second: it stands before it in the text, or at the same place with a number that is not greater
 abbrev pub is_told : Fault → Fault → Bool
 is_told f g =
-    nat_lt f.place.line g.place.line || (f.place.line == g.place.line && (nat_lt f.place.column g.place.column || (f.place.column == g.place.column && nat_le (number_of f.name) (number_of g.name))))
+    nat_lt f.place.line g.place.line ||
+    (f.place.line == g.place.line &&
+    (nat_lt f.place.column g.place.column
+    || (f.place.column == g.place.column && nat_le (number_of f.name) (number_of g.name))))
 
 -- the one that is told of one, if there is one, and these
 abbrev pub told_of : Option Fault → List Fault → Option Fault

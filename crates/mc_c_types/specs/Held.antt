@@ -23,7 +23,12 @@ abbrev pub alias_held : Meaning → Alias
 alias_held a = record { name = a.name.now; meaning = a.meaning }
 
 abbrev pub tables_held : NameTables → Tables
-tables_held t = record { structs = map (λ s. struct_of s.now) t.structs; aliases = map alias_held t.aliases; functions = map (λ f. function_of f.now) t.functions }
+tables_held t = record {
+  structs = map (λ s. struct_of s.now) t.structs;
+  aliases = map alias_held t.aliases;
+  functions = map
+      (λ f. function_of f.now) t.functions;
+}
 
 -- the faults of expressions that wait
 abbrev pub expressions_faults : Tables → List Variable → List (Bor Expression) → List Fault

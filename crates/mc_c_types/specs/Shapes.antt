@@ -77,7 +77,8 @@ abbrev mutual
 -- the shape commands of a function's body
 abbrev pub body_uses : Tables → FunctionTree → Option BodyTree → List ShapeUse
 body_uses t f None = []
-body_uses t f (Some body) = statements_uses t (record { heads = []; own = reverse (parameters_of t f); outer = [] }) (stmts_of body.statements)
+body_uses t f (Some body) = statements_uses t (record { heads = []; own = reverse (parameters_of t f); outer = [] })
+    (stmts_of body.statements)
 
 -- the shape commands of an item
 abbrev pub item_uses : Tables → ItemTree → List ShapeUse

@@ -107,7 +107,12 @@ aliased_meaning structs aliases (of_struct s) = struct_meaning (struct_number st
 abbrev pub aliases_behind : List StructTree → List Alias → ItemTree → List Alias
 aliases_behind structs aliases (structure s) = aliases
 aliases_behind structs aliases (typedef t) =
-    aliases ++ map (λ d. record { name = d.name.text; meaning = alias_meaning (aliased_meaning structs aliases t.aliased) d.pointer }) t.declarators
+    aliases ++ map
+    (λ d. record {
+      name = d.name.text;
+      meaning = alias_meaning
+          (aliased_meaning structs aliases t.aliased) d.pointer;
+    }) t.declarators
 aliases_behind structs aliases (function f) = aliases
 
 -- the typedefs of a program, those before it first
@@ -175,7 +180,8 @@ same_result (Some type) (Some other) = agree type other
 -- two functions have the same type
 abbrev pub same_type : Tables → FunctionTree → FunctionTree → Bool
 same_type t f g =
-    same_result (returned_type t f.returned) (returned_type t g.returned) && all_agree (map (λ v. v.type) (parameters_of t f)) (map (λ v. v.type) (parameters_of t g))
+    same_result (returned_type t f.returned) (returned_type t g.returned)
+    && all_agree (map (λ v. v.type) (parameters_of t f)) (map (λ v. v.type) (parameters_of t g))
 
 -- the function has a body
 abbrev pub is_defined : FunctionTree → Bool
@@ -195,4 +201,8 @@ kind_of Anything = Kind.Int
 -- the structs of a program by number, with the kinds of their fields
 abbrev pub struct_infos : UnitTree → List StructInfo
 struct_infos unit =
-    map (λ s. record { name = s.name.text; fields = map (λ v. record { name = v.name; kind = kind_of v.type }) (fields_of (tables_of unit) s) }) (unit_structs unit)
+    map (λ s. record {
+      name = s.name.text;
+      fields = map (λ v. record { name = v.name; kind = kind_of v.type })
+          (fields_of (tables_of unit) s);
+    }) (unit_structs unit)

@@ -117,7 +117,9 @@ impl<'s, 'a> VisibleNames<'s, 'a> {
         parameters: &[Parameter],
         arguments: &[Expression],
     )
-        ensures { told.new.fault ≡ told_of told.old.fault (argument_faults (tables_held self.now.tables.now) (variables_held self.now.scope.now) parameters.now (map expression_of arguments.now)) }
+        ensures { told.new.fault ≡ told_of told.old.fault
+            (argument_faults (tables_held self.now.tables.now) (variables_held self.now.scope.now) parameters.now
+            (map expression_of arguments.now)) }
     {
         for (i, argument) in arguments.iter().enumerate() {
             if i < parameters.len() {
@@ -137,7 +139,10 @@ impl<'s, 'a> VisibleNames<'s, 'a> {
         told: &mut FirstFault,
         expressions: &[Expression],
     ) -> Result<(), AllocError>
-        ensures { OnOk result (told.new.fault ≡ told_of told.old.fault (flat_map (expression_faults (tables_held self.now.tables.now) (variables_held self.now.scope.now)) (map expression_of expressions.now))) }
+        ensures { OnOk result (told.new.fault
+            ≡ told_of told.old.fault (flat_map
+            (expression_faults (tables_held self.now.tables.now) (variables_held self.now.scope.now))
+            (map expression_of expressions.now))) }
     {
         for expression in expressions {
             self.check_expression(alloc, told, expression)?;
@@ -147,7 +152,9 @@ impl<'s, 'a> VisibleNames<'s, 'a> {
 
     /// Notes that a called function is not there, or has other parameters.
     fn check_callee(&self, told: &mut FirstFault, call: &Call, callee: Option<&Function>)
-        ensures { told.new.fault ≡ told_of told.old.fault (callee_faults (tables_held self.now.tables.now) (variables_held self.now.scope.now) (call_of call.now) (option_map function_of (option_copied callee.entry))) }
+        ensures { told.new.fault ≡ told_of told.old.fault
+            (callee_faults (tables_held self.now.tables.now) (variables_held self.now.scope.now) (call_of call.now)
+            (option_map function_of (option_copied callee.entry))) }
     {
         match callee {
             None => told.note(FaultName::Unknown, call.function.place),
@@ -171,7 +178,10 @@ impl<'s, 'a> VisibleNames<'s, 'a> {
         told: &mut FirstFault,
         call: &Call,
     ) -> Result<(), AllocError>
-        ensures { OnOk result (told.new.fault ≡ told_of told.old.fault (call_faults (tables_held self.now.tables.now) (variables_held self.now.scope.now) (call_of call.now))) }
+        ensures { OnOk result (told.new.fault
+            ≡ told_of told.old.fault
+            (call_faults (tables_held self.now.tables.now) (variables_held self.now.scope.now)
+            (call_of call.now))) }
     {
         let callee = self.tables.called_function(&call.function.text);
         self.check_callee(told, call, callee);
@@ -197,7 +207,10 @@ impl<'s, 'a> VisibleNames<'s, 'a> {
         wanted: VariableType,
         call: &Call,
     ) -> Result<(), AllocError>
-        ensures { OnOk result (told.new.fault ≡ told_of told.old.fault (right_faults (tables_held self.now.tables.now) (variables_held self.now.scope.now) wanted (result_of (call_of call.now)))) }
+        ensures { OnOk result (told.new.fault
+            ≡ told_of told.old.fault
+            (right_faults (tables_held self.now.tables.now) (variables_held self.now.scope.now) wanted
+            (result_of (call_of call.now)))) }
     {
         self.check_call(alloc, told, call)?;
         let callee = self.tables.called_function(&call.function.text);
@@ -217,7 +230,10 @@ impl<'s, 'a> VisibleNames<'s, 'a> {
         wanted: VariableType,
         expression: &Expression,
     ) -> Result<(), AllocError>
-        ensures { OnOk result (told.new.fault ≡ told_of told.old.fault (right_faults (tables_held self.now.tables.now) (variables_held self.now.scope.now) wanted (used (expression_of expression.now)))) }
+        ensures { OnOk result (told.new.fault
+            ≡ told_of told.old.fault
+            (right_faults (tables_held self.now.tables.now) (variables_held self.now.scope.now) wanted
+            (used (expression_of expression.now)))) }
     {
         self.check_expression(alloc, told, expression)?;
         self.want_type(told, wanted, expression);
@@ -249,7 +265,8 @@ impl<'s, 'a> VisibleNames<'s, 'a> {
 
     /// Notes the faults of a size.
     fn check_size(&self, told: &mut FirstFault, size: &Size)
-        ensures { told.new.fault ≡ told_of told.old.fault (size_faults (tables_held self.now.tables.now) (variables_held self.now.scope.now) size.now) }
+        ensures { told.new.fault ≡ told_of told.old.fault
+            (size_faults (tables_held self.now.tables.now) (variables_held self.now.scope.now) size.now) }
     {
         match size {
             Size::OfType(place, base) => self.tables.check_base(told, base, Some(*place)),
@@ -260,7 +277,9 @@ impl<'s, 'a> VisibleNames<'s, 'a> {
 
     /// Notes the faults of `malloc`.
     fn check_malloc(&self, told: &mut FirstFault, wanted: VariableType, malloc: &Malloc)
-        ensures { told.new.fault ≡ told_of told.old.fault (right_faults (tables_held self.now.tables.now) (variables_held self.now.scope.now) wanted (allocation malloc.now)) }
+        ensures { told.new.fault ≡ told_of told.old.fault
+            (right_faults (tables_held self.now.tables.now) (variables_held self.now.scope.now) wanted
+            (allocation malloc.now)) }
     {
         self.tables.check_cast(told, wanted, &malloc.cast);
         self.check_size(told, &malloc.size);
@@ -279,7 +298,10 @@ impl<'s, 'a> VisibleNames<'s, 'a> {
         wanted: VariableType,
         right: &RightSide,
     ) -> Result<(), AllocError>
-        ensures { OnOk result (told.new.fault ≡ told_of told.old.fault (right_faults (tables_held self.now.tables.now) (variables_held self.now.scope.now) wanted (right_of right.now))) }
+        ensures { OnOk result (told.new.fault
+            ≡ told_of told.old.fault
+            (right_faults (tables_held self.now.tables.now) (variables_held self.now.scope.now) wanted
+            (right_of right.now))) }
     {
         match right {
             RightSide::Expression(expression) => {

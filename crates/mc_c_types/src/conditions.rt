@@ -18,7 +18,9 @@ impl<'s, 'a> VisibleNames<'s, 'a> {
 
     /// Notes that two expressions can't be compared by `==`.
     fn want_comparable(&self, told: &mut FirstFault, left: &Expression, right: &Expression)
-        ensures { told.new.fault ≡ told_of told.old.fault (comparison_faults (tables_held self.now.tables.now) (variables_held self.now.scope.now) Equal (expression_of left.now) (expression_of right.now)) }
+        ensures { told.new.fault ≡ told_of told.old.fault
+            (comparison_faults (tables_held self.now.tables.now) (variables_held self.now.scope.now) Equal
+            (expression_of left.now) (expression_of right.now)) }
     {
         if !self.value_type(left).is_comparable(self.value_type(right)) {
             told.note(FaultName::Mismatch, first_place(right));
@@ -27,7 +29,9 @@ impl<'s, 'a> VisibleNames<'s, 'a> {
 
     /// Notes that two expressions are no `int`s.
     fn want_ints(&self, told: &mut FirstFault, left: &Expression, right: &Expression)
-        ensures { told.new.fault ≡ told_of told.old.fault (comparison_faults (tables_held self.now.tables.now) (variables_held self.now.scope.now) Below (expression_of left.now) (expression_of right.now)) }
+        ensures { told.new.fault ≡ told_of told.old.fault
+            (comparison_faults (tables_held self.now.tables.now) (variables_held self.now.scope.now) Below
+            (expression_of left.now) (expression_of right.now)) }
     {
         self.want_int(told, left);
         self.want_int(told, right);
@@ -41,7 +45,9 @@ impl<'s, 'a> VisibleNames<'s, 'a> {
         left: &Expression,
         right: &Expression,
     )
-        ensures { told.new.fault ≡ told_of told.old.fault (comparison_faults (tables_held self.now.tables.now) (variables_held self.now.scope.now) comparison (expression_of left.now) (expression_of right.now)) }
+        ensures { told.new.fault ≡ told_of told.old.fault
+            (comparison_faults (tables_held self.now.tables.now) (variables_held self.now.scope.now) comparison
+            (expression_of left.now) (expression_of right.now)) }
     {
         match comparison {
             Comparison::Equal => self.want_comparable(told, left, right),
@@ -62,7 +68,10 @@ impl<'s, 'a> VisibleNames<'s, 'a> {
         left: &Expression,
         right: &Expression,
     ) -> Result<(), AllocError>
-        ensures { OnOk result (told.new.fault ≡ told_of told.old.fault (condition_faults (tables_held self.now.tables.now) (variables_held self.now.scope.now) (compare comparison (expression_of left.now) (expression_of right.now)))) }
+        ensures { OnOk result (told.new.fault
+            ≡ told_of told.old.fault
+            (condition_faults (tables_held self.now.tables.now) (variables_held self.now.scope.now)
+            (compare comparison (expression_of left.now) (expression_of right.now)))) }
     {
         self.check_expression(alloc, told, left)?;
         self.check_expression(alloc, told, right)?;
@@ -120,7 +129,10 @@ impl<'s, 'a> VisibleNames<'s, 'a> {
         told: &mut FirstFault,
         condition: &Condition,
     ) -> Result<(), AllocError>
-        ensures { OnOk result (told.new.fault ≡ told_of told.old.fault (condition_faults (tables_held self.now.tables.now) (variables_held self.now.scope.now) (condition_of condition.now))) }
+        ensures { OnOk result (told.new.fault
+            ≡ told_of told.old.fault
+            (condition_faults (tables_held self.now.tables.now) (variables_held self.now.scope.now)
+            (condition_of condition.now))) }
     {
         let mut stack = Stack::new(alloc);
         stack.push(condition)?;

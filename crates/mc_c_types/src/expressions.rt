@@ -114,7 +114,8 @@ impl<'s, 'a> VisibleNames<'s, 'a> {
 
     /// Notes that a variable is not visible, and that fields are not there.
     pub fn check_left(&self, told: &mut FirstFault, left: &LeftValue)
-        ensures { told.new.fault ≡ told_of told.old.fault (left_faults (tables_held self.now.tables.now) (variables_held self.now.scope.now) (left_of left.now)) }
+        ensures { told.new.fault ≡ told_of told.old.fault
+            (left_faults (tables_held self.now.tables.now) (variables_held self.now.scope.now) (left_of left.now)) }
     {
         self.check_variable(told, &left.name);
         self.check_fields(told, self.variable_type(&left.name), left.fields.as_slice());
@@ -142,7 +143,9 @@ impl<'s, 'a> VisibleNames<'s, 'a> {
 
     /// Notes that an expression is no `int`.
     pub fn want_int(&self, told: &mut FirstFault, expression: &Expression)
-        ensures { told.new.fault ≡ told_of told.old.fault (no_int (tables_held self.now.tables.now) (variables_held self.now.scope.now) (expression_of expression.now)) }
+        ensures { told.new.fault ≡ told_of told.old.fault
+            (no_int (tables_held self.now.tables.now) (variables_held self.now.scope.now)
+            (expression_of expression.now)) }
     {
         if !self.value_type(expression).is_int() {
             told.note(FaultName::Mismatch, first_place(expression));
@@ -151,7 +154,9 @@ impl<'s, 'a> VisibleNames<'s, 'a> {
 
     /// Notes that an expression is no pointer.
     pub fn want_pointer(&self, told: &mut FirstFault, expression: &Expression)
-        ensures { told.new.fault ≡ told_of told.old.fault (no_pointer (tables_held self.now.tables.now) (variables_held self.now.scope.now) (expression_of expression.now)) }
+        ensures { told.new.fault ≡ told_of told.old.fault
+            (no_pointer (tables_held self.now.tables.now) (variables_held self.now.scope.now)
+            (expression_of expression.now)) }
     {
         if !self.value_type(expression).is_pointer() {
             told.note(FaultName::Mismatch, first_place(expression));
@@ -160,7 +165,9 @@ impl<'s, 'a> VisibleNames<'s, 'a> {
 
     /// Notes that an expression does not fit where a type is wanted.
     pub fn want_type(&self, told: &mut FirstFault, wanted: VariableType, expression: &Expression)
-        ensures { told.new.fault ≡ told_of told.old.fault (no_fit (tables_held self.now.tables.now) (variables_held self.now.scope.now) wanted (expression_of expression.now)) }
+        ensures { told.new.fault ≡ told_of told.old.fault
+            (no_fit (tables_held self.now.tables.now) (variables_held self.now.scope.now) wanted
+            (expression_of expression.now)) }
     {
         if !wanted.takes(self.value_type(expression)) {
             told.note(FaultName::Mismatch, first_place(expression));
@@ -175,7 +182,10 @@ impl<'s, 'a> VisibleNames<'s, 'a> {
         left: &'e Expression,
         right: &'e Expression,
     ) -> Result<(), AllocError>
-        ensures told { told.new.fault ≡ told_of (told_of told.old.fault (no_int (tables_held self.now.tables.now) (variables_held self.now.scope.now) (expression_of left.now))) (no_int (tables_held self.now.tables.now) (variables_held self.now.scope.now) (expression_of right.now)) }
+        ensures told { told.new.fault ≡ told_of
+            (told_of told.old.fault (no_int (tables_held self.now.tables.now) (variables_held self.now.scope.now)
+            (expression_of left.now)))
+            (no_int (tables_held self.now.tables.now) (variables_held self.now.scope.now) (expression_of right.now)) }
         ensures kept { OnOk result (stack.new ≡ left.entry ∷ right.entry ∷ stack.old) }
     {
         self.want_int(told, left);
@@ -238,7 +248,10 @@ impl<'s, 'a> VisibleNames<'s, 'a> {
         told: &mut FirstFault,
         expression: &Expression,
     ) -> Result<(), AllocError>
-        ensures { OnOk result (told.new.fault ≡ told_of told.old.fault (expression_faults (tables_held self.now.tables.now) (variables_held self.now.scope.now) (expression_of expression.now))) }
+        ensures { OnOk result (told.new.fault
+            ≡ told_of told.old.fault
+            (expression_faults (tables_held self.now.tables.now) (variables_held self.now.scope.now)
+            (expression_of expression.now))) }
     {
         let mut stack = Stack::new(alloc);
         stack.push(expression)?;

@@ -79,7 +79,8 @@ impl<'a> Functions<'a> {
 
     /// The first function of this name that has a body.
     pub fn called(&self, name: &Text) -> Option<&'a Function>
-        ensures { option_map function_of (option_copied result) ≡ find (λ f. is_defined f && is_same f.name.text name.now) (map (λ f. function_of f.now) self.now) }
+        ensures { option_map function_of (option_copied result)
+            ≡ find (λ f. is_defined f && is_same f.name.text name.now) (map (λ f. function_of f.now) self.now) }
     {
         match self.defined.place(name) {
             None => None,

@@ -17,7 +17,9 @@ impl<'s, 'a> VisibleNames<'s, 'a> {
 
     /// Notes that what `++` and the like change is no `int`.
     fn check_changed(&self, told: &mut FirstFault, left: &LeftValue)
-        ensures { told.new.fault ≡ told_of told.old.fault (changed_faults (tables_held self.now.tables.now) (variables_held self.now.scope.now) (left_of left.now)) }
+        ensures { told.new.fault ≡ told_of told.old.fault
+            (changed_faults (tables_held self.now.tables.now) (variables_held self.now.scope.now)
+            (left_of left.now)) }
     {
         self.check_left(told, left);
         told.unless(
@@ -35,7 +37,10 @@ impl<'s, 'a> VisibleNames<'s, 'a> {
         left: &LeftValue,
         right: &RightSide,
     ) -> Result<(), AllocError>
-        ensures { OnOk result (told.new.fault ≡ told_of told.old.fault (simple_faults (tables_held self.now.tables.now) (variables_held self.now.scope.now) (assign (left_of left.now) (right_of right.now)))) }
+        ensures { OnOk result (told.new.fault
+            ≡ told_of told.old.fault
+            (simple_faults (tables_held self.now.tables.now) (variables_held self.now.scope.now)
+            (assign (left_of left.now) (right_of right.now)))) }
     {
         self.check_left(told, left);
         self.check_right(alloc, told, self.left_type(left), right)?;
@@ -50,7 +55,10 @@ impl<'s, 'a> VisibleNames<'s, 'a> {
         left: &LeftValue,
         expression: &Expression,
     ) -> Result<(), AllocError>
-        ensures { OnOk result (told.new.fault ≡ told_of told.old.fault (simple_faults (tables_held self.now.tables.now) (variables_held self.now.scope.now) (add (left_of left.now) (expression_of expression.now)))) }
+        ensures { OnOk result (told.new.fault
+            ≡ told_of told.old.fault
+            (simple_faults (tables_held self.now.tables.now) (variables_held self.now.scope.now)
+            (add (left_of left.now) (expression_of expression.now)))) }
     {
         self.check_changed(told, left);
         self.check_expression(alloc, told, expression)?;
@@ -65,7 +73,10 @@ impl<'s, 'a> VisibleNames<'s, 'a> {
         told: &mut FirstFault,
         simple: &Simple,
     ) -> Result<(), AllocError>
-        ensures { OnOk result (told.new.fault ≡ told_of told.old.fault (simple_faults (tables_held self.now.tables.now) (variables_held self.now.scope.now) (simple_of simple.now))) }
+        ensures { OnOk result (told.new.fault
+            ≡ told_of told.old.fault
+            (simple_faults (tables_held self.now.tables.now) (variables_held self.now.scope.now)
+            (simple_of simple.now))) }
     {
         match simple {
             Simple::Assign(left, right) => {
@@ -111,7 +122,10 @@ impl<'s, 'a> VisibleNames<'s, 'a> {
         wanted: VariableType,
         value: &Option<RightSide>,
     ) -> Result<(), AllocError>
-        ensures { OnOk result (told.new.fault ≡ told_of told.old.fault (value_faults (tables_held self.now.tables.now) (variables_held self.now.scope.now) wanted (option_map right_of value.now))) }
+        ensures { OnOk result (told.new.fault
+            ≡ told_of told.old.fault
+            (value_faults (tables_held self.now.tables.now) (variables_held self.now.scope.now) wanted
+            (option_map right_of value.now))) }
     {
         match value {
             None => Ok(()),
@@ -131,7 +145,10 @@ impl<'s, 'a> VisibleNames<'s, 'a> {
         place: Place,
         value: &Option<RightSide>,
     ) -> Result<(), AllocError>
-        ensures { OnOk result (told.new.fault ≡ told_of told.old.fault (return_faults (tables_held self.now.tables.now) (variables_held self.now.scope.now) returned place (option_map right_of value.now))) }
+        ensures { OnOk result (told.new.fault
+            ≡ told_of told.old.fault
+            (return_faults (tables_held self.now.tables.now) (variables_held self.now.scope.now) returned place
+            (option_map right_of value.now))) }
     {
         match value {
             None => {
@@ -172,7 +189,10 @@ impl<'s, 'a> VisibleNames<'s, 'a> {
         told: &mut FirstFault,
         condition: &Option<Condition>,
     ) -> Result<(), AllocError>
-        ensures { OnOk result (told.new.fault ≡ told_of told.old.fault (maybe_condition_faults (tables_held self.now.tables.now) (variables_held self.now.scope.now) (option_map condition_of condition.now))) }
+        ensures { OnOk result (told.new.fault
+            ≡ told_of told.old.fault
+            (maybe_condition_faults (tables_held self.now.tables.now) (variables_held self.now.scope.now)
+            (option_map condition_of condition.now))) }
     {
         match condition {
             None => Ok(()),
@@ -190,7 +210,10 @@ impl<'s, 'a> VisibleNames<'s, 'a> {
         told: &mut FirstFault,
         simple: &Option<Simple>,
     ) -> Result<(), AllocError>
-        ensures { OnOk result (told.new.fault ≡ told_of told.old.fault (maybe_simple_faults (tables_held self.now.tables.now) (variables_held self.now.scope.now) (option_map simple_of simple.now))) }
+        ensures { OnOk result (told.new.fault
+            ≡ told_of told.old.fault
+            (maybe_simple_faults (tables_held self.now.tables.now) (variables_held self.now.scope.now)
+            (option_map simple_of simple.now))) }
     {
         match simple {
             None => Ok(()),

@@ -57,7 +57,8 @@ given s (Some part) = visit s (part_of part) ∷ []
 
 -- before what the walk has still to do stands a statement
 abbrev pub HasNext : Walk → Bool → Stmt → Walk → Type 0
-HasNext before in_loop a after = (t : Tables) → rest t after ≡ statement_visits t in_loop before.scope a ++ pending t (behind t before.scope a) before.tasks
+HasNext before in_loop a after = (t : Tables) → rest t after ≡ statement_visits t in_loop before.scope a
+    ++ pending t (behind t before.scope a) before.tasks
 
 -- ---- how many steps it takes
 abbrev pub items_steps : List InitialTree → ℕ

@@ -40,7 +40,8 @@ pub fn push_items<'a>(
     items: &'a [Initial],
 ) -> Result<(), AllocError>
     ensures pending { OnOk result ((t : Tables) (s : Scope)
-        → pending t s tasks.new ≡ items_visits t base.now s (map initial_of items.now) ++ pending t (behind_items t base.now s (map initial_of items.now)) tasks.old) }
+        → pending t s tasks.new ≡ items_visits t base.now s (map initial_of items.now)
+        ++ pending t (behind_items t base.now s (map initial_of items.now)) tasks.old) }
     ensures steps { OnOk result (tasks_steps tasks.new < items_steps (map initial_of items.now) + tasks_steps tasks.old) }
 {
     if let [first, rest @ ..] = items {
@@ -57,7 +58,8 @@ pub fn push_condition<'a>(
     tasks: &mut Stack<Task<'a>>,
     condition: &'a Option<Condition>,
 ) -> Result<(), AllocError>
-    ensures pending { OnOk result ((t : Tables) (s : Scope) → pending t s tasks.new ≡ maybe_tested s (option_map condition_of condition.now) ++ pending t s tasks.old) }
+    ensures pending { OnOk result ((t : Tables) (s : Scope) → pending t s tasks.new
+        ≡ maybe_tested s (option_map condition_of condition.now) ++ pending t s tasks.old) }
     ensures steps { OnOk result (tasks_steps tasks.new < 2 + tasks_steps tasks.old) }
 {
     if let Some(condition) = condition {
@@ -71,7 +73,8 @@ pub fn push_simple<'a>(
     tasks: &mut Stack<Task<'a>>,
     simple: &'a Option<Simple>,
 ) -> Result<(), AllocError>
-    ensures pending { OnOk result ((t : Tables) (s : Scope) → pending t s tasks.new ≡ maybe_performed s (option_map simple_of simple.now) ++ pending t s tasks.old) }
+    ensures pending { OnOk result ((t : Tables) (s : Scope) → pending t s tasks.new
+        ≡ maybe_performed s (option_map simple_of simple.now) ++ pending t s tasks.old) }
     ensures steps { OnOk result (tasks_steps tasks.new < 2 + tasks_steps tasks.old) }
 {
     if let Some(simple) = simple {

@@ -58,7 +58,13 @@ fn declare_parameters<'a>(
     tables: &NameTables,
     parameters: &'a [Parameter],
 ) -> Result<Variables<'a>, AllocError>
-    ensures { IfOk result (λ variables. variables ≡ record { heads = []; own = reverse (map (λ p. variable_of (tables_held tables.now) p.base p.declarator) parameters.now); outer = [] }) }
+    ensures { IfOk result (λ variables. variables
+        ≡ record {
+          heads = [];
+          own = reverse
+              (map (λ p. variable_of (tables_held tables.now) p.base p.declarator) parameters.now);
+          outer = [];
+        }) }
 {
     let mut variables = Variables::new(alloc);
     for parameter in parameters {
@@ -84,7 +90,8 @@ impl<'a> Walk<'a> {
         tables: &NameTables,
         function: &'a Function,
     ) -> Result<Walk<'a>, AllocError>
-        ensures { IfOk result (λ walk. rest (tables_held tables.now) walk ≡ body_visits (tables_held tables.now) (function_of function.now) (function_of function.now).body) }
+        ensures { IfOk result (λ walk. rest (tables_held tables.now) walk
+            ≡ body_visits (tables_held tables.now) (function_of function.now) (function_of function.now).body) }
     {
         let scope = declare_parameters(alloc, tables, listed(&function.parameters))?;
         let mut tasks = Stack::new(alloc);
@@ -112,8 +119,10 @@ impl<'a> Walk<'a> {
     /// A block is next.
     fn enter_block(&mut self, several: &'a [Statement], in_loop: bool) -> Result<(), AllocError>
         ensures pending { OnOk result ((t : Tables)
-            → rest t self.new ≡ statements_visits t in_loop (inside self.old.scope) (stmts_of (map statement_of several.now)) ++ pending t self.old.scope self.old.tasks) }
-        ensures steps { OnOk result (tasks_steps self.new.tasks < statements_steps (stmts_of (map statement_of several.now)) + 2 + tasks_steps self.old.tasks) }
+            → rest t self.new ≡ statements_visits t in_loop (inside self.old.scope)
+            (stmts_of (map statement_of several.now)) ++ pending t self.old.scope self.old.tasks) }
+        ensures steps { OnOk result (tasks_steps self.new.tasks < statements_steps
+            (stmts_of (map statement_of several.now)) + 2 + tasks_steps self.old.tasks) }
     {
         let marks = self.scope.marks();
         self.scope.enter();
@@ -125,7 +134,8 @@ impl<'a> Walk<'a> {
     /// What a `for` begins with is next.
     fn enter_start(&mut self, start: &'a ForStart) -> Result<(), AllocError>
         ensures pending { OnOk result ((t : Tables)
-            → rest t self.new ≡ start_visits t self.old.scope (start_of start.now) ++ pending t (behind_start t self.old.scope (start_of start.now)) self.old.tasks) }
+            → rest t self.new ≡ start_visits t self.old.scope (start_of start.now)
+            ++ pending t (behind_start t self.old.scope (start_of start.now)) self.old.tasks) }
         ensures steps { OnOk result (tasks_steps self.new.tasks < start_steps (start_of start.now) + tasks_steps self.old.tasks) }
     {
         match start {
@@ -147,7 +157,8 @@ impl<'a> Walk<'a> {
     /// A `for` is next.
     fn enter_for(&mut self, head: &'a ForHead, part: &'a Box<Statement>) -> Result<(), AllocError>
         ensures pending { OnOk result (HasNext self.old true (for_loop (head_of head.now) (statement_of part.now.value)) self.new) }
-        ensures steps { OnOk result (tasks_steps self.new.tasks < statement_steps (for_loop (head_of head.now) (statement_of part.now.value)) + tasks_steps self.old.tasks) }
+        ensures steps { OnOk result (tasks_steps self.new.tasks < statement_steps
+            (for_loop (head_of head.now) (statement_of part.now.value)) + tasks_steps self.old.tasks) }
     {
         self.tasks.push(Task::EndFor(self.scope.marks().heads))?;
         self.tasks.push(Task::Whole(part, true))?;
@@ -164,7 +175,12 @@ impl<'a> Walk<'a> {
         part: &'a Box<Statement>,
         in_loop: bool,
     ) -> Result<(), AllocError>
-        ensures { OnOk result (self.new ≡ record { scope = self.old.scope; tasks = Task.Visit (Part.Tested condition.entry) ∷ Task.Whole part.entry in_loop ∷ self.old.tasks }) }
+        ensures { OnOk result (self.new
+            ≡ record {
+              scope = self.old.scope;
+              tasks = Task.Visit (Part.Tested condition.entry)
+                  ∷ Task.Whole part.entry in_loop ∷ self.old.tasks;
+            }) }
     {
         self.tasks.push(Task::Whole(part, in_loop))?;
         self.tasks.push(Task::Visit(Part::Tested(condition)))?;
@@ -177,7 +193,12 @@ impl<'a> Walk<'a> {
         part: &'a Box<Statement>,
         condition: &'a Condition,
     ) -> Result<(), AllocError>
-        ensures { OnOk result (self.new ≡ record { scope = self.old.scope; tasks = Task.Whole part.entry true ∷ Task.Visit (Part.Tested condition.entry) ∷ self.old.tasks }) }
+        ensures { OnOk result (self.new
+            ≡ record {
+              scope = self.old.scope;
+              tasks = Task.Whole part.entry true ∷ Task.Visit (Part.Tested condition.entry)
+                  ∷ self.old.tasks;
+            }) }
     {
         self.tasks.push(Task::Visit(Part::Tested(condition)))?;
         self.tasks.push(Task::Whole(part, true))?;
@@ -195,7 +216,8 @@ impl<'a> Walk<'a> {
     /// A statement is next.
     fn enter_statement(&mut self, statement: &'a Statement, in_loop: bool) -> Result<(), AllocError>
         ensures pending { OnOk result (HasNext self.old in_loop (statement_of statement.now) self.new) }
-        ensures steps { OnOk result (tasks_steps self.new.tasks < statement_steps (statement_of statement.now) + tasks_steps self.old.tasks) }
+        ensures steps { OnOk result
+            (tasks_steps self.new.tasks < statement_steps (statement_of statement.now) + tasks_steps self.old.tasks) }
     {
         match statement {
             Statement::Declaration(declaration) => {
@@ -271,8 +293,10 @@ impl<'a> Walk<'a> {
     /// Several statements are next.
     fn enter_several(&mut self, several: &'a [Statement], in_loop: bool) -> Result<(), AllocError>
         ensures pending { OnOk result ((t : Tables)
-            → rest t self.new ≡ statements_visits t in_loop self.old.scope (stmts_of (map statement_of several.now)) ++ pending t (behind_all t self.old.scope (stmts_of (map statement_of several.now))) self.old.tasks) }
-        ensures steps { OnOk result (tasks_steps self.new.tasks < statements_steps (stmts_of (map statement_of several.now)) + tasks_steps self.old.tasks) }
+            → rest t self.new ≡ statements_visits t in_loop self.old.scope (stmts_of (map statement_of several.now))
+            ++ pending t (behind_all t self.old.scope (stmts_of (map statement_of several.now))) self.old.tasks) }
+        ensures steps { OnOk result (tasks_steps self.new.tasks < statements_steps
+            (stmts_of (map statement_of several.now)) + tasks_steps self.old.tasks) }
     {
         if let [first, rest @ ..] = several {
             self.tasks.push(Task::Several(rest, in_loop))?;
@@ -287,7 +311,8 @@ impl<'a> Walk<'a> {
         tables: &NameTables,
         task: Task<'a>,
     ) -> Result<Option<Part<'a>>, AllocError>
-        ensures pending { IfOk result (λ found. pending (tables_held tables.now) self.old.scope (task.entry ∷ self.old.tasks) ≡ given self.new.scope found ++ rest (tables_held tables.now) self.new) }
+        ensures pending { IfOk result (λ found. pending (tables_held tables.now) self.old.scope
+            (task.entry ∷ self.old.tasks) ≡ given self.new.scope found ++ rest (tables_held tables.now) self.new) }
         ensures steps { OnOk result (tasks_steps self.new.tasks < task_steps task.entry + tasks_steps self.old.tasks) }
     {
         match task {
@@ -326,7 +351,9 @@ impl<'a> Walk<'a> {
     /// The next part, where the walk then stands, or none at the end. After that fails for memory, nothing is known of the walk.
     pub fn next(&mut self, tables: &NameTables) -> Result<Option<Part<'a>>, AllocError>
         ensures { IfOk result (λ found. MatchOption found ((rest (tables_held tables.now) self.old ≡ [])
-            × (rest (tables_held tables.now) self.new ≡ [])) (λ part. rest (tables_held tables.now) self.old ≡ visit self.new.scope (part_of part) ∷ rest (tables_held tables.now) self.new)) }
+            × (rest (tables_held tables.now) self.new ≡ []))
+            (λ part. rest (tables_held tables.now) self.old ≡ visit self.new.scope (part_of part)
+            ∷ rest (tables_held tables.now) self.new)) }
     {
         while let Some(task) = self.tasks.pop() {
             if let Some(part) = self.perform(tables, task)? {

@@ -13,9 +13,11 @@ ghost use Rattle.mc_cover.specs.Guessed.{guess};
 /// An Ind is taken before a Seg; a list of a length is made with a number that no node is; and a
 /// tree is made of a fork, an Ind and null, where an edge is left.
 pub fn example_firsts()
-    ensures ind_first { first_cover (knowing two_ways []) defs list_id (at 1) [] two_ways.graph.edges ≡ taking (1 ∷ []) (entry 0 long_way ∷ entry 2 behind ∷ []) }
+    ensures ind_first { first_cover (knowing two_ways []) defs list_id (at 1) [] two_ways.graph.edges
+        ≡ taking (1 ∷ []) (entry 0 long_way ∷ entry 2 behind ∷ []) }
     ensures with_length { first_cover of_length defs lenlist_id (at 1) (at 5 ∷ []) cell_and_length.graph.edges ≡ taking (0 ∷ 1 ∷ []) [] }
-    ensures two_calls { first_cover of_fork defs tree_id (at 1) [] fork_and_tree.graph.edges ≡ taking (1 ∷ 2 ∷ []) (entry 0 other_list ∷ []) }
+    ensures two_calls { first_cover of_fork defs tree_id (at 1) [] fork_and_tree.graph.edges
+        ≡ taking (1 ∷ 2 ∷ []) (entry 0 other_list ∷ []) }
 {}
 
 /// There is no cover at a pointer without edges, nor of a tree at a fork both of whose pointers
@@ -28,8 +30,10 @@ pub fn no_firsts()
 /// A segment from a node to itself, one of a cell, and one through the first call of a fork.
 pub fn example_segments()
     ensures itself { first_seg_cover (knowing lone_pointer []) defs list_id (at 1) [] (at 1) [] lone_pointer.graph.edges ≡ taking [] [] }
-    ensures one_cell { first_seg_cover (knowing cell_and_list []) defs list_id (at 1) [] (at 3) [] cell_and_list.graph.edges ≡ taking (0 ∷ []) (entry 1 rest_list ∷ []) }
-    ensures through_left { first_seg_cover of_fork defs tree_id (at 1) [] (at 2) [] fork_and_tree.graph.edges ≡ taking (1 ∷ []) (entry 0 other_list ∷ entry 2 (Ind (node 2) tree_id []) ∷ []) }
+    ensures one_cell { first_seg_cover (knowing cell_and_list []) defs list_id (at 1) [] (at 3)
+        [] cell_and_list.graph.edges ≡ taking (0 ∷ []) (entry 1 rest_list ∷ []) }
+    ensures through_left { first_seg_cover of_fork defs tree_id (at 1) [] (at 2) [] fork_and_tree.graph.edges
+        ≡ taking (1 ∷ []) (entry 0 other_list ∷ entry 2 (Ind (node 2) tree_id []) ∷ []) }
 {}
 
 /// The length of a list is one more than that of the list behind its first cell, that of an edge

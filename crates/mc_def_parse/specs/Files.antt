@@ -56,7 +56,9 @@ ItemEnds done head rules block items item = ItemsEnd done head rules block (item
 
 -- behind the name `this` at the start of a rule: a block or an item
 abbrev pub ThisGoesOn : List DefText → Head → List RuleText → Name → Tokens → Tokens → List DefText → Type 0
-ThisGoesOn done head rules this tokens rest file = First (Is Symbol.Arrow) (λ arrow. Then (CompletesBlock BlockReader.Shape) (BlockEnds done head rules)) tokens rest file ⊎ Then (NameStops this) (ItemEnds done head rules None []) tokens rest file
+ThisGoesOn done head rules this tokens rest file = First (Is Symbol.Arrow)
+    (λ arrow. Then (CompletesBlock BlockReader.Shape) (BlockEnds done head rules)) tokens rest file
+    ⊎ Then (NameStops this) (ItemEnds done head rules None []) tokens rest file
 
 -- the tokens, up to the rest, complete what has been read to this file
 abbrev pub CompletesAt : At → List DefText → Head → List RuleText → Option Block → List Item → Tokens → Tokens → List DefText → Type 0

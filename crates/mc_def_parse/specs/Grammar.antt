@@ -45,13 +45,15 @@ negative n at = record { minus = true; value = n; place = at.place }
 
 pub data IsNum : Number → Tokens → Tokens → Type 0 where
   unsigned : {n : ℕ} {digits : Token} {rest : Tokens} → IsNumber digits n → IsNum (plain n digits) (digits ∷ rest) rest
-  signed : {n : ℕ} {minus digits : Token} {rest : Tokens} → Is Symbol.Minus minus → IsNumber digits n → IsNum (negative n minus) (minus ∷ digits ∷ rest) rest
+  signed : {n : ℕ} {minus digits : Token} {rest : Tokens} → Is Symbol.Minus minus → IsNumber digits n
+      → IsNum (negative n minus) (minus ∷ digits ∷ rest) rest
 
 -- a number, a name, or a name with what is added or taken away
 pub data IsSum : Sum → Tokens → Tokens → Type 0 where
   number : {m : Number} {tokens rest : Tokens} → IsNum m tokens rest → IsSum (Sum.Number m) tokens rest
   name : {x : Token} {rest : Tokens} → Is Symbol.Name x → IsSum (Sum.Name (name_of x)) (x ∷ rest) rest
-  added : {n : ℕ} {x plus digits : Token} {rest : Tokens} → Is Symbol.Name x → Is Symbol.Plus plus → IsNumber digits n → IsSum (Sum.Moved (name_of x) (plain n digits)) (x ∷ plus ∷ digits ∷ rest) rest
+  added : {n : ℕ} {x plus digits : Token} {rest : Tokens} → Is Symbol.Name x → Is Symbol.Plus plus
+      → IsNumber digits n → IsSum (Sum.Moved (name_of x) (plain n digits)) (x ∷ plus ∷ digits ∷ rest) rest
   taken : {n : ℕ} {x minus digits : Token} {rest : Tokens} → Is Symbol.Name x → Is Symbol.Minus minus
       → IsNumber digits n → IsSum (Sum.Moved (name_of x) (negative n digits)) (x ∷ minus ∷ digits ∷ rest) rest
 
@@ -115,12 +117,15 @@ pub data IsBlock : Block → Tokens → Tokens → Type 0 where
 -- behind these items: more of them
 pub data MoreItems : List Item → Tokens → List Item → Tokens → Type 0 where
   last_item : {items : List Item} {rest : Tokens} → MoreItems items rest items rest
-  next_item : {items all : List Item} {item : Item} {tokens mid rest : Tokens} → IsItem item tokens mid → MoreItems (items ++ item ∷ []) mid all rest → MoreItems items tokens all rest
+  next_item : {items all : List Item} {item : Item} {tokens mid rest : Tokens} → IsItem item tokens mid
+      → MoreItems (items ++ item ∷ []) mid all rest → MoreItems items tokens all rest
 
 -- what stands between the braces of a rule: items, behind a block or none
 pub data IsRuleBody : RuleText → Tokens → Tokens → Type 0 where
-  bare : {items : List Item} {tokens rest : Tokens} → MoreItems [] tokens items rest → IsRuleBody (record { block = None; items = items }) tokens rest
-  with_block : {b : Block} {items : List Item} {tokens mid rest : Tokens} → IsBlock b tokens mid → MoreItems [] mid items rest → IsRuleBody (record { block = Some b; items = items }) tokens rest
+  bare : {items : List Item} {tokens rest : Tokens} → MoreItems [] tokens items rest
+      → IsRuleBody (record { block = None; items = items }) tokens rest
+  with_block : {b : Block} {items : List Item} {tokens mid rest : Tokens} → IsBlock b tokens mid
+      → MoreItems [] mid items rest → IsRuleBody (record { block = Some b; items = items }) tokens rest
 
 pub data IsRule : RuleText → Tokens → Tokens → Type 0 where
   rule : {r : RuleText} {word opening close : Token} {tokens rest : Tokens} → IsWord (codes "rule") word
@@ -129,7 +134,8 @@ pub data IsRule : RuleText → Tokens → Tokens → Type 0 where
 
 pub data MoreRules : List RuleText → Tokens → List RuleText → Tokens → Type 0 where
   last_rule : {rs : List RuleText} {rest : Tokens} → MoreRules rs rest rs rest
-  next_rule : {rs all : List RuleText} {r : RuleText} {tokens mid rest : Tokens} → IsRule r tokens mid → MoreRules (rs ++ r ∷ []) mid all rest → MoreRules rs tokens all rest
+  next_rule : {rs all : List RuleText} {r : RuleText} {tokens mid rest : Tokens} → IsRule r tokens mid
+      → MoreRules (rs ++ r ∷ []) mid all rest → MoreRules rs tokens all rest
 
 -- behind these parameters: `,`, a kind and a name, as often as one likes
 abbrev pub parameter : Kind → Token → Parameter
@@ -158,7 +164,8 @@ pub data IsDef : DefText → Tokens → Tokens → Type 0 where
 -- behind these definitions: more of them, and the end
 pub data MoreDefs : List DefText → Tokens → Tokens → List DefText → Type 0 where
   end_defs : {ds : List DefText} {end : Token} {rest : Tokens} → end.kind ≡ TokenKind.End → MoreDefs ds (end ∷ rest) rest ds
-  next_def : {ds all : List DefText} {d : DefText} {tokens mid rest : Tokens} → IsDef d tokens mid → MoreDefs (ds ++ d ∷ []) mid rest all → MoreDefs ds tokens rest all
+  next_def : {ds all : List DefText} {d : DefText} {tokens mid rest : Tokens} → IsDef d tokens mid
+      → MoreDefs (ds ++ d ∷ []) mid rest all → MoreDefs ds tokens rest all
 
 -- the tokens spell this file
 abbrev pub IsFile : List DefText → Tokens → Type 0

@@ -26,11 +26,13 @@ Stops x = First (Is Symbol.Semicolon) (λ stop. Gives x)
 
 -- a sum and a `;`
 abbrev pub SumStops : Name → Relation → Tokens → Tokens → Item → Type 0
-SumStops x r tokens rest item = (s : Sum) × (stop : Token) × IsSum s tokens (stop ∷ rest) × Is Symbol.Semicolon stop × (item ≡ Relates x r s)
+SumStops x r tokens rest item = (s : Sum) × (stop : Token) × IsSum s tokens (stop ∷ rest) × Is Symbol.Semicolon stop
+    × (item ≡ Relates x r s)
 
 -- a number and a `;`
 abbrev pub BoundStops : Name → Bound → Tokens → Tokens → Item → Type 0
-BoundStops x b tokens rest item = (m : Number) × (stop : Token) × IsNum m tokens (stop ∷ rest) × Is Symbol.Semicolon stop × (item ≡ Bounds x b m)
+BoundStops x b tokens rest item = (m : Number) × (stop : Token) × IsNum m tokens (stop ∷ rest)
+    × Is Symbol.Semicolon stop × (item ≡ Bounds x b m)
 
 -- behind the first arguments: more of them, `)` and `;`
 abbrev pub NamesStop : Name → List Name → Tokens → Tokens → Item → Type 0

@@ -14,7 +14,8 @@ pub record Takes {X : Type 0} (now later : Tokens → Tokens → X → Type 0) (
   pub backward : (tokens rest : Tokens) (x : X) → later tokens rest x → now (token ∷ tokens) rest x
 
 -- the step is that of a reader at this token, which is complete with what the second function makes of the answer
-abbrev pub StepIs : {R X Y : Type 0} → (R → Tokens → Tokens → Y → Type 0) → (X → Y) → (Tokens → Tokens → Y → Type 0) → Token → Step R X → Type 0
+abbrev pub StepIs : {R X Y : Type 0} → (R → Tokens → Tokens → Y → Type 0) → (X → Y) → (Tokens → Tokens → Y → Type 0)
+    → Token → Step R X → Type 0
 StepIs completes give now token (Taken reader) = Takes now (completes reader) token
 StepIs completes give now token (Closed x) = Closes now token (give x)
 StepIs completes give now token Stuck = IsStuckAt now token

@@ -21,7 +21,8 @@ mark_texts =
     ∷ codes "->" ∷ codes "!=" ∷ codes "<=" ∷ codes ">=" ∷ codes "+" ∷ codes "-" ∷ []
 
 abbrev pub mark_symbols : List Symbol
-mark_symbols = Semicolon ∷ Equal ∷ Open ∷ Close ∷ Comma ∷ OpenBrace ∷ CloseBrace ∷ Colon ∷ Arrow ∷ Unequal ∷ AtMost ∷ AtLeast ∷ Plus ∷ Minus ∷ []
+mark_symbols = Semicolon ∷ Equal ∷ Open ∷ Close ∷ Comma ∷ OpenBrace ∷ CloseBrace ∷ Colon ∷ Arrow ∷ Unequal ∷ AtMost
+    ∷ AtLeast ∷ Plus ∷ Minus ∷ []
 
 unfoldable pub mark_symbol : List ℕ → Symbol
 mark_symbol text = beside mark_texts mark_symbols text

@@ -73,7 +73,9 @@ impl<'t> At<'t> {
         symbol: Symbol,
     ) -> Result<Took, AllocError>
         requires { symbol ≡ symbol_of token.now }
-        ensures { IfOk result (λ took. FileTookIs (CompletesAt self.entry file.old.done file.old.head file.old.rules file.old.block file.old.items) file.new token.now took) }
+        ensures { IfOk result
+            (λ took. FileTookIs
+            (CompletesAt self.entry file.old.done file.old.head file.old.rules file.old.block file.old.items) file.new token.now took) }
     {
         match self {
             At::Outside => Ok(file.outside(token, symbol)),
@@ -169,7 +171,8 @@ impl<'t> FileReader<'t> {
         symbol: Symbol,
     ) -> Result<Took, AllocError>
         requires { symbol ≡ symbol_of token.now }
-        ensures { IfOk result (λ took. FileTookIs (Then (CompletesHead reader.entry) (FirstRuleEnds self.old.done)) self.new token.now took) }
+        ensures { IfOk result (λ took. FileTookIs
+            (Then (CompletesHead reader.entry) (FirstRuleEnds self.old.done)) self.new token.now took) }
     {
         match reader.step(alloc, token, symbol)? {
             Step::Taken(reader) => {
@@ -281,7 +284,9 @@ impl<'t> FileReader<'t> {
         symbol: Symbol,
     ) -> Result<Took, AllocError>
         requires { symbol ≡ symbol_of token.now }
-        ensures { IfOk result (λ took. FileTookIs (ThisGoesOn self.old.done self.old.head self.old.rules (name_of this.now)) self.new token.now took) }
+        ensures { IfOk result
+            (λ took. FileTookIs
+            (ThisGoesOn self.old.done self.old.head self.old.rules (name_of this.now)) self.new token.now took) }
     {
         match symbol {
             Symbol::Arrow => {
@@ -304,7 +309,9 @@ impl<'t> FileReader<'t> {
         symbol: Symbol,
     ) -> Result<Took, AllocError>
         requires { symbol ≡ symbol_of token.now }
-        ensures { IfOk result (λ took. FileTookIs (Then (CompletesBlock reader.entry) (BlockEnds self.old.done self.old.head self.old.rules)) self.new token.now took) }
+        ensures { IfOk result (λ took. FileTookIs
+            (Then (CompletesBlock reader.entry)
+            (BlockEnds self.old.done self.old.head self.old.rules)) self.new token.now took) }
     {
         match reader.step(alloc, token, symbol)? {
             Step::Taken(reader) => {
@@ -328,7 +335,9 @@ impl<'t> FileReader<'t> {
         symbol: Symbol,
     ) -> Result<Took, AllocError>
         requires { symbol ≡ symbol_of token.now }
-        ensures { IfOk result (λ took. FileTookIs (ItemsEnd self.old.done self.old.head self.old.rules self.old.block self.old.items) self.new token.now took) }
+        ensures { IfOk result
+            (λ took. FileTookIs
+            (ItemsEnd self.old.done self.old.head self.old.rules self.old.block self.old.items) self.new token.now took) }
     {
         match symbol {
             Symbol::CloseBrace => {
@@ -361,7 +370,9 @@ impl<'t> FileReader<'t> {
         symbol: Symbol,
     ) -> Result<Took, AllocError>
         requires { symbol ≡ symbol_of token.now }
-        ensures { IfOk result (λ took. FileTookIs (Then (CompletesItem reader.entry) (ItemEnds self.old.done self.old.head self.old.rules self.old.block self.old.items)) self.new token.now took) }
+        ensures { IfOk result (λ took. FileTookIs
+            (Then (CompletesItem reader.entry)
+            (ItemEnds self.old.done self.old.head self.old.rules self.old.block self.old.items)) self.new token.now took) }
     {
         match reader.step(alloc, token, symbol)? {
             Step::Taken(reader) => {

@@ -321,7 +321,13 @@ definitions context number (d ∷ ds) = do
   Ok (one ∷ more)
 
 abbrev pub context_of : List StructInfo → List DefText → Context
-context_of structs file = record { structs = structs; shapes = map (λ info. info.name) structs; preds = map (λ d. d.head.name.text) file; params = map (λ d. kinds_of d.head.params) file }
+context_of structs file = record {
+  structs = structs;
+  shapes = map (λ info. info.name) structs;
+  preds = map
+      (λ d. d.head.name.text) file;
+  params = map (λ d. kinds_of d.head.params) file;
+}
 
 -- what a file says of these structs
 abbrev pub judged : List StructInfo → List DefText → Judged (List Def)

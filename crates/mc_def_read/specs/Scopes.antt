@@ -21,7 +21,13 @@ body_of kept = record { scope = scope_of kept.scope; calls = kept.calls; atoms =
 
 -- what the rules of a file may speak of
 abbrev pub setting_of : Setting → Context
-setting_of setting = record { structs = setting.structs.now; shapes = setting.shapes; preds = setting.preds; params = map (λ d. kinds_of d.head.params) setting.file.now }
+setting_of setting = record {
+  structs = setting.structs.now;
+  shapes = setting.shapes;
+  preds = setting.preds;
+  params = map
+      (λ d. kinds_of d.head.params) setting.file.now;
+}
 
 -- a block up to a content
 abbrev pub held_of : KeptHeld → Held

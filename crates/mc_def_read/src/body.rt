@@ -140,7 +140,9 @@ impl<'a, 'b> Body<'a, 'b> {
     }
 
     fn fix(&mut self, alloc: Global, kind: Kind, name: &'a Name, sum: &Sum) -> Result<(), DefFault>
-        ensures { (context : Context) (guarded : Bool) → Finds (item context guarded (body_of self.old) (Item.Relates name.now (Relation.Fixes kind) sum.now)) (λ done. body_of self.new) result }
+        ensures { (context : Context) (guarded : Bool)
+            → Finds (item context guarded (body_of self.old) (Item.Relates name.now (Relation.Fixes kind) sum.now))
+            (λ done. body_of self.new) result }
     {
         let left = self.scope.kinds.len() as u64;
         if self.scope.place(&name.text).is_some() {
@@ -158,7 +160,9 @@ impl<'a, 'b> Body<'a, 'b> {
     }
 
     fn equal(&mut self, name: &Name, sum: &Sum) -> Result<(), DefFault>
-        ensures { (context : Context) (guarded : Bool) → Finds (item context guarded (body_of self.old) (Item.Relates name.now Relation.Equals sum.now)) (λ done. body_of self.new) result }
+        ensures { (context : Context) (guarded : Bool)
+            → Finds (item context guarded (body_of self.old) (Item.Relates name.now Relation.Equals sum.now))
+            (λ done. body_of self.new) result }
     {
         let known = self.scope.known(name)?;
         let added = self.scope.sum(known.kind, sum)?;
@@ -172,7 +176,9 @@ impl<'a, 'b> Body<'a, 'b> {
     }
 
     fn differ(&mut self, name: &Name, sum: &Sum) -> Result<(), DefFault>
-        ensures { (context : Context) (guarded : Bool) → Finds (item context guarded (body_of self.old) (Item.Relates name.now Relation.Differs sum.now)) (λ done. body_of self.new) result }
+        ensures { (context : Context) (guarded : Bool)
+            → Finds (item context guarded (body_of self.old) (Item.Relates name.now Relation.Differs sum.now))
+            (λ done. body_of self.new) result }
     {
         let known = self.scope.known(name)?;
         let added = self.scope.sum(known.kind, sum)?;
@@ -191,7 +197,9 @@ impl<'a, 'b> Body<'a, 'b> {
         relation: Relation,
         sum: &Sum,
     ) -> Result<(), DefFault>
-        ensures { (context : Context) (guarded : Bool) → Finds (item context guarded (body_of self.old) (Item.Relates name.now relation sum.now)) (λ done. body_of self.new) result }
+        ensures { (context : Context) (guarded : Bool)
+            → Finds (item context guarded (body_of self.old) (Item.Relates name.now relation sum.now))
+            (λ done. body_of self.new) result }
     {
         match relation {
             Relation::Fixes(kind) => self.fix(alloc, kind, name, sum),
@@ -201,7 +209,9 @@ impl<'a, 'b> Body<'a, 'b> {
     }
 
     fn bound(&mut self, name: &Name, bound: Bound, number: Number) -> Result<(), DefFault>
-        ensures { (context : Context) (guarded : Bool) → Finds (item context guarded (body_of self.old) (Item.Bounds name.now bound number)) (λ done. body_of self.new) result }
+        ensures { (context : Context) (guarded : Bool)
+            → Finds (item context guarded (body_of self.old) (Item.Bounds name.now bound number))
+            (λ done. body_of self.new) result }
     {
         let atom = match bound {
             Bound::AtMost => bounded(&self.scope, name, LEAST, value(number))?,
@@ -219,7 +229,8 @@ impl<'a, 'b> Body<'a, 'b> {
         name: &Name,
         args: &[Name],
     ) -> Result<(), DefFault>
-        ensures { Finds (item (setting_of setting.now) guarded (body_of self.old) (Item.Call name.now args.now)) (λ done. body_of self.new) result }
+        ensures { Finds (item (setting_of setting.now) guarded (body_of self.old) (Item.Call name.now args.now))
+            (λ done. body_of self.new) result }
     {
         let call = setting.call(alloc, guarded, &self.scope, name, args)?;
         self.calls.push(call)?;

@@ -88,7 +88,8 @@ impl<'a, 'b> Held<'a, 'b> {
         front: &'b Words<'a>,
         info: &StructInfo,
     ) -> Result<Held<'a, 'b>, AllocError>
-        ensures { IfOk result (λ held. held_of held ≡ record { names = front.now ++ []; fields = replicate (length info.now.fields) None }) }
+        ensures { IfOk result (λ held. held_of held
+            ≡ record { names = front.now ++ []; fields = replicate (length info.now.fields) None }) }
     {
         let own = Words::new(alloc);
         let fields = vec![in alloc; None; info.fields.as_slice().len()]?;

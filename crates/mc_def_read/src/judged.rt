@@ -41,7 +41,9 @@ fn inner<'a, 'b>(alloc: Global, front: &'b Scope<'a, '_>) -> Result<Scope<'a, 'b
 }
 
 fn rule_of(body: Body, block: Option<StructId>, contents: Items<u64>) -> Rule
-    ensures { result ≡ record { block = block; contents = contents; names = body.entry.scope.kinds.items; calls = body.entry.calls; atoms = body.entry.atoms } }
+    ensures { result
+        ≡ record
+        { block = block; contents = contents; names = body.entry.scope.kinds.items; calls = body.entry.calls; atoms = body.entry.atoms } }
 {
     let Body {
         scope,

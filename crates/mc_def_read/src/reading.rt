@@ -44,7 +44,8 @@ fn of_lexical(fault: LexFault) -> DefFault
 // The tokens of a text.
 fn tokens(alloc: Global, text: &[u8]) -> Result<Vec<Token>, DefFault>
     requires { length text.now ≤ MAX_BYTES }
-    ensures read { MatchResult result (λ tokens. Lexes text.now (Ok tokens.items)) (λ fault. (structs : List StructInfo) → IsFault text.now structs fault) }
+    ensures read { MatchResult result (λ tokens. Lexes text.now (Ok tokens.items))
+        (λ fault. (structs : List StructInfo) → IsFault text.now structs fault) }
     ensures end { IfOk result (λ tokens. EndsOnce tokens.items) }
 {
     match mc_c_syntax::lex::lex(alloc, text) {
@@ -75,7 +76,8 @@ fn definitions(alloc: Global, structs: &Structs, file: &[DefText]) -> Result<Def
 /// the order of the text.
 pub fn read_defs(alloc: Global, bytes: &[u8], structs: &Structs) -> Result<Defs, DefFault>
     requires { length bytes.now ≤ MAX_BYTES }
-    ensures read { MatchResult result (λ defs. ReadsAs bytes.now structs.now.list (Ok defs)) (λ fault. IsFault bytes.now structs.now.list fault) }
+    ensures read { MatchResult result (λ defs. ReadsAs bytes.now structs.now.list (Ok defs))
+        (λ fault. IsFault bytes.now structs.now.list fault) }
     ensures fit { IfOk result (λ defs. DefsFit structs.now.list defs) }
 {
     let tokens = tokens(alloc, bytes)?;
@@ -85,7 +87,8 @@ pub fn read_defs(alloc: Global, bytes: &[u8], structs: &Structs) -> Result<Defs,
 
 /// A text is read as one thing, definitions or a fault, and nothing else.
 pub fn texts_are_read_once()
-    ensures { (text : List ℕ) (structs : List StructInfo) (one other : Judged (List OneDef)) → ReadsAs text structs one → ReadsAs text structs other → one ≡ other }
+    ensures { (text : List ℕ) (structs : List StructInfo) (one other : Judged (List OneDef))
+        → ReadsAs text structs one → ReadsAs text structs other → one ≡ other }
 {
     mc_c_syntax::lex::readings_are_unique();
 }

@@ -58,7 +58,9 @@ fn try_one(
     left: &mut u64,
 ) -> Result<Option<Vec<Line>>, NoMemory>
     requires { IsValid task.sight.flow.now task.sight.defs.now }
-    ensures { IfOk result (λ found. IfSome found (λ lines. IsValidCertificate task.entry.sight.flow.now task.entry.sight.defs.now lines.items)) }
+    ensures { IfOk result
+        (λ found. IfSome found
+        (λ lines. IsValidCertificate task.entry.sight.flow.now task.entry.sight.defs.now lines.items)) }
 {
     let limits = Limits {
         lines: lines.min(*left),
@@ -84,7 +86,9 @@ const WHOLE: u64 = 3;
 /// The attempts one after the other: the lines of the first certificate that is found.
 fn try_all(alloc: Global, task: Task<'_>, limits: Limits) -> Result<Option<Vec<Line>>, NoMemory>
     requires { IsValid task.sight.flow.now task.sight.defs.now }
-    ensures { IfOk result (λ found. IfSome found (λ lines. IsValidCertificate task.entry.sight.flow.now task.entry.sight.defs.now lines.items)) }
+    ensures { IfOk result
+        (λ found. IfSome found
+        (λ lines. IsValidCertificate task.entry.sight.flow.now task.entry.sight.defs.now lines.items)) }
 {
     let mut left = limits.lines.saturating_mul(WHOLE);
     for plan in &plans(limits.keys) {

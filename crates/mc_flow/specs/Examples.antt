@@ -33,7 +33,15 @@ number n = Const (pos n)
 -- a flow graph of one instruction
 abbrev pub only : Instr → Flow
 only code =
-    record { points = record { code = code; place = somewhere } ∷ []; vars = []; heads = []; merges = []; thresholds = []; structs = record { list = structs } }
+    record {
+      points = record { code = code; place = somewhere }
+          ∷ [];
+      vars = [];
+      heads = [];
+      merges = [];
+      thresholds = [];
+      structs = record { list = structs };
+    }
 
 -- at a point, with a value of x, and with blocks
 abbrev pub config : ℕ → Option ℤ → List (ℕ × Block) → Config

@@ -23,4 +23,5 @@ Reaches {C} {K} Steps (suc n) c choices f =
 
 -- no run from this configuration, of any length and for any choices, has a fault
 abbrev pub IsSafeFrom : {C K : Type 0} → (C → List K → Outcome C K → Type 0) → C → Type 0
-IsSafeFrom {C} {K} Steps c = (n : ℕ) (choices : List K) (kind : FaultKind) (place : Place) → Reaches Steps n c choices (fault kind place) → ⊥
+IsSafeFrom {C} {K} Steps c = (n : ℕ) (choices : List K) (kind : FaultKind) (place : Place)
+    → Reaches Steps n c choices (fault kind place) → ⊥

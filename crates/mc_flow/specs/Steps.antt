@@ -99,7 +99,8 @@ abbrev pub stored : StructId → ℕ → PointId → Place → Config → List C
 stored s f q place c choices None base = last (fault Uninit place)
 stored s f q place c choices (Some v) None = last (fault Uninit place)
 stored s f q place c choices (Some v) (Some p) =
-    if address p == 0 then last (fault Null place) else put q place c choices (written c.heap (address p) s f v (region_of c.heap (address p)))
+    if address p == 0 then last (fault Null place) else put q place c choices
+    (written c.heap (address p) s f v (region_of c.heap (address p)))
 
 -- the number of fields of a struct
 abbrev pub field_count : Structs → StructId → ℕ
@@ -111,7 +112,12 @@ Allocates structs x s q c [] r = ⊥
 Allocates structs x s q c (malloc zero ∷ choices) r = r ≡ set_to x q c choices (pos 0)
 Allocates structs x s q c (malloc (suc n) ∷ choices) r =
     IsAddress (suc n) × (region_of c.heap (suc n) ≡ None)
-    × (r ≡ next (record { point = q.0; vars = with_value c.vars x (Some (pos (suc n))); heap = map.insert c.heap (suc n) (fresh_block s.0 (field_count structs s)) }) choices)
+    × (r ≡ next (record {
+      point = q.0;
+      vars = with_value c.vars x (Some (pos (suc n)));
+      heap = map.insert c.heap
+          (suc n) (fresh_block s.0 (field_count structs s));
+    }) choices)
 Allocates structs x s q c (input v ∷ choices) r = ⊥
 Allocates structs x s q c (shape v blocks ∷ choices) r = ⊥
 
@@ -165,9 +171,12 @@ StepOf structs defs place (Skip q) c choices r = r ≡ next (at_point q c) choic
 StepOf structs defs place (Copy x o q) c choices r = r ≡ copied x q place c choices (value_of c.vars o)
 StepOf structs defs place (Undef xs q) c choices r = r ≡ next (record { point = q.0; vars = without c.vars xs; heap = c.heap }) choices
 StepOf structs defs place (Input x q) c choices r = Takes x q c choices r
-StepOf structs defs place (Add x o p q) c choices r = r ≡ computed (λ a b. a +ℤ b) x q place c choices (value_of c.vars o) (value_of c.vars p)
-StepOf structs defs place (Sub x o p q) c choices r = r ≡ computed (λ a b. a -ℤ b) x q place c choices (value_of c.vars o) (value_of c.vars p)
-StepOf structs defs place (Mul x o p q) c choices r = r ≡ computed (λ a b. a *ℤ b) x q place c choices (value_of c.vars o) (value_of c.vars p)
+StepOf structs defs place (Add x o p q) c choices r = r
+    ≡ computed (λ a b. a +ℤ b) x q place c choices (value_of c.vars o) (value_of c.vars p)
+StepOf structs defs place (Sub x o p q) c choices r = r
+    ≡ computed (λ a b. a -ℤ b) x q place c choices (value_of c.vars o) (value_of c.vars p)
+StepOf structs defs place (Mul x o p q) c choices r = r
+    ≡ computed (λ a b. a *ℤ b) x q place c choices (value_of c.vars o) (value_of c.vars p)
 StepOf structs defs place (Load x y s f q) c choices r = r ≡ loaded x s f q place c choices (value_in c.vars y)
 StepOf structs defs place (Store y s f o q) c choices r = r ≡ stored s f q place c choices (value_of c.vars o) (value_in c.vars y)
 StepOf structs defs place (Malloc x s q) c choices r = Allocates structs x s q c choices r
@@ -175,7 +184,8 @@ StepOf structs defs place (Free o q) c choices r = r ≡ freed q place c choices
 StepOf structs defs place (TestEq o p t f) c choices r = r ≡ tested int_eq t f place c choices (value_of c.vars o) (value_of c.vars p)
 StepOf structs defs place (TestLe o p t f) c choices r = r ≡ tested int_le t f place c choices (value_of c.vars o) (value_of c.vars p)
 StepOf structs defs place (AssumeShape pred x os q) c choices r = Assumes defs pred x q place c choices (values_of c.vars os) r
-StepOf structs defs place (AssertShape pred o os q) c choices r = Asserts defs pred q place c choices (value_of c.vars o) (values_of c.vars os) r
+StepOf structs defs place (AssertShape pred o os q) c choices r = Asserts defs pred q place c choices
+    (value_of c.vars o) (values_of c.vars os) r
 StepOf structs defs place (AssertEmpty q) c choices r = Demands (IsEmpty (region_of c.heap)) NotEmpty q place c choices r
 StepOf structs defs place End c choices r = r ≡ last ended
 StepOf structs defs place Fail c choices r = r ≡ last (fault Assertion place)

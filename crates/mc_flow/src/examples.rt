@@ -16,16 +16,19 @@ pub fn example_numbers()
     ensures input { StepsTo (Input x behind) None [] (input (pos 7) ∷ []) (next (config 1 (Some (pos 7)) []) []) }
     ensures too_great { HasNoStep (Input x behind) None [] (input (pos 2147483648) ∷ []) }
     ensures another_choice { HasNoStep (Input x behind) None [] (malloc 7 ∷ []) }
-    ensures wraps { StepsTo (Add x (Var x) (number 1) behind) (Some (pos 2147483647)) [] [] (next (config 1 (Some (negsuc 2147483647)) []) []) }
+    ensures wraps { StepsTo (Add x (Var x) (number 1) behind) (Some (pos 2147483647)) [] []
+        (next (config 1 (Some (negsuc 2147483647)) []) []) }
     ensures undefined { StepsTo (Add x (number 1) (Var x) behind) None [] [] (last (fault Uninit somewhere)) }
 {}
 
 /// A list of one block is assumed, but not where its address is taken. The empty list is everywhere, and a
 /// list at an address is not in an empty heap.
 pub fn example_shapes()
-    ensures assumed { StepsTo (AssumeShape list_id x [] behind) None [] (shape (pos 9) second_cell ∷ []) (next (config 1 (Some (pos 9)) second_cell) []) }
+    ensures assumed { StepsTo (AssumeShape list_id x [] behind) None [] (shape (pos 9) second_cell ∷ [])
+        (next (config 1 (Some (pos 9)) second_cell) []) }
     ensures taken { HasNoStep (AssumeShape list_id x [] behind) None second_cell (shape (pos 9) second_cell ∷ []) }
-    ensures empty_list { StepsTo (AssertShape list_id (Var x) [] behind) (Some (pos 0)) second_cell [] (next (config 1 (Some (pos 0)) second_cell) []) }
+    ensures empty_list { StepsTo (AssertShape list_id (Var x) [] behind) (Some (pos 0)) second_cell []
+        (next (config 1 (Some (pos 0)) second_cell) []) }
     ensures no_list { StepsTo (AssertShape list_id (Var x) [] behind) (Some (pos 9)) [] [] (last (fault Shape somewhere)) }
 {
     parts_regroup();

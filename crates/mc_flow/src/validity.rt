@@ -101,7 +101,8 @@ fn fits_load(
     shape: StructId,
     field: u64,
 ) -> bool
-    ensures { IsTrue result ↔ ((kind : AnyKind) × IsVar vars.now kind x × IsVar vars.now Kind.Ptr y × IsField structs.now shape field kind) }
+    ensures { IsTrue result ↔ ((kind : AnyKind) × IsVar vars.now kind x × IsVar vars.now Kind.Ptr y
+        × IsField structs.now shape field kind) }
 {
     match field_kind(structs, shape, field) {
         None => false,
@@ -117,7 +118,8 @@ fn fits_store(
     field: u64,
     from: Operand,
 ) -> bool
-    ensures { IsTrue result ↔ ((kind : AnyKind) × IsVar vars.now Kind.Ptr y × IsField structs.now shape field kind × IsOperand vars.now kind from) }
+    ensures { IsTrue result ↔ ((kind : AnyKind) × IsVar vars.now Kind.Ptr y × IsField structs.now shape field kind
+        × IsOperand vars.now kind from) }
 {
     match field_kind(structs, shape, field) {
         None => false,
@@ -243,7 +245,8 @@ fn are_ints(numbers: &[i64]) -> bool
 
 // Heads and merges are Skips, and thresholds are numbers of an `int`.
 fn lists_fit(flow: &Flow) -> bool
-    ensures { IsTrue result ↔ (All (IsSkip flow.now.points) flow.now.heads × All (IsSkip flow.now.points) flow.now.merges × All (InKind Kind.Int) flow.now.thresholds) }
+    ensures { IsTrue result ↔ (All (IsSkip flow.now.points) flow.now.heads
+        × All (IsSkip flow.now.points) flow.now.merges × All (InKind Kind.Int) flow.now.thresholds) }
 {
     let points = flow.points.as_slice();
     are_skips(points, flow.heads.as_slice())

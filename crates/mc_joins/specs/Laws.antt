@@ -37,7 +37,8 @@ StepsAreDetermined =
 -- it leaves both states well made
 abbrev pub StepsKeepMade : Type 0
 StepsKeepMade =
-    (defs : List Def) (vars : List VarInfo) (structs : List StructInfo) (know : State → Test) (j : Joining) (step : JoinStep) (next : Joining)
+    (defs : List Def) (vars : List VarInfo) (structs : List StructInfo) (know : State → Test) (j : Joining)
+    (step : JoinStep) (next : Joining)
     → KnowsMade defs vars structs know → IsWellMade defs vars structs j.left.state
     → IsWellMade defs vars structs j.right.state
     → after_step (record { know = know; defs = defs }) j step ≡ Some next
@@ -46,10 +47,12 @@ StepsKeepMade =
 -- so a list of steps is legal or not, and gives one join, by whatever tests tell what is derived
 abbrev pub PrefixesAreDetermined : Type 0
 PrefixesAreDetermined =
-    (defs : List Def) (vars : List VarInfo) (structs : List StructInfo) (know other : State → Test) (left right : State) (steps : List JoinStep)
+    (defs : List Def) (vars : List VarInfo) (structs : List StructInfo) (know other : State → Test)
+    (left right : State) (steps : List JoinStep)
     → KnowsMade defs vars structs know → KnowsMade defs vars structs other → IsWellMade defs vars structs left
     → IsWellMade defs vars structs right
-    → after_steps (record { know = know; defs = defs }) (begun left right) steps ≡ after_steps (record { know = other; defs = defs }) (begun left right) steps
+    → after_steps (record { know = know; defs = defs }) (begun left right) steps
+    ≡ after_steps (record { know = other; defs = defs }) (begun left right) steps
 
 -- a whole join of two states by the same steps gives one state
 abbrev pub JoinsAreDetermined : Type 0

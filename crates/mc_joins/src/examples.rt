@@ -24,33 +24,43 @@ use mc_state::{body_premises, covers_are_sound, example_covers};
 
 /// A list and a cell that points to a list are a list, from either side.
 pub fn folding_joins()
-    ensures right { after_steps by_atoms (begun a_list a_cell) (J4 list_id ∷ []) ≡ Some (all_joined a_list a_cell (pair 0 0 ∷ pair 1 1 ∷ []) (list_at 1 ∷ [])) }
-    ensures left { after_steps by_atoms (begun a_cell a_list) (J4 list_id ∷ []) ≡ Some (all_joined a_cell a_list (pair 0 0 ∷ pair 1 1 ∷ []) (list_at 1 ∷ [])) }
+    ensures right { after_steps by_atoms (begun a_list a_cell) (J4 list_id ∷ [])
+        ≡ Some (all_joined a_list a_cell (pair 0 0 ∷ pair 1 1 ∷ []) (list_at 1 ∷ [])) }
+    ensures left { after_steps by_atoms (begun a_cell a_list) (J4 list_id ∷ [])
+        ≡ Some (all_joined a_cell a_list (pair 0 0 ∷ pair 1 1 ∷ []) (list_at 1 ∷ [])) }
     ensures done { next_pair (all_joined a_list a_cell (pair 0 0 ∷ pair 1 1 ∷ []) (list_at 1 ∷ [])) ≡ None }
 {}
 
 /// So are a list of a length and a cell that points to one, where the length one more gets a node.
 pub fn naming_joins()
-    ensures { after_steps by_atoms (begun a_length one_longer) (J4 lenlist_id ∷ []) ≡ Some (all_joined a_length with_longer (pair 0 0 ∷ pair 1 1 ∷ pair 2 5 ∷ []) (Ind (node 1) lenlist_id (node 2 ∷ []) ∷ [])) }
+    ensures { after_steps by_atoms (begun a_length one_longer) (J4 lenlist_id ∷ [])
+        ≡ Some (all_joined a_length with_longer (pair 0 0 ∷ pair 1 1 ∷ pair 2 5 ∷ [])
+        (Ind (node 1) lenlist_id (node 2 ∷ []) ∷ [])) }
 {}
 
 /// Where two variables are one list on one side, and a cell and the list behind it on the other, the first begins a
 /// segment to the second; on the side of the one list its edge counts at the second pair alone from then on.
 pub fn segment_joins()
-    ensures right { after_steps by_atoms (begun at_start one_on) (J6 list_id Right 2 ∷ J2 ∷ []) ≡ Some (all_joined_but Left (pair 1 1) at_start one_on (pair 0 0 ∷ pair 1 1 ∷ pair 1 3 ∷ []) (way 1 2 ∷ list_at 2 ∷ [])) }
-    ensures left { after_steps by_atoms (begun one_on at_start) (J6 list_id Left 2 ∷ J2 ∷ []) ≡ Some (all_joined_but Right (pair 1 1) one_on at_start (pair 0 0 ∷ pair 1 1 ∷ pair 3 1 ∷ []) (way 1 2 ∷ list_at 2 ∷ [])) }
+    ensures right { after_steps by_atoms (begun at_start one_on) (J6 list_id Right 2 ∷ J2 ∷ [])
+        ≡ Some (all_joined_but Left (pair 1 1) at_start one_on (pair 0 0 ∷ pair 1 1 ∷ pair 1 3 ∷ [])
+        (way 1 2 ∷ list_at 2 ∷ [])) }
+    ensures left { after_steps by_atoms (begun one_on at_start) (J6 list_id Left 2 ∷ J2 ∷ [])
+        ≡ Some (all_joined_but Right (pair 1 1) one_on at_start (pair 0 0 ∷ pair 1 1 ∷ pair 3 1 ∷ [])
+        (way 1 2 ∷ list_at 2 ∷ [])) }
 {}
 
 /// A segment and null twice are a segment; where J6 may be taken, J7 may not.
 pub fn empty_joins()
-    ensures empty { after_steps by_atoms (begun some_on both_null) (J7 list_id Right 2 ∷ J4 list_id ∷ []) ≡ Some (all_joined some_on both_null (pair 0 0 ∷ pair 1 0 ∷ pair 2 0 ∷ []) (way 1 2 ∷ list_at 2 ∷ [])) }
+    ensures empty { after_steps by_atoms (begun some_on both_null) (J7 list_id Right 2 ∷ J4 list_id ∷ [])
+        ≡ Some (all_joined some_on both_null (pair 0 0 ∷ pair 1 0 ∷ pair 2 0 ∷ []) (way 1 2 ∷ list_at 2 ∷ [])) }
     ensures sixth { is_some (after_step by_atoms (begun some_on at_start) (J6 list_id Left 2)) ≡ true }
     ensures seventh { after_step by_atoms (begun some_on at_start) (J7 list_id Right 2) ≡ None }
 {}
 
 /// Two cells are a cell: they are not folded into lists, though both could be.
 pub fn refused_joins()
-    ensures cells { after_steps by_atoms (begun a_cell a_cell) (J1 ∷ J2 ∷ []) ≡ Some (all_joined a_cell a_cell (pair 0 0 ∷ pair 1 1 ∷ pair 2 2 ∷ pair 3 3 ∷ []) (cell ∷ list_at 3 ∷ [])) }
+    ensures cells { after_steps by_atoms (begun a_cell a_cell) (J1 ∷ J2 ∷ [])
+        ≡ Some (all_joined a_cell a_cell (pair 0 0 ∷ pair 1 1 ∷ pair 2 2 ∷ pair 3 3 ∷ []) (cell ∷ list_at 3 ∷ [])) }
     ensures fourth { after_step by_atoms (begun a_cell a_cell) (J4 list_id) ≡ None }
     ensures fifth { after_step by_atoms (begun a_cell a_cell) (J5 list_id) ≡ None }
 {}
@@ -65,7 +75,8 @@ pub fn stuck_joins()
 /// A counter that is 0 and then 1 is from 0 to 1; from the third pass on it is from 0 to the next threshold.
 pub fn counter_joins()
     ensures done { next_pair (begun at_zero at_one) ≡ None }
-    ensures counter { result_of at_zero at_one (begun at_zero at_one) (In (node 1) (pos 0) (pos 9) ∷ []) ≡ state_of (Some (node 1) ∷ []) ((node 1, Int) ∷ []) [] (In (node 1) (pos 0) (pos 9) ∷ []) }
+    ensures counter { result_of at_zero at_one (begun at_zero at_one) (In (node 1) (pos 0) (pos 9) ∷ [])
+        ≡ state_of (Some (node 1) ∷ []) ((node 1, Int) ∷ []) [] (In (node 1) (pos 0) (pos 9) ∷ []) }
     ensures second { IsJointRange Int 2 (pos 0 ∷ pos 9 ∷ []) (pos 0) (pos 0) (pos 1) (pos 1) (pos 0) (pos 1) }
     ensures third { IsJointRange Int 3 (pos 0 ∷ pos 9 ∷ []) (pos 0) (pos 0) (pos 1) (pos 1) (pos 0) (pos 9) }
 {}
@@ -73,7 +84,8 @@ pub fn counter_joins()
 /// Two cells stand for a cell and a list, and for what the join of a list with those gives.
 pub fn cells_stand_for_join()
     ensures cell { StandsBy defs at_seven (Some (pos 7) ∷ []) (blocks two_cells) a_cell }
-    ensures joined { Stands defs (Some (pos 7) ∷ []) (blocks two_cells) (result_of a_list a_cell (all_joined a_list a_cell (pair 0 0 ∷ pair 1 1 ∷ []) (list_at 1 ∷ [])) []) }
+    ensures joined { Stands defs (Some (pos 7) ∷ []) (blocks two_cells)
+        (result_of a_list a_cell (all_joined a_list a_cell (pair 0 0 ∷ pair 1 1 ∷ []) (list_at 1 ∷ [])) []) }
 {
     parts_regroup();
     body_premises();
@@ -84,7 +96,8 @@ pub fn cells_stand_for_join()
 /// Null without a heap stands for the list and for what the join gives, and does not stand for the cell.
 pub fn null_stands_for_join()
     ensures list { Stands defs (Some (pos 0) ∷ []) nowhere a_list }
-    ensures joined { Stands defs (Some (pos 0) ∷ []) nowhere (result_of a_list a_cell (all_joined a_list a_cell (pair 0 0 ∷ pair 1 1 ∷ []) (list_at 1 ∷ [])) []) }
+    ensures joined { Stands defs (Some (pos 0) ∷ []) nowhere
+        (result_of a_list a_cell (all_joined a_list a_cell (pair 0 0 ∷ pair 1 1 ∷ []) (list_at 1 ∷ [])) []) }
     ensures cell { ¬ Stands defs (Some (pos 0) ∷ []) nowhere a_cell }
 {
     parts_regroup();

@@ -54,7 +54,8 @@ pub record IsValidCertificate (flow : Flow) (defs : List Def) (lines : List Line
   pub reads : Reads flow defs (record { form = Certificate; cuts = cuts; heads = states_of heads }) rules (roots flow (states_of heads)) []
 
 -- a pass of a chain that changes nothing, over the states of cuts: lines that end every branch, some of which are stuck
-pub record IsLastPass (flow : Flow) (defs : List Def) (cuts : List PointId) (heads : List branches.Head) (rules : List Line) (stuck : List Path) : Type 0 where
+pub record IsLastPass (flow : Flow) (defs : List Def) (cuts : List PointId) (heads : List branches.Head)
+    (rules : List Line) (stuck : List Path) : Type 0 where
   pub cuts_are : AreCuts flow cuts
   pub at_cuts : AllByRecursion (λ h. Contains cuts h.0) heads
   pub bounded : AllByRecursion (λ h. IsBounded h.1) heads
@@ -80,7 +81,8 @@ FaultsOnlyStuck flow defs stuck =
 
 -- a valid certificate means that no run has a fault
 abbrev pub CertificateIsSafe : Type 0
-CertificateIsSafe = (flow : Flow) (defs : List Def) (lines : List Line) → IsValid flow defs → IsValidCertificate flow defs lines → IsSafeFlow flow defs
+CertificateIsSafe = (flow : Flow) (defs : List Def) (lines : List Line) → IsValid flow defs
+    → IsValidCertificate flow defs lines → IsSafeFlow flow defs
 
 -- the last pass of a chain means that only runs that come to a stuck branch fault
 abbrev pub LastPassFindsFaults : Type 0

@@ -57,7 +57,9 @@ ByUnfolding Rule b next = (b.closing ≡ false) × ((states : List State) × Rul
 abbrev pub ByFolding : (State → List State → Type 0) → Setting → Path → List Path → Type 0
 ByFolding Rule g b next =
     (states : List State) × Rule b.state states
-    × (next ≡ map (λ s. record { point = b.point; state = s; goal = b.goal; moved = b.moved; closing = closes_by g.form b.goal b.closing }) states)
+    × (next ≡ map
+    (λ s. record
+    { point = b.point; state = s; goal = b.goal; moved = b.moved; closing = closes_by g.form b.goal b.closing }) states)
 
 -- another rule of logic: everywhere
 abbrev pub ByLogic : (State → List State → Type 0) → Path → List Path → Type 0
@@ -67,7 +69,15 @@ ByLogic Rule b next = (states : List State) × Rule b.state states × (next ≡ 
 abbrev pub ByMerging : NodeId → NodeId → Path → List Path → Type 0
 ByMerging keep gone b next =
     (states : List State) × MergesNodes keep gone b.state states
-    × (next ≡ map (λ s. record { point = b.point; state = s; goal = option_map (merged_goal keep gone) b.goal; moved = b.moved; closing = b.closing }) states)
+    × (next ≡ map
+    (λ s. record {
+      point = b.point;
+      state = s;
+      goal = option_map
+          (merged_goal keep gone) b.goal;
+      moved = b.moved;
+      closing = b.closing;
+    }) states)
 
 -- the goal of a side branch does not name the node
 abbrev pub GoalNamesNot : NodeId → Option Goal → Type 0
@@ -157,4 +167,5 @@ abbrev pub Reads : Flow → List Def → Setting → List Line → List Path →
 Reads flow defs g [] bs stuck = (bs ≡ []) × (stuck ≡ [])
 Reads flow defs g (line ∷ lines) [] stuck = ⊥
 Reads flow defs g (line ∷ lines) (b ∷ bs) stuck =
-    (next : List Path) × (later : List Path) × IsInstance flow defs g line b next × Reads flow defs g lines (next ++ bs) later × (stuck ≡ stuck_by line b later)
+    (next : List Path) × (later : List Path) × IsInstance flow defs g line b next
+    × Reads flow defs g lines (next ++ bs) later × (stuck ≡ stuck_by line b later)

@@ -82,7 +82,8 @@ has_image know kinds images k = has_kind kinds k.1 (image images k.0) && know (k
 
 -- each node there has an image here, and 0 has 0
 abbrev pub are_images : Test → State → List NodeId → State → Bool
-are_images know s images t = length images == suc (length t.kinds) && image_of images 0 == 0 && list_all (has_image know s.kinds images) t.kinds
+are_images know s images t = length images == suc (length t.kinds) && image_of images 0 == 0
+    && list_all (has_image know s.kinds images) t.kinds
 
 -- the image of a node there is equal to one here
 abbrev pub is_image : Test → List NodeId → NodeId → NodeId → Bool
@@ -148,7 +149,9 @@ by_unfolding judged b = need 1 (not b.closing) (then_give (map (with_state b)) j
 -- a rule that folds, from L3 to L8: in a chain the branch closes
 abbrev pub by_folding : Judged (List State) → Setting → Path → Judged (List Path)
 by_folding judged g b =
-    then_give (map (λ s. record { point = b.point; state = s; goal = b.goal; moved = b.moved; closing = closes_by g.form b.goal b.closing })) judged
+    then_give (map
+    (λ s. record
+    { point = b.point; state = s; goal = b.goal; moved = b.moved; closing = closes_by g.form b.goal b.closing })) judged
 
 -- another rule of logic: everywhere
 abbrev pub by_logic : Judged (List State) → Path → Judged (List Path)
@@ -157,7 +160,15 @@ by_logic judged b = then_give (map (with_state b)) judged
 -- L9 also renames the goal of a side branch
 abbrev pub by_merging : Judged (List State) → NodeId → NodeId → Path → Judged (List Path)
 by_merging judged keep gone b =
-    then_give (map (λ s. record { point = b.point; state = s; goal = option_map (merged_goal keep gone) b.goal; moved = b.moved; closing = b.closing })) judged
+    then_give (map
+    (λ s. record {
+      point = b.point;
+      state = s;
+      goal = option_map
+          (merged_goal keep gone) b.goal;
+      moved = b.moved;
+      closing = b.closing;
+    })) judged
 
 -- the node is one of a list
 abbrev pub is_one_of : NodeId → List NodeId → Bool
@@ -212,17 +223,21 @@ judged_line k flow defs g line.S17 b = by_step k flow g S17 b
 judged_line k flow defs g line.S18 b = by_step k flow g S18 b
 judged_line k flow defs g (line.L1 edge) b = by_unfolding (unfolding_ind (k.know b.state) defs (accessed flow b) edge b.state) b
 judged_line k flow defs g (line.L2 edge) b = by_unfolding (unfolding_seg (k.know b.state) defs (accessed flow b) edge b.state) b
-judged_line k flow defs g (line.L3 pred rule names block edges) b = by_folding (folding_ind (k.know b.state) defs pred rule names block edges b.state) g b
-judged_line k flow defs g (line.L4 pred rule names block edges call) b = by_folding (folding_seg (k.know b.state) defs pred rule names block edges call b.state) g b
+judged_line k flow defs g (line.L3 pred rule names block edges) b = by_folding
+    (folding_ind (k.know b.state) defs pred rule names block edges b.state) g b
+judged_line k flow defs g (line.L4 pred rule names block edges call) b = by_folding
+    (folding_seg (k.know b.state) defs pred rule names block edges call b.state) g b
 judged_line k flow defs g (line.L5 first second) b = by_folding (closing_seg (k.know b.state) first second b.state) g b
 judged_line k flow defs g (line.L6 first second) b = by_folding (joining_segs (k.know b.state) first second b.state) g b
-judged_line k flow defs g (line.L7 pred at args stop ends) b = by_folding (making_seg (k.know b.state) defs pred at args stop ends b.state) g b
+judged_line k flow defs g (line.L7 pred at args stop ends) b = by_folding
+    (making_seg (k.know b.state) defs pred at args stop ends b.state) g b
 judged_line k flow defs g (line.L8 node add kind) b = by_folding (naming_spare (k.know b.state) node add kind b.state) g b
 judged_line k flow defs g (line.L9 keep gone) b = by_merging (merging_nodes (k.know b.state) keep gone b.state) keep gone b
 judged_line k flow defs g (line.L10 edge) b = by_logic (dropping_edge (k.know b.state) edge b.state) b
 judged_line k flow defs g (line.L11 node) b = by_forgetting (forgetting_node (k.know b.state) (k.left b.state node) node b.state) node b
 judged_line k flow defs g line.L12 b = ending_false (k.know b.state) b
-judged_line k flow defs g (line.L13 j images edges) b = need 1 (may_cut g b) (jumping_to (k.know b.state) (states_at b.point g.heads) j images edges b.state)
+judged_line k flow defs g (line.L13 j images edges) b = need 1 (may_cut g b)
+    (jumping_to (k.know b.state) (states_at b.point g.heads) j images edges b.state)
 judged_line k flow defs g (line.L14 edge) b = have 1 b.goal (λ goal. then_give ends (meeting_goal (k.know b.state) goal edge b.state))
 judged_line k flow defs g (line.L15 edge) b = by_unfolding (unfolding_back (k.know b.state) defs (accessed flow b) edge b.state) b
 judged_line k flow defs g line.C1 b = stuck_at k g b

@@ -12,8 +12,10 @@ use Rattle.mc_kernel.specs.Jumps.{Jumps, image_of}
 -- what stands for a state stands for one that it jumps to by a rule, where each node has the value of its image
 abbrev pub IsLawOfJumps : (State → State → List NodeId → List EdgeId → Type 0) → Type 0
 IsLawOfJumps Rule =
-    (defs : List Def) (v : Valuation) (values : List (Option ℤ)) (region : Region) (s t : State) (images : List NodeId) (edges : List EdgeId)
-    → IsAtAddresses region → Rule s t images edges → StandsBy defs v values region s → StandsBy defs (λ n. v (image_of images n)) values region t
+    (defs : List Def) (v : Valuation) (values : List (Option ℤ)) (region : Region) (s t : State)
+    (images : List NodeId) (edges : List EdgeId)
+    → IsAtAddresses region → Rule s t images edges → StandsBy defs v values region s
+    → StandsBy defs (λ n. v (image_of images n)) values region t
 
 -- what stands for a state with a legal jump stands for the state jumped to
 abbrev pub JumpsAreSound : Type 0

@@ -36,8 +36,10 @@ AreImages s images theres heres = AreAllEqual s (map (moved (image_of images)) t
 
 -- an edge of the same form, predicate or struct, with equal nodes; a field that is unknown there matches any
 abbrev pub EdgeMatches : State → List NodeId → Edge → Edge → Type 0
-EdgeMatches s images (Block at shape fields) (Block b own heres) = (own ≡ shape) × AreEqual s (moved (image_of images) at) b × AreKnownToo s images fields heres
-EdgeMatches s images (Ind at pred args) (Ind b own heres) = (own ≡ pred) × AreEqual s (moved (image_of images) at) b × AreImages s images args heres
+EdgeMatches s images (Block at shape fields) (Block b own heres) = (own ≡ shape)
+    × AreEqual s (moved (image_of images) at) b × AreKnownToo s images fields heres
+EdgeMatches s images (Ind at pred args) (Ind b own heres) = (own ≡ pred) × AreEqual s (moved (image_of images) at) b
+    × AreImages s images args heres
 EdgeMatches s images (Seg at args pred «end» ends) (Seg b heres own e there) =
     (own ≡ pred) × AreEqual s (moved (image_of images) at) b × AreImages s images args heres
     × AreEqual s (moved (image_of images) end) e × AreImages s images ends there
@@ -60,7 +62,8 @@ pub record Jumps (s t : State) (images : List NodeId) (edges : List EdgeId) : Ty
   -- 4: each node there has an image here, of its kind or node 0, whose range lies in the kind's, and 0 has 0
   pub count : length images ≡ suc (length t.kinds)
   pub null_image : image_of images 0 ≡ 0
-  pub kinds : AllByRecursion (λ k. HasKind s.kinds k.1 (moved (image_of images) k.0) × LiesIn (pure_of s) k.1 (moved (image_of images) k.0) (pos 0)) t.kinds
+  pub kinds : AllByRecursion (λ k. HasKind s.kinds k.1 (moved (image_of images) k.0)
+      × LiesIn (pure_of s) k.1 (moved (image_of images) k.0) (pos 0)) t.kinds
   -- 5: each variable that is known there is known here at an equal node
   pub vars : AreKnownToo s images t.env s.env
   -- 6: the edges are distinct, one for each edge there; 7: they are here, and match

@@ -31,10 +31,13 @@ use Rattle.mc_kernel.specs.Jumps.{Jumps, image_of, AreKnownToo, EdgesMatch}
 -- ---- other premises on edges
 
 -- a jump with other premises on how edges are named, and on what is left where the state is whole
-pub record JumpsBy (Names : List EdgeId → Edges → List Edge → Edges → Type 0) (Leaves : State → State → Edges → Type 0) (s t : State) (images : List NodeId) (edges : List EdgeId) : Type 0 where
+pub record JumpsBy (Names : List EdgeId → Edges → List Edge → Edges → Type 0)
+    (Leaves : State → State → Edges → Type 0) (s t : State) (images : List NodeId)
+    (edges : List EdgeId) : Type 0 where
   pub count : length images ≡ suc (length t.kinds)
   pub null_image : image_of images 0 ≡ 0
-  pub kinds : AllByRecursion (λ k. HasKind s.kinds k.1 (moved (image_of images) k.0) × LiesIn (pure_of s) k.1 (moved (image_of images) k.0) (pos 0)) t.kinds
+  pub kinds : AllByRecursion (λ k. HasKind s.kinds k.1 (moved (image_of images) k.0)
+      × LiesIn (pure_of s) k.1 (moved (image_of images) k.0) (pos 0)) t.kinds
   pub vars : AreKnownToo s images t.env s.env
   pub picked : List Edge
   pub left : Edges
@@ -63,7 +66,11 @@ two_cells_apart =
     record {
       env = None ∷ None ∷ [];
       kinds = (node 1, Ptr) ∷ (node 2, Ptr) ∷ [];
-      graph = record { edges = (edge 0, Block (node 1) cell_id (None ∷ None ∷ [])) ∷ (edge 1, Block (node 2) cell_id (None ∷ None ∷ [])) ∷ []; next = 2 };
+      graph = record {
+        edges = (edge 0, Block (node 1) cell_id (None ∷ None ∷ []))
+            ∷ (edge 1, Block (node 2) cell_id (None ∷ None ∷ [])) ∷ [];
+        next = 2;
+      };
       atoms = [];
       next = 3;
       whole = false;
@@ -90,7 +97,8 @@ IsInstanceAtOnce flow defs g line b next = IsInstance flow defs g line b next
 abbrev pub ReadsAtOnce : Flow → List Def → Setting → List Line → List Path → Type 0
 ReadsAtOnce flow defs g [] bs = bs ≡ []
 ReadsAtOnce flow defs g (line ∷ lines) [] = ⊥
-ReadsAtOnce flow defs g (line ∷ lines) (b ∷ bs) = (next : List Path) × IsInstanceAtOnce flow defs g line b next × ReadsAtOnce flow defs g lines (next ++ bs)
+ReadsAtOnce flow defs g (line ∷ lines) (b ∷ bs) = (next : List Path) × IsInstanceAtOnce flow defs g line b next
+    × ReadsAtOnce flow defs g lines (next ++ bs)
 
 -- a valid certificate but for such jumps
 pub record IsCertificateAtOnce (flow : Flow) (defs : List Def) (lines : List Line) : Type 0 where
@@ -101,11 +109,13 @@ pub record IsCertificateAtOnce (flow : Flow) (defs : List Def) (lines : List Lin
   pub cuts_are : AreCuts flow cuts
   pub ordered : AreOrdered heads
   pub heads_are : AreHeads flow defs cuts heads
-  pub reads : ReadsAtOnce flow defs (record { form = Certificate; cuts = cuts; heads = states_of heads }) rules (roots flow (states_of heads))
+  pub reads : ReadsAtOnce flow defs (record { form = Certificate; cuts = cuts; heads = states_of heads }) rules
+      (roots flow (states_of heads))
 
 -- from the entry to the head, and from the head to itself at once
 abbrev pub failing_document : List Line
-failing_document = Header One Certificate ∷ Cut (at 1) ∷ Head (at 1) failing_state ∷ S1 ∷ L13 0 (null ∷ []) [] ∷ L13 0 (null ∷ []) [] ∷ End ∷ []
+failing_document = Header One Certificate ∷ Cut (at 1) ∷ Head (at 1) failing_state ∷ S1 ∷ L13 0 (null ∷ []) []
+    ∷ L13 0 (null ∷ []) [] ∷ End ∷ []
 
 -- ---- a loop head that is no cut
 

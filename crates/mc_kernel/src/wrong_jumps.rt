@@ -14,7 +14,8 @@ ghost use Rattle.mc_kernel.specs.WrongJumps.{JumpsBy, AreThere, LeavesNone, Leav
 /// A jump names each edge once, and all of them where the state is whole; one that takes one edge for two,
 /// or leaves an edge there, is not sound.
 pub fn edges_are_taken_once()
-    ensures right { (s t : State) (images : List Node) (edges : List Edge) → JumpsBy Picks LeavesNone s t images edges ↔ Jumps s t images edges }
+    ensures right { (s t : State) (images : List Node) (edges : List Edge)
+        → JumpsBy Picks LeavesNone s t images edges ↔ Jumps s t images edges }
     ensures distinct { ¬ IsLawOfJumps (JumpsBy AreThere LeavesNone) }
     ensures each { ¬ IsLawOfJumps (JumpsBy Picks LeavesSome) }
 {

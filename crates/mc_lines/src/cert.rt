@@ -31,5 +31,6 @@ pub fn line_is_spelled_once()
 
 /// Whatever is read of bytes that spell a line is that line, or memory is wanting.
 pub fn spelled_lines_are_read()
-    ensures { (bytes : List ℕ) (line : DocumentLine) (r : Result DocumentLine Fault) → Spells bytes line → ReadsAs bytes r → (r ≡ Ok line) ⊎ (r ≡ Err NoMemory) }
+    ensures { (bytes : List ℕ) (line : DocumentLine) (r : Result DocumentLine Fault) → Spells bytes line
+        → ReadsAs bytes r → (r ≡ Ok line) ⊎ (r ≡ Err NoMemory) }
 {}

@@ -175,11 +175,13 @@ FitsStatement k c a =
 
 abbrev pub FitsAll : Known → Context → Stmts → Type 0
 FitsAll k c ss =
-    Fits k c (all_declared ss) (λ made. AreLowerable k.source.structs (loops c.turns) made ss) (λ h. AreOfKinds h ss) (λ n s. AreScopedIn n s ss)
+    Fits k c (all_declared ss) (λ made. AreLowerable k.source.structs (loops c.turns) made ss) (λ h. AreOfKinds h ss)
+    (λ n s. AreScopedIn n s ss)
 
 abbrev pub FitsItems : Known → Context → List Initial → Type 0
 FitsItems k c items =
-    Fits k c (items_declared items) (λ made. AreLowerableItems k.source.structs made items) (λ h. AreDeclared h items) (λ n s. DeclareIn n s items)
+    Fits k c (items_declared items) (λ made. AreLowerableItems k.source.structs made items)
+    (λ h. AreDeclared h items) (λ n s. DeclareIn n s items)
 
 -- a `for` behind its first part
 abbrev pub FitsFor : Known → Context → Head → Stmt → Type 0

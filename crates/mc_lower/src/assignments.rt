@@ -44,7 +44,9 @@ impl<'a> Builder<'a> {
         operand: Operand,
     ) -> Result<(), BuildFault>
         ensures same { OnOk result (Keeps self.old self.new) }
-        ensures leads { OnOk result (Leads (λ w s u. Appends w.graph plain place (λ q. Store base field.shape field.field operand q) s u) self.old self.new) }
+        ensures leads { OnOk result (Leads
+            (λ w s u. Appends w.graph plain place
+            (λ q. Store base field.shape field.field operand q) s u) self.old self.new) }
     {
         let next = self.next();
         self.append(
@@ -70,7 +72,9 @@ impl<'a> Builder<'a> {
     ) -> Result<(), BuildFault>
         requires { IsReady (known self.old) site.occurrence (expression_of expression.now) }
         ensures same { OnOk result (Keeps self.old self.new) }
-        ensures leads { OnOk result (Leads (λ w s u. SetsTo w.graph (w.out site.occurrence) site.place variable (value_of (expression_of expression.now)) s u) self.old self.new) }
+        ensures leads { OnOk result (Leads
+            (λ w s u. SetsTo w.graph (w.out site.occurrence) site.place variable
+            (value_of (expression_of expression.now)) s u) self.old self.new) }
     {
         let mut temporaries = Vec::new(self.alloc);
         match self.compute(site, expression, &mut temporaries)? {
@@ -96,7 +100,9 @@ impl<'a> Builder<'a> {
     ) -> Result<(), BuildFault>
         requires { field_count (known self.old).source.structs shape ≡ count }
         ensures same { OnOk result (Keeps self.old self.new) }
-        ensures leads { OnOk result ((i : ℕ) → Leads (λ w s u. SetsTo w.graph (w.out i) place variable (allocation shape.0 count) s u) self.old self.new) }
+        ensures leads { OnOk result ((i : ℕ)
+            → Leads
+            (λ w s u. SetsTo w.graph (w.out i) place variable (allocation shape.0 count) s u) self.old self.new) }
     {
         self.allocate(place, variable, shape)?;
         Ok(())
@@ -111,7 +117,9 @@ impl<'a> Builder<'a> {
     ) -> Result<(), BuildFault>
         requires { IsPlainReady (known self.old) site.occurrence (right_of right.now) }
         ensures same { OnOk result (Keeps self.old self.new) }
-        ensures leads { OnOk result (Leads (λ w s u. SetsTo w.graph (w.out site.occurrence) site.place variable (right_of right.now) s u) self.old self.new) }
+        ensures leads { OnOk result (Leads
+            (λ w s u. SetsTo w.graph (w.out site.occurrence) site.place variable
+            (right_of right.now) s u) self.old self.new) }
     {
         match right {
             RightSide::Expression(expression) => {
@@ -136,7 +144,9 @@ impl<'a> Builder<'a> {
     ) -> Result<(), BuildFault>
         requires { IsThere (known self.old) site.occurrence number }
         ensures same { OnOk result (Keeps self.old self.new) }
-        ensures leads { OnOk result (Leads (λ w s u. Puts w.graph (w.out site.occurrence) site.place (record { variable = number; fields = [] }) operand temporaries.now s u) self.old self.new) }
+        ensures leads { OnOk result (Leads
+            (λ w s u. Puts w.graph (w.out site.occurrence) site.place
+            (record { variable = number; fields = [] }) operand temporaries.now s u) self.old self.new) }
     {
         let variable = self.local(site.occurrence, number);
         self.copy(site.place, variable, operand)?;
@@ -155,7 +165,9 @@ impl<'a> Builder<'a> {
         requires some { 0 < length target.fields.now }
         requires named { IsNamed (known self.old) site.occurrence (target_of target) }
         ensures same { OnOk result (Keeps self.old self.new) }
-        ensures leads { OnOk result (Leads (λ w s u. PutsField w.graph (w.out site.occurrence) site.place (target_of target.entry) operand temporaries.old.items s u) self.old self.new) }
+        ensures leads { OnOk result (Leads
+            (λ w s u. PutsField w.graph (w.out site.occurrence) site.place
+            (target_of target.entry) operand temporaries.old.items s u) self.old self.new) }
     {
         let variable = self.local(site.occurrence, target.variable);
         let (base, last) = self.walk(site.place, variable, target.fields, temporaries)?;
@@ -174,7 +186,9 @@ impl<'a> Builder<'a> {
     ) -> Result<(), BuildFault>
         requires { IsNamed (known self.old) site.occurrence (target_of target) }
         ensures same { OnOk result (Keeps self.old self.new) }
-        ensures leads { OnOk result (Leads (λ w s u. Puts w.graph (w.out site.occurrence) site.place (target_of target.entry) operand temporaries.old.items s u) self.old self.new) }
+        ensures leads { OnOk result (Leads
+            (λ w s u. Puts w.graph (w.out site.occurrence) site.place
+            (target_of target.entry) operand temporaries.old.items s u) self.old self.new) }
     {
         if target.fields.is_empty() {
             self.put_into_variable(site, target.variable, operand, temporaries.as_slice())?;
@@ -195,7 +209,9 @@ impl<'a> Builder<'a> {
         requires named { IsNamed (known self.old) site.occurrence (target_of target) }
         requires ready { IsReady (known self.old) site.occurrence (expression_of expression.now) }
         ensures same { OnOk result (Keeps self.old self.new) }
-        ensures leads { OnOk result (Leads (λ w s u. Assigns w.graph (w.out site.occurrence) site.place (target_of target.entry) (value_of (expression_of expression.now)) s u) self.old self.new) }
+        ensures leads { OnOk result (Leads
+            (λ w s u. Assigns w.graph (w.out site.occurrence) site.place (target_of target.entry)
+            (value_of (expression_of expression.now)) s u) self.old self.new) }
     {
         let mut temporaries = Vec::new(self.alloc);
         let operand = self.evaluate(site, expression, &mut temporaries)?;
@@ -215,7 +231,9 @@ impl<'a> Builder<'a> {
         requires named { IsNamed (known self.old) site.occurrence (target_of target) }
         requires count { field_count (known self.old).source.structs shape ≡ count }
         ensures same { OnOk result (Keeps self.old self.new) }
-        ensures leads { OnOk result (Leads (λ w s u. Assigns w.graph (w.out site.occurrence) site.place (target_of target.entry) (allocation shape.0 count) s u) self.old self.new) }
+        ensures leads { OnOk result (Leads
+            (λ w s u. Assigns w.graph (w.out site.occurrence) site.place (target_of target.entry)
+            (allocation shape.0 count) s u) self.old self.new) }
     {
         let variable = self.temporary(0, Kind::Ptr)?;
         self.allocate(site.place, variable, shape)?;
@@ -236,7 +254,9 @@ impl<'a> Builder<'a> {
         requires named { IsNamed (known self.old) site.occurrence (target_of target) }
         requires right { IsPlainReady (known self.old) site.occurrence (right_of right.now) }
         ensures same { OnOk result (Keeps self.old self.new) }
-        ensures leads { OnOk result (Leads (λ w s u. Assigns w.graph (w.out site.occurrence) site.place (target_of target.entry) (right_of right.now) s u) self.old self.new) }
+        ensures leads { OnOk result (Leads
+            (λ w s u. Assigns w.graph (w.out site.occurrence) site.place (target_of target.entry)
+            (right_of right.now) s u) self.old self.new) }
     {
         match right {
             RightSide::Expression(expression) => {
@@ -261,7 +281,9 @@ impl<'a> Builder<'a> {
         requires named { IsNamed (known self.old) site.occurrence (target_of target) }
         requires right { IsPlainReady (known self.old) site.occurrence (right_of right.now) }
         ensures same { OnOk result (Keeps self.old self.new) }
-        ensures leads { OnOk result (Leads (λ w s u. Assigns w.graph (w.out site.occurrence) site.place (target_of target.entry) (right_of right.now) s u) self.old self.new) }
+        ensures leads { OnOk result (Leads
+            (λ w s u. Assigns w.graph (w.out site.occurrence) site.place (target_of target.entry)
+            (right_of right.now) s u) self.old self.new) }
     {
         if target.fields.is_empty() {
             let variable = self.local(site.occurrence, target.variable);
@@ -283,7 +305,11 @@ impl<'a> Builder<'a> {
     ) -> Result<(), BuildFault>
         requires { IsThere (known self.old) site.occurrence number }
         ensures same { OnOk result (Keeps self.old self.new) }
-        ensures leads { OnOk result (Leads (λ w s u. (e : Expr) (r : Stage) → Evaluates w.graph (w.out site.occurrence) site.place e [] r operand temporaries.now s → Changes w.graph (w.out site.occurrence) site.place (joined how) (record { variable = number; fields = [] }) e r u) self.old self.new) }
+        ensures leads { OnOk result (Leads
+            (λ w s u. (e : Expr) (r : Stage)
+            → Evaluates w.graph (w.out site.occurrence) site.place e [] r operand temporaries.now s
+            → Changes w.graph (w.out site.occurrence) site.place (joined how)
+            (record { variable = number; fields = [] }) e r u) self.old self.new) }
     {
         let variable = self.local(site.occurrence, number);
         self.set(
@@ -307,7 +333,11 @@ impl<'a> Builder<'a> {
         requires some { 0 < length left.now.fields.items }
         requires named { IsNamed (known self.old) site.occurrence (left_of left.now) }
         ensures same { OnOk result (Keeps self.old self.new) }
-        ensures leads { OnOk result (Leads (λ w s u. (e : Expr) (r : Stage) → Evaluates w.graph (w.out site.occurrence) site.place e [] r operand temporaries.old.items s → Changes w.graph (w.out site.occurrence) site.place (joined how) (left_of left.now) e r u) self.old self.new) }
+        ensures leads { OnOk result (Leads
+            (λ w s u. (e : Expr) (r : Stage)
+            → Evaluates w.graph (w.out site.occurrence) site.place e [] r operand temporaries.old.items s
+            → Changes w.graph (w.out site.occurrence) site.place (joined how)
+            (left_of left.now) e r u) self.old self.new) }
     {
         let variable = self.local(site.occurrence, left.variable);
         let (base, last) = self.walk(site.place, variable, left.fields.as_slice(), temporaries)?;
@@ -332,7 +362,9 @@ impl<'a> Builder<'a> {
         requires named { IsNamed (known self.old) site.occurrence (left_of left.now) }
         requires ready { IsReady (known self.old) site.occurrence (expression_of expression.now) }
         ensures same { OnOk result (Keeps self.old self.new) }
-        ensures leads { OnOk result (Leads (λ w s u. Changes w.graph (w.out site.occurrence) site.place (joined how) (left_of left.now) (expression_of expression.now) s u) self.old self.new) }
+        ensures leads { OnOk result (Leads
+            (λ w s u. Changes w.graph (w.out site.occurrence) site.place (joined how) (left_of left.now)
+            (expression_of expression.now) s u) self.old self.new) }
     {
         let mut temporaries = Vec::new(self.alloc);
         let operand = self.evaluate(site, expression, &mut temporaries)?;
@@ -358,7 +390,9 @@ impl<'a> Builder<'a> {
     pub fn free(&mut self, site: Site, pointer: &Expression) -> Result<(), BuildFault>
         requires { IsReady (known self.old) site.occurrence (expression_of pointer.now) }
         ensures same { OnOk result (Keeps self.old self.new) }
-        ensures leads { OnOk result (Leads (λ w s u. Frees w.graph (w.out site.occurrence) site.place (expression_of pointer.now) s u) self.old self.new) }
+        ensures leads { OnOk result (Leads
+            (λ w s u. Frees w.graph (w.out site.occurrence) site.place
+            (expression_of pointer.now) s u) self.old self.new) }
     {
         let mut temporaries = Vec::new(self.alloc);
         let operand = self.evaluate(site, pointer, &mut temporaries)?;

@@ -244,7 +244,9 @@ impl<'a> Builder<'a> {
     pub fn land(&mut self, role: Role, place: Place, code: Instr) -> Result<(), BuildFault>
         requires { (a : Awaited) × (k : Known) × (known self.old ≡ with_next a k) }
         ensures rest { OnOk result ((a : Awaited) (k : Known) → known self.old ≡ with_next a k → known self.new ≡ k) }
-        ensures leads { OnOk result ((a : Awaited) (k : Known) → known self.old ≡ with_next a k → Leads (λ w s u. Lands w (w.at (label_of self.old.lines.outs.items a).0) role place code (record { 0 = self.old.lines.labels }) s u) self.old self.new) }
+        ensures leads { OnOk result ((a : Awaited) (k : Known) → known self.old ≡ with_next a k
+            → Leads (λ w s u. Lands w (w.at (label_of self.old.lines.outs.items a).0) role place code
+            (record { 0 = self.old.lines.labels }) s u) self.old self.new) }
     {
         self.lines.land(Draft { role, code, place })?;
         Ok(())

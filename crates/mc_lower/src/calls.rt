@@ -49,7 +49,9 @@ impl<'a> Builder<'a> {
         requires new { (x : ℕ) → IsThere (known self.old) occurrence x → ⊥ }
         ensures count { IfOk result (λ vs. length vs.items ≡ function.now.parameters) }
         ensures same { OnOk result (known self.new ≡ with_owners (locals_to occurrence function.now.parameters) (known self.old)) }
-        ensures leads { IfOk result (λ vs. (w : World) → Agrees w self.new → Agrees w self.old × Receives w.graph (function_of function.now) (w.out occurrence) 0 function.now.parameters (stage_of w self.old) vs.items (stage_of w self.new)) }
+        ensures leads { IfOk result (λ vs. (w : World) → Agrees w self.new → Agrees w self.old
+            × Receives w.graph (function_of function.now) (w.out occurrence) 0 function.now.parameters
+            (stage_of w self.old) vs.items (stage_of w self.new)) }
     {
         let mut parameters = Vec::new(self.alloc);
         for number in 0..function.parameters {
@@ -81,7 +83,9 @@ impl<'a> Builder<'a> {
         requires many { length call.now.arguments.items ≡ length parameters.now }
         requires ready { AreReady (known self.old) site.occurrence (map expression_of call.now.arguments.items) }
         ensures same { OnOk result (Keeps self.old self.new) }
-        ensures leads { OnOk result (Leads (λ w s u. PassesAll w.graph (w.out site.occurrence) site.place (map expression_of call.now.arguments.items) parameters.now s u) self.old self.new) }
+        ensures leads { OnOk result (Leads
+            (λ w s u. PassesAll w.graph (w.out site.occurrence) site.place
+            (map expression_of call.now.arguments.items) parameters.now s u) self.old self.new) }
     {
         let mut temporaries = Vec::new(self.alloc);
         let operands = self.evaluate_all(site, call.arguments.as_slice(), &mut temporaries)?;
@@ -100,7 +104,9 @@ impl<'a> Builder<'a> {
         requires { IsAnswered (known self.old) occurrence → ⊥ }
         ensures answered { IfOk result (λ r. IsSome function.now.result → IsSome r) }
         ensures same { OnOk result (known self.new ≡ with_awaited occurrence function.now.result (known self.old)) }
-        ensures leads { IfOk result (λ r. (w : World) → Agrees w self.new → Agrees w self.old × Awaits w.graph (w.out occurrence) place function.now.result (stage_of w self.old) r (stage_of w self.new)) }
+        ensures leads { IfOk result (λ r. (w : World) → Agrees w self.new → Agrees w self.old
+            × Awaits w.graph (w.out occurrence) place function.now.result (stage_of w self.old) r
+            (stage_of w self.new)) }
     {
         match function.result {
             Some(kind) => {
@@ -121,7 +127,8 @@ impl<'a> Builder<'a> {
     ) -> Result<Entered<'a>, BuildFault>
         requires { (r : Option Kind) × IsCallReady (known self.old) context.occurrence r (call_of call.now) }
         ensures begun { IfOk result (λ e. IsBegun (known self.old) (call_of call.now) e (known self.new)) }
-        ensures leads { IfOk result (λ e. (w : World) → Agrees w self.new → Agrees w self.old × IsEntered w place (call_of call.now) context.entry e (stage_of w self.old) (stage_of w self.new)) }
+        ensures leads { IfOk result (λ e. (w : World) → Agrees w self.new → Agrees w self.old
+            × IsEntered w place (call_of call.now) context.entry e (stage_of w self.old) (stage_of w self.new)) }
     {
         let function = self.function(call.function);
         let occurrence = self.occur()?;
@@ -146,7 +153,9 @@ impl<'a> Builder<'a> {
         requires occurs { callee.occurrence < (known self.old).state.occurrences }
         requires waits { (k : Known) × (known self.old ≡ with_next (Out callee.occurrence) k) }
         ensures rest { OnOk result (known self.old ≡ with_next (Out callee.entry.occurrence) (known self.new)) }
-        ensures leads { OnOk result (Leads (λ w s u. EndsCall w.graph (w.out callee.entry.occurrence) place (length (function_of callee.entry.function.now).locals) s u) self.old self.new) }
+        ensures leads { OnOk result (Leads
+            (λ w s u. EndsCall w.graph (w.out callee.entry.occurrence) place
+            (length (function_of callee.entry.function.now).locals) s u) self.old self.new) }
     {
         let made = self.made_below(callee.occurrence, callee.function.locals.len())?;
         let next = self.next();
@@ -165,7 +174,9 @@ impl<'a> Builder<'a> {
         requires named { IsNamed (known self.old) site.occurrence (target_of target) }
         requires some { IsSome answer }
         ensures same { OnOk result (Keeps self.old self.new) }
-        ensures leads { OnOk result (Leads (λ w s u. TakesResult w.graph (w.out site.occurrence) site.place target.entry answer s u) self.old self.new) }
+        ensures leads { OnOk result (Leads
+            (λ w s u. TakesResult w.graph
+            (w.out site.occurrence) site.place target.entry answer s u) self.old self.new) }
     {
         let Some(returned) = answer else {
             unreachable!();
@@ -186,7 +197,8 @@ impl<'a> Builder<'a> {
         requires occurs { site.occurrence < (known self.old).state.occurrences }
         requires some { IsSome answer }
         ensures same { OnOk result (Keeps self.old self.new) }
-        ensures leads { OnOk result (Leads (λ w s u. AnswersResult w.graph (w.out site.occurrence) site.place own answer s u) self.old self.new) }
+        ensures leads { OnOk result (Leads
+            (λ w s u. AnswersResult w.graph (w.out site.occurrence) site.place own answer s u) self.old self.new) }
     {
         let Some(returned) = answer else {
             unreachable!();
@@ -215,8 +227,15 @@ fn push_body<'a>(
     place: Place,
     callee: Context<'a>,
 ) -> Result<(), BuildFault>
-    ensures ready { OnOk result ((k m : Known) → k ≡ with_next (Out callee.entry.occurrence) m → FitsAll k callee.entry (function_of callee.entry.function.now).body → Needs k (EndCall place callee.entry) → Later m callee.entry.occurrence (all_declared (function_of callee.entry.function.now).body) tasks.old → Ready k tasks.new) }
-    ensures leads { OnOk result ((w : World) (s u : Stage) → Rest w tasks.new s u → (m : Stage) × LowersAll w.graph (around_of w callee.entry) (function_of callee.entry.function.now).body s m × ((n : Stage) × EndsCall w.graph (w.out callee.entry.occurrence) place (length (function_of callee.entry.function.now).locals) m n × Rest w tasks.old n u)) }
+    ensures ready { OnOk result ((k m : Known) → k ≡ with_next (Out callee.entry.occurrence) m
+        → FitsAll k callee.entry (function_of callee.entry.function.now).body
+        → Needs k (EndCall place callee.entry)
+        → Later m callee.entry.occurrence (all_declared (function_of callee.entry.function.now).body) tasks.old
+        → Ready k tasks.new) }
+    ensures leads { OnOk result ((w : World) (s u : Stage) → Rest w tasks.new s u → (m : Stage)
+        × LowersAll w.graph (around_of w callee.entry) (function_of callee.entry.function.now).body s m
+        × ((n : Stage) × EndsCall w.graph (w.out callee.entry.occurrence) place
+        (length (function_of callee.entry.function.now).locals) m n × Rest w tasks.old n u)) }
 {
     push(tasks, Task::EndCall(place, callee))?;
     push(
@@ -238,7 +257,9 @@ impl<'a> Builder<'a> {
         requires { (r : Option Kind) × IsCallReady (known self.old) context.occurrence r (call_of call.now) }
         ensures source { OnOk result ((known self.new).source ≡ (known self.old).source) }
         ensures ready { OnOk result (Later (known self.old) context.entry.occurrence [] tasks.old → Ready (known self.new) tasks.new) }
-        ensures leads { OnOk result (Begins (λ w s m. Performs w.graph (w.out context.entry.occurrence) place (performs_call (call_of call.now)) s m) self.old tasks.old self.new tasks.new) }
+        ensures leads { OnOk result (Begins
+            (λ w s m. Performs w.graph (w.out context.entry.occurrence) place
+            (performs_call (call_of call.now)) s m) self.old tasks.old self.new tasks.new) }
     {
         let entered = self.enter_call(place, call, context)?;
         push_body(tasks, place, entered.callee)?;
@@ -258,7 +279,10 @@ impl<'a> Builder<'a> {
         requires named { IsNamed (known self.old) context.occurrence (target_of target) }
         ensures source { OnOk result ((known self.new).source ≡ (known self.old).source) }
         ensures ready { OnOk result (Later (known self.old) context.entry.occurrence [] tasks.old → Ready (known self.new) tasks.new) }
-        ensures leads { OnOk result (Begins (λ w s m. Performs w.graph (w.out context.entry.occurrence) place (assign (target_of target.entry) (result_of (call_of call.now))) s m) self.old tasks.old self.new tasks.new) }
+        ensures leads { OnOk result (Begins
+            (λ w s m. Performs w.graph (w.out context.entry.occurrence) place
+            (assign (target_of target.entry)
+            (result_of (call_of call.now))) s m) self.old tasks.old self.new tasks.new) }
     {
         let entered = self.enter_call(place, call, context)?;
         push(
@@ -282,7 +306,9 @@ impl<'a> Builder<'a> {
         requires occurs { context.occurrence < (known self.old).state.occurrences }
         ensures source { OnOk result ((known self.new).source ≡ (known self.old).source) }
         ensures ready { OnOk result (Later (known self.old) context.entry.occurrence [] tasks.old → Ready (known self.new) tasks.new) }
-        ensures leads { OnOk result (Begins (λ w s m. Lowers w.graph (around_of w context.entry) (returns place (Some (result_of (call_of call.now)))) s m) self.old tasks.old self.new tasks.new) }
+        ensures leads { OnOk result (Begins
+            (λ w s m. Lowers w.graph (around_of w context.entry)
+            (returns place (Some (result_of (call_of call.now)))) s m) self.old tasks.old self.new tasks.new) }
     {
         let own = self.own_result(context.occurrence);
         let entered = self.enter_call(place, call, context)?;
@@ -307,7 +333,9 @@ impl<'a> Builder<'a> {
         requires right { IsRightReady (known self.old) context.occurrence (right_of right.now) }
         ensures source { OnOk result ((known self.new).source ≡ (known self.old).source) }
         ensures ready { OnOk result (Later (known self.old) context.entry.occurrence [] tasks.old → Ready (known self.new) tasks.new) }
-        ensures leads { OnOk result (Begins (λ w s m. Performs w.graph (w.out context.entry.occurrence) place (assign (target_of target.entry) (right_of right.now)) s m) self.old tasks.old self.new tasks.new) }
+        ensures leads { OnOk result (Begins
+            (λ w s m. Performs w.graph (w.out context.entry.occurrence) place
+            (assign (target_of target.entry) (right_of right.now)) s m) self.old tasks.old self.new tasks.new) }
     {
         let site = Site {
             occurrence: context.occurrence,
@@ -339,7 +367,9 @@ impl<'a> Builder<'a> {
         requires { IsActionReady (known self.old) context.occurrence (action_of simple.now.action) }
         ensures source { OnOk result ((known self.new).source ≡ (known self.old).source) }
         ensures ready { OnOk result (Later (known self.old) context.entry.occurrence [] tasks.old → Ready (known self.new) tasks.new) }
-        ensures leads { OnOk result (Begins (λ w s m. Performs w.graph (w.out context.entry.occurrence) simple.now.place (action_of simple.now.action) s m) self.old tasks.old self.new tasks.new) }
+        ensures leads { OnOk result (Begins
+            (λ w s m. Performs w.graph (w.out context.entry.occurrence) simple.now.place
+            (action_of simple.now.action) s m) self.old tasks.old self.new tasks.new) }
     {
         let place = simple.place;
         let site = Site {
@@ -376,8 +406,11 @@ impl<'a> Builder<'a> {
     ) -> Result<(), BuildFault>
         requires { FitsItems (known self.old) context (initial_of item.now ∷ []) }
         ensures source { OnOk result ((known self.new).source ≡ (known self.old).source) }
-        ensures ready { OnOk result (Later (known self.old) context.entry.occurrence (item.now.variable ∷ []) tasks.old → Ready (known self.new) tasks.new) }
-        ensures leads { OnOk result (Begins (λ w s m. DeclaresFirst w context.entry place (initial_of item.now) s m) self.old tasks.old self.new tasks.new) }
+        ensures ready { OnOk result (Later (known self.old) context.entry.occurrence
+            (item.now.variable ∷ []) tasks.old → Ready (known self.new) tasks.new) }
+        ensures leads { OnOk result (Begins
+            (λ w s m. DeclaresFirst w context.entry place
+            (initial_of item.now) s m) self.old tasks.old self.new tasks.new) }
     {
         let variable = self.create_local(context.function, context.occurrence, item.variable)?;
         match &item.value {
@@ -406,8 +439,12 @@ impl<'a> Builder<'a> {
     ) -> Result<(), BuildFault>
         requires { FitsItems (known self.old) context (map initial_of items.now) }
         ensures source { OnOk result ((known self.new).source ≡ (known self.old).source) }
-        ensures ready { OnOk result (Later (known self.old) context.entry.occurrence (items_declared (map initial_of items.now)) tasks.old → Ready (known self.new) tasks.new) }
-        ensures leads { OnOk result (Begins (λ w s m. Declares w.graph (function_of context.entry.function.now) (w.out context.entry.occurrence) place (map initial_of items.now) s m) self.old tasks.old self.new tasks.new) }
+        ensures ready { OnOk result (Later (known self.old) context.entry.occurrence
+            (items_declared (map initial_of items.now)) tasks.old → Ready (known self.new) tasks.new) }
+        ensures leads { OnOk result (Begins
+            (λ w s m. Declares w.graph (function_of context.entry.function.now)
+            (w.out context.entry.occurrence) place
+            (map initial_of items.now) s m) self.old tasks.old self.new tasks.new) }
     {
         let [first, more @ ..] = items else {
             return Ok(());

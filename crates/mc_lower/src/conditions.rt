@@ -71,7 +71,9 @@ impl<'a> Builder<'a> {
     fn clear(&mut self, place: Place, temporaries: &[VarId], to: Label) -> Result<(), BuildFault>
         requires { Waits (known self.old) }
         ensures rest { OnOk result (known self.old ≡ with_label self.new.lines.goal (known self.new)) }
-        ensures leads { OnOk result ((w : World) → Agrees w self.new → Agrees w self.old × Undefines w.graph place temporaries.now (stage_of w self.old) (stage (w.at to.0) (length self.new.lines.points.items) (length self.new.variables.list.items))) }
+        ensures leads { OnOk result ((w : World) → Agrees w self.new → Agrees w self.old
+            × Undefines w.graph place temporaries.now (stage_of w self.old)
+            (stage (w.at to.0) (length self.new.lines.points.items) (length self.new.variables.list.items))) }
     {
         self.undefine(place, temporaries)?;
         self.go_last(to)?;
@@ -90,7 +92,9 @@ impl<'a> Builder<'a> {
     ) -> Result<(), BuildFault>
         requires { Waits (known self.old) }
         ensures rest { OnOk result (known self.old ≡ with_label self.new.lines.goal (known self.new)) }
-        ensures leads { OnOk result ((w : World) → Agrees w self.new → Agrees w self.old × Compares w.graph place comparison left right temporaries.now (stage_of w self.old) (w.at ways.yes.0) (w.at ways.no.0) (length self.new.lines.points.items) (length self.new.variables.list.items)) }
+        ensures leads { OnOk result ((w : World) → Agrees w self.new → Agrees w self.old
+            × Compares w.graph place comparison left right temporaries.now (stage_of w self.old) (w.at ways.yes.0)
+            (w.at ways.no.0) (length self.new.lines.points.items) (length self.new.variables.list.items)) }
     {
         let no = self.label()?;
         let yes = self.label()?;
@@ -111,7 +115,9 @@ impl<'a> Builder<'a> {
         requires ready { IsReady (known self.old) site.occurrence (expression_of expression.now) }
         requires waits { Waits (known self.old) }
         ensures rest { OnOk result (known self.old ≡ with_label self.new.lines.goal (known self.new)) }
-        ensures leads { OnOk result ((w : World) → Agrees w self.new → Agrees w self.old × TestsTo w site.occurrence (plain_condition site.place (expression_of expression.now)) ways self.old self.new) }
+        ensures leads { OnOk result ((w : World) → Agrees w self.new → Agrees w self.old
+            × TestsTo w site.occurrence
+            (plain_condition site.place (expression_of expression.now)) ways self.old self.new) }
     {
         let mut temporaries = Vec::new(self.alloc);
         let operand = self.evaluate(site, expression, &mut temporaries)?;
@@ -139,7 +145,10 @@ impl<'a> Builder<'a> {
         requires right { IsReady (known self.old) site.occurrence (expression_of right.now) }
         requires waits { Waits (known self.old) }
         ensures rest { OnOk result (known self.old ≡ with_label self.new.lines.goal (known self.new)) }
-        ensures leads { OnOk result ((w : World) → Agrees w self.new → Agrees w self.old × TestsTo w site.occurrence (compare site.place comparison (expression_of left.now) (expression_of right.now)) ways self.old self.new) }
+        ensures leads { OnOk result ((w : World) → Agrees w self.new → Agrees w self.old
+            × TestsTo w site.occurrence
+            (compare site.place comparison (expression_of left.now)
+            (expression_of right.now)) ways self.old self.new) }
     {
         let mut temporaries = Vec::new(self.alloc);
         let left = self.evaluate(site, left, &mut temporaries)?;
@@ -166,9 +175,15 @@ impl<'a> Builder<'a> {
         requires ready { IsTestReady (known self.old) occurrence (condition_of condition.now) }
         requires others { AreTestsReady (known self.old) occurrence work.old }
         requires waits { Waits (known self.old) }
-        ensures rest { OnOk result ((k : Known) → known self.old ≡ with_all (froms work.old) k → with_all (froms work.new) k ≡ with_label self.new.lines.goal (known self.new)) }
+        ensures rest { OnOk result ((k : Known) → known self.old ≡ with_all (froms work.old) k
+            → with_all (froms work.new) k ≡ with_label self.new.lines.goal (known self.new)) }
         ensures ready { OnOk result (AreTestsReady (known self.new) occurrence work.new) }
-        ensures leads { OnOk result ((w : World) (n k : ℕ) → Agrees w self.new → Testing w occurrence work.new (length self.new.lines.points.items) (length self.new.variables.list.items) n k → Agrees w self.old × Testing w occurrence (record { from = self.old.lines.goal; condition = condition.entry; ways = ways } ∷ work.old) (length self.old.lines.points.items) (length self.old.variables.list.items) n k) }
+        ensures leads { OnOk result ((w : World) (n k : ℕ) → Agrees w self.new
+            → Testing w occurrence work.new (length self.new.lines.points.items)
+            (length self.new.variables.list.items) n k → Agrees w self.old
+            × Testing w occurrence
+            (record { from = self.old.lines.goal; condition = condition.entry; ways = ways } ∷ work.old)
+            (length self.old.lines.points.items) (length self.old.variables.list.items) n k) }
     {
         let from = self.lines.goal;
         match condition {
@@ -230,9 +245,14 @@ impl<'a> Builder<'a> {
         requires ready { IsTestReady (known self.old) occurrence (condition_of next.condition.now) }
         requires others { AreTestsReady (known self.old) occurrence work.old }
         requires waits { Waits (known self.old) }
-        ensures rest { OnOk result ((k : Known) → known self.old ≡ with_all (froms work.old) k → with_all (froms work.new) k ≡ with_label self.new.lines.goal (known self.new)) }
+        ensures rest { OnOk result ((k : Known) → known self.old ≡ with_all (froms work.old) k
+            → with_all (froms work.new) k ≡ with_label self.new.lines.goal (known self.new)) }
         ensures ready { OnOk result (AreTestsReady (known self.new) occurrence work.new) }
-        ensures leads { OnOk result ((w : World) (n k : ℕ) → Agrees w self.new → Testing w occurrence work.new (length self.new.lines.points.items) (length self.new.variables.list.items) n k → Agrees w self.old × Testing w occurrence (next.entry ∷ work.old) (length self.old.lines.points.items) (length self.old.variables.list.items) n k) }
+        ensures leads { OnOk result ((w : World) (n k : ℕ) → Agrees w self.new
+            → Testing w occurrence work.new (length self.new.lines.points.items)
+            (length self.new.variables.list.items) n k → Agrees w self.old
+            × Testing w occurrence (next.entry ∷ work.old) (length self.old.lines.points.items)
+            (length self.old.variables.list.items) n k) }
     {
         self.enter_condition(occurrence, next.condition, next.ways, work)?;
         Ok(())
@@ -249,7 +269,8 @@ impl<'a> Builder<'a> {
         requires ready { IsTestReady (known self.old) occurrence (condition_of condition.now) }
         requires waits { Waits (known self.old) }
         ensures rest { OnOk result (known self.old ≡ with_label self.new.lines.goal (known self.new)) }
-        ensures leads { OnOk result ((w : World) → Agrees w self.new → Agrees w self.old × TestsTo w occurrence (condition_of condition.now) ways self.old self.new) }
+        ensures leads { OnOk result ((w : World) → Agrees w self.new → Agrees w self.old
+            × TestsTo w occurrence (condition_of condition.now) ways self.old self.new) }
     {
         let mut work = Stack::new(self.alloc);
         push(&mut work, self.lines.goal, condition, ways)?;
@@ -271,7 +292,9 @@ impl<'a> Builder<'a> {
     ) -> Result<(), BuildFault>
         requires { IsTestReady (known self.old) occurrence (condition_of condition.now) }
         ensures same { OnOk result (Keeps self.old self.new) }
-        ensures leads { OnOk result (Leads (λ w s u. TestsOn w.graph (w.out occurrence) (condition_of condition.now) (w.at no.0) s u) self.old self.new) }
+        ensures leads { OnOk result (Leads
+            (λ w s u. TestsOn w.graph (w.out occurrence) (condition_of condition.now)
+            (w.at no.0) s u) self.old self.new) }
     {
         let yes = self.label()?;
         self.test(occurrence, condition, Ways { yes, no })?;
@@ -287,7 +310,9 @@ impl<'a> Builder<'a> {
     ) -> Result<(), BuildFault>
         requires { IsTestReadyPerhaps (known self.old) occurrence (option_map (λ c. condition_of c.now) condition) }
         ensures same { OnOk result (Keeps self.old self.new) }
-        ensures leads { OnOk result (Leads (λ w s u. TestsPerhapsOn w.graph (w.out occurrence) (option_map (λ c. condition_of c.now) condition.entry) (w.at no.0) s u) self.old self.new) }
+        ensures leads { OnOk result (Leads
+            (λ w s u. TestsPerhapsOn w.graph (w.out occurrence)
+            (option_map (λ c. condition_of c.now) condition.entry) (w.at no.0) s u) self.old self.new) }
     {
         match condition {
             Some(condition) => {

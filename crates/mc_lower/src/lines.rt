@@ -108,7 +108,8 @@ impl Lines {
     /// A point at the goal; the goal is a new label then.
     pub fn put(&mut self, draft: Draft) -> Result<(), BuildFault>
         ensures points { OnOk result (self.new.points.items ≡ self.old.points.items ++ draft ∷ []) }
-        ensures marks { OnOk result (self.new.marks.items ≡ self.old.marks.items ++ Mark.At self.old.goal (length self.old.points.items) ∷ []) }
+        ensures marks { OnOk result (self.new.marks.items ≡ self.old.marks.items
+            ++ Mark.At self.old.goal (length self.old.points.items) ∷ []) }
         ensures goal { OnOk result (self.new.goal ≡ record { 0 = self.old.labels }) }
         ensures outs { OnOk result (self.new.outs ≡ self.old.outs) }
         ensures waiting { OnOk result (self.new.waiting ≡ self.old.waiting) }
@@ -127,7 +128,8 @@ impl Lines {
     pub fn put_last(&mut self, draft: Draft) -> Result<(), BuildFault>
         requires { (l : Label) × (rest : List Awaited) × (self.old.waiting ≡ Awaited.Goal l ∷ rest) }
         ensures points { OnOk result (self.new.points.items ≡ self.old.points.items ++ draft ∷ []) }
-        ensures marks { OnOk result (self.new.marks.items ≡ self.old.marks.items ++ Mark.At self.old.goal (length self.old.points.items) ∷ []) }
+        ensures marks { OnOk result (self.new.marks.items ≡ self.old.marks.items
+            ++ Mark.At self.old.goal (length self.old.points.items) ∷ []) }
         ensures outs { OnOk result (self.new.outs ≡ self.old.outs) }
         ensures waiting { OnOk result (self.old.waiting ≡ Awaited.Goal self.new.goal ∷ self.new.waiting) }
     {
@@ -202,7 +204,10 @@ impl Lines {
         requires { (a : Awaited) × (rest : List Awaited) × (self.old.waiting ≡ a ∷ rest) }
         ensures points { OnOk result (self.new.points.items ≡ self.old.points.items ++ draft ∷ []) }
         ensures outs { OnOk result (self.new.outs ≡ self.old.outs) }
-        ensures marks { OnOk result ((a : Awaited) (rest : List Awaited) → self.old.waiting ≡ a ∷ rest → self.new.marks.items ≡ self.old.marks.items ++ Mark.Same self.old.goal (label_of self.old.outs.items a) ∷ Mark.At (label_of self.old.outs.items a) (length self.old.points.items) ∷ []) }
+        ensures marks { OnOk result ((a : Awaited) (rest : List Awaited) → self.old.waiting ≡ a ∷ rest
+            → self.new.marks.items ≡ self.old.marks.items
+            ++ Mark.Same self.old.goal (label_of self.old.outs.items a)
+            ∷ Mark.At (label_of self.old.outs.items a) (length self.old.points.items) ∷ []) }
         ensures waiting { OnOk result ((a : Awaited) (rest : List Awaited) → self.old.waiting ≡ a ∷ rest → self.new.waiting ≡ rest) }
         ensures goal { OnOk result (self.new.goal ≡ record { 0 = self.old.labels }) }
     {

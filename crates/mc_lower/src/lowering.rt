@@ -43,7 +43,8 @@ impl<'a> Builder<'a> {
         requires { Ready (known self.old) tasks.old }
         ensures entered { OnOk result (IsEntered (known self.new)) }
         ensures source { OnOk result ((known self.new).source ≡ (known self.old).source) }
-        ensures leads { OnOk result ((w : World) → Agrees w self.new → Agrees w self.old × Rest w tasks.old (stage_of w self.old) (stage_of w self.new)) }
+        ensures leads { OnOk result ((w : World) → Agrees w self.new → Agrees w self.old
+            × Rest w tasks.old (stage_of w self.old) (stage_of w self.new)) }
     {
         'tasks: for _ in 0..u64::MAX {
             match tasks.pop() {
@@ -58,7 +59,8 @@ impl<'a> Builder<'a> {
     fn begin(&mut self, entry: &Function, occurrence: usize) -> Result<(), BuildFault>
         requires { IsAnswered (known self.old) occurrence → ⊥ }
         ensures same { OnOk result (known self.new ≡ with_awaited occurrence entry.now.result (known self.old)) }
-        ensures leads { OnOk result (Leads (λ w s u. Answers w.graph (w.out occurrence) (function_of entry.now).result s u) self.old self.new) }
+        ensures leads { OnOk result (Leads
+            (λ w s u. Answers w.graph (w.out occurrence) (function_of entry.now).result s u) self.old self.new) }
     {
         match entry.result {
             Some(kind) => {
@@ -71,11 +73,15 @@ impl<'a> Builder<'a> {
 
     // The body of the entry.
     fn body(&mut self, entry: &'a Function, occurrence: usize) -> Result<(), BuildFault>
-        requires fits { FitsAll (known self.old) (record { function = entry; occurrence = occurrence; block = None; turns = None }) (function_of entry.now).body }
+        requires fits { FitsAll (known self.old)
+            (record { function = entry; occurrence = occurrence; block = None; turns = None })
+            (function_of entry.now).body }
         requires entered { IsEntered (known self.old) }
         ensures entered { OnOk result (IsEntered (known self.new)) }
         ensures source { OnOk result ((known self.new).source ≡ (known self.old).source) }
-        ensures leads { OnOk result (Leads (λ w s u. LowersAll w.graph (in_body (function_of entry.now) (w.out occurrence)) (function_of entry.now).body s u) self.old self.new) }
+        ensures leads { OnOk result (Leads
+            (λ w s u. LowersAll w.graph (in_body (function_of entry.now) (w.out occurrence))
+            (function_of entry.now).body s u) self.old self.new) }
     {
         let context = Context {
             function: entry,
@@ -121,8 +127,11 @@ impl<'a> Builder<'a> {
         requires no_occurrences { (known self.old).state.occurrences ≡ 0 }
         requires none_waits { (known self.old).waiting ≡ [] }
         requires sound { IsSound (known self.old).source }
-        requires there { slice_get (functions_in (known self.old).source) (known self.old).source.program.entry ≡ Some (function_of entry.now) }
-        ensures { OnOk result ((w : World) → Agrees w self.new → Agrees w self.old × (out : ℕ) × Makes w.graph (function_of entry.now) out (length self.new.variables.list.items) × (length self.new.lines.points.items ≡ suc out)) }
+        requires there { slice_get (functions_in (known self.old).source) (known self.old).source.program.entry
+            ≡ Some (function_of entry.now) }
+        ensures { OnOk result ((w : World) → Agrees w self.new → Agrees w self.old × (out : ℕ)
+            × Makes w.graph (function_of entry.now) out (length self.new.variables.list.items)
+            × (length self.new.lines.points.items ≡ suc out)) }
     {
         self.skip(Role::Plain, NOWHERE)?;
         let occurrence = self.occur()?;

@@ -63,7 +63,8 @@ impl<'a> Builder<'a> {
     fn owned(&self, owner: Owner) -> Option<VarId>
         ensures none { result ≡ None → Contains (owners_of self.now.variables.list.items) owner → ⊥ }
         ensures new { result ≡ None → IsNew self.now.variables.list.items owner }
-        ensures made { IfSome result (λ v. (w : World) → Agrees w self.now → IsMade w.graph (owner_of w.out owner) v (stage_of w self.now)) }
+        ensures made { IfSome result (λ v. (w : World) → Agrees w self.now
+            → IsMade w.graph (owner_of w.out owner) v (stage_of w self.now)) }
     {
         match find(self.variables.list.as_slice(), owner) {
             Some(number) => Some(VarId(number as u64)),
@@ -75,7 +76,8 @@ impl<'a> Builder<'a> {
     fn create(&mut self, owner: Owner, info: VarInfo) -> Result<VarId, BuildFault>
         requires { IsNew self.old.variables.list.items owner }
         ensures same { OnOk result (known self.new ≡ with_owners (lasting owner) (known self.old)) }
-        ensures leads { IfOk result (λ v. (w : World) → Agrees w self.new → Agrees w self.old × Creates w.graph (owner_of w.out owner) info (stage_of w self.old) v (stage_of w self.new)) }
+        ensures leads { IfOk result (λ v. (w : World) → Agrees w self.new → Agrees w self.old
+            × Creates w.graph (owner_of w.out owner) info (stage_of w self.old) v (stage_of w self.new)) }
     {
         let variable = VarId(self.variables.list.len() as u64);
         self.variables.add(Variable { owner, info })?;
@@ -114,7 +116,9 @@ impl<'a> Builder<'a> {
         requires low { number < length function.now.locals.items }
         requires new { IsThere (known self.old) occurrence number → ⊥ }
         ensures same { OnOk result (known self.new ≡ with_local occurrence number (known self.old)) }
-        ensures leads { IfOk result (λ v. (w : World) → Agrees w self.new → Agrees w self.old × CreatesLocal w.graph (function_of function.now) (w.out occurrence) number (stage_of w self.old) v (stage_of w self.new)) }
+        ensures leads { IfOk result (λ v. (w : World) → Agrees w self.new → Agrees w self.old
+            × CreatesLocal w.graph (function_of function.now) (w.out occurrence) number (stage_of w self.old) v
+            (stage_of w self.new)) }
     {
         let Some(local) = function.locals.get(number) else {
             unreachable!();
@@ -128,7 +132,9 @@ impl<'a> Builder<'a> {
     pub fn create_result(&mut self, occurrence: usize, kind: Kind) -> Result<VarId, BuildFault>
         requires { IsAnswered (known self.old) occurrence → ⊥ }
         ensures same { OnOk result (known self.new ≡ with_result occurrence (known self.old)) }
-        ensures leads { IfOk result (λ v. (w : World) → Agrees w self.new → Agrees w self.old × Creates w.graph (result_of (w.out occurrence)) (result_info kind) (stage_of w self.old) v (stage_of w self.new)) }
+        ensures leads { IfOk result (λ v. (w : World) → Agrees w self.new → Agrees w self.old
+            × Creates w.graph (result_of (w.out occurrence)) (result_info kind) (stage_of w self.old) v
+            (stage_of w self.new)) }
     {
         let name = Items::of(Vec::from_slice(self.alloc, b"$ret")?);
         let variable = self.create(Owner::Result(occurrence), VarInfo { name, kind })?;
@@ -138,7 +144,8 @@ impl<'a> Builder<'a> {
     /// The temporary of this number and kind, made at its first use.
     pub fn temporary(&mut self, number: usize, kind: Kind) -> Result<VarId, BuildFault>
         ensures same { OnOk result (Keeps self.old self.new) }
-        ensures leads { IfOk result (λ v. (w : World) → Agrees w self.new → Agrees w self.old × Uses w.graph number kind (stage_of w self.old) v (stage_of w self.new)) }
+        ensures leads { IfOk result (λ v. (w : World) → Agrees w self.new → Agrees w self.old
+            × Uses w.graph number kind (stage_of w self.old) v (stage_of w self.new)) }
     {
         if let Some(variable) = self.owned(Owner::Temporary(number, kind)) {
             return Ok(variable);
@@ -150,7 +157,8 @@ impl<'a> Builder<'a> {
 
     // Those of these variables of an occurrence that are made by now, ascending.
     fn made_among(&self, occurrence: usize, numbers: &[usize]) -> Result<Vec<VarId>, BuildFault>
-        ensures { IfOk result (λ vs. (w : World) → Agrees w self.now → AreMade w.graph (w.out occurrence) (λ x. Contains numbers.now x) (stage_of w self.now) vs.items) }
+        ensures { IfOk result (λ vs. (w : World) → Agrees w self.now
+            → AreMade w.graph (w.out occurrence) (λ x. Contains numbers.now x) (stage_of w self.now) vs.items) }
     {
         let mut made = Vec::new(self.alloc);
         for number in 0..self.variables.list.len() {
@@ -163,7 +171,8 @@ impl<'a> Builder<'a> {
 
     /// Those of the first so many variables of an occurrence that are made by now, ascending.
     pub fn made_below(&self, occurrence: usize, count: usize) -> Result<Vec<VarId>, BuildFault>
-        ensures { IfOk result (λ vs. (w : World) → Agrees w self.now → AreMade w.graph (w.out occurrence) (λ x. x < count) (stage_of w self.now) vs.items) }
+        ensures { IfOk result (λ vs. (w : World) → Agrees w self.now
+            → AreMade w.graph (w.out occurrence) (λ x. x < count) (stage_of w self.now) vs.items) }
     {
         let mut made = Vec::new(self.alloc);
         for number in 0..self.variables.list.len() {

@@ -36,7 +36,9 @@ impl<'a> Builder<'a> {
     ) -> Result<(), BuildFault>
         requires { IsTestReady (known self.old) occurrence (condition_of condition.now) }
         ensures same { OnOk result (Keeps self.old self.new) }
-        ensures leads { OnOk result (Leads (λ w s u. Checks w.graph (w.out occurrence) (role_of role) place (settled w.at otherwise) (condition_of condition.now) s u) self.old self.new) }
+        ensures leads { OnOk result (Leads
+            (λ w s u. Checks w.graph (w.out occurrence) (role_of role) place (settled w.at otherwise)
+            (condition_of condition.now) s u) self.old self.new) }
     {
         let yes = self.label()?;
         let no = self.label()?;
@@ -52,7 +54,8 @@ impl<'a> Builder<'a> {
         arguments: &[Argument],
     ) -> Result<Items<Operand>, BuildFault>
         requires { AreArgumentsReady (known self.now) occurrence (map argument_of arguments.now) }
-        ensures { IfOk result (λ os. (w : World) → Agrees w self.now → AreArguments w.graph (w.out occurrence) (stage_of w self.now) (map argument_of arguments.now) os) }
+        ensures { IfOk result (λ os. (w : World) → Agrees w self.now
+            → AreArguments w.graph (w.out occurrence) (stage_of w self.now) (map argument_of arguments.now) os) }
     {
         let mut operands = Vec::new(self.alloc);
         for at in 0..arguments.len() {
@@ -67,7 +70,10 @@ impl<'a> Builder<'a> {
         requires there { IsThere (known self.old) context.occurrence shape.now.variable }
         requires arguments { AreArgumentsReady (known self.old) context.occurrence (map argument_of shape.now.arguments.items) }
         ensures same { OnOk result (Keeps self.old self.new) }
-        ensures leads { OnOk result (Leads (λ w s u. Lowers w.graph (around_of w context.entry) (assume_shape shape.now.place shape.now.predicate shape.now.variable (map argument_of shape.now.arguments.items)) s u) self.old self.new) }
+        ensures leads { OnOk result (Leads
+            (λ w s u. Lowers w.graph (around_of w context.entry)
+            (assume_shape shape.now.place shape.now.predicate shape.now.variable
+            (map argument_of shape.now.arguments.items)) s u) self.old self.new) }
     {
         let occurrence = context.occurrence;
         let variable = self.local(occurrence, shape.variable);
@@ -83,7 +89,10 @@ impl<'a> Builder<'a> {
         requires start { IsArgumentReady (known self.old) context.occurrence (argument_of shape.now.start) }
         requires arguments { AreArgumentsReady (known self.old) context.occurrence (map argument_of shape.now.arguments.items) }
         ensures same { OnOk result (Keeps self.old self.new) }
-        ensures leads { OnOk result (Leads (λ w s u. Lowers w.graph (around_of w context.entry) (assert_shape shape.now.place shape.now.predicate (argument_of shape.now.start) (map argument_of shape.now.arguments.items)) s u) self.old self.new) }
+        ensures leads { OnOk result (Leads
+            (λ w s u. Lowers w.graph (around_of w context.entry)
+            (assert_shape shape.now.place shape.now.predicate (argument_of shape.now.start)
+            (map argument_of shape.now.arguments.items)) s u) self.old self.new) }
     {
         let occurrence = context.occurrence;
         let start = self.argument(occurrence, shape.start);
@@ -115,8 +124,13 @@ impl<'a> Builder<'a> {
     ) -> Result<(), BuildFault>
         requires { FitsStatement (known self.old) context (block numbers.now (stmts_of (map statement_of statements.now))) }
         ensures source { OnOk result ((known self.new).source ≡ (known self.old).source) }
-        ensures ready { OnOk result (Later (known self.old) context.entry.occurrence (declared (block numbers.now (stmts_of (map statement_of statements.now)))) tasks.old → Ready (known self.new) tasks.new) }
-        ensures leads { OnOk result (Begins (λ w s m. Lowers w.graph (around_of w context.entry) (block numbers.now (stmts_of (map statement_of statements.now))) s m) self.old tasks.old self.new tasks.new) }
+        ensures ready { OnOk result (Later (known self.old) context.entry.occurrence
+            (declared (block numbers.now (stmts_of (map statement_of statements.now)))) tasks.old
+            → Ready (known self.new) tasks.new) }
+        ensures leads { OnOk result (Begins
+            (λ w s m. Lowers w.graph (around_of w context.entry)
+            (block numbers.now
+            (stmts_of (map statement_of statements.now))) s m) self.old tasks.old self.new tasks.new) }
     {
         let block = self.open(numbers, context.block)?;
         push(tasks, Task::EndBlock(numbers, context.occurrence))?;
@@ -135,8 +149,13 @@ impl<'a> Builder<'a> {
     ) -> Result<(), BuildFault>
         requires { FitsStatement (known self.old) context (if_only place (condition_of condition.now) (statement_of part.now)) }
         ensures source { OnOk result ((known self.new).source ≡ (known self.old).source) }
-        ensures ready { OnOk result (Later (known self.old) context.entry.occurrence (declared (if_only place (condition_of condition.now) (statement_of part.now))) tasks.old → Ready (known self.new) tasks.new) }
-        ensures leads { OnOk result (Begins (λ w s m. Lowers w.graph (around_of w context.entry) (if_only place (condition_of condition.now) (statement_of part.now)) s m) self.old tasks.old self.new tasks.new) }
+        ensures ready { OnOk result (Later (known self.old) context.entry.occurrence
+            (declared (if_only place (condition_of condition.now) (statement_of part.now))) tasks.old
+            → Ready (known self.new) tasks.new) }
+        ensures leads { OnOk result (Begins
+            (λ w s m. Lowers w.graph (around_of w context.entry)
+            (if_only place (condition_of condition.now)
+            (statement_of part.now)) s m) self.old tasks.old self.new tasks.new) }
     {
         let merge = self.label()?;
         self.test_or(context.occurrence, condition, merge)?;
@@ -155,10 +174,16 @@ impl<'a> Builder<'a> {
         second: &'a Statement,
         context: Context<'a>,
     ) -> Result<(), BuildFault>
-        requires { FitsStatement (known self.old) context (if_else place (condition_of condition.now) (statement_of first.now) (statement_of second.now)) }
+        requires { FitsStatement (known self.old) context
+            (if_else place (condition_of condition.now) (statement_of first.now) (statement_of second.now)) }
         ensures source { OnOk result ((known self.new).source ≡ (known self.old).source) }
-        ensures ready { OnOk result (Later (known self.old) context.entry.occurrence (declared (if_else place (condition_of condition.now) (statement_of first.now) (statement_of second.now))) tasks.old → Ready (known self.new) tasks.new) }
-        ensures leads { OnOk result (Begins (λ w s m. Lowers w.graph (around_of w context.entry) (if_else place (condition_of condition.now) (statement_of first.now) (statement_of second.now)) s m) self.old tasks.old self.new tasks.new) }
+        ensures ready { OnOk result (Later (known self.old) context.entry.occurrence
+            (declared (if_else place (condition_of condition.now) (statement_of first.now)
+            (statement_of second.now))) tasks.old → Ready (known self.new) tasks.new) }
+        ensures leads { OnOk result (Begins
+            (λ w s m. Lowers w.graph (around_of w context.entry)
+            (if_else place (condition_of condition.now) (statement_of first.now)
+            (statement_of second.now)) s m) self.old tasks.old self.new tasks.new) }
     {
         let merge = self.label()?;
         let no = self.label()?;
@@ -202,8 +227,13 @@ impl<'a> Builder<'a> {
     ) -> Result<(), BuildFault>
         requires { FitsStatement (known self.old) context (while_loop place (condition_of condition.now) (statement_of body.now)) }
         ensures source { OnOk result ((known self.new).source ≡ (known self.old).source) }
-        ensures ready { OnOk result (Later (known self.old) context.entry.occurrence (declared (while_loop place (condition_of condition.now) (statement_of body.now))) tasks.old → Ready (known self.new) tasks.new) }
-        ensures leads { OnOk result (Begins (λ w s m. Lowers w.graph (around_of w context.entry) (while_loop place (condition_of condition.now) (statement_of body.now)) s m) self.old tasks.old self.new tasks.new) }
+        ensures ready { OnOk result (Later (known self.old) context.entry.occurrence
+            (declared (while_loop place (condition_of condition.now) (statement_of body.now))) tasks.old
+            → Ready (known self.new) tasks.new) }
+        ensures leads { OnOk result (Begins
+            (λ w s m. Lowers w.graph (around_of w context.entry)
+            (while_loop place (condition_of condition.now)
+            (statement_of body.now)) s m) self.old tasks.old self.new tasks.new) }
     {
         let head = self.lines.goal;
         self.skip(Role::Head, place)?;
@@ -236,8 +266,13 @@ impl<'a> Builder<'a> {
     ) -> Result<(), BuildFault>
         requires { FitsStatement (known self.old) context (do_loop place (statement_of body.now) (condition_of condition.now)) }
         ensures source { OnOk result ((known self.new).source ≡ (known self.old).source) }
-        ensures ready { OnOk result (Later (known self.old) context.entry.occurrence (declared (do_loop place (statement_of body.now) (condition_of condition.now))) tasks.old → Ready (known self.new) tasks.new) }
-        ensures leads { OnOk result (Begins (λ w s m. Lowers w.graph (around_of w context.entry) (do_loop place (statement_of body.now) (condition_of condition.now)) s m) self.old tasks.old self.new tasks.new) }
+        ensures ready { OnOk result (Later (known self.old) context.entry.occurrence
+            (declared (do_loop place (statement_of body.now) (condition_of condition.now))) tasks.old
+            → Ready (known self.new) tasks.new) }
+        ensures leads { OnOk result (Begins
+            (λ w s m. Lowers w.graph (around_of w context.entry)
+            (do_loop place (statement_of body.now)
+            (condition_of condition.now)) s m) self.old tasks.old self.new tasks.new) }
     {
         let head = self.lines.goal;
         self.skip(Role::Head, place)?;
@@ -269,7 +304,9 @@ impl<'a> Builder<'a> {
         requires ready { IsTestReady (known self.old) occurrence (condition_of condition.now) }
         requires waits { (k : Known) × (known self.old ≡ with_label turns.turn (with_label turns.exit k)) }
         ensures rest { OnOk result (known self.old ≡ with_label turns.turn (with_label turns.exit (known self.new))) }
-        ensures leads { OnOk result (Leads (λ w s u. EndsDo w.graph (w.out occurrence) place (condition_of condition.now) (w.at head.0) (w.at turns.turn.0) (w.at turns.exit.0) s u) self.old self.new) }
+        ensures leads { OnOk result (Leads
+            (λ w s u. EndsDo w.graph (w.out occurrence) place (condition_of condition.now) (w.at head.0)
+            (w.at turns.turn.0) (w.at turns.exit.0) s u) self.old self.new) }
     {
         let next = self.next();
         self.land(Role::Plain, place, Instr::Skip(next.target()))?;
@@ -292,8 +329,12 @@ impl<'a> Builder<'a> {
     ) -> Result<(), BuildFault>
         requires { FitsStatement (known self.old) context (for_loop (head_of head.now) (statement_of body.now)) }
         ensures source { OnOk result ((known self.new).source ≡ (known self.old).source) }
-        ensures ready { OnOk result (Later (known self.old) context.entry.occurrence (declared (for_loop (head_of head.now) (statement_of body.now))) tasks.old → Ready (known self.new) tasks.new) }
-        ensures leads { OnOk result (Begins (λ w s m. Lowers w.graph (around_of w context.entry) (for_loop (head_of head.now) (statement_of body.now)) s m) self.old tasks.old self.new tasks.new) }
+        ensures ready { OnOk result (Later (known self.old) context.entry.occurrence
+            (declared (for_loop (head_of head.now) (statement_of body.now))) tasks.old
+            → Ready (known self.new) tasks.new) }
+        ensures leads { OnOk result (Begins
+            (λ w s m. Lowers w.graph (around_of w context.entry)
+            (for_loop (head_of head.now) (statement_of body.now)) s m) self.old tasks.old self.new tasks.new) }
     {
         push(tasks, Task::For(head, body, context))?;
         match &head.start {
@@ -319,8 +360,11 @@ impl<'a> Builder<'a> {
     ) -> Result<(), BuildFault>
         requires { FitsFor (known self.old) context (head_of head.now) (statement_of body.now) }
         ensures source { OnOk result ((known self.new).source ≡ (known self.old).source) }
-        ensures ready { OnOk result (Later (known self.old) context.entry.occurrence (declared (statement_of body.now)) tasks.old → Ready (known self.new) tasks.new) }
-        ensures leads { OnOk result (Begins (λ w s m. EntersFor w.graph (around_of w context.entry) (head_of head.now) (statement_of body.now) s m) self.old tasks.old self.new tasks.new) }
+        ensures ready { OnOk result (Later (known self.old) context.entry.occurrence
+            (declared (statement_of body.now)) tasks.old → Ready (known self.new) tasks.new) }
+        ensures leads { OnOk result (Begins
+            (λ w s m. EntersFor w.graph (around_of w context.entry) (head_of head.now)
+            (statement_of body.now) s m) self.old tasks.old self.new tasks.new) }
     {
         let begin = self.lines.goal;
         self.skip(Role::Head, head.place)?;
@@ -347,8 +391,11 @@ impl<'a> Builder<'a> {
         requires ready { IsLastReady (known self.old) context.occurrence (head_of head.now).last }
         requires waits { (k : Known) × (known self.old ≡ with_label turns.turn (with_label turns.exit k)) }
         ensures source { OnOk result ((known self.new).source ≡ (known self.old).source) }
-        ensures ready { OnOk result ((k : Known) → known self.old ≡ with_label turns.turn (with_label turns.exit k) → Later k context.entry.occurrence [] tasks.old → Ready (known self.new) tasks.new) }
-        ensures leads { OnOk result (Begins (λ w s m. TurnsFor w.graph (w.out context.entry.occurrence) (head_of head.now) (w.at begin.0) (w.at turns.turn.0) (w.at turns.exit.0) s m) self.old tasks.old self.new tasks.new) }
+        ensures ready { OnOk result ((k : Known) → known self.old ≡ with_label turns.turn (with_label turns.exit k)
+            → Later k context.entry.occurrence [] tasks.old → Ready (known self.new) tasks.new) }
+        ensures leads { OnOk result (Begins
+            (λ w s m. TurnsFor w.graph (w.out context.entry.occurrence) (head_of head.now) (w.at begin.0)
+            (w.at turns.turn.0) (w.at turns.exit.0) s m) self.old tasks.old self.new tasks.new) }
     {
         let next = self.next();
         self.land(Role::Plain, head.place, Instr::Skip(next.target()))?;
@@ -375,7 +422,9 @@ impl<'a> Builder<'a> {
     ) -> Result<(), BuildFault>
         requires { (k : Known) × (known self.old ≡ with_label exit k) }
         ensures rest { OnOk result (known self.old ≡ with_label exit (known self.new)) }
-        ensures leads { OnOk result (Leads (λ w s u. EndsFor w.graph (w.out occurrence) (head_of head.now) (w.at begin.0) (w.at exit.0) s u) self.old self.new) }
+        ensures leads { OnOk result (Leads
+            (λ w s u. EndsFor w.graph (w.out occurrence) (head_of head.now) (w.at begin.0)
+            (w.at exit.0) s u) self.old self.new) }
     {
         self.go_last(begin)?;
         self.skip(Role::Plain, head.place)?;
@@ -403,7 +452,8 @@ impl<'a> Builder<'a> {
         requires turns { IsSome context.turns }
         requires open { IsOpen (known self.old) context.block }
         ensures same { OnOk result (Keeps self.old self.new) }
-        ensures leads { OnOk result (Leads (λ w s u. Lowers w.graph (around_of w context.entry) (continue_loop place) s u) self.old self.new) }
+        ensures leads { OnOk result (Leads
+            (λ w s u. Lowers w.graph (around_of w context.entry) (continue_loop place) s u) self.old self.new) }
     {
         let Some(turns) = context.turns else {
             unreachable!();
@@ -424,7 +474,9 @@ impl<'a> Builder<'a> {
         requires occurs { context.occurrence < (known self.old).state.occurrences }
         requires right { IsPlainReady (known self.old) context.occurrence (right_of right.now) }
         ensures same { OnOk result (Keeps self.old self.new) }
-        ensures leads { OnOk result (Leads (λ w s u. Lowers w.graph (around_of w context.entry) (returns place (Some (right_of right.now))) s u) self.old self.new) }
+        ensures leads { OnOk result (Leads
+            (λ w s u. Lowers w.graph (around_of w context.entry)
+            (returns place (Some (right_of right.now))) s u) self.old self.new) }
     {
         let site = Site {
             occurrence: context.occurrence,
@@ -449,7 +501,9 @@ impl<'a> Builder<'a> {
         requires right { IsRightReady (known self.old) context.occurrence (right_of right.now) }
         ensures source { OnOk result ((known self.new).source ≡ (known self.old).source) }
         ensures ready { OnOk result (Later (known self.old) context.entry.occurrence [] tasks.old → Ready (known self.new) tasks.new) }
-        ensures leads { OnOk result (Begins (λ w s m. Lowers w.graph (around_of w context.entry) (returns place (Some (right_of right.now))) s m) self.old tasks.old self.new tasks.new) }
+        ensures leads { OnOk result (Begins
+            (λ w s m. Lowers w.graph (around_of w context.entry)
+            (returns place (Some (right_of right.now))) s m) self.old tasks.old self.new tasks.new) }
     {
         match right {
             RightSide::Call(call) => {
@@ -479,7 +533,10 @@ impl<'a> Builder<'a> {
         requires value { IsReturnReady (known self.old) context.occurrence (option_map (λ r. right_of r.now) value) }
         ensures source { OnOk result ((known self.new).source ≡ (known self.old).source) }
         ensures ready { OnOk result (Later (known self.old) context.entry.occurrence [] tasks.old → Ready (known self.new) tasks.new) }
-        ensures leads { OnOk result (Begins (λ w s m. Lowers w.graph (around_of w context.entry) (returns place (option_map (λ r. right_of r.now) value.entry)) s m) self.old tasks.old self.new tasks.new) }
+        ensures leads { OnOk result (Begins
+            (λ w s m. Lowers w.graph (around_of w context.entry)
+            (returns place
+            (option_map (λ r. right_of r.now) value.entry)) s m) self.old tasks.old self.new tasks.new) }
     {
         match value {
             None => {
@@ -499,7 +556,9 @@ impl<'a> Builder<'a> {
         requires fits { FitsStatement (known self.old) context (statement_of statement.now) }
         ensures none { OnOk result (declared (statement_of statement.now) ≡ []) }
         ensures same { OnOk result (Keeps self.old self.new) }
-        ensures leads { OnOk result (Leads (λ w s u. Lowers w.graph (around_of w context.entry) (statement_of statement.now) s u) self.old self.new) }
+        ensures leads { OnOk result (Leads
+            (λ w s u. Lowers w.graph (around_of w context.entry)
+            (statement_of statement.now) s u) self.old self.new) }
     {
         let occurrence = context.occurrence;
         match statement {
@@ -553,8 +612,11 @@ impl<'a> Builder<'a> {
         requires has_parts { HasParts (statement_of statement.now) }
         requires fits { FitsStatement (known self.old) context (statement_of statement.now) }
         ensures source { OnOk result ((known self.new).source ≡ (known self.old).source) }
-        ensures ready { OnOk result (Later (known self.old) context.entry.occurrence (declared (statement_of statement.now)) tasks.old → Ready (known self.new) tasks.new) }
-        ensures leads { OnOk result (Begins (λ w s m. Lowers w.graph (around_of w context.entry) (statement_of statement.now) s m) self.old tasks.old self.new tasks.new) }
+        ensures ready { OnOk result (Later (known self.old) context.entry.occurrence
+            (declared (statement_of statement.now)) tasks.old → Ready (known self.new) tasks.new) }
+        ensures leads { OnOk result (Begins
+            (λ w s m. Lowers w.graph (around_of w context.entry)
+            (statement_of statement.now) s m) self.old tasks.old self.new tasks.new) }
     {
         match statement {
             Statement::Block(numbers, inner) => {
@@ -605,8 +667,11 @@ impl<'a> Builder<'a> {
     ) -> Result<(), BuildFault>
         requires { FitsStatement (known self.old) context (statement_of statement.now) }
         ensures source { OnOk result ((known self.new).source ≡ (known self.old).source) }
-        ensures ready { OnOk result (Later (known self.old) context.entry.occurrence (declared (statement_of statement.now)) tasks.old → Ready (known self.new) tasks.new) }
-        ensures leads { OnOk result (Begins (λ w s m. Lowers w.graph (around_of w context.entry) (statement_of statement.now) s m) self.old tasks.old self.new tasks.new) }
+        ensures ready { OnOk result (Later (known self.old) context.entry.occurrence
+            (declared (statement_of statement.now)) tasks.old → Ready (known self.new) tasks.new) }
+        ensures leads { OnOk result (Begins
+            (λ w s m. Lowers w.graph (around_of w context.entry)
+            (statement_of statement.now) s m) self.old tasks.old self.new tasks.new) }
     {
         match statement {
             Statement::Declaration(place, items) => {
@@ -654,8 +719,12 @@ impl<'a> Builder<'a> {
     ) -> Result<(), BuildFault>
         requires { FitsAll (known self.old) context (stmts_of (map statement_of statements.now)) }
         ensures source { OnOk result ((known self.new).source ≡ (known self.old).source) }
-        ensures ready { OnOk result (Later (known self.old) context.entry.occurrence (all_declared (stmts_of (map statement_of statements.now))) tasks.old → Ready (known self.new) tasks.new) }
-        ensures leads { OnOk result (Begins (λ w s m. LowersAll w.graph (around_of w context.entry) (stmts_of (map statement_of statements.now)) s m) self.old tasks.old self.new tasks.new) }
+        ensures ready { OnOk result (Later (known self.old) context.entry.occurrence
+            (all_declared (stmts_of (map statement_of statements.now))) tasks.old
+            → Ready (known self.new) tasks.new) }
+        ensures leads { OnOk result (Begins
+            (λ w s m. LowersAll w.graph (around_of w context.entry)
+            (stmts_of (map statement_of statements.now)) s m) self.old tasks.old self.new tasks.new) }
     {
         let [first, more @ ..] = statements else {
             return Ok(());

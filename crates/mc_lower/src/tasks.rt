@@ -27,7 +27,9 @@ pub struct Context<'a> {
 impl<'a> Context<'a> {
     /// Inside a block.
     pub fn in_block(self, block: usize) -> Context<'a>
-        ensures { result ≡ record { function = self.entry.function; occurrence = self.entry.occurrence; block = Some block; turns = self.entry.turns } }
+        ensures { result
+            ≡ record
+            { function = self.entry.function; occurrence = self.entry.occurrence; block = Some block; turns = self.entry.turns } }
     {
         Context {
             function: self.function,
@@ -39,7 +41,14 @@ impl<'a> Context<'a> {
 
     /// Inside a loop.
     pub fn in_loop(self, exit: Label, turn: Label) -> Context<'a>
-        ensures { result ≡ record { function = self.entry.function; occurrence = self.entry.occurrence; block = None; turns = Some (record { exit = exit; turn = turn }) } }
+        ensures { result
+            ≡ record {
+              function = self.entry.function;
+              occurrence = self.entry.occurrence;
+              block = None;
+              turns = Some
+                  (record { exit = exit; turn = turn });
+            } }
     {
         Context {
             function: self.function,

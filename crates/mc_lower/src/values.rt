@@ -176,7 +176,9 @@ impl<'a> Builder<'a> {
         operation: Operation,
     ) -> Result<(), BuildFault>
         ensures same { OnOk result (Keeps self.old self.new) }
-        ensures leads { OnOk result (Leads (λ w s u. Appends w.graph plain place (λ q. sets (operation_of operation) variable q) s u) self.old self.new) }
+        ensures leads { OnOk result (Leads
+            (λ w s u. Appends w.graph plain place
+            (λ q. sets (operation_of operation) variable q) s u) self.old self.new) }
     {
         let next = self.next();
         self.append(Role::Plain, place, operation.sets(variable, next.target()))?;
@@ -192,7 +194,9 @@ impl<'a> Builder<'a> {
         temporaries: &mut Vec<VarId>,
     ) -> Result<VarId, BuildFault>
         ensures same { OnOk result (Keeps self.old self.new) }
-        ensures leads { IfOk result (λ t. (w : World) → Agrees w self.new → Agrees w self.old × Takes w.graph place kind (operation_of operation) temporaries.old.items (stage_of w self.old) t temporaries.new.items (stage_of w self.new)) }
+        ensures leads { IfOk result (λ t. (w : World) → Agrees w self.new → Agrees w self.old
+            × Takes w.graph place kind (operation_of operation) temporaries.old.items
+            (stage_of w self.old) t temporaries.new.items (stage_of w self.new)) }
     {
         let variable = self.temporary(temporaries.len(), kind)?;
         self.set(place, variable, operation)?;
@@ -223,7 +227,9 @@ impl<'a> Builder<'a> {
         requires kinds { HaveKinds (known self.old).source.structs (map field_of fields.now) }
         ensures same { OnOk result (Keeps self.old self.new) }
         ensures kind { IfOk result (λ r. HasKind (known self.old).source.structs (field_of r.1)) }
-        ensures leads { IfOk result (λ r. (w : World) → Agrees w self.new → Agrees w self.old × Walks w.graph place start (map field_of fields.now) temporaries.old.items (stage_of w self.old) r.0 (field_of r.1) temporaries.new.items (stage_of w self.new)) }
+        ensures leads { IfOk result (λ r. (w : World) → Agrees w self.new → Agrees w self.old
+            × Walks w.graph place start (map field_of fields.now) temporaries.old.items (stage_of w self.old) r.0
+            (field_of r.1) temporaries.new.items (stage_of w self.new)) }
     {
         let mut base = start;
         for at in 0..fields.len() {
@@ -245,7 +251,9 @@ impl<'a> Builder<'a> {
     ) -> Result<Value, BuildFault>
         requires { IsNamed (known self.old) site.occurrence (left_of left.now) }
         ensures same { OnOk result (Keeps self.old self.new) }
-        ensures leads { IfOk result (λ v. (w : World) → Agrees w self.new → Agrees w self.old × IsValue w.graph (w.out site.occurrence) site.place (value (left_of left.now)) temporaries.old.items (stage_of w self.old) v temporaries.new.items (stage_of w self.new)) }
+        ensures leads { IfOk result (λ v. (w : World) → Agrees w self.new → Agrees w self.old
+            × IsValue w.graph (w.out site.occurrence) site.place (value (left_of left.now)) temporaries.old.items
+            (stage_of w self.old) v temporaries.new.items (stage_of w self.new)) }
     {
         let variable = self.local(site.occurrence, left.variable);
         if left.fields.is_empty() {
@@ -264,7 +272,9 @@ impl<'a> Builder<'a> {
         temporaries: &mut Vec<VarId>,
     ) -> Result<Operand, BuildFault>
         ensures same { OnOk result (Keeps self.old self.new) }
-        ensures leads { IfOk result (λ o. (w : World) → Agrees w self.new → Agrees w self.old × IsOperand w.graph place known temporaries.old.items (stage_of w self.old) o temporaries.new.items (stage_of w self.new)) }
+        ensures leads { IfOk result (λ o. (w : World) → Agrees w self.new → Agrees w self.old
+            × IsOperand w.graph place known temporaries.old.items (stage_of w self.old) o temporaries.new.items
+            (stage_of w self.new)) }
     {
         match known {
             Value::Ready(operand) => Ok(operand),
@@ -285,7 +295,9 @@ impl<'a> Builder<'a> {
     ) -> Result<(), BuildFault>
         ensures same { OnOk result (Keeps self.old self.new) }
         ensures more { OnOk result (length made.new ≡ suc (length made.old)) }
-        ensures leads { OnOk result ((w : World) → Agrees w self.new → Agrees w self.old × Made w.graph place (operation_of operation) temporaries.old.items (stage_of w self.old) made.old temporaries.new.items (stage_of w self.new) made.new) }
+        ensures leads { OnOk result ((w : World) → Agrees w self.new → Agrees w self.old
+            × Made w.graph place (operation_of operation) temporaries.old.items
+            (stage_of w self.old) made.old temporaries.new.items (stage_of w self.new) made.new) }
     {
         let variable = self.take(place, Kind::Int, operation, temporaries)?;
         made.push(Operand::Var(variable))?;
@@ -305,7 +317,11 @@ impl<'a> Builder<'a> {
         requires others { IsWorkReady (known self.old) site.occurrence work.old (suc (length made.old)) }
         ensures same { OnOk result (Keeps self.old self.new) }
         ensures ready { OnOk result (IsWorkReady (known self.new) site.occurrence work.new (length made.new)) }
-        ensures leads { OnOk result ((w : World) (o : Operand) (ts : List VarId) (u : Stage) → Agrees w self.new → Finishes w.graph (w.out site.occurrence) site.place work.new made.new temporaries.new.items (stage_of w self.new) o ts u → Agrees w self.old × Finishes w.graph (w.out site.occurrence) site.place (Whole expression.entry ∷ work.old) made.old temporaries.old.items (stage_of w self.old) o ts u) }
+        ensures leads { OnOk result ((w : World) (o : Operand) (ts : List VarId) (u : Stage) → Agrees w self.new
+            → Finishes w.graph (w.out site.occurrence) site.place work.new made.new temporaries.new.items
+            (stage_of w self.new) o ts u → Agrees w self.old
+            × Finishes w.graph (w.out site.occurrence) site.place
+            (Whole expression.entry ∷ work.old) made.old temporaries.old.items (stage_of w self.old) o ts u) }
     {
         match expression {
             Expression::Number(number) => {
@@ -354,7 +370,11 @@ impl<'a> Builder<'a> {
         requires { IsWorkReady (known self.old) site.occurrence (next ∷ work.old) (length made.old) }
         ensures same { OnOk result (Keeps self.old self.new) }
         ensures ready { OnOk result (IsWorkReady (known self.new) site.occurrence work.new (length made.new)) }
-        ensures leads { OnOk result ((w : World) (o : Operand) (ts : List VarId) (u : Stage) → Agrees w self.new → Finishes w.graph (w.out site.occurrence) site.place work.new made.new temporaries.new.items (stage_of w self.new) o ts u → Agrees w self.old × Finishes w.graph (w.out site.occurrence) site.place (next.entry ∷ work.old) made.old temporaries.old.items (stage_of w self.old) o ts u) }
+        ensures leads { OnOk result ((w : World) (o : Operand) (ts : List VarId) (u : Stage) → Agrees w self.new
+            → Finishes w.graph (w.out site.occurrence) site.place work.new made.new temporaries.new.items
+            (stage_of w self.new) o ts u → Agrees w self.old
+            × Finishes w.graph (w.out site.occurrence) site.place
+            (next.entry ∷ work.old) made.old temporaries.old.items (stage_of w self.old) o ts u) }
     {
         match next {
             Work::Whole(expression) => {
@@ -385,7 +405,10 @@ impl<'a> Builder<'a> {
     ) -> Result<Operand, BuildFault>
         requires { IsReady (known self.old) site.occurrence (expression_of expression.now) }
         ensures same { OnOk result (Keeps self.old self.new) }
-        ensures leads { IfOk result (λ o. (w : World) → Agrees w self.new → Agrees w self.old × Evaluates w.graph (w.out site.occurrence) site.place (expression_of expression.now) temporaries.old.items (stage_of w self.old) o temporaries.new.items (stage_of w self.new)) }
+        ensures leads { IfOk result (λ o. (w : World) → Agrees w self.new → Agrees w self.old
+            × Evaluates w.graph (w.out site.occurrence) site.place
+            (expression_of expression.now) temporaries.old.items (stage_of w self.old) o temporaries.new.items
+            (stage_of w self.new)) }
     {
         let mut work = Stack::new(self.alloc);
         let mut made = Stack::new(self.alloc);
@@ -414,7 +437,10 @@ impl<'a> Builder<'a> {
         requires left { IsReady (known self.old) site.occurrence (expression_of left.now) }
         requires right { IsReady (known self.old) site.occurrence (expression_of right.now) }
         ensures same { OnOk result (Keeps self.old self.new) }
-        ensures leads { IfOk result (λ v. (w : World) → Agrees w self.new → Agrees w self.old × JoinsParts w.graph (w.out site.occurrence) site.place how (expression_of left.now) (expression_of right.now) temporaries.old.items (stage_of w self.old) v temporaries.new.items (stage_of w self.new)) }
+        ensures leads { IfOk result (λ v. (w : World) → Agrees w self.new → Agrees w self.old
+            × JoinsParts w.graph (w.out site.occurrence) site.place how (expression_of left.now)
+            (expression_of right.now) temporaries.old.items (stage_of w self.old) v temporaries.new.items
+            (stage_of w self.new)) }
     {
         let left = self.evaluate(site, left, temporaries)?;
         let right = self.evaluate(site, right, temporaries)?;
@@ -430,7 +456,10 @@ impl<'a> Builder<'a> {
     ) -> Result<Value, BuildFault>
         requires { IsReady (known self.old) site.occurrence (expression_of expression.now) }
         ensures same { OnOk result (Keeps self.old self.new) }
-        ensures leads { IfOk result (λ v. (w : World) → Agrees w self.new → Agrees w self.old × IsValue w.graph (w.out site.occurrence) site.place (expression_of expression.now) temporaries.old.items (stage_of w self.old) v temporaries.new.items (stage_of w self.new)) }
+        ensures leads { IfOk result (λ v. (w : World) → Agrees w self.new → Agrees w self.old
+            × IsValue w.graph (w.out site.occurrence) site.place
+            (expression_of expression.now) temporaries.old.items (stage_of w self.old) v temporaries.new.items
+            (stage_of w self.new)) }
     {
         match expression {
             Expression::Number(number) => Ok(Value::Ready(number_of(*number))),
@@ -469,7 +498,10 @@ impl<'a> Builder<'a> {
         requires { AreReady (known self.old) site.occurrence (map expression_of expressions.now) }
         ensures same { OnOk result (Keeps self.old self.new) }
         ensures count { IfOk result (λ os. length os.items ≡ length expressions.now) }
-        ensures leads { IfOk result (λ os. (w : World) → Agrees w self.new → Agrees w self.old × EvaluatesAll w.graph (w.out site.occurrence) site.place (map expression_of expressions.now) temporaries.old.items (stage_of w self.old) os.items temporaries.new.items (stage_of w self.new)) }
+        ensures leads { IfOk result (λ os. (w : World) → Agrees w self.new → Agrees w self.old
+            × EvaluatesAll w.graph (w.out site.occurrence) site.place
+            (map expression_of expressions.now) temporaries.old.items
+            (stage_of w self.old) os.items temporaries.new.items (stage_of w self.new)) }
     {
         let mut operands = Vec::new(self.alloc);
         for at in 0..expressions.len() {
@@ -482,7 +514,8 @@ impl<'a> Builder<'a> {
     // The operand of a shape's argument.
     pub fn argument(&self, occurrence: usize, argument: Argument) -> Operand
         requires { IsArgumentReady (known self.now) occurrence (argument_of argument) }
-        ensures { (w : World) → Agrees w self.now → IsArgument w.graph (w.out occurrence) (stage_of w self.now) (argument_of argument) result }
+        ensures { (w : World) → Agrees w self.now
+            → IsArgument w.graph (w.out occurrence) (stage_of w self.now) (argument_of argument) result }
     {
         match argument {
             Argument::Variable(number) => {

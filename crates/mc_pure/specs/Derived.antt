@@ -28,10 +28,13 @@ pub data Follows (p : Pure) : Atom → Type 0 where
   differs : {a b : NodeId} {c : ℤ} → Follows p (Ne a b c) → Follows p (Ne b a (neg_ℤ c))
   differs_along : {a b d : NodeId} {c e : ℤ} → Follows p (Ne a b c) → Follows p (Eq b d e) → Follows p (Ne a d (c +ℤ e))
   -- an end of a range that the node is not
-  raised : {a b : NodeId} {c k hi : ℤ} → Follows p (Ne a b c) → Follows p (In b k k) → Follows p (In a (k +ℤ c) hi) → Follows p (In a ((k +ℤ c) +ℤ pos 1) hi)
-  lowered : {a b : NodeId} {c k lo : ℤ} → Follows p (Ne a b c) → Follows p (In b k k) → Follows p (In a lo (k +ℤ c)) → Follows p (In a lo ((k +ℤ c) -ℤ pos 1))
+  raised : {a b : NodeId} {c k hi : ℤ} → Follows p (Ne a b c) → Follows p (In b k k) → Follows p (In a (k +ℤ c) hi)
+      → Follows p (In a ((k +ℤ c) +ℤ pos 1) hi)
+  lowered : {a b : NodeId} {c k lo : ℤ} → Follows p (Ne a b c) → Follows p (In b k k) → Follows p (In a lo (k +ℤ c))
+      → Follows p (In a lo ((k +ℤ c) -ℤ pos 1))
   -- ranges that do not meet
-  disjoint : {a b : NodeId} {c lo hi m k : ℤ} → Follows p (In a lo hi) → Follows p (In b m k) → ((hi <ℤ (m +ℤ c)) ⊎ ((k +ℤ c) <ℤ lo)) → Follows p (Ne a b c)
+  disjoint : {a b : NodeId} {c lo hi m k : ℤ} → Follows p (In a lo hi) → Follows p (In b m k)
+      → ((hi <ℤ (m +ℤ c)) ⊎ ((k +ℤ c) <ℤ lo)) → Follows p (Ne a b c)
 
 -- what can't be true follows: an empty range, a node that differs from itself, or one that is itself and more
 pub data IsFalse (p : Pure) : Type 0 where

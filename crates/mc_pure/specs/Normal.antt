@@ -43,7 +43,8 @@ pub record SoundAt (p : Pure) (nf : NodeId → Row) (a : NodeId) : Type 0 where
 -- what makes it complete
 pub record IsNormal (p : Pure) (nf : NodeId → Row) : Type 0 where
   pub sound : (a : NodeId) → IsNode p.kinds a → SoundAt p nf a
-  pub coherent : (a b : NodeId) → IsNode p.kinds a → IsNode p.kinds b → (nf a).rep ≡ (nf b).rep → ((nf a).lo ≡ (nf b).lo) × ((nf a).hi ≡ (nf b).hi)
+  pub coherent : (a b : NodeId) → IsNode p.kinds a → IsNode p.kinds b → (nf a).rep ≡ (nf b).rep
+      → ((nf a).lo ≡ (nf b).lo) × ((nf a).hi ≡ (nf b).hi)
   pub full : (a : NodeId) → IsNode p.kinds a → (nf a).lo ≤ℤ (nf a).hi
   pub origin : IsNode p.kinds null
   pub pinned : (a : NodeId) → IsNode p.kinds a → (nf a).lo ≡ (nf a).hi → (nf a).rep ≡ (nf null).rep
@@ -51,5 +52,7 @@ pub record IsNormal (p : Pure) (nf : NodeId → Row) : Type 0 where
   pub ranges : (a : NodeId) (l h : ℤ) → Base p (In a l h) → Holds p nf (In a l h)
   pub known : (a b : NodeId) (c : ℤ) → Base p (Ne a b c) → IsNode p.kinds a × IsNode p.kinds b
   pub differ : (a b : NodeId) (c : ℤ) → Base p (Ne a b c) → (nf a).rep ≡ (nf b).rep → (nf a).off ≢ (nf b).off +ℤ c
-  pub narrow : (a b : NodeId) (c : ℤ) → Base p (Ne a b c) → (nf b).lo ≡ (nf b).hi → (low (nf a) ≢ low (nf b) +ℤ c) × (high (nf a) ≢ low (nf b) +ℤ c)
-  pub narrow' : (a b : NodeId) (c : ℤ) → Base p (Ne a b c) → (nf a).lo ≡ (nf a).hi → (low (nf a) ≢ low (nf b) +ℤ c) × (low (nf a) ≢ high (nf b) +ℤ c)
+  pub narrow : (a b : NodeId) (c : ℤ) → Base p (Ne a b c) → (nf b).lo ≡ (nf b).hi → (low (nf a) ≢ low (nf b) +ℤ c)
+      × (high (nf a) ≢ low (nf b) +ℤ c)
+  pub narrow' : (a b : NodeId) (c : ℤ) → Base p (Ne a b c) → (nf a).lo ≡ (nf a).hi → (low (nf a) ≢ low (nf b) +ℤ c)
+      × (low (nf a) ≢ high (nf b) +ℤ c)

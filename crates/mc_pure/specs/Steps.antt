@@ -143,7 +143,8 @@ abbrev pub MovedRows : (x y : Row) (d : ℤ) (a b : Row) (c : ℤ) → Type 0
 MovedRows x y d a b c = (x.rep ≡ a.rep) × (y.rep ≡ b.rep) × (c +ℤ (b.off +ℤ x.off) ≡ d +ℤ (y.off +ℤ a.off))
 
 abbrev pub MovedAtom : List Row → Atom → (a b : Row) (c : ℤ) → Type 0
-MovedAtom rows (Ne x y d) a b c = MovedRows (row_at rows x) (row_at rows y) d a b c ⊎ MovedRows (row_at rows x) (row_at rows y) d b a (neg_ℤ c)
+MovedAtom rows (Ne x y d) a b c = MovedRows (row_at rows x) (row_at rows y) d a b c
+    ⊎ MovedRows (row_at rows x) (row_at rows y) d b a (neg_ℤ c)
 MovedAtom rows (Eq x y d) a b c = ⊥
 MovedAtom rows (In x l h) a b c = ⊥
 

@@ -121,7 +121,8 @@ pub fn restrict(known: &Known, rows: &mut [Row], node: NodeId, span: &Span) -> O
     requires there { IsNode known.now.nodes node }
     requires lo { IsSmall span.now.lo }
     requires hi { IsSmall span.now.hi }
-    ensures { Stepped (pure_of known.now) rows.old rows.new (Settled (pure_of known.now) rows.old (In node span.now.lo span.now.hi)) result }
+    ensures { Stepped (pure_of known.now) rows.old rows.new
+        (Settled (pure_of known.now) rows.old (In node span.now.lo span.now.hi)) result }
 {
     let row = row_of(known, rows, node);
     let step = cut(&row, span);

@@ -33,7 +33,8 @@ impl Known {
 
 /// The place of the first such node.
 fn first_place(starts: &[NodeId], at: NodeId) -> Option<usize>
-    ensures { MatchOption result (without_first starts.now at ≡ starts.now) (λ i. (i < length starts.now) × (without_first starts.now at ≡ remove starts.now i)) }
+    ensures { MatchOption result (without_first starts.now at ≡ starts.now)
+        (λ i. (i < length starts.now) × (without_first starts.now at ≡ remove starts.now i)) }
 {
     for i in 0..starts.len() {
         if starts[i].0 == at.0 {

@@ -47,7 +47,8 @@ fn place_in(pairs: &[(NodeId, NodeId)], node: NodeId) -> usize
 
 /// The image of the node, where its pair stands at the place.
 fn image_at(pairs: &[(NodeId, NodeId)], node: NodeId, place: usize) -> Option<NodeId>
-    ensures { MatchOption result ((to : _) → slice_get pairs.now place ≡ Some (node, to) → ⊥) (λ to. slice_get pairs.now place ≡ Some (node, to)) }
+    ensures { MatchOption result ((to : _) → slice_get pairs.now place ≡ Some (node, to) → ⊥)
+        (λ to. slice_get pairs.now place ≡ Some (node, to)) }
 {
     match pairs.get(place) {
         Some(pair) => {

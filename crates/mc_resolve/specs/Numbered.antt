@@ -9,4 +9,5 @@ use Rattle.mc_resolve.specs.declared.locals.PlaceKey.{PlaceKey}
 -- the map has for each place the number of the first variable there, and no other places
 abbrev pub AreNumbers : {S : Type 0} → List Named → IndexMap PlaceKey ℕ S → Type 0
 AreNumbers variables numbers =
-    (place : Place) → get_by (λ key. place.line == key.line && place.column == key.column) numbers ≡ position (λ v. is_place v.place place) variables
+    (place : Place) → get_by (λ key. place.line == key.line && place.column == key.column) numbers
+    ≡ position (λ v. is_place v.place place) variables

@@ -20,7 +20,12 @@ outside m s = parted m.heads m.own s.outer
 
 -- the variables of a block become those of a head around
 abbrev pub as_head : Marks → Scope → Scope
-as_head m s = record { heads = s.heads ++ s.own ++ take m.heads s.outer; own = take m.own (drop m.heads s.outer); outer = drop m.own (drop m.heads s.outer) }
+as_head m s = record {
+  heads = s.heads ++ s.own
+      ++ take m.heads s.outer;
+  own = take m.own (drop m.heads s.outer);
+  outer = drop m.own (drop m.heads s.outer);
+}
 
 -- the variables of all heads go but for the last so many
 abbrev pub behind_heads : ℕ → Scope → Scope

@@ -134,7 +134,9 @@ fn resolve_comparison(
     right: &tree::Expression,
 ) -> Result<Condition, AllocError>
     requires { IsNumbered names.naming }
-    ensures { IfOk result (λ c. condition_of c ≡ resolved_condition (naming_at names.entry) (visible_at names.entry) (compare mark (named_expression left.now) (named_expression right.now))) }
+    ensures { IfOk result (λ c. condition_of c
+        ≡ resolved_condition (naming_at names.entry) (visible_at names.entry)
+        (compare mark (named_expression left.now) (named_expression right.now))) }
 {
     let place = first_place(left);
     let left = Box::new(alloc, resolve_expression(alloc, names, left)?)?;
@@ -153,7 +155,10 @@ fn enter<'a>(
     made: &mut Stack<Condition>,
 ) -> Result<(), AllocError>
     requires { IsNumbered names.naming }
-    ensures tested { OnOk result (tested (naming_at names.entry) (visible_at names.entry) parts.new (map condition_of made.new) ≡ tested (naming_at names.entry) (visible_at names.entry) parts.old (resolved_condition (naming_at names.entry) (visible_at names.entry) (named_condition condition.now) ∷ map condition_of made.old)) }
+    ensures tested { OnOk result (tested (naming_at names.entry) (visible_at names.entry) parts.new
+        (map condition_of made.new) ≡ tested (naming_at names.entry) (visible_at names.entry) parts.old
+        (resolved_condition (naming_at names.entry) (visible_at names.entry) (named_condition condition.now)
+        ∷ map condition_of made.old)) }
     ensures steps { OnOk result (part_steps parts.new < condition_steps (named_condition condition.now) + part_steps parts.old) }
 {
     match condition {
@@ -184,7 +189,9 @@ fn step<'a>(
     made: &mut Stack<Condition>,
 ) -> Result<(), AllocError>
     requires { IsNumbered names.naming }
-    ensures tested { OnOk result (tested (naming_at names.entry) (visible_at names.entry) parts.new (map condition_of made.new) ≡ tested (naming_at names.entry) (visible_at names.entry) (next.entry ∷ parts.old) (map condition_of made.old)) }
+    ensures tested { OnOk result (tested (naming_at names.entry) (visible_at names.entry) parts.new
+        (map condition_of made.new) ≡ tested (naming_at names.entry) (visible_at names.entry)
+        (next.entry ∷ parts.old) (map condition_of made.old)) }
     ensures steps { OnOk result (part_steps parts.new < part_steps (next.entry ∷ parts.old)) }
 {
     match next {
@@ -202,7 +209,8 @@ pub fn resolve_condition(
     condition: &tree::Condition,
 ) -> Result<Condition, AllocError>
     requires { IsNumbered names.naming }
-    ensures { IfOk result (λ c. condition_of c ≡ resolved_condition (naming_at names.entry) (visible_at names.entry) (named_condition condition.now)) }
+    ensures { IfOk result (λ c. condition_of c
+        ≡ resolved_condition (naming_at names.entry) (visible_at names.entry) (named_condition condition.now)) }
 {
     let mut parts = Stack::new(alloc);
     let mut made = Stack::new(alloc);

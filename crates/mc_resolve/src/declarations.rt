@@ -55,7 +55,9 @@ pub fn resolve_maybe_right(
     right: &Option<tree::RightSide>,
 ) -> Result<Option<RightSide>, AllocError>
     requires { IsNumbered names.naming }
-    ensures { IfOk result (λ made. option_map right_of made ≡ option_map (resolved_right (naming_at names.entry) (visible_at names.entry)) (option_map named_right right.now)) }
+    ensures { IfOk result (λ made. option_map right_of made
+        ≡ option_map (resolved_right (naming_at names.entry) (visible_at names.entry))
+        (option_map named_right right.now)) }
 {
     match right {
         None => Ok(None),
@@ -70,7 +72,9 @@ fn resolve_maybe_condition(
     condition: &Option<tree::Condition>,
 ) -> Result<Option<Condition>, AllocError>
     requires { IsNumbered names.naming }
-    ensures { IfOk result (λ made. option_map condition_of made ≡ option_map (resolved_condition (naming_at names.entry) (visible_at names.entry)) (option_map named_condition condition.now)) }
+    ensures { IfOk result (λ made. option_map condition_of made
+        ≡ option_map (resolved_condition (naming_at names.entry) (visible_at names.entry))
+        (option_map named_condition condition.now)) }
 {
     match condition {
         None => Ok(None),
@@ -85,7 +89,9 @@ fn resolve_maybe_simple(
     simple: &Option<tree::Simple>,
 ) -> Result<Option<Simple>, AllocError>
     requires { IsNumbered names.naming }
-    ensures { IfOk result (λ made. option_map simple_of made ≡ option_map (resolved_simple (naming_at names.entry) (visible_at names.entry)) (option_map named_simple simple.now)) }
+    ensures { IfOk result (λ made. option_map simple_of made
+        ≡ option_map (resolved_simple (naming_at names.entry) (visible_at names.entry))
+        (option_map named_simple simple.now)) }
 {
     match simple {
         None => Ok(None),
@@ -102,8 +108,10 @@ pub fn resolve_items<'a>(
     items: &'a [tree::Initial],
 ) -> Result<Vec<Initial>, AllocError>
     requires { IsNumbered naming }
-    ensures made { IfOk result (λ made. map initial_of made.items ≡ resolved_items (naming_held naming.entry) scope.old base.now (map named_initial items.now)) }
-    ensures scope { OnOk result (scope.new ≡ behind_items (naming_held naming.entry).tables base.now scope.old (map named_initial items.now)) }
+    ensures made { IfOk result (λ made. map initial_of made.items
+        ≡ resolved_items (naming_held naming.entry) scope.old base.now (map named_initial items.now)) }
+    ensures scope { OnOk result (scope.new
+        ≡ behind_items (naming_held naming.entry).tables base.now scope.old (map named_initial items.now)) }
 {
     let mut made = Vec::with_capacity(alloc, items.len())?;
     for item in items {
@@ -127,7 +135,9 @@ fn resolve_start<'a>(
 ) -> Result<(ForStart, Vec<usize>), AllocError>
     requires { IsNumbered naming }
     ensures start { IfOk result (λ made. start_of made.0 ≡ resolved_start (naming_held naming.entry) scope.old (named_start start.now)) }
-    ensures variables { IfOk result (λ made. made.1.items ≡ numbers_in (naming_held naming.entry).locals (head_variables (naming_held naming.entry).tables scope.old (named_start start.now))) }
+    ensures variables { IfOk result (λ made. made.1.items
+        ≡ numbers_in (naming_held naming.entry).locals
+        (head_variables (naming_held naming.entry).tables scope.old (named_start start.now))) }
     ensures scope { OnOk result (scope.new ≡ behind_start (naming_held naming.entry).tables scope.old (named_start start.now)) }
 {
     match start {

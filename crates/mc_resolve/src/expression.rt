@@ -95,7 +95,10 @@ fn enter<'a>(
     made: &mut Stack<Expression>,
 ) -> Result<(), AllocError>
     requires { IsNumbered names.naming }
-    ensures built { OnOk result (built (naming_at names.entry) (visible_at names.entry) work.new (map expression_of made.new) ≡ built (naming_at names.entry) (visible_at names.entry) work.old (resolved_expression (naming_at names.entry) (visible_at names.entry) (named_expression expression.now) ∷ map expression_of made.old)) }
+    ensures built { OnOk result (built (naming_at names.entry) (visible_at names.entry) work.new
+        (map expression_of made.new) ≡ built (naming_at names.entry) (visible_at names.entry) work.old
+        (resolved_expression (naming_at names.entry) (visible_at names.entry) (named_expression expression.now)
+        ∷ map expression_of made.old)) }
     ensures steps { OnOk result (work_steps work.new < expression_steps (named_expression expression.now) + work_steps work.old) }
 {
     match expression {
@@ -129,7 +132,9 @@ fn step<'a>(
     made: &mut Stack<Expression>,
 ) -> Result<(), AllocError>
     requires { IsNumbered names.naming }
-    ensures built { OnOk result (built (naming_at names.entry) (visible_at names.entry) work.new (map expression_of made.new) ≡ built (naming_at names.entry) (visible_at names.entry) (next.entry ∷ work.old) (map expression_of made.old)) }
+    ensures built { OnOk result (built (naming_at names.entry) (visible_at names.entry) work.new
+        (map expression_of made.new) ≡ built (naming_at names.entry) (visible_at names.entry)
+        (next.entry ∷ work.old) (map expression_of made.old)) }
     ensures steps { OnOk result (work_steps work.new < work_steps (next.entry ∷ work.old)) }
 {
     match next {
@@ -147,7 +152,8 @@ pub fn resolve_expression(
     expression: &tree::Expression,
 ) -> Result<Expression, AllocError>
     requires { IsNumbered names.naming }
-    ensures { IfOk result (λ e. expression_of e ≡ resolved_expression (naming_at names.entry) (visible_at names.entry) (named_expression expression.now)) }
+    ensures { IfOk result (λ e. expression_of e
+        ≡ resolved_expression (naming_at names.entry) (visible_at names.entry) (named_expression expression.now)) }
 {
     let mut work = Stack::new(alloc);
     let mut made = Stack::new(alloc);

@@ -36,8 +36,10 @@ fn part_several<'a>(
     statements: &'a [Statement],
 ) -> Result<(), AllocError>
     ensures variables { OnOk result (
-        (t : Tables) → left_variables t rest.new ≡ statements_variables t (stmts_of (map statement_of statements.now)) ++ left_variables t rest.old) }
-    ensures steps { OnOk result (rest_steps rest.new < statements_steps (stmts_of (map statement_of statements.now)) + rest_steps rest.old) }
+        (t : Tables) → left_variables t rest.new
+        ≡ statements_variables t (stmts_of (map statement_of statements.now)) ++ left_variables t rest.old) }
+    ensures steps { OnOk result (rest_steps rest.new < statements_steps
+        (stmts_of (map statement_of statements.now)) + rest_steps rest.old) }
 {
     if let [first, more @ ..] = statements {
         rest.push(Rest::Several(more))?;
@@ -55,7 +57,8 @@ impl<'a> Locals<'a> {
         tables: &NameTables,
         declaration: &'a Declaration,
     ) -> Result<(), AllocError>
-        ensures { OnOk result (map variable_held self.new ≡ map variable_held self.old ++ declaration_variables (tables_held tables.now) (declaration_of declaration.now)) }
+        ensures { OnOk result (map variable_held self.new ≡ map variable_held self.old
+            ++ declaration_variables (tables_held tables.now) (declaration_of declaration.now)) }
     {
         for item in declaration.items.as_slice() {
             self.push(named(tables, &declaration.base, &item.declarator))?;
@@ -65,7 +68,8 @@ impl<'a> Locals<'a> {
 
     /// The variables that a `for` begins with come to the end.
     fn add_start(&mut self, tables: &NameTables, start: &'a ForStart) -> Result<(), AllocError>
-        ensures { OnOk result (map variable_held self.new ≡ map variable_held self.old ++ start_variables (tables_held tables.now) (start_of start.now)) }
+        ensures { OnOk result (map variable_held self.new ≡ map variable_held self.old
+            ++ start_variables (tables_held tables.now) (start_of start.now)) }
     {
         match start {
             ForStart::Nothing => Ok(()),
@@ -82,7 +86,9 @@ impl<'a> Locals<'a> {
         rest: &mut Stack<Rest<'a>>,
     ) -> Result<(), AllocError>
         ensures variables { OnOk result (map variable_held self.new ++ left_variables (tables_held tables.now) rest.new
-            ≡ map variable_held self.old ++ (statement_variables (tables_held tables.now) (statement_of statement.now) ++ left_variables (tables_held tables.now) rest.old)) }
+            ≡ map variable_held self.old
+            ++ (statement_variables (tables_held tables.now) (statement_of statement.now)
+            ++ left_variables (tables_held tables.now) rest.old)) }
         ensures steps { OnOk result (rest_steps rest.new < statement_steps (statement_of statement.now) + rest_steps rest.old) }
     {
         match statement {
@@ -139,7 +145,8 @@ impl<'a> Locals<'a> {
         tables: &NameTables,
         function: &'a Function,
     ) -> Result<(), AllocError>
-        ensures { OnOk result (map variable_held self.new ≡ map variable_held self.old ++ statements_variables (tables_held tables.now) (body_statements (function_of function.now))) }
+        ensures { OnOk result (map variable_held self.new ≡ map variable_held self.old
+            ++ statements_variables (tables_held tables.now) (body_statements (function_of function.now))) }
     {
         let mut rest = Stack::new(alloc);
         rest.push(Rest::Several(body_of(function)))?;

@@ -134,7 +134,8 @@ impl<'a> Locals<'a> {
         tables: &NameTables<'a>,
         function: &'a Function,
     ) -> Result<Locals<'a>, AllocError>
-        ensures { IfOk result (λ locals. map variable_held locals ≡ function_variables (tables_held tables.now) (function_of function.now)) }
+        ensures { IfOk result (λ locals. map variable_held locals
+            ≡ function_variables (tables_held tables.now) (function_of function.now)) }
     {
         let mut locals = Locals::new(alloc);
         let listed = parameters(function);

@@ -114,7 +114,12 @@ impl<'s, 'a> NamesHere<'s, 'a> {
     /// The field behind a pointer of this type.
     fn field(&self, pointer: VariableType, field: &Name) -> FieldAt
         requires { IsNumbered self.now.naming }
-        ensures { field_of result ≡ record { shape = struct_behind pointer; field = field_number (tables_held self.now.naming.tables.now) pointer field.now } }
+        ensures { field_of result
+            ≡ record {
+              shape = struct_behind pointer;
+              field = field_number
+                  (tables_held self.now.naming.tables.now) pointer field.now;
+            } }
     {
         let shape = struct_behind(pointer);
         FieldAt {
@@ -131,7 +136,9 @@ impl<'s, 'a> NamesHere<'s, 'a> {
         fields: &[Name],
     ) -> Result<Vec<FieldAt>, AllocError>
         requires { IsNumbered self.now.naming }
-        ensures { IfOk result (λ made. map field_of made.items ≡ resolved_fields (tables_held self.now.naming.tables.now) start fields.now) }
+        ensures { IfOk result
+            (λ made. map field_of made.items
+            ≡ resolved_fields (tables_held self.now.naming.tables.now) start fields.now) }
     {
         let mut found = start;
         let mut made = Vec::new(alloc);

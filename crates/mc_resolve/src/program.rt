@@ -127,7 +127,9 @@ fn push_defined<'a>(
     requires fields { fields.now.structs.items ≡ field_names (tables_held tables.now) }
     requires functions { functions.now.names ≡ defined_names (tables_held tables.now) }
     ensures { OnOk result (map function_of made.new.items
-        ≡ map function_of made.old.items ++ map (resolved_function (tables_held tables.now) defs.now) (filter is_defined (named_function function.now ∷ []))) }
+        ≡ map function_of made.old.items
+        ++ map (resolved_function (tables_held tables.now) defs.now)
+        (filter is_defined (named_function function.now ∷ []))) }
 {
     if function.body.is_some() {
         made.push(resolve_function(alloc, tables, fields, functions, defs, function)?)?;
@@ -143,7 +145,8 @@ fn resolve_functions<'a>(
     defs: &[Def],
 ) -> Result<Vec<Function>, AllocError>
     requires { functions.now.names ≡ defined_names (tables_held tables.now) }
-    ensures { IfOk result (λ made. map function_of made.items ≡ map (resolved_function (tables_held tables.now) defs.now) (defined_functions (tables_held tables.now))) }
+    ensures { IfOk result (λ made. map function_of made.items
+        ≡ map (resolved_function (tables_held tables.now) defs.now) (defined_functions (tables_held tables.now))) }
 {
     let fields = FieldNames::new(alloc, tables)?;
     let mut made = Vec::new(alloc);
@@ -159,7 +162,8 @@ fn resolve_functions<'a>(
 ///
 /// Memory runs out.
 pub fn resolve(alloc: Global, bound: &Bound) -> Result<Resolved, AllocError>
-    ensures { IfOk result (λ made. program_of made bound.now.defs ≡ resolved_program (tables_of (unit_of bound.now.typed.unit)) bound.now.defs bound.now.typed.entry) }
+    ensures { IfOk result (λ made. program_of made bound.now.defs
+        ≡ resolved_program (tables_of (unit_of bound.now.typed.unit)) bound.now.defs bound.now.typed.entry) }
 {
     let typed = bound.typed();
     let tables = collect_tables(alloc, typed.unit())?;

@@ -24,7 +24,9 @@ fn resolve_arguments(
     arguments: &[tree::Expression],
 ) -> Result<Vec<Expression>, AllocError>
     requires { IsNumbered names.naming }
-    ensures { IfOk result (λ made. map expression_of made.items ≡ map (resolved_expression (naming_at names.entry) (visible_at names.entry)) (map named_expression arguments.now)) }
+    ensures { IfOk result (λ made. map expression_of made.items
+        ≡ map (resolved_expression (naming_at names.entry) (visible_at names.entry))
+        (map named_expression arguments.now)) }
 {
     let mut made = Vec::new(alloc);
     for argument in arguments {
@@ -74,7 +76,8 @@ pub fn resolve_right(
     right: &tree::RightSide,
 ) -> Result<RightSide, AllocError>
     requires { IsNumbered names.naming }
-    ensures { IfOk result (λ made. right_of made ≡ resolved_right (naming_at names.entry) (visible_at names.entry) (named_right right.now)) }
+    ensures { IfOk result (λ made. right_of made
+        ≡ resolved_right (naming_at names.entry) (visible_at names.entry) (named_right right.now)) }
 {
     match right {
         tree::RightSide::Expression(value) => {
@@ -111,7 +114,8 @@ fn resolve_action(
     simple: &tree::Simple,
 ) -> Result<Action, AllocError>
     requires { IsNumbered names.naming }
-    ensures { IfOk result (λ made. action_of made ≡ resolved_action (naming_at names.entry) (visible_at names.entry) (named_simple simple.now)) }
+    ensures { IfOk result (λ made. action_of made
+        ≡ resolved_action (naming_at names.entry) (visible_at names.entry) (named_simple simple.now)) }
 {
     match simple {
         tree::Simple::Assign(left, right) => {
@@ -149,7 +153,8 @@ pub fn resolve_simple(
     simple: &tree::Simple,
 ) -> Result<Simple, AllocError>
     requires { IsNumbered names.naming }
-    ensures { IfOk result (λ made. simple_of made ≡ resolved_simple (naming_at names.entry) (visible_at names.entry) (named_simple simple.now)) }
+    ensures { IfOk result (λ made. simple_of made
+        ≡ resolved_simple (naming_at names.entry) (visible_at names.entry) (named_simple simple.now)) }
 {
     let action = resolve_action(alloc, names, simple)?;
     Ok(Simple {

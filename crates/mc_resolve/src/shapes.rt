@@ -42,7 +42,8 @@ pub fn resolve_shape_arguments(
     names: NamesHere,
     arguments: &[tree::Argument],
 ) -> Result<Vec<Argument>, AllocError>
-    ensures { IfOk result (λ made. map argument_of made.items ≡ map (resolved_argument (naming_at names.entry) (visible_at names.entry)) arguments.now) }
+    ensures { IfOk result (λ made. map argument_of made.items
+        ≡ map (resolved_argument (naming_at names.entry) (visible_at names.entry)) arguments.now) }
 {
     let mut made = Vec::new(alloc);
     for argument in arguments {
@@ -57,7 +58,10 @@ pub fn resolve_assume_shape(
     names: NamesHere,
     shape: &tree::AssumeShape,
 ) -> Result<Statement, AllocError>
-    ensures { IfOk result (λ made. statement_of made ≡ resolved_statement (naming_at names.entry) names.entry.scope.now (assume_shape shape.now.place shape.now.predicate shape.now.variable shape.now.arguments.items)) }
+    ensures { IfOk result
+        (λ made. statement_of made
+        ≡ resolved_statement (naming_at names.entry) names.entry.scope.now
+        (assume_shape shape.now.place shape.now.predicate shape.now.variable shape.now.arguments.items)) }
 {
     let arguments = resolve_shape_arguments(alloc, names, shape.arguments.as_slice())?;
     Ok(Statement::AssumeShape(AssumeShape {
@@ -74,7 +78,10 @@ pub fn resolve_assert_shape(
     names: NamesHere,
     shape: &tree::AssertShape,
 ) -> Result<Statement, AllocError>
-    ensures { IfOk result (λ made. statement_of made ≡ resolved_statement (naming_at names.entry) names.entry.scope.now (assert_shape shape.now.place shape.now.predicate shape.now.start shape.now.arguments.items)) }
+    ensures { IfOk result
+        (λ made. statement_of made
+        ≡ resolved_statement (naming_at names.entry) names.entry.scope.now
+        (assert_shape shape.now.place shape.now.predicate shape.now.start shape.now.arguments.items)) }
 {
     let arguments = resolve_shape_arguments(alloc, names, shape.arguments.as_slice())?;
     Ok(Statement::AssertShape(AssertShape {

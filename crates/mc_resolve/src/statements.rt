@@ -68,9 +68,14 @@ fn go_on<'a>(
     marks: Marks,
 ) -> Result<Next<'a>, AllocError>
     ensures finished { IfOk result (λ next. finished (naming_held naming.entry) scope.new frames.new next
-        ≡ plugged (naming_held naming.entry) (outside marks (behind_all (naming_held naming.entry).tables scope.old (stmts_of (map named_statement rest.now)))) frames.old
-        (block_left (naming_held naming.entry) scope.old (stmts_of (map named_statement rest.now)) (map statement_of done.items) (resolved_statements (naming_held naming.entry) scope.old (stmts_of (map named_statement rest.now))))) }
-    ensures steps { IfOk result (λ next. left_steps frames.new next < 2 * statements_steps (stmts_of (map named_statement rest.now)) + 1 + frames_steps frames.old) }
+        ≡ plugged (naming_held naming.entry)
+        (outside marks (behind_all (naming_held naming.entry).tables scope.old
+        (stmts_of (map named_statement rest.now)))) frames.old
+        (block_left (naming_held naming.entry) scope.old (stmts_of (map named_statement rest.now))
+        (map statement_of done.items)
+        (resolved_statements (naming_held naming.entry) scope.old (stmts_of (map named_statement rest.now))))) }
+    ensures steps { IfOk result (λ next. left_steps frames.new next < 2 * statements_steps
+        (stmts_of (map named_statement rest.now)) + 1 + frames_steps frames.old) }
 {
     match rest {
         [] => {
@@ -96,8 +101,11 @@ fn enter_block<'a>(
 ) -> Result<Next<'a>, AllocError>
     ensures finished { IfOk result (λ next. finished (naming_held naming.entry) scope.new frames.new next
         ≡ plugged (naming_held naming.entry) scope.old frames.old
-        (block_left (naming_held naming.entry) (inside scope.old) (stmts_of (map named_statement statements.now)) [] (resolved_statements (naming_held naming.entry) (inside scope.old) (stmts_of (map named_statement statements.now))))) }
-    ensures steps { IfOk result (λ next. left_steps frames.new next < 2 * statements_steps (stmts_of (map named_statement statements.now)) + 1 + frames_steps frames.old) }
+        (block_left (naming_held naming.entry) (inside scope.old) (stmts_of (map named_statement statements.now)) []
+        (resolved_statements (naming_held naming.entry) (inside scope.old)
+        (stmts_of (map named_statement statements.now))))) }
+    ensures steps { IfOk result (λ next. left_steps frames.new next < 2 * statements_steps
+        (stmts_of (map named_statement statements.now)) + 1 + frames_steps frames.old) }
 {
     let done = Vec::with_capacity(alloc, statements.len())?;
     let marks = scope.marks();
@@ -115,8 +123,12 @@ fn enter_for<'a>(
     head: &'a tree::ForHead,
 ) -> Result<(), AllocError>
     requires { IsNumbered naming }
-    ensures finished { OnOk result ((a : Stmt) → plugged (naming_held naming.entry) (behind (naming_held naming.entry).tables scope.new a) frames.new (resolved_statement (naming_held naming.entry) scope.new a)
-        ≡ plugged (naming_held naming.entry) (behind (naming_held naming.entry).tables scope.old (for_loop (named_head head.now) a)) frames.old (resolved_statement (naming_held naming.entry) scope.old (for_loop (named_head head.now) a))) }
+    ensures finished { OnOk result ((a : Stmt)
+        → plugged (naming_held naming.entry) (behind (naming_held naming.entry).tables scope.new a) frames.new
+        (resolved_statement (naming_held naming.entry) scope.new a)
+        ≡ plugged (naming_held naming.entry)
+        (behind (naming_held naming.entry).tables scope.old (for_loop (named_head head.now) a)) frames.old
+        (resolved_statement (naming_held naming.entry) scope.old (for_loop (named_head head.now) a))) }
     ensures steps { OnOk result (frames_steps frames.new ≡ 1 + frames_steps frames.old) }
 {
     let kept = scope.marks().heads;
@@ -133,8 +145,11 @@ fn resolve_declaration<'a>(
     declaration: &'a tree::Declaration,
 ) -> Result<Statement, AllocError>
     requires { IsNumbered naming }
-    ensures made { IfOk result (λ made. statement_of made ≡ resolved_statement (naming_held naming.entry) scope.old (declaration_tree (declaration_of declaration.now))) }
-    ensures scope { OnOk result (scope.new ≡ behind (naming_held naming.entry).tables scope.old (declaration_tree (declaration_of declaration.now))) }
+    ensures made { IfOk result (λ made. statement_of made
+        ≡ resolved_statement (naming_held naming.entry) scope.old
+        (declaration_tree (declaration_of declaration.now))) }
+    ensures scope { OnOk result (scope.new
+        ≡ behind (naming_held naming.entry).tables scope.old (declaration_tree (declaration_of declaration.now))) }
 {
     let place = base_place(&declaration.base);
     let items = declaration.items.as_slice();
@@ -151,7 +166,8 @@ fn enter<'a>(
     statement: &'a tree::Statement,
 ) -> Result<Next<'a>, AllocError>
     requires { IsNumbered naming }
-    ensures finished { IfOk result (λ next. finished (naming_held naming.entry) scope.new frames.new next ≡ finished (naming_held naming.entry) scope.old frames.old (Next.Enter statement.entry)) }
+    ensures finished { IfOk result (λ next. finished (naming_held naming.entry) scope.new frames.new next
+        ≡ finished (naming_held naming.entry) scope.old frames.old (Next.Enter statement.entry)) }
     ensures steps { IfOk result (λ next. left_steps frames.new next < left_steps frames.old (Next.Enter statement.entry)) }
 {
     match statement {
@@ -228,7 +244,8 @@ fn close<'a>(
     made: Statement,
 ) -> Result<Next<'a>, AllocError>
     requires { IsNumbered naming }
-    ensures finished { IfOk result (λ next. finished (naming_held naming.entry) scope.new frames.new next ≡ plugged (naming_held naming.entry) scope.old (frame.entry ∷ frames.old) (statement_of made)) }
+    ensures finished { IfOk result (λ next. finished (naming_held naming.entry) scope.new frames.new next
+        ≡ plugged (naming_held naming.entry) scope.old (frame.entry ∷ frames.old) (statement_of made)) }
     ensures steps { IfOk result (λ next. left_steps frames.new next < frame_steps frame.entry + frames_steps frames.old) }
 {
     match frame {
@@ -269,7 +286,8 @@ fn resolve_statement<'a>(
     statement: &'a tree::Statement,
 ) -> Result<Statement, AllocError>
     requires { IsNumbered naming }
-    ensures made { IfOk result (λ made. statement_of made ≡ resolved_statement (naming_held naming.entry) scope.old (named_statement statement.now)) }
+    ensures made { IfOk result (λ made. statement_of made
+        ≡ resolved_statement (naming_held naming.entry) scope.old (named_statement statement.now)) }
     ensures scope { OnOk result (scope.new ≡ behind (naming_held naming.entry).tables scope.old (named_statement statement.now)) }
 {
     let mut frames = Stack::new(alloc);
@@ -294,7 +312,9 @@ pub fn resolve_body<'a>(
     statements: &'a [tree::Statement],
 ) -> Result<Vec<Statement>, AllocError>
     requires { IsNumbered naming }
-    ensures { IfOk result (λ made. resolved_stmts (map statement_of made.items) ≡ resolved_statements (naming_held naming.entry) scope.entry (stmts_of (map named_statement statements.now))) }
+    ensures { IfOk result (λ made. resolved_stmts (map statement_of made.items)
+        ≡ resolved_statements (naming_held naming.entry) scope.entry
+        (stmts_of (map named_statement statements.now))) }
 {
     let mut made = Vec::with_capacity(alloc, statements.len())?;
     for statement in statements {

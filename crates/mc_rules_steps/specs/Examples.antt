@@ -212,11 +212,18 @@ after_product = moved_to (at 7) (with_atoms (with_z with_one) (In (node 4) (pos 
 -- the cell's item is y
 abbrev pub after_store : List Next
 after_store =
-    moved_to (at 9) (record one_cell { graph = record { edges = (record { 0 = 0 }, BlockEdge (node 1) cell_id (Some (node 2) ∷ Some null ∷ [])) ∷ []; next = 1 } }) ∷ []
+    moved_to (at 9) (record one_cell {
+      graph = record {
+        edges = (record { 0 = 0 }, BlockEdge (node 1) cell_id (Some (node 2) ∷ Some null ∷ []))
+            ∷ [];
+        next = 1;
+      };
+    }) ∷ []
 
 -- t is null, or a new cell
 abbrev pub after_malloc : List Next
-after_malloc = moved_to (at 10) (with_var one_cell t (Some null)) ∷ moved_to (at 10) (with_var (with_block one_cell cell_id 2) t (Some (node 3))) ∷ []
+after_malloc = moved_to (at 10) (with_var one_cell t (Some null))
+    ∷ moved_to (at 10) (with_var (with_block one_cell cell_id 2) t (Some (node 3))) ∷ []
 
 -- x is an address, where nothing lies
 abbrev pub after_free : List Next
@@ -224,7 +231,8 @@ after_free = moved_to (at 12) (with_atoms no_cell (In (node 1) (pos 1) (pos 4611
 
 -- x is null, or not
 abbrev pub after_equal : List Next
-after_equal = moved_to (at 13) (with_atoms one_cell (Eq (node 1) null (pos 0) ∷ [])) ∷ moved_to (at 14) (with_atoms one_cell (Ne (node 1) null (pos 0) ∷ [])) ∷ []
+after_equal = moved_to (at 13) (with_atoms one_cell (Eq (node 1) null (pos 0) ∷ []))
+    ∷ moved_to (at 14) (with_atoms one_cell (Ne (node 1) null (pos 0) ∷ [])) ∷ []
 
 -- y goes from 5 to 1, which is nowhere, or it goes from 5 to 7
 abbrev pub after_at_most : List Next
@@ -235,7 +243,8 @@ after_at_most =
 
 -- t is a list of length 0
 abbrev pub after_assume : List Next
-after_assume = moved_to (at 15) (with_var (with_edges (with_nodes one_cell (Ptr ∷ [])) (Ind (node 3) lenlist_id (null ∷ []) ∷ [])) t (Some (node 3))) ∷ []
+after_assume = moved_to (at 15) (with_var
+    (with_edges (with_nodes one_cell (Ptr ∷ [])) (Ind (node 3) lenlist_id (null ∷ []) ∷ [])) t (Some (node 3))) ∷ []
 
 -- null is to be a list
 abbrev pub null_list : Goal

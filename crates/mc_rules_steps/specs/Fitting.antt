@@ -44,7 +44,8 @@ InstructionsFit =
 -- ---- operands
 
 -- a state with the node of an operand of a kind: it is well made, the node is of the kind, and the others keep theirs
-pub record HasOperand (defs : List Def) (vars : List VarInfo) (structs : List StructInfo) (s : State) (kind : Kind) (n : NodeId) (t : State) : Type 0 where
+pub record HasOperand (defs : List Def) (vars : List VarInfo) (structs : List StructInfo) (s : State) (kind : Kind)
+    (n : NodeId) (t : State) : Type 0 where
   pub made : IsWellMade defs vars structs t
   pub has : HasKind t.kinds kind n
   pub grows : (k : Kind) (m : NodeId) → HasKind s.kinds k m → HasKind t.kinds k m
@@ -59,7 +60,8 @@ OperandFits =
     → HasOperand defs vars structs s kind n (with_operand s o)
 
 -- a state with the nodes of operands, each of its kind
-pub record HasOperands (defs : List Def) (vars : List VarInfo) (structs : List StructInfo) (s : State) (kinds : List Kind) (ns : List NodeId) (t : State) : Type 0 where
+pub record HasOperands (defs : List Def) (vars : List VarInfo) (structs : List StructInfo) (s : State)
+    (kinds : List Kind) (ns : List NodeId) (t : State) : Type 0 where
   pub made : IsWellMade defs vars structs t
   pub have' : HaveKinds t.kinds kinds ns
   pub grows : (k : Kind) (m : NodeId) → HasKind s.kinds k m → HasKind t.kinds k m
@@ -67,7 +69,8 @@ pub record HasOperands (defs : List Def) (vars : List VarInfo) (structs : List S
 -- and so can the nodes of several
 abbrev pub OperandsFit : Type 0
 OperandsFit =
-    (defs : List Def) (vars : List VarInfo) (structs : List StructInfo) (os : List Operand) (kinds : List Kind) (s : State) (ns : List NodeId)
+    (defs : List Def) (vars : List VarInfo) (structs : List StructInfo) (os : List Operand) (kinds : List Kind)
+    (s : State) (ns : List NodeId)
     → IsWellMade defs vars structs s → OperandsOf vars os kinds → operand_nodes s os ≡ Some ns
     → HasOperands defs vars structs s kinds ns (with_operands s os)
 

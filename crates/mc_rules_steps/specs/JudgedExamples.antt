@@ -34,7 +34,8 @@ Gives rule p s next = (know : Test) (range : Ranges) → Tells know s → steppi
 -- so it does where y goes from 5 to 7 and node 3 is 1
 abbrev pub GivesByRanges : InstrRule → PointId → State → List Next → Type 0
 GivesByRanges rule p s next =
-    (know : Test) (range : Ranges) → Tells know s → range with_one (node 2) ≡ from_to (pos 5) (pos 7) → range with_one (node 3) ≡ only (pos 1)
+    (know : Test) (range : Ranges) → Tells know s → range with_one (node 2) ≡ from_to (pos 5) (pos 7)
+    → range with_one (node 3) ≡ only (pos 1)
     → stepping know range flow rule p s ≡ Ok next
 
 -- the state of one cell, where the variables have these nodes

@@ -71,7 +71,8 @@ SidesHold defs c next =
 -- where a rule applies, no configuration at the state faults, and each step leads on; side branches that are ended may be used
 abbrev pub StepsAreSound : Type 0
 StepsAreSound =
-    (flow : Flow) (defs : List Def) (p : PointId) (s : State) (next : List Next) (v : Valuation) (c : Config) (choices : List Choice) (r : Result)
+    (flow : Flow) (defs : List Def) (p : PointId) (s : State) (next : List Next) (v : Valuation) (c : Config)
+    (choices : List Choice) (r : Result)
     → IsValid flow defs → IsBounded s → IsStep flow p s next → IsAt defs v c p s → SidesHold defs c next
     → Step flow defs c choices r → LeadsOn defs next r
 

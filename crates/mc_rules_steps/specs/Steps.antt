@@ -84,7 +84,8 @@ in_range n (Some r) = In n r.lo r.hi ∷ []
 -- the result of two single numbers is their wrapped result; another lies in the range of results, where that lies in `int`
 abbrev pub range_atoms : (ℤ → ℤ → ℤ) → NodeId → Range → Range → Option Range → List Atom
 range_atoms op n left right results =
-    if is_single left && is_single right then In n (wrapped (op left.lo right.lo)) (wrapped (op left.lo right.lo)) ∷ [] else in_range n results
+    if is_single left && is_single right then In n (wrapped (op left.lo right.lo)) (wrapped (op left.lo right.lo))
+    ∷ [] else in_range n results
 
 -- the node is another and a single number more, where that one's range stays in `int`
 abbrev pub offset_atom : NodeId → NodeId → Range → Range → ℤ → List Atom
@@ -103,7 +104,8 @@ abbrev pub no_offsets : NodeId → NodeId → NodeId → Range → Range → Lis
 no_offsets n a b left right = []
 
 -- the premises and the successor that the three operations share: both operands are known, and the variable gets a new node
-pub record Computes (op : ℤ → ℤ → ℤ) (offsets : NodeId → NodeId → NodeId → Range → Range → List Atom) (x : VarId) (o p : Operand) (q : PointId) (s : State) (next : List Next) : Type 0 where
+pub record Computes (op : ℤ → ℤ → ℤ) (offsets : NodeId → NodeId → NodeId → Range → Range → List Atom) (x : VarId)
+    (o p : Operand) (q : PointId) (s : State) (next : List Next) : Type 0 where
   pub a : NodeId
   pub left_known : operand_node s o ≡ Some a
   pub b : NodeId
@@ -185,7 +187,12 @@ pub record S9Is (flow : Flow) (p : PointId) (s : State) (next : List Next) : Typ
   pub field : f < length block.fields
   pub before : State
   pub operand : before ≡ with_operand s from
-  pub gives : next ≡ moved_to q (record before { graph = record before.graph { edges = replaced before.graph.edges block.id (Block block.at shape (slice_set block.fields f (Some m))) } }) ∷ []
+  pub gives : next ≡ moved_to q (record before {
+    graph = record before.graph {
+      edges = replaced before.graph.edges block.id
+          (Block block.at shape (slice_set block.fields f (Some m)));
+    };
+  }) ∷ []
 
 -- S10: at a Malloc the variable is null, or points to a new block, of whose fields nothing is known
 pub record S10Is (flow : Flow) (p : PointId) (s : State) (next : List Next) : Type 0 where
@@ -194,7 +201,8 @@ pub record S10Is (flow : Flow) (p : PointId) (s : State) (next : List Next) : Ty
   pub q : PointId
   pub at : code_at flow p ≡ Some (instr.Malloc x shape q)
   pub consistent : IsFalse s → ⊥
-  pub gives : next ≡ moved_to q (with_var s x (Some null)) ∷ moved_to q (with_var (with_block s shape (field_count flow.structs shape)) x (Some (next_node s))) ∷ []
+  pub gives : next ≡ moved_to q (with_var s x (Some null))
+      ∷ moved_to q (with_var (with_block s shape (field_count flow.structs shape)) x (Some (next_node s))) ∷ []
 
 -- S11: at a Free the operand is known to be null
 pub record S11Is (flow : Flow) (p : PointId) (s : State) (next : List Next) : Type 0 where
@@ -224,7 +232,8 @@ pub record S12Is (flow : Flow) (p : PointId) (s : State) (next : List Next) : Ty
   pub shape : StructId
   pub block : HasBlock before n shape
   pub gives : next ≡ moved_to q
-      (with_atoms (with_only_edges before (without before.graph.edges block.id)) (freed_atoms block.at (block_starts (without before.graph.edges block.id)))) ∷ []
+      (with_atoms (with_only_edges before (without before.graph.edges block.id))
+      (freed_atoms block.at (block_starts (without before.graph.edges block.id)))) ∷ []
 
 -- ---- tests
 
@@ -271,7 +280,8 @@ pub record S14Is (flow : Flow) (p : PointId) (s : State) (next : List Next) : Ty
   pub left_range : HasRange (pure_of before) a left.lo left.hi
   pub right : Range
   pub right_range : HasRange (pure_of before) b right.lo right.hi
-  pub gives : next ≡ moved_to t (with_atoms before (le_atoms a b left right)) ∷ moved_to f (with_atoms before (gt_atoms a b left right)) ∷ []
+  pub gives : next ≡ moved_to t (with_atoms before (le_atoms a b left right))
+      ∷ moved_to f (with_atoms before (gt_atoms a b left right)) ∷ []
 
 -- ---- shapes
 
@@ -287,7 +297,9 @@ pub record S15Is (flow : Flow) (p : PointId) (s : State) (next : List Next) : Ty
   pub known : AreNodesOf s os args
   pub before : State
   pub operands : before ≡ with_operands s os
-  pub gives : next ≡ moved_to q (with_var (with_edges (with_nodes before (Ptr ∷ [])) (Ind (next_node before) pred args ∷ [])) x (Some (next_node before))) ∷ []
+  pub gives : next ≡ moved_to q (with_var
+      (with_edges (with_nodes before (Ptr ∷ [])) (Ind (next_node before) pred args ∷ [])) x
+      (Some (next_node before))) ∷ []
 
 -- S16: at an AssertShape the operand and the arguments are known; a side branch has to show the predicate, and the state stays
 pub record S16Is (flow : Flow) (p : PointId) (s : State) (next : List Next) : Type 0 where

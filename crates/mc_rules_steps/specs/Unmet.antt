@@ -94,7 +94,8 @@ LacksField s y shape f n g = (var_node s y ≡ Some n) × (g ≡ f) × ((block :
 -- what is freed is known, is not null, and no block lies there
 abbrev pub LacksFreed : List Def → State → Operand → NodeId → Type 0
 LacksFreed defs s o n =
-    (operand_node s o ≡ Some n) × (AreEqual (with_operand s o) n null → ⊥) × ((shape : StructId) → LacksBlock defs (with_operand s o) n shape)
+    (operand_node s o ≡ Some n) × (AreEqual (with_operand s o) n null → ⊥)
+    × ((shape : StructId) → LacksBlock defs (with_operand s o) n shape)
 
 -- no edges make the predicate at the operand
 abbrev pub LacksShape : List Def → State → PredId → Operand → List Operand → PredId → NodeId → Type 0

@@ -27,9 +27,12 @@ pub fn example_premises()
     ensures one_cell { IsBounded ex.one_cell }
     ensures no_cell { IsBounded ex.no_cell }
     ensures not_whole { IsBounded ex.not_whole }
-    ensures at_one_cell { (number : ℤ) → pos 5 ≤ℤ number → number ≤ℤ pos 7 → (p : Point) → IsAt defs (ex.valuation number) (ex.config p.0 number) p ex.one_cell }
-    ensures at_no_cell { (number : ℤ) → pos 5 ≤ℤ number → number ≤ℤ pos 7 → (p : Point) → IsAt defs (ex.valuation number) (ex.bare p.0 number) p ex.no_cell }
-    ensures at_not_whole { (number : ℤ) → pos 5 ≤ℤ number → number ≤ℤ pos 7 → (p : Point) → IsAt defs (ex.valuation number) (ex.bare p.0 number) p ex.not_whole }
+    ensures at_one_cell { (number : ℤ) → pos 5 ≤ℤ number → number ≤ℤ pos 7 → (p : Point)
+        → IsAt defs (ex.valuation number) (ex.config p.0 number) p ex.one_cell }
+    ensures at_no_cell { (number : ℤ) → pos 5 ≤ℤ number → number ≤ℤ pos 7 → (p : Point)
+        → IsAt defs (ex.valuation number) (ex.bare p.0 number) p ex.no_cell }
+    ensures at_not_whole { (number : ℤ) → pos 5 ≤ℤ number → number ≤ℤ pos 7 → (p : Point)
+        → IsAt defs (ex.valuation number) (ex.bare p.0 number) p ex.not_whole }
 {
     examples_fit();
 }

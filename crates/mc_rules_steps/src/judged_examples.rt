@@ -69,20 +69,30 @@ pub fn example_results()
     ensures wraps_down { known_result difference (only (pos 0)) (only least) ≡ In (node 3) least least ∷ [] }
     ensures leaves { known_result sum (from_to (pos 5) greatest) (only (pos 1)) ≡ [] }
     ensures leaves_below { known_result difference (from_to least (pos 0)) (from_to (pos 0) (pos 1)) ≡ [] }
-    ensures stays { known_result sum (from_to (pos 5) (pos 2147483646)) (only (pos 1)) ≡ In (node 3) (pos 6) greatest ∷ Eq (node 3) (node 1) (pos 1) ∷ [] }
-    ensures either { known_result sum (only (pos 2)) (only (pos 3)) ≡ In (node 3) (pos 5) (pos 5) ∷ Eq (node 3) (node 1) (pos 3) ∷ Eq (node 3) (node 2) (pos 2) ∷ [] }
-    ensures less { known_result difference (from_to (pos 5) (pos 7)) (only (pos 2)) ≡ In (node 3) (pos 3) (pos 5) ∷ Eq (node 3) (node 1) (negsuc 1) ∷ [] }
-    ensures product { known_result product (from_to (negsuc 1) (pos 3)) (from_to (negsuc 4) (pos 4)) ≡ In (node 3) (negsuc 14) (pos 12) ∷ [] }
+    ensures stays { known_result sum (from_to (pos 5) (pos 2147483646)) (only (pos 1)) ≡ In (node 3) (pos 6) greatest
+        ∷ Eq (node 3) (node 1) (pos 1) ∷ [] }
+    ensures either { known_result sum (only (pos 2)) (only (pos 3)) ≡ In (node 3) (pos 5) (pos 5)
+        ∷ Eq (node 3) (node 1) (pos 3) ∷ Eq (node 3) (node 2) (pos 2) ∷ [] }
+    ensures less { known_result difference (from_to (pos 5) (pos 7)) (only (pos 2)) ≡ In (node 3) (pos 3) (pos 5)
+        ∷ Eq (node 3) (node 1) (negsuc 1) ∷ [] }
+    ensures product { known_result product (from_to (negsuc 1) (pos 3)) (from_to (negsuc 4) (pos 4))
+        ≡ In (node 3) (negsuc 14) (pos 12) ∷ [] }
 {}
 
 /// Comparisons of ranges that meet, that touch, and that are apart; a low end above a high one is what can't be.
 pub fn example_comparisons()
-    ensures meet { known_at_most (from_to (pos 1) (pos 5)) (from_to (pos 3) (pos 8)) ≡ In (node 1) (pos 1) (pos 5) ∷ In (node 2) (pos 3) (pos 8) ∷ [] }
-    ensures meet_above { known_above (from_to (pos 1) (pos 5)) (from_to (pos 3) (pos 8)) ≡ In (node 1) (pos 4) (pos 5) ∷ In (node 2) (pos 3) (pos 4) ∷ Ne (node 1) (node 2) (pos 0) ∷ [] }
-    ensures touch { known_at_most (from_to (pos 5) (pos 7)) (from_to (pos 1) (pos 5)) ≡ In (node 1) (pos 5) (pos 5) ∷ In (node 2) (pos 5) (pos 5) ∷ [] }
-    ensures touch_above { known_above (from_to (pos 1) (pos 3)) (from_to (pos 3) (pos 5)) ≡ In (node 1) (pos 4) (pos 3) ∷ In (node 2) (pos 3) (pos 2) ∷ Ne (node 1) (node 2) (pos 0) ∷ [] }
-    ensures apart { known_at_most (from_to (pos 5) (pos 6)) (from_to (pos 1) (pos 2)) ≡ In (node 1) (pos 5) (pos 2) ∷ In (node 2) (pos 5) (pos 2) ∷ [] }
-    ensures apart_above { known_above (from_to (pos 5) (pos 6)) (from_to (pos 1) (pos 2)) ≡ In (node 1) (pos 5) (pos 6) ∷ In (node 2) (pos 1) (pos 2) ∷ Ne (node 1) (node 2) (pos 0) ∷ [] }
+    ensures meet { known_at_most (from_to (pos 1) (pos 5)) (from_to (pos 3) (pos 8)) ≡ In (node 1) (pos 1) (pos 5)
+        ∷ In (node 2) (pos 3) (pos 8) ∷ [] }
+    ensures meet_above { known_above (from_to (pos 1) (pos 5)) (from_to (pos 3) (pos 8))
+        ≡ In (node 1) (pos 4) (pos 5) ∷ In (node 2) (pos 3) (pos 4) ∷ Ne (node 1) (node 2) (pos 0) ∷ [] }
+    ensures touch { known_at_most (from_to (pos 5) (pos 7)) (from_to (pos 1) (pos 5)) ≡ In (node 1) (pos 5) (pos 5)
+        ∷ In (node 2) (pos 5) (pos 5) ∷ [] }
+    ensures touch_above { known_above (from_to (pos 1) (pos 3)) (from_to (pos 3) (pos 5))
+        ≡ In (node 1) (pos 4) (pos 3) ∷ In (node 2) (pos 3) (pos 2) ∷ Ne (node 1) (node 2) (pos 0) ∷ [] }
+    ensures apart { known_at_most (from_to (pos 5) (pos 6)) (from_to (pos 1) (pos 2)) ≡ In (node 1) (pos 5) (pos 2)
+        ∷ In (node 2) (pos 5) (pos 2) ∷ [] }
+    ensures apart_above { known_above (from_to (pos 5) (pos 6)) (from_to (pos 1) (pos 2))
+        ≡ In (node 1) (pos 5) (pos 6) ∷ In (node 2) (pos 1) (pos 2) ∷ Ne (node 1) (node 2) (pos 0) ∷ [] }
 {}
 
 /// A block may come of a segment whose end has the node as its argument at a back position, and then none is lacked.

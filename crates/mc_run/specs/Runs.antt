@@ -35,7 +35,8 @@ AsksAfter {C} Steps Asks n c choices request rest =
     (d : C) × (more : List Choice) × Leads Steps n c choices d more × Asks d more request rest
 
 -- within the fuel the run asks for its next choice, of which the number is this, and the lines that are left refuse it so
-abbrev pub AsksInVain : {C : Type 0} → Machine C Choice → Asking C → List StructInfo → C → List (List ℕ) → ℕ → ℕ → (Request → List (List ℕ) → Type 0) → Type 0
+abbrev pub AsksInVain : {C : Type 0} → Machine C Choice → Asking C → List StructInfo → C → List (List ℕ) → ℕ → ℕ
+    → (Request → List (List ℕ) → Type 0) → Type 0
 AsksInVain Steps Asks structs c script fuel number Refuse =
     Taking structs script (λ used left. (number ≡ length used + 1) × ((n : ℕ) × (n < fuel) × ((request : Request)
     × ((rest : List Choice) → AsksAfter Steps Asks n c (used ++ rest) request rest) × Refuse request left)))

@@ -16,7 +16,9 @@ HasNoStep {R} Comes Asks = ((r : R) → ¬ Comes r) × (¬ Waits Asks)
 
 -- a step that does this and asks for that, on the way from these lines to those: it leads to the configuration, ends the run,
 -- asks in vain, or there is none
-abbrev pub IsStep : List StructInfo → (Does : List Choice → Result → Type 0) → (Asks : List Choice → Request → List Choice → Type 0) → List (List ℕ) → Stepped → Config → List (List ℕ) → Type 0
+abbrev pub IsStep : List StructInfo → (Does : List Choice → Result → Type 0)
+    → (Asks : List Choice → Request → List Choice → Type 0) → List (List ℕ) → Stepped → Config → List (List ℕ)
+    → Type 0
 IsStep structs Does Asks old Goes c new = WithTaken structs old new (λ choices rest. Does choices (next c rest))
 IsStep structs Does Asks old (Ends f) c new = WithTaken structs old new (λ choices rest. Does choices (last (final_of f)))
 IsStep structs Does Asks old (Unanswered why) c new =

@@ -91,8 +91,10 @@ fn assign_expression<'a>(
     place: Place,
 ) -> Result<Stepped, NoMemory>
     ensures { IfOk result (λ stepped. IsStep program.entry.structs.now
-        (λ choices r. Assigns (program_of program.entry) (here_of machine.old) (goal_of goal.entry) (right_of (RightSide.Expression right.now)) place (tasks_of machine.old.work) choices r)
-        (λ choices request rest. RightAsks (here_of machine.old).values (here_of machine.old).heap (right_of (RightSide.Expression right.now)) choices request rest)
+        (λ choices r. Assigns (program_of program.entry) (here_of machine.old) (goal_of goal.entry)
+        (right_of (RightSide.Expression right.now)) place (tasks_of machine.old.work) choices r)
+        (λ choices request rest. RightAsks (here_of machine.old).values (here_of machine.old).heap
+        (right_of (RightSide.Expression right.now)) choices request rest)
         script.old stepped (config_of machine.new) script.new) }
 {
     match machine.evaluate(program, script, right)? {
@@ -113,8 +115,10 @@ fn assign_block<'a>(
     place: Place,
 ) -> Result<Stepped, NoMemory>
     ensures { IfOk result (λ stepped. IsStep program.entry.structs.now
-        (λ choices r. Assigns (program_of program.entry) (here_of machine.old) (goal_of goal.entry) (right_of (RightSide.Malloc shape fields)) place (tasks_of machine.old.work) choices r)
-        (λ choices request rest. RightAsks (here_of machine.old).values (here_of machine.old).heap (right_of (RightSide.Malloc shape fields)) choices request rest)
+        (λ choices r. Assigns (program_of program.entry) (here_of machine.old) (goal_of goal.entry)
+        (right_of (RightSide.Malloc shape fields)) place (tasks_of machine.old.work) choices r)
+        (λ choices request rest. RightAsks (here_of machine.old).values (here_of machine.old).heap
+        (right_of (RightSide.Malloc shape fields)) choices request rest)
         script.old stepped (config_of machine.new) script.new) }
 {
     match allocate(
@@ -150,8 +154,10 @@ pub fn assign_right<'a>(
     place: Place,
 ) -> Result<Stepped, NoMemory>
     ensures { IfOk result (λ stepped. IsStep program.entry.structs.now
-        (λ choices r. Assigns (program_of program.entry) (here_of machine.old) (goal_of goal.entry) (right_of right.now) place (tasks_of machine.old.work) choices r)
-        (λ choices request rest. RightAsks (here_of machine.old).values (here_of machine.old).heap (right_of right.now) choices request rest)
+        (λ choices r. Assigns (program_of program.entry) (here_of machine.old) (goal_of goal.entry)
+        (right_of right.now) place (tasks_of machine.old.work) choices r)
+        (λ choices request rest. RightAsks (here_of machine.old).values (here_of machine.old).heap
+        (right_of right.now) choices request rest)
         script.old stepped (config_of machine.new) script.new) }
 {
     match right {
@@ -181,7 +187,8 @@ pub fn combine<'a>(
     place: Place,
 ) -> Result<Stepped, NoMemory>
     ensures { IfOk result (λ stepped. IsStep program.entry.structs.now
-        (λ choices r. Combines (operation_of operation) (here_of machine.old) (left_of left.now) (expression_of right.now) place (tasks_of machine.old.work) choices r)
+        (λ choices r. Combines (operation_of operation) (here_of machine.old) (left_of left.now)
+        (expression_of right.now) place (tasks_of machine.old.work) choices r)
         (λ choices request rest. AsksInput (here_of machine.old) (expression_of right.now) choices request rest)
         script.old stepped (config_of machine.new) script.new) }
 {
@@ -200,7 +207,8 @@ pub fn combine<'a>(
 /// What gets a value gets the result of a call.
 pub fn assign_taken(machine: &mut Machine, goal: Goal, value: Option<i64>, place: Place) -> Stepped
     ensures { (choices : List ChoiceModel) → Comes result (config_of machine.new) choices
-        (λ r. r ≡ after (tasks_of machine.old.work) place choices (assigned (here_of machine.old).values (here_of machine.old).heap (goal_of goal.entry) value)) }
+        (λ r. r ≡ after (tasks_of machine.old.work) place choices
+        (assigned (here_of machine.old).values (here_of machine.old).heap (goal_of goal.entry) value)) }
 {
     settled(assign(machine, goal, value), place)
 }
@@ -214,8 +222,10 @@ pub fn declare<'a>(
     place: Place,
 ) -> Result<Stepped, NoMemory>
     ensures { IfOk result (λ stepped. IsStep program.entry.structs.now
-        (λ choices r. Declares (program_of program.entry) (here_of machine.old) (initial_of item.now) place (tasks_of machine.old.work) choices (initial_of item.now).value r)
-        (λ choices request rest. MaybeRightAsks (here_of machine.old).values (here_of machine.old).heap (initial_of item.now).value choices request rest)
+        (λ choices r. Declares (program_of program.entry) (here_of machine.old) (initial_of item.now) place
+        (tasks_of machine.old.work) choices (initial_of item.now).value r)
+        (λ choices request rest. MaybeRightAsks (here_of machine.old).values (here_of machine.old).heap
+        (initial_of item.now).value choices request rest)
         script.old stepped (config_of machine.new) script.new) }
 {
     match &item.value {

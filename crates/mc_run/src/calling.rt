@@ -32,8 +32,10 @@ pub fn pass<'a>(
     place: Place,
 ) -> Result<Stepped, NoMemory>
     ensures { IfOk result (λ stepped. IsStep program.entry.structs.now
-        (λ choices r. Passes (program_of program.entry) (here_of machine.old) (call_of call.now) (target_of target.entry) place (tasks_of machine.old.work) choices r)
-        (λ choices request rest. RightAsks (here_of machine.old).values (here_of machine.old).heap (right_of (RightSide.Call call.now)) choices request rest)
+        (λ choices r. Passes (program_of program.entry) (here_of machine.old) (call_of call.now)
+        (target_of target.entry) place (tasks_of machine.old.work) choices r)
+        (λ choices request rest. RightAsks (here_of machine.old).values (here_of machine.old).heap
+        (right_of (RightSide.Call call.now)) choices request rest)
         script.old stepped (config_of machine.new) script.new) }
 {
     match machine.evaluate_all(program, script, call.arguments.as_slice())? {
@@ -56,7 +58,8 @@ fn begin<'a>(
     values: &[Option<i64>],
 ) -> Result<Stepped, NoMemory>
     ensures { IfOk result (λ stepped. (choices : List ChoiceModel) → Comes stepped (config_of machine.new) choices
-        (λ r. AfterArguments (here_of machine.old) (slice_get (program_of program.entry).functions call.now.function) (target_of target.entry) place
+        (λ r. AfterArguments (here_of machine.old) (slice_get (program_of program.entry).functions call.now.function)
+        (target_of target.entry) place
         (tasks_of machine.old.work) (arguments values.now choices) r)) }
 {
     let Some(function) = program.resolved.functions.get(call.function) else {
@@ -94,8 +97,10 @@ fn return_expression<'a>(
     place: Place,
 ) -> Result<Stepped, NoMemory>
     ensures { IfOk result (λ stepped. IsStep program.entry.structs.now
-        (λ choices r. Returns (program_of program.entry) (here_of machine.old) (Some (right_of (RightSide.Expression right.now))) (tasks_of machine.old.work) place choices r)
-        (λ choices request rest. RightAsks (here_of machine.old).values (here_of machine.old).heap (right_of (RightSide.Expression right.now)) choices request rest)
+        (λ choices r. Returns (program_of program.entry) (here_of machine.old)
+        (Some (right_of (RightSide.Expression right.now))) (tasks_of machine.old.work) place choices r)
+        (λ choices request rest. RightAsks (here_of machine.old).values (here_of machine.old).heap
+        (right_of (RightSide.Expression right.now)) choices request rest)
         script.old stepped (config_of machine.new) script.new) }
 {
     match machine.evaluate(program, script, right)? {
@@ -118,8 +123,10 @@ fn return_block<'a>(
     place: Place,
 ) -> Result<Stepped, NoMemory>
     ensures { IfOk result (λ stepped. IsStep program.entry.structs.now
-        (λ choices r. Returns (program_of program.entry) (here_of machine.old) (Some (right_of (RightSide.Malloc shape fields))) (tasks_of machine.old.work) place choices r)
-        (λ choices request rest. RightAsks (here_of machine.old).values (here_of machine.old).heap (right_of (RightSide.Malloc shape fields)) choices request rest)
+        (λ choices r. Returns (program_of program.entry) (here_of machine.old)
+        (Some (right_of (RightSide.Malloc shape fields))) (tasks_of machine.old.work) place choices r)
+        (λ choices request rest. RightAsks (here_of machine.old).values (here_of machine.old).heap
+        (right_of (RightSide.Malloc shape fields)) choices request rest)
         script.old stepped (config_of machine.new) script.new) }
 {
     match allocate(
@@ -147,8 +154,10 @@ fn return_right<'a>(
     place: Place,
 ) -> Result<Stepped, NoMemory>
     ensures { IfOk result (λ stepped. IsStep program.entry.structs.now
-        (λ choices r. Returns (program_of program.entry) (here_of machine.old) (Some (right_of right.now)) (tasks_of machine.old.work) place choices r)
-        (λ choices request rest. RightAsks (here_of machine.old).values (here_of machine.old).heap (right_of right.now) choices request rest)
+        (λ choices r. Returns (program_of program.entry) (here_of machine.old) (Some (right_of right.now))
+        (tasks_of machine.old.work) place choices r)
+        (λ choices request rest. RightAsks (here_of machine.old).values (here_of machine.old).heap
+        (right_of right.now) choices request rest)
         script.old stepped (config_of machine.new) script.new) }
 {
     match right {
@@ -183,8 +192,10 @@ pub fn go_back_with<'a>(
     place: Place,
 ) -> Result<Stepped, NoMemory>
     ensures { IfOk result (λ stepped. IsStep program.entry.structs.now
-        (λ choices r. Returns (program_of program.entry) (here_of machine.old) (option_map right_of right.now) (tasks_of machine.old.work) place choices r)
-        (λ choices request rest. MaybeRightAsks (here_of machine.old).values (here_of machine.old).heap (option_map right_of right.now) choices request rest)
+        (λ choices r. Returns (program_of program.entry) (here_of machine.old) (option_map right_of right.now)
+        (tasks_of machine.old.work) place choices r)
+        (λ choices request rest. MaybeRightAsks (here_of machine.old).values (here_of machine.old).heap
+        (option_map right_of right.now) choices request rest)
         script.old stepped (config_of machine.new) script.new) }
 {
     match right {

@@ -37,9 +37,11 @@ pub fn assume<'a>(
 ) -> Result<Stepped, NoMemory>
     ensures { IfOk result (λ stepped. IsStep program.entry.structs.now
         (λ choices r. Executes (program_of program.entry) (here_of machine.old)
-        (assume_shape shape.now.place shape.now.predicate shape.now.variable (map_list argument_of shape.now.arguments.items)) (tasks_of machine.old.work) choices r)
+        (assume_shape shape.now.place shape.now.predicate shape.now.variable
+        (map_list argument_of shape.now.arguments.items)) (tasks_of machine.old.work) choices r)
         (λ choices request rest. StatementAsks program.entry.defs.now (here_of machine.old).values (here_of machine.old).heap
-        (assume_shape shape.now.place shape.now.predicate shape.now.variable (map_list argument_of shape.now.arguments.items)) choices request rest)
+        (assume_shape shape.now.place shape.now.predicate shape.now.variable
+        (map_list argument_of shape.now.arguments.items)) choices request rest)
         script.old stepped (config_of machine.new) script.new) }
 {
     match values_of(machine, shape.arguments.as_slice())? {
@@ -59,12 +61,15 @@ fn ask_shape<'a>(
     shape: &AssumeShape,
     arguments: &[i64],
 ) -> Result<Stepped, NoMemory>
-    requires { all_there (map_list (argument_value (here_of machine.now).values) (map_list argument_of shape.now.arguments.items)) ≡ Some arguments.now }
+    requires { all_there (map_list (argument_value (here_of machine.now).values)
+        (map_list argument_of shape.now.arguments.items)) ≡ Some arguments.now }
     ensures { IfOk result (λ stepped. IsStep program.entry.structs.now
         (λ choices r. Executes (program_of program.entry) (here_of machine.old)
-        (assume_shape shape.now.place shape.now.predicate shape.now.variable (map_list argument_of shape.now.arguments.items)) (tasks_of machine.old.work) choices r)
+        (assume_shape shape.now.place shape.now.predicate shape.now.variable
+        (map_list argument_of shape.now.arguments.items)) (tasks_of machine.old.work) choices r)
         (λ choices request rest. StatementAsks program.entry.defs.now (here_of machine.old).values (here_of machine.old).heap
-        (assume_shape shape.now.place shape.now.predicate shape.now.variable (map_list argument_of shape.now.arguments.items)) choices request rest)
+        (assume_shape shape.now.place shape.now.predicate shape.now.variable
+        (map_list argument_of shape.now.arguments.items)) choices request rest)
         script.old stepped (config_of machine.new) script.new) }
 {
     match script.ask(machine.alloc, program.structs)? {
@@ -128,7 +133,8 @@ pub fn assert<'a>(
 ) -> Result<Stepped, NoMemory>
     ensures { IfOk result (λ stepped. (choices : List ChoiceModel) → Comes stepped (config_of machine.new) choices
         (λ r. Executes (program_of program.entry) (here_of machine.old)
-        (assert_shape shape.now.place shape.now.predicate (argument_of shape.now.start) (map_list argument_of shape.now.arguments.items)) (tasks_of machine.old.work) choices r)) }
+        (assert_shape shape.now.place shape.now.predicate (argument_of shape.now.start)
+        (map_list argument_of shape.now.arguments.items)) (tasks_of machine.old.work) choices r)) }
 {
     let Some(start) = value_of(machine, &shape.start) else {
         return Ok(Stepped::Ends(End::Fault(FaultKind::Uninit, shape.place)));

@@ -29,7 +29,8 @@ fn decide(
     second: Option<i64>,
 ) -> Result<Stepped, NoMemory>
     ensures { IfOk result (λ stepped. (choices : List ChoiceModel) → Comes stepped (config_of machine.new) choices
-        (λ r. r ≡ compared (here_of machine.old) mark (branches_of machine.old.work).0 (branches_of machine.old.work).1 place first second choices)) }
+        (λ r. r ≡ compared (here_of machine.old) mark (branches_of machine.old.work).0
+        (branches_of machine.old.work).1 place first second choices)) }
 {
     let Some(first) = first else {
         return Ok(Stepped::Ends(End::Fault(FaultKind::Uninit, place)));
@@ -56,7 +57,8 @@ fn test_right<'a>(
 ) -> Result<Stepped, NoMemory>
     ensures { IfOk result (λ stepped. IsStep program.entry.structs.now
         (λ choices r. WithValue (here_of machine.old) (expression_of second.now) place choices
-        (λ v left other. other ≡ compared (here_of machine.old) mark (branches_of machine.old.work).0 (branches_of machine.old.work).1 place first v left) r)
+        (λ v left other. other ≡ compared (here_of machine.old) mark (branches_of machine.old.work).0
+        (branches_of machine.old.work).1 place first v left) r)
         (λ choices request rest. AsksInput (here_of machine.old) (expression_of second.now) choices request rest)
         script.old stepped (config_of machine.new) script.new) }
 {
@@ -79,8 +81,10 @@ fn test_plain<'a>(
     expression: &'a Expression,
 ) -> Result<Stepped, NoMemory>
     ensures { IfOk result (λ stepped. IsStep program.entry.structs.now
-        (λ choices r. Tests (here_of machine.old) (plain place (expression_of expression.now)) (branches_of machine.old.work).0 (branches_of machine.old.work).1 choices r)
-        (λ choices request rest. ConditionAsks (here_of machine.old).values (here_of machine.old).heap (plain place (expression_of expression.now)) choices request rest)
+        (λ choices r. Tests (here_of machine.old) (plain place (expression_of expression.now))
+        (branches_of machine.old.work).0 (branches_of machine.old.work).1 choices r)
+        (λ choices request rest. ConditionAsks (here_of machine.old).values (here_of machine.old).heap
+        (plain place (expression_of expression.now)) choices request rest)
         script.old stepped (config_of machine.new) script.new) }
 {
     match machine.evaluate(program, script, expression)? {
@@ -104,8 +108,11 @@ fn test_both<'a>(
     second: &'a Expression,
 ) -> Result<Stepped, NoMemory>
     ensures { IfOk result (λ stepped. IsStep program.entry.structs.now
-        (λ choices r. Tests (here_of machine.old) (compare place mark (expression_of first.now) (expression_of second.now)) (branches_of machine.old.work).0 (branches_of machine.old.work).1 choices r)
-        (λ choices request rest. ConditionAsks (here_of machine.old).values (here_of machine.old).heap (compare place mark (expression_of first.now) (expression_of second.now)) choices request rest)
+        (λ choices r. Tests (here_of machine.old)
+        (compare place mark (expression_of first.now) (expression_of second.now))
+        (branches_of machine.old.work).0 (branches_of machine.old.work).1 choices r)
+        (λ choices request rest. ConditionAsks (here_of machine.old).values (here_of machine.old).heap
+        (compare place mark (expression_of first.now) (expression_of second.now)) choices request rest)
         script.old stepped (config_of machine.new) script.new) }
 {
     match machine.evaluate(program, script, first)? {
@@ -126,8 +133,10 @@ pub fn test<'a>(
     atom: Atom<'a>,
 ) -> Result<Stepped, NoMemory>
     ensures { IfOk result (λ stepped. IsStep program.entry.structs.now
-        (λ choices r. Tests (here_of machine.old) (atom_of atom.entry) (branches_of machine.old.work).0 (branches_of machine.old.work).1 choices r)
-        (λ choices request rest. ConditionAsks (here_of machine.old).values (here_of machine.old).heap (atom_of atom.entry) choices request rest)
+        (λ choices r. Tests (here_of machine.old) (atom_of atom.entry) (branches_of machine.old.work).0
+        (branches_of machine.old.work).1 choices r)
+        (λ choices request rest. ConditionAsks (here_of machine.old).values (here_of machine.old).heap
+        (atom_of atom.entry) choices request rest)
         script.old stepped (config_of machine.new) script.new) }
 {
     match atom {

@@ -68,7 +68,8 @@ fn run_from(
     fuel: u64,
     entry: &Function,
 ) -> Result<Outcome, NoMemory>
-    ensures { IfOk result (λ outcome. Runs (program_of program.entry) program.entry.structs.now (start (function_of entry.now)) script.old fuel outcome) }
+    ensures { IfOk result (λ outcome. Runs (program_of program.entry) program.entry.structs.now
+        (start (function_of entry.now)) script.old fuel outcome) }
 {
     let work = Work::start(alloc, entry)?;
     let heap = Heap::new(alloc);

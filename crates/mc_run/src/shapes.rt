@@ -30,8 +30,10 @@ pub fn free_at<'a>(
     place: Place,
 ) -> Result<Stepped, NoMemory>
     ensures { IfOk result (λ stepped. IsStep program.entry.structs.now
-        (λ choices r. Executes (program_of program.entry) (here_of machine.old) (free_statement place (expression_of pointer.now)) (tasks_of machine.old.work) choices r)
-        (λ choices request rest. StatementAsks program.entry.defs.now (here_of machine.old).values (here_of machine.old).heap (free_statement place (expression_of pointer.now)) choices request rest)
+        (λ choices r. Executes (program_of program.entry) (here_of machine.old)
+        (free_statement place (expression_of pointer.now)) (tasks_of machine.old.work) choices r)
+        (λ choices request rest. StatementAsks program.entry.defs.now (here_of machine.old).values
+        (here_of machine.old).heap (free_statement place (expression_of pointer.now)) choices request rest)
         script.old stepped (config_of machine.new) script.new) }
 {
     match machine.evaluate(program, script, pointer)? {

@@ -31,8 +31,10 @@ fn perform<'a>(
     simple: &'a Simple,
 ) -> Result<Stepped, NoMemory>
     ensures { IfOk result (λ stepped. IsStep program.entry.structs.now
-        (λ choices r. Performs (program_of program.entry) (here_of machine.old) (simple_of simple.now).action simple.now.place (tasks_of machine.old.work) choices r)
-        (λ choices request rest. ActionAsks (here_of machine.old).values (here_of machine.old).heap (simple_of simple.now).action choices request rest)
+        (λ choices r. Performs (program_of program.entry) (here_of machine.old)
+        (simple_of simple.now).action simple.now.place (tasks_of machine.old.work) choices r)
+        (λ choices request rest. ActionAsks (here_of machine.old).values (here_of machine.old).heap
+        (simple_of simple.now).action choices request rest)
         script.old stepped (config_of machine.new) script.new) }
 {
     let place = simple.place;
@@ -106,7 +108,8 @@ pub fn make<'a>(
 ) -> Result<Stepped, NoMemory>
     ensures { IfOk result (λ stepped. (tasks : Tasks) → Has next.entry machine.old.work tasks → IsStep program.entry.structs.now
         (λ choices r. Does (program_of program.entry) (here_of machine.old) tasks choices r)
-        (λ choices request rest. TaskAsks program.entry.defs.now (here_of machine.old).values (here_of machine.old).heap tasks choices request rest)
+        (λ choices request rest. TaskAsks program.entry.defs.now (here_of machine.old).values
+        (here_of machine.old).heap tasks choices request rest)
         script.old stepped (config_of machine.new) script.new) }
 {
     match next {

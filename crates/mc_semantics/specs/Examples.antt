@@ -28,12 +28,23 @@ variable n text = record { name = name n text; fields = [] }
 -- `int x = e;` and `int x;`
 abbrev pub int_is : ℕ → List ℕ → Option Right → Stmt
 int_is n text right =
-    declaration (record { base = Base.Int (at n); items = record { declarator = record { pointer = None; name = name n text }; value = right } ∷ [] })
+    declaration (record {
+      base = Base.Int (at n);
+      items = record
+          { declarator = record { pointer = None; name = name n text }; value = right } ∷ [];
+    })
 
 -- `int main() { .. }`
 abbrev pub main_of : List Stmt → FunctionTree
 main_of ss =
-    record { static_place = None; returned = Returned.Value (Base.Int (at 0)) None; name = name 0 (codes "main"); parameters = unnamed; body = Some (record { place = at 0; statements = ss }) }
+    record {
+      static_place = None;
+      returned = Returned.Value (Base.Int (at 0)) None;
+      name = name 0
+          (codes "main");
+      parameters = unnamed;
+      body = Some (record { place = at 0; statements = ss });
+    }
 
 -- words
 abbrev pub x_word : List ℕ
@@ -94,7 +105,9 @@ whiling =
     int_is 1 x_word (Some (expression (num 2 0)))
     ∷ while_loop (at 3) (compare Comparison.Below (var 4 x_word) (num 5 2))
     (block (at 6)
-    (then (if_only (at 7) (compare Comparison.Equal (var 8 x_word) (num 9 0)) (block (at 10) (then (simple (assign (variable 11 x_word) (expression (num 12 1)))) (then (continue_loop (at 13)) no_more))))
+    (then (if_only (at 7) (compare Comparison.Equal (var 8 x_word) (num 9 0))
+    (block (at 10) (then (simple (assign (variable 11 x_word) (expression (num 12 1))))
+    (then (continue_loop (at 13)) no_more))))
     (then (break_loop (at 14)) no_more)))
     ∷ []
 
@@ -108,7 +121,12 @@ turning =
     for_loop
     (record {
       place = at 1;
-      start = declares (record { base = Base.Int (at 2); items = record { declarator = record { pointer = None; name = name 3 x_word }; value = Some (expression (num 4 1)) } ∷ [] });
+      start = declares (record {
+        base = Base.Int (at 2);
+        items = record
+            { declarator = record { pointer = None; name = name 3 x_word }; value = Some (expression (num 4 1)) }
+            ∷ [];
+      });
       condition = Some (plain (var 5 x_word));
       last = Some (assign (variable 6 x_word) (expression (num 6 0)));
     })
@@ -127,7 +145,8 @@ same_again =
       parameters = listed (record { base = Base.Int (at 101); declarator = record { pointer = None; name = name 102 x_word } } ∷ []);
       body = Some (record {
         place = at 103;
-        statements = while_loop (at 104) (plain (num 105 1)) (block (at 106) (then (returns (at 107) (Some (expression (var 108 x_word)))) no_more)) ∷ [];
+        statements = while_loop (at 104) (plain (num 105 1))
+            (block (at 106) (then (returns (at 107) (Some (expression (var 108 x_word)))) no_more)) ∷ [];
       });
     }
 
@@ -152,7 +171,11 @@ node_struct =
       name = name 200 (codes "node");
       fields =
           record { base = Base.Int (at 201); declarators = record { pointer = None; name = name 202 (codes "data") } ∷ [] }
-          ∷ record { base = Base.Struct (at 203) (name 204 (codes "node")); declarators = record { pointer = Some (at 205); name = name 206 (codes "next") } ∷ [] }
+          ∷ record {
+            base = Base.Struct (at 203) (name 204 (codes "node"));
+            declarators = record
+                { pointer = Some (at 205); name = name 206 (codes "next") } ∷ [];
+          }
           ∷ [];
     })
 

@@ -181,4 +181,5 @@ moved t values (task (take_result target v) rest) = None
 -- from these tasks one comes to those, at which the next step is
 pub data Arrives (t : Tables) : Values → Tasks → Values → Tasks → Type 0 where
   here : {values : Values} {tasks : Tasks} → moved t values tasks ≡ None → Arrives t values tasks values tasks
-  there : {values later final : Values} {tasks next ready : Tasks} → moved t values tasks ≡ Some (later, next) → Arrives t later next final ready → Arrives t values tasks final ready
+  there : {values later final : Values} {tasks next ready : Tasks} → moved t values tasks ≡ Some (later, next)
+      → Arrives t later next final ready → Arrives t values tasks final ready

@@ -96,7 +96,9 @@ Allocates h m (choose_shape v blocks ∷ choices) go r = ⊥
 Allocates h m (choose_malloc zero ∷ choices) go r = go (pos 0) h.heap choices r
 Allocates h m (choose_malloc (suc n) ∷ choices) go r =
     IsAddress (suc n) × (region_of h.heap (suc n) ≡ None)
-    × go (pos (suc n)) (map.insert h.heap (suc n) (fresh_block (struct_of (size_meaning h.tables h.variables m.size)) (field_count h.tables (struct_of (size_meaning h.tables h.variables m.size))))) choices r
+    × go (pos (suc n)) (map.insert h.heap (suc n)
+    (fresh_block (struct_of (size_meaning h.tables h.variables m.size))
+    (field_count h.tables (struct_of (size_meaning h.tables h.variables m.size))))) choices r
 
 -- a block is freed; null is let alone, and what is not allocated can't be freed
 abbrev pub freed_at : Here → ℕ → Option Block → Changed
@@ -123,7 +125,8 @@ AfterFirst more (value_of v choices) r = (others : Arguments) × more choices ot
 
 abbrev pub EvaluateAll : Here → List Expr → List Choice → Arguments → Type 0
 EvaluateAll h [] choices r = r ≡ arguments [] choices
-EvaluateAll h (e ∷ es) choices r = (one : Evaluated) × Evaluates h e choices one × AfterFirst (λ rest others. EvaluateAll h es rest others) one r
+EvaluateAll h (e ∷ es) choices r = (one : Evaluated) × Evaluates h e choices one
+    × AfterFirst (λ rest others. EvaluateAll h es rest others) one r
 
 -- the parameters hold the arguments
 abbrev pub passed : List Variable → List ℤ → Values
@@ -134,12 +137,18 @@ passed (x ∷ xs) (v ∷ vs) = with_variable (passed xs vs) x.place (Some v)
 -- the body of a function, with its parameters in scope
 abbrev pub body_of : Tables → FunctionTree → Tasks → Tasks
 body_of t f rest =
-    option_map_or (λ body. in_a_row t (record { heads = []; own = reverse (parameters_of t f); outer = [] }) (stmts_of body.statements) rest) f.body rest
+    option_map_or (λ body. in_a_row t (record { heads = []; own = reverse (parameters_of t f); outer = [] })
+    (stmts_of body.statements) rest) f.body rest
 
 abbrev pub begun : Here → FunctionTree → Target → Place → Tasks → List Choice → Option (List ℤ) → Result
 begun h f target place rest choices None = last (fault Uninit place)
 begun h f target place rest choices (Some vs) =
-    next (record { tasks = body_of h.tables f (task (end_call h.values target) rest); values = passed (parameters_of h.tables f) vs; heap = h.heap }) choices
+    next (record {
+      tasks = body_of h.tables f (task (end_call h.values target) rest);
+      values = passed
+          (parameters_of h.tables f) vs;
+      heap = h.heap;
+    }) choices
 
 abbrev pub AfterArguments : Here → Option FunctionTree → Target → Place → Tasks → Arguments → Result → Type 0
 AfterArguments h f target place rest (no_arguments kind) r = r ≡ last (fault kind place)
@@ -149,7 +158,8 @@ AfterArguments h (Some f) target place rest (arguments vs choices) r = r ≡ beg
 -- the arguments are evaluated and passed, and the function begins
 abbrev pub Passes : Here → CallTree → Target → Place → Tasks → List Choice → Result → Type 0
 Passes h c target place rest choices r =
-    (all : Arguments) × EvaluateAll h c.arguments choices all × AfterArguments h (called_function h.tables c.function.text) target place rest all r
+    (all : Arguments) × EvaluateAll h c.arguments choices all
+    × AfterArguments h (called_function h.tables c.function.text) target place rest all r
 
 -- ---- simple statements
 -- a variable, one of these, or a field behind it gets what a right side comes to
@@ -187,7 +197,8 @@ simple_place (call c) = c.function.place
 
 -- a variable is declared: without a value it is undefined, and a value goes to it whatever else has its name
 abbrev pub Declares : Here → Variable → Option Right → Place → Tasks → List Choice → Result → Type 0
-Declares h x None place rest choices r = r ≡ next (record { tasks = rest; values = with_variable h.values x.place None; heap = h.heap }) choices
+Declares h x None place rest choices r = r
+    ≡ next (record { tasks = rest; values = with_variable h.values x.place None; heap = h.heap }) choices
 Declares h x (Some right) place rest choices r =
     Assigns h (x ∷ []) (record { name = record { text = x.name; place = x.place }; fields = [] }) right place rest choices r
 
@@ -210,7 +221,11 @@ AddsShape defs predicate args h x rest place (choose_input v ∷ choices) r = �
 AddsShape defs predicate args h x rest place (choose_malloc n ∷ choices) r = ⊥
 AddsShape defs predicate args h x rest place (choose_shape v blocks ∷ choices) r =
     AreFree h.heap blocks × Sat defs (predicate_of defs predicate) v args (part_of blocks)
-    × (r ≡ after rest place choices (set_variable (record { tables = h.tables; variables = h.variables; values = h.values; heap = with_blocks h.heap blocks }) x (Some v)))
+    × (r ≡ after rest place choices
+    (set_variable
+    (record
+    { tables = h.tables; variables = h.variables; values = h.values; heap = with_blocks h.heap blocks }) x
+    (Some v)))
 
 -- a shape is assumed: the arguments are taken before the choice is asked for
 abbrev pub Assumes : List Def → Name → Here → Name → Tasks → Place → List Choice → Option (List ℤ) → Result → Type 0
@@ -219,7 +234,8 @@ Assumes defs predicate h x rest place choices (Some args) r = AddsShape defs pre
 
 -- the run goes on where this holds, and has this fault where it does not
 abbrev pub Demands : Type 0 → FaultKind → Here → Tasks → Place → List Choice → Result → Type 0
-Demands P kind h rest place choices r = (P × (r ≡ after rest place choices (changed h.values h.heap))) ⊎ ((¬ P) × (r ≡ last (fault kind place)))
+Demands P kind h rest place choices r = (P × (r ≡ after rest place choices (changed h.values h.heap)))
+    ⊎ ((¬ P) × (r ≡ last (fault kind place)))
 
 -- a shape is asserted: the value is taken, then the arguments, and the predicate is to hold of them on some part of the heap
 abbrev pub Asserts : List Def → Name → Here → Tasks → Place → List Choice → Option ℤ → Option (List ℤ) → Result → Type 0
@@ -236,14 +252,17 @@ returned_value heap rest place choices (Some v) = gone_back heap rest (Some v) c
 
 abbrev pub Returns : Here → Option Right → Tasks → Place → List Choice → Result → Type 0
 Returns h None rest place choices r = r ≡ gone_back h.heap rest None choices
-Returns h (Some (expression e)) rest place choices r = WithValue h e place choices (λ v left other. other ≡ returned_value h.heap rest place left v) r
+Returns h (Some (expression e)) rest place choices r = WithValue h e place choices
+    (λ v left other. other ≡ returned_value h.heap rest place left v) r
 Returns h (Some (result_of c)) rest place choices r = Passes h c (returned place) place rest choices r
-Returns h (Some (allocation m)) rest place choices r = Allocates h m choices (λ v heap left other. other ≡ gone_back heap rest (Some v) left) r
+Returns h (Some (allocation m)) rest place choices r = Allocates h m choices
+    (λ v heap left other. other ≡ gone_back heap rest (Some v) left) r
 
 -- the result of a call is taken
 abbrev pub taken : Here → Target → Option ℤ → Tasks → List Choice → Result
 taken h nowhere v rest choices = next (record { tasks = rest; values = h.values; heap = h.heap }) choices
-taken h (stored vs l place) v rest choices = after rest place choices (assigned (record { tables = h.tables; variables = vs; values = h.values; heap = h.heap }) l v)
+taken h (stored vs l place) v rest choices = after rest place choices
+    (assigned (record { tables = h.tables; variables = vs; values = h.values; heap = h.heap }) l v)
 taken h (returned place) v rest choices = returned_value h.heap rest place choices v
 
 -- ---- conditions
@@ -273,7 +292,8 @@ compared h c a b place (Some x) (Some y) choices = decided h a b choices (compar
 -- an atomic condition; the others are taken apart before
 abbrev pub Tests : Here → Cond → Branch → Branch → List Choice → Result → Type 0
 Tests h (plain e) a b choices r =
-    WithValue h e (first_place e) choices (λ v left other. other ≡ compared h Comparison.Unequal a b (first_place e) v (Some (pos 0)) left) r
+    WithValue h e (first_place e) choices
+    (λ v left other. other ≡ compared h Comparison.Unequal a b (first_place e) v (Some (pos 0)) left) r
 Tests h (compare c x y) a b choices r =
     WithValue h x (first_place x) choices
     (λ v left other. WithValue h y (first_place x) left (λ w more last. last ≡ compared h c a b (first_place x) v w more) other) r
@@ -287,7 +307,8 @@ Tests h (either c d) a b choices r = ⊥
 abbrev pub Executes : List Def → Here → Stmt → Tasks → List Choice → Result → Type 0
 Executes defs h (simple x) rest choices r = Performs h x (simple_place x) rest choices r
 Executes defs h (free p e) rest choices r = WithValue h e p choices (λ v left other. other ≡ after rest p left (freed h v)) r
-Executes defs h (assume_shape p predicate x args) rest choices r = Assumes defs predicate h x rest p choices (all_there (map (argument_value h) args)) r
+Executes defs h (assume_shape p predicate x args) rest choices r = Assumes defs predicate h x rest p choices
+    (all_there (map (argument_value h) args)) r
 Executes defs h (assert_shape p predicate a args) rest choices r =
     Asserts defs predicate h rest p choices (argument_value h a) (all_there (map (argument_value h) args)) r
 Executes defs h (assert_empty p) rest choices r = Demands (IsEmpty (region_of h.heap)) NotEmpty h rest p choices r
@@ -309,7 +330,8 @@ Executes defs h (continue_loop p) rest choices r = ⊥
 abbrev pub DeclaresFirst : Tables → Scope → Place → Base → List InitialTree → Values → Heap → Tasks → List Choice → Result → Type 0
 DeclaresFirst t s place base [] values heap rest choices r = ⊥
 DeclaresFirst t s place base (item ∷ items) values heap rest choices r =
-    Declares (where_is t (visible (declare s x)) values heap) x item.value place (task (declare_all (declare s x) place base items) rest) choices r
+    Declares (where_is t (visible (declare s x)) values heap) x item.value place
+    (task (declare_all (declare s x) place base items) rest) choices r
   where
     x : Variable
     x = variable_of t base item.declarator
@@ -318,7 +340,8 @@ DeclaresFirst t s place base (item ∷ items) values heap rest choices r =
 abbrev pub Does : Program → Values → Heap → Tasks → List Choice → Result → Type 0
 Does p values heap done choices r = r ≡ last ended
 Does p values heap (task (perform s a) rest) choices r = Executes p.defs (where_is p.tables (visible s) values heap) a rest choices r
-Does p values heap (task (declare_all s place base items) rest) choices r = DeclaresFirst p.tables s place base items values heap rest choices r
+Does p values heap
+    (task (declare_all s place base items) rest) choices r = DeclaresFirst p.tables s place base items values heap rest choices r
 Does p values heap (task (finish_turn vs x) rest) choices r = Performs (where_is p.tables vs values heap) x (simple_place x) rest choices r
 Does p values heap (task (again s a) rest) choices r = ⊥
 Does p values heap (task (test vs c a b) rest) choices r = Tests (where_is p.tables vs values heap) c a b choices r
@@ -331,7 +354,8 @@ Does p values heap (task (take_result target v) rest) choices r = r ≡ taken (w
 
 -- one step: what belongs to it is done first
 abbrev pub Step : Program → Config → List Choice → Result → Type 0
-Step p c choices r = (values : Values) × (tasks : Tasks) × Arrives p.tables c.values c.tasks values tasks × Does p values c.heap tasks choices r
+Step p c choices r = (values : Values) × (tasks : Tasks) × Arrives p.tables c.values c.tasks values tasks
+    × Does p values c.heap tasks choices r
 
 -- a program begins with the body of its entry, no variable defined and nothing allocated
 abbrev pub start : Program → FunctionTree → Config

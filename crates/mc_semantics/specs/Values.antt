@@ -115,9 +115,12 @@ Evaluates h (input p) choices r = IsInput choices r
 Evaluates h (value l) choices r = r ≡ evaluated (left_value h l) choices
 Evaluates h (minus p e) choices r = (one : Evaluated) × Evaluates h e choices one × (r ≡ right_operand (λ x y. x -ℤ y) (Some (pos 0)) one)
 Evaluates h (parens p e) choices r = Evaluates h e choices r
-Evaluates h (times a b) choices r = (one : Evaluated) × Evaluates h a choices one × AfterLeft (λ x y. x *ℤ y) (λ rest two. Evaluates h b rest two) one r
-Evaluates h (plus a b) choices r = (one : Evaluated) × Evaluates h a choices one × AfterLeft (λ x y. x +ℤ y) (λ rest two. Evaluates h b rest two) one r
-Evaluates h (difference a b) choices r = (one : Evaluated) × Evaluates h a choices one × AfterLeft (λ x y. x -ℤ y) (λ rest two. Evaluates h b rest two) one r
+Evaluates h (times a b) choices r = (one : Evaluated) × Evaluates h a choices one
+    × AfterLeft (λ x y. x *ℤ y) (λ rest two. Evaluates h b rest two) one r
+Evaluates h (plus a b) choices r = (one : Evaluated) × Evaluates h a choices one
+    × AfterLeft (λ x y. x +ℤ y) (λ rest two. Evaluates h b rest two) one r
+Evaluates h (difference a b) choices r = (one : Evaluated) × Evaluates h a choices one
+    × AfterLeft (λ x y. x -ℤ y) (λ rest two. Evaluates h b rest two) one r
 
 -- ---- what is changed
 -- what comes of a change: a fault, or what the variables hold and the heap
@@ -136,11 +139,13 @@ abbrev pub put : Here → VariableType → Name → Option ℤ → Option ℤ �
 put h type field None v = fault_in Uninit
 put h type field (Some v) None = fault_in Uninit
 put h type field (Some v) (Some p) =
-    if address p == 0 then fault_in Null else written h (address p) (struct_behind type) (field_number h.tables type field) v (region_of h.heap (address p))
+    if address p == 0 then fault_in Null else written h (address p) (struct_behind type)
+    (field_number h.tables type field) v (region_of h.heap (address p))
 
 abbrev pub set_variable : Here → Name → Option ℤ → Changed
 set_variable h name None = fault_in Uninit
-set_variable h name (Some v) = changed (option_map_or (λ x. with_variable h.values x.place (Some v)) (variable_of h.variables name) h.values) h.heap
+set_variable h name (Some v) = changed (option_map_or (λ x. with_variable h.values x.place (Some v))
+    (variable_of h.variables name) h.values) h.heap
 
 -- what follows a base, where there is one
 abbrev pub behind_base : Found → (Option ℤ → Changed) → Changed

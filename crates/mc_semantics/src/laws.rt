@@ -10,7 +10,8 @@ ghost use Rattle.std.specs.Prelude.{◌≡◌, List, [], ◌∷◌, pos};
 
 /// The choices of a run determine each of its steps.
 pub fn steps_are_determined()
-    ensures { (program : Program) (config : Config) (choices : List Choice) (one other : Result) → Step program config choices one → Step program config choices other → one ≡ other }
+    ensures { (program : Program) (config : Config) (choices : List Choice) (one other : Result)
+        → Step program config choices one → Step program config choices other → one ≡ other }
 {}
 
 /// The choices determine what an expression comes to, and the tasks at which the next step is are determined too.

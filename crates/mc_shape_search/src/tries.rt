@@ -61,9 +61,12 @@ pub trait Problem {
     ) -> Result<Option<usize>, AllocError>
         requires arena { IsArena (reverse cells.old.items) }
         requires within { rest ≤ length (reverse cells.old.items) }
-        ensures fits { IfOk result (λ top. MatchOption top ((space self.now).fits goal.now mark ≡ false) (λ _. (space self.now).fits goal.now mark ≡ true)) }
+        ensures fits { IfOk result (λ top. MatchOption top ((space self.now).fits goal.now mark ≡ false)
+            (λ _. (space self.now).fits goal.now mark ≡ true)) }
         ensures kept { IfOk result (λ top. top ≡ None → cells.new.items ≡ cells.old.items) }
-        ensures pushed { IfOk result (λ top. MatchOption top (Unit {0}) (λ p. Pushes ((space self.now).calls goal.now mark) (reverse cells.old.items) (reverse cells.new.items) rest p)) };
+        ensures pushed { IfOk result (λ top. MatchOption top (Unit {0})
+            (λ p. Pushes ((space self.now).calls goal.now mark) (reverse cells.old.items)
+            (reverse cells.new.items) rest p)) };
 
     /// Whether the search may end with these marks.
     fn may_end(&self, log: &[Self::Mark]) -> bool
@@ -153,10 +156,14 @@ fn push_marks<P: Problem>(
     requires times { HasTimes (P.space problem.now).takes log.now (tree.get nat_cmp times.now) }
     requires arena { IsArena (reverse cells.old.items) }
     requires within { next ≤ length (reverse cells.old.items) }
-    requires stack { IsStack (P.space problem.now).takes log.now (length (reverse cells.old.items)) (length log.now) (reverse pending.old.items) }
+    requires stack { IsStack (P.space problem.now).takes log.now (length (reverse cells.old.items)) (length log.now)
+        (reverse pending.old.items) }
     ensures arena { IfOk result (λ _. IsArena (reverse cells.new.items)) }
-    ensures stack { IfOk result (λ _. IsStack (P.space problem.now).takes log.now (length (reverse cells.new.items)) (length log.now) (reverse pending.new.items)) }
-    ensures tried { IfOk result (λ _. Opens (P.space problem.now) (goal.now ∷ goals_at (reverse cells.old.items) next) log.now (reverse cells.old.items) (reverse pending.old.items) (reverse cells.new.items) (reverse pending.new.items)) }
+    ensures stack { IfOk result (λ _. IsStack (P.space problem.now).takes log.now (length (reverse cells.new.items))
+        (length log.now) (reverse pending.new.items)) }
+    ensures tried { IfOk result (λ _. Opens (P.space problem.now)
+        (goal.now ∷ goals_at (reverse cells.old.items) next) log.now (reverse cells.old.items)
+        (reverse pending.old.items) (reverse cells.new.items) (reverse pending.new.items)) }
 {
     let all = problem.marks(alloc, goal)?;
     let height = log.len();
@@ -191,10 +198,14 @@ fn expand<P: Problem>(
     requires arena { IsArena (reverse cells.old.items) }
     requires some { 0 < top }
     requires within { top ≤ length (reverse cells.old.items) }
-    requires stack { IsStack (P.space problem.now).takes log.now (length (reverse cells.old.items)) (length log.now) (reverse pending.old.items) }
+    requires stack { IsStack (P.space problem.now).takes log.now (length (reverse cells.old.items)) (length log.now)
+        (reverse pending.old.items) }
     ensures arena { IfOk result (λ _. IsArena (reverse cells.new.items)) }
-    ensures stack { IfOk result (λ _. IsStack (P.space problem.now).takes log.now (length (reverse cells.new.items)) (length log.now) (reverse pending.new.items)) }
-    ensures tried { IfOk result (λ _. Opens (P.space problem.now) (goals_at (reverse cells.old.items) top) log.now (reverse cells.old.items) (reverse pending.old.items) (reverse cells.new.items) (reverse pending.new.items)) }
+    ensures stack { IfOk result (λ _. IsStack (P.space problem.now).takes log.now (length (reverse cells.new.items))
+        (length log.now) (reverse pending.new.items)) }
+    ensures tried { IfOk result (λ _. Opens (P.space problem.now) (goals_at (reverse cells.old.items) top) log.now
+        (reverse cells.old.items) (reverse pending.old.items) (reverse cells.new.items)
+        (reverse pending.new.items)) }
 {
     let cell = &cells[top - 1];
     let next = cell.next;
@@ -242,7 +253,8 @@ pub fn find_first<P: Problem>(
     problem: &P,
     goal: P::Goal,
 ) -> Result<Option<Vec<P::Mark>>, AllocError>
-    ensures { IfOk result (λ found. (limit : ℕ) → enough ≤ limit → option_map (λ log. log.items) found ≡ first_try (P.space problem.now) limit goal) }
+    ensures { IfOk result (λ found. (limit : ℕ) → enough ≤ limit → option_map (λ log. log.items) found
+        ≡ first_try (P.space problem.now) limit goal) }
 {
     let mut cells = Vec::new(alloc);
     let mut pending = Vec::new(alloc);

@@ -18,7 +18,15 @@ use Rattle.mc_state.specs.Terms.{plain}
 -- a whole state without variables, of these kinds, edges and atoms
 abbrev pub state_of : Kinds → List Edge → List Atom → State
 state_of kinds es atoms =
-    record { env = []; kinds = kinds; graph = record { edges = numbered 0 es; next = length es }; atoms = atoms; next = suc (length kinds); whole = true }
+    record {
+      env = [];
+      kinds = kinds;
+      graph = record
+          { edges = numbered 0 es; next = length es };
+      atoms = atoms;
+      next = suc (length kinds);
+      whole = true;
+    }
 
 -- the term of a node
 abbrev pub at : ℕ → Term
@@ -38,7 +46,8 @@ rest_list = Ind (node 3) list_id []
 
 -- a cell that points to a list
 abbrev pub cell_and_list : State
-cell_and_list = state_of ((node 1, Ptr) ∷ (node 2, Int) ∷ (node 3, Ptr) ∷ []) (Block (node 1) cell_id (Some (node 2) ∷ Some (node 3) ∷ []) ∷ rest_list ∷ []) []
+cell_and_list = state_of ((node 1, Ptr) ∷ (node 2, Int) ∷ (node 3, Ptr) ∷ [])
+    (Block (node 1) cell_id (Some (node 2) ∷ Some (node 3) ∷ []) ∷ rest_list ∷ []) []
 
 -- a segment to a list
 abbrev pub segment_and_list : State
@@ -65,7 +74,9 @@ fork_and_tree =
 -- a fork both of whose pointers point to one tree, which is not null
 abbrev pub shared_tree : State
 shared_tree =
-    state_of ((node 1, Ptr) ∷ (node 2, Ptr) ∷ []) (Block (node 1) fork_id (Some (node 2) ∷ Some (node 2) ∷ []) ∷ Ind (node 2) tree_id [] ∷ []) (Ne (node 2) null (pos 0) ∷ [])
+    state_of ((node 1, Ptr) ∷ (node 2, Ptr) ∷ [])
+    (Block (node 1) fork_id (Some (node 2) ∷ Some (node 2) ∷ []) ∷ Ind (node 2) tree_id [] ∷ [])
+    (Ne (node 2) null (pos 0) ∷ [])
 
 -- the cell at 7 points to 9
 abbrev pub at_seven : Valuation

@@ -32,7 +32,8 @@ Fixes names (In left lo hi) = Unit {0}
 abbrev pub BlockIsTaken : State → Option StructId → Term → List NodeId → Edges → Edges → Type 0
 BlockIsTaken s None at contents es left = (contents ≡ []) × (left ≡ es)
 BlockIsTaken s (Some shape) at contents es left =
-    (id : EdgeId) × (b : NodeId) × (edge_with es id ≡ Some (Block b shape (map Some contents))) × AreEqualTerms s at (plain b) × (left ≡ without es id)
+    (id : EdgeId) × (b : NodeId) × (edge_with es id ≡ Some (Block b shape (map Some contents)))
+    × AreEqualTerms s at (plain b) × (left ≡ without es id)
 
 -- a rule of the predicate, with terms for its names: `this`, the arguments, the contents and the sums of the names it introduces
 pub record RuleTerms (defs : List Def) (s : State) (pred : PredId) (at : Term) (args : List Term) : Type 0 where
@@ -61,9 +62,11 @@ CallsAreFound M names (call ∷ calls) es left =
 abbrev pub CallsAreFoundAt : Finding → Finding → PredId → ℕ → List Term → List Call → Edges → Edges → Type 0
 CallsAreFoundAt M S pred place names [] es left = ⊥
 CallsAreFoundAt M S pred zero names (call ∷ calls) es left =
-    (mid : Edges) × (call.pred ≡ pred) × S pred (term_of names call.at) (map (term_of names) call.args) es mid × CallsAreFound M names calls mid left
+    (mid : Edges) × (call.pred ≡ pred) × S pred (term_of names call.at) (map (term_of names) call.args) es mid
+    × CallsAreFound M names calls mid left
 CallsAreFoundAt M S pred (suc place) names (call ∷ calls) es left =
-    (mid : Edges) × M call.pred (term_of names call.at) (map (term_of names) call.args) es mid × CallsAreFoundAt M S pred place names calls mid left
+    (mid : Edges) × M call.pred (term_of names call.at) (map (term_of names) call.args) es mid
+    × CallsAreFoundAt M S pred place names calls mid left
 
 -- an Ind of the predicate at an equal node with equal arguments
 abbrev pub IsByInd : State → Finding
@@ -74,13 +77,15 @@ IsByInd s pred at args es left =
 -- a Seg of the predicate there, and what is found at its end
 abbrev pub IsBySeg : Finding → State → Finding
 IsBySeg M s pred at args es left =
-    (id : EdgeId) × (b : NodeId) × (bs : List NodeId) × (e : NodeId) × (ends : List NodeId) × (edge_with es id ≡ Some (Seg b bs pred e ends))
+    (id : EdgeId) × (b : NodeId) × (bs : List NodeId) × (e : NodeId) × (ends : List NodeId)
+    × (edge_with es id ≡ Some (Seg b bs pred e ends))
     × AreEqualTerms s at (plain b) × AreAllEqualTerms s args (map plain bs) × M pred (plain e) (map plain ends) (without es id) left
 
 -- a rule of the predicate, whose block is there and each of whose calls is found
 abbrev pub IsByRule : Finding → List Def → State → Finding
 IsByRule M defs s pred at args es left =
-    (by : RuleTerms defs s pred at args) × (mid : Edges) × BlockIsTaken s by.rule.block at by.contents es mid × CallsAreFound M by.names by.rule.calls mid left
+    (by : RuleTerms defs s pred at args) × (mid : Edges) × BlockIsTaken s by.rule.block at by.contents es mid
+    × CallsAreFound M by.names by.rule.calls mid left
 
 -- the same with one call of the predicate found in another way
 abbrev pub IsByRuleAt : Finding → Finding → List Def → State → Finding
@@ -92,7 +97,8 @@ IsByRuleAt M S defs s pred at args es left =
 abbrev pub CoverAt : List Def → State → ℕ → Finding
 CoverAt defs s zero pred at args es left = ⊥
 CoverAt defs s (suc k) pred at args es left =
-    IsByInd s pred at args es left ⊎ (IsBySeg (CoverAt defs s k) s pred at args es left ⊎ IsByRule (CoverAt defs s k) defs s pred at args es left)
+    IsByInd s pred at args es left ⊎ (IsBySeg (CoverAt defs s k) s pred at args es left
+    ⊎ IsByRule (CoverAt defs s k) defs s pred at args es left)
 
 -- a cover of any depth
 pub record Cover (defs : List Def) (s : State) (pred : PredId) (at : Term) (args : List Term) (es left : Edges) : Type 0 where
@@ -102,16 +108,19 @@ pub record Cover (defs : List Def) (s : State) (pred : PredId) (at : Term) (args
 -- a segment cover that takes no edge: it ends where it begins
 abbrev pub EndsThere : List Def → State → Term → List Term → Finding
 EndsThere defs s «end» ends pred at args es left =
-    (def : Def) × (slice_get defs pred.0 ≡ Some def) × AreEqualTerms s at end × AreAllEqualTerms s args ends × TermsLieIn s def.params args × (left ≡ es)
+    (def : Def) × (slice_get defs pred.0 ≡ Some def) × AreEqualTerms s at end × AreAllEqualTerms s args ends
+    × TermsLieIn s def.params args × (left ≡ es)
 
 -- a segment cover to an end: nothing, a Seg with a segment cover at its end, or a rule with a segment cover of one call of the predicate
 abbrev pub SegCoverAt : List Def → State → Term → List Term → ℕ → Finding
 SegCoverAt defs s «end» ends zero pred at args es left = EndsThere defs s end ends pred at args es left
 SegCoverAt defs s «end» ends (suc k) pred at args es left =
     EndsThere defs s end ends pred at args es left
-    ⊎ (IsBySeg (SegCoverAt defs s end ends k) s pred at args es left ⊎ IsByRuleAt (Cover defs s) (SegCoverAt defs s end ends k) defs s pred at args es left)
+    ⊎ (IsBySeg (SegCoverAt defs s end ends k) s pred at args es left
+    ⊎ IsByRuleAt (Cover defs s) (SegCoverAt defs s end ends k) defs s pred at args es left)
 
 -- a segment cover of any depth
-pub record SegCover (defs : List Def) (s : State) (pred : PredId) (at : Term) (args : List Term) («end» : Term) (ends : List Term) (es left : Edges) : Type 0 where
+pub record SegCover (defs : List Def) (s : State) (pred : PredId) (at : Term) (args : List Term) («end» : Term)
+    (ends : List Term) (es left : Edges) : Type 0 where
   pub depth : ℕ
   pub found : SegCoverAt defs s end ends depth pred at args es left

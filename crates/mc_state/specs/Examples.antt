@@ -33,7 +33,15 @@ front_and_back = record { edges = (edge 0, front) ∷ (edge 1, back) ∷ []; nex
 
 -- the only variable is node 1, and nothing but the two parts is allocated
 abbrev pub list_in_parts : State
-list_in_parts = record { env = Some (node 1) ∷ []; kinds = (node 1, Ptr) ∷ (node 2, Ptr) ∷ []; graph = front_and_back; atoms = []; next = 3; whole = true }
+list_in_parts = record {
+  env = Some (node 1) ∷ [];
+  kinds = (node 1, Ptr) ∷ (node 2, Ptr)
+      ∷ [];
+  graph = front_and_back;
+  atoms = [];
+  next = 3;
+  whole = true;
+}
 
 -- the variable and node 1 are 7, and node 2 is 9
 abbrev pub at_seven : List (Option ℤ)

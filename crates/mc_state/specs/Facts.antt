@@ -40,7 +40,8 @@ pub data IsReached (s : State) : NodeId → Type 0 where
   from_null : IsReached s null
   from_var : {n : NodeId} (place : ℕ) → slice_get s.env place ≡ Some (Some n) → IsReached s n
   along_equal : {a b : NodeId} → IsReached s a → AreEqual s a b → IsReached s b
-  along_edge : {n : NodeId} (place : ℕ) (id : EdgeId) (e : Edge) → slice_get s.graph.edges place ≡ Some (id, e) → IsReached s (start_of e) → Contains (nodes_of e) n → IsReached s n
+  along_edge : {n : NodeId} (place : ℕ) (id : EdgeId) (e : Edge) → slice_get s.graph.edges place ≡ Some (id, e)
+      → IsReached s (start_of e) → Contains (nodes_of e) n → IsReached s n
 
 -- one node may stand in place of another: they differ, the other is not node 0, and they are of one kind or the one is node 0
 pub record CanMerge (kinds : Kinds) (keep gone : NodeId) : Type 0 where

@@ -62,7 +62,8 @@ ArgsFit defs kinds pred args = (def : Def) × (slice_get defs pred.0 ≡ Some de
 abbrev pub EdgeFitsDefs : List Def → Kinds → Edge → Type 0
 EdgeFitsDefs defs kinds (Block at shape fields) =
     HasKind kinds Ptr at
-    × ((p r : ℕ) (def : Def) (rule : Rule) → slice_get defs p ≡ Some def → slice_get def.rules r ≡ Some rule → rule.block ≡ Some shape → length fields ≡ length rule.contents)
+    × ((p r : ℕ) (def : Def) (rule : Rule) → slice_get defs p ≡ Some def → slice_get def.rules r ≡ Some rule
+    → rule.block ≡ Some shape → length fields ≡ length rule.contents)
 EdgeFitsDefs defs kinds (Ind at pred args) = HasKind kinds Ptr at × ArgsFit defs kinds pred args
 EdgeFitsDefs defs kinds (Seg at args pred «end» ends) =
     HasKind kinds Ptr at × ArgsFit defs kinds pred args × HasKind kinds Ptr end × ArgsFit defs kinds pred ends

@@ -133,7 +133,8 @@ HasWholeBlock s at es shape id contents =
 abbrev pub HasSummary : State → PredId → Term → Edges → EdgeId → List NodeId → Type 0
 HasSummary s pred at es id args =
     (b : NodeId) × AreEqualTerms s at (plain b)
-    × ((edge_with es id ≡ Some (Ind b pred args)) ⊎ ((e : NodeId) × (ends : List NodeId) × (edge_with es id ≡ Some (Seg b args pred e ends))))
+    × ((edge_with es id ≡ Some (Ind b pred args))
+    ⊎ ((e : NodeId) × (ends : List NodeId) × (edge_with es id ≡ Some (Seg b args pred e ends))))
 
 -- the stop is reached
 abbrev pub Stops : State → Term → Option (Term × List Term) → List Term → Type 0

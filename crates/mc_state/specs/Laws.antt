@@ -50,7 +50,8 @@ LiesInItsKind =
 
 -- where nothing is allocated, any values stand for the state of which nothing is known
 abbrev pub UnknownStands : Type 0
-UnknownStands = (defs : List Def) (values : List (Option ℤ)) (region : Region) → IsEmpty region → Stands defs values region (unknown (length values))
+UnknownStands = (defs : List Def) (values : List (Option ℤ)) (region : Region) → IsEmpty region
+    → Stands defs values region (unknown (length values))
 
 -- a whole state without edges stands for nothing else
 abbrev pub WholeWithoutEdges : Type 0
@@ -68,7 +69,8 @@ StandsByAgreement =
 abbrev pub NodesAreAdded : Type 0
 NodesAreAdded =
     (defs : List Def) (v : Valuation) (values : List (Option ℤ)) (region : Region) (s : State) (kinds : List Kind) (numbers : List ℤ)
-    → IsBounded s → InKinds kinds numbers → StandsBy defs v values region s → StandsBy defs (extended v s.next numbers) values region (with_nodes s kinds)
+    → IsBounded s → InKinds kinds numbers → StandsBy defs v values region s
+    → StandsBy defs (extended v s.next numbers) values region (with_nodes s kinds)
 
 -- and those values they have, and the others stay
 abbrev pub NodesHaveValues : Type 0
@@ -109,9 +111,11 @@ VarIsKnown =
 -- edges that are named have a part of their own, and what is left of the heap stands for the state without them
 abbrev pub EdgesAreTaken : Type 0
 EdgesAreTaken =
-    (defs : List Def) (v : Valuation) (values : List (Option ℤ)) (region : Region) (s : State) (ids : List EdgeId) (picked : List Edge) (left : Edges)
+    (defs : List Def) (v : Valuation) (values : List (Option ℤ)) (region : Region) (s : State) (ids : List EdgeId)
+    (picked : List Edge) (left : Edges)
     → Picks ids s.graph.edges picked left → StandsBy defs v values region s
-    → (part : Region) × (others : Region) × Split region part others × Star (EdgeMeets defs v) picked part × StandsBy defs v values others (with_only_edges s left)
+    → (part : Region) × (others : Region) × Split region part others × Star (EdgeMeets defs v) picked part
+    × StandsBy defs v values others (with_only_edges s left)
 
 -- a part more of the heap stands for new edges that have it
 abbrev pub EdgesArePut : Type 0
@@ -138,8 +142,10 @@ AtomsAreDropped =
 -- edges may be dropped where the state is whole no longer
 abbrev pub EdgesAreDropped : Type 0
 EdgesAreDropped =
-    (defs : List Def) (v : Valuation) (values : List (Option ℤ)) (region : Region) (s : State) (ids : List EdgeId) (picked : List Edge) (left : Edges)
-    → Picks ids s.graph.edges picked left → StandsBy defs v values region s → StandsBy defs v values region (record (with_only_edges s left) { whole = false })
+    (defs : List Def) (v : Valuation) (values : List (Option ℤ)) (region : Region) (s : State) (ids : List EdgeId)
+    (picked : List Edge) (left : Edges)
+    → Picks ids s.graph.edges picked left → StandsBy defs v values region s
+    → StandsBy defs v values region (record (with_only_edges s left) { whole = false })
 
 -- a node may be dropped
 abbrev pub NodeIsDropped : Type 0
@@ -190,7 +196,8 @@ UnknownIsBounded = (vars : ℕ) → IsBounded (unknown vars)
 
 -- where a variable gets a node that is there, or is forgotten
 abbrev pub VarStaysBounded : Type 0
-VarStaysBounded = (s : State) (x : VarId) (n : Option NodeId) → IsBounded s → AreNodes s.kinds (known_nodes (n ∷ [])) → IsBounded (with_var s x n)
+VarStaysBounded = (s : State) (x : VarId) (n : Option NodeId) → IsBounded s → AreNodes s.kinds (known_nodes (n ∷ []))
+    → IsBounded (with_var s x n)
 
 -- where there are new nodes
 abbrev pub NodesStayBounded : Type 0
@@ -204,21 +211,25 @@ NodesAreBelow = (s : State) (n : NodeId) → IsBounded s → IsNode s.kinds n �
 abbrev pub NewNodesAreThere : Type 0
 NewNodesAreThere =
     (s : State) (kinds : List Kind)
-    → AreNodes (with_nodes s kinds).kinds (numbered_nodes s.next (length kinds)) × ((n : NodeId) → IsNode s.kinds n → IsNode (with_nodes s kinds).kinds n)
+    → AreNodes (with_nodes s kinds).kinds (numbered_nodes s.next (length kinds))
+    × ((n : NodeId) → IsNode s.kinds n → IsNode (with_nodes s kinds).kinds n)
 
 -- each with its kind, and the others keep theirs
 abbrev pub NewNodesHaveKinds : Type 0
 NewNodesHaveKinds =
     (s : State) (kinds : List Kind) → IsBounded s
-    → HaveKinds (with_nodes s kinds).kinds kinds (numbered_nodes s.next (length kinds)) × ((kind : Kind) (n : NodeId) → HasKind s.kinds kind n → HasKind (with_nodes s kinds).kinds kind n)
+    → HaveKinds (with_nodes s kinds).kinds kinds (numbered_nodes s.next (length kinds))
+    × ((kind : Kind) (n : NodeId) → HasKind s.kinds kind n → HasKind (with_nodes s kinds).kinds kind n)
 
 -- where atoms of nodes that are there are added
 abbrev pub AtomsStayBounded : Type 0
-AtomsStayBounded = (s : State) (atoms : List Atom) → IsBounded s → AllByRecursion (λ a. AreNodes s.kinds (nodes_of_atom a)) atoms → IsBounded (with_atoms s atoms)
+AtomsStayBounded = (s : State) (atoms : List Atom) → IsBounded s
+    → AllByRecursion (λ a. AreNodes s.kinds (nodes_of_atom a)) atoms → IsBounded (with_atoms s atoms)
 
 -- where edges of nodes that are there are added
 abbrev pub EdgesStayBounded : Type 0
-EdgesStayBounded = (s : State) (new : List Edge) → IsBounded s → AllByRecursion (λ e. AreNodes s.kinds (nodes_of e)) new → IsBounded (with_edges s new)
+EdgesStayBounded = (s : State) (new : List Edge) → IsBounded s
+    → AllByRecursion (λ e. AreNodes s.kinds (nodes_of e)) new → IsBounded (with_edges s new)
 
 -- where edges are taken away
 abbrev pub FewerEdgesStayBounded : Type 0
@@ -230,7 +241,8 @@ FewerEdgesStayBounded =
 abbrev pub ReplacedStaysBounded : Type 0
 ReplacedStaysBounded =
     (s : State) (id : EdgeId) (new : Edge)
-    → IsBounded s → AreNodes s.kinds (nodes_of new) → IsBounded (record s { graph = record s.graph { edges = replaced s.graph.edges id new } })
+    → IsBounded s → AreNodes s.kinds (nodes_of new)
+    → IsBounded (record s { graph = record s.graph { edges = replaced s.graph.edges id new } })
 
 -- the nodes of edges that are named are there
 abbrev pub PickedNodesAreThere : Type 0
@@ -242,7 +254,8 @@ PickedNodesAreThere =
 abbrev pub RenamedStaysBounded : Type 0
 RenamedStaysBounded =
     (s : State) (f : ℕ → ℕ) (kinds : Kinds) (next : ℕ)
-    → IsBounded s → 0 < next → NodesAscend 1 kinds next → ((n : NodeId) → IsNode s.kinds n → IsNode kinds (moved f n)) → IsBounded (renamed f kinds next s)
+    → IsBounded s → 0 < next → NodesAscend 1 kinds next
+    → ((n : NodeId) → IsNode s.kinds n → IsNode kinds (moved f n)) → IsBounded (renamed f kinds next s)
 
 -- where two nodes are merged
 abbrev pub MergedStaysBounded : Type 0

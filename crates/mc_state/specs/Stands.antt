@@ -30,7 +30,9 @@ VarsMeet v (x ∷ xs) [] = ⊥
 -- the predicate holds on the part of an Ind, and the part of a Seg is a segment of it
 abbrev pub EdgeMeets : List Def → Valuation → Edge → Region → Type 0
 EdgeMeets defs v (edge.Block at shape fields) part =
-    (address : ℕ) × (v at.0 ≡ pos address) × ((values : List (Option ℤ)) × IsCell part address (record { shape = shape.0; fields = values }) × VarsMeet v fields values)
+    (address : ℕ) × (v at.0 ≡ pos address)
+    × ((values : List (Option ℤ)) × IsCell part address (record { shape = shape.0; fields = values })
+    × VarsMeet v fields values)
 EdgeMeets defs v (edge.Ind at pred args) part = Sat defs pred (v at.0) (map (at_node v) args) part
 EdgeMeets defs v (edge.Seg at args pred «end» ends) part =
     Seg defs pred (v at.0) (map (at_node v) args) (v end.0) (map (at_node v) ends) part

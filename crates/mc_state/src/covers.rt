@@ -52,7 +52,8 @@ pub fn example_covers()
 pub fn example_segment_covers()
     ensures itself { SegCover defs lone_pointer list_id (at 1) [] (at 1) [] lone_pointer.graph.edges [] }
     ensures one_cell { SegCover defs cell_and_list list_id (at 1) [] (at 3) [] cell_and_list.graph.edges (entry 1 rest_list ∷ []) }
-    ensures by_segment { SegCover defs segment_and_list list_id (at 1) [] (at 2) [] segment_and_list.graph.edges (entry 1 (Ind (node 2) list_id []) ∷ []) }
+    ensures by_segment { SegCover defs segment_and_list list_id (at 1) [] (at 2) [] segment_and_list.graph.edges
+        (entry 1 (Ind (node 2) list_id []) ∷ []) }
 {}
 
 /// A heap of two cells meets the premises of the laws on bodies and covers.
@@ -61,8 +62,10 @@ pub fn body_premises()
     ensures stands { StandsBy defs at_seven [] (blocks two_cells) cell_and_list }
     ensures edges { EdgesMeet defs at_seven cell_and_list.graph.edges (blocks two_cells) }
     ensures addresses { IsAtAddresses (blocks two_cells) }
-    ensures body { IsBody defs at_seven (node 1 ∷ node 2 ∷ node 3 ∷ []) list_rule.block list_rule.contents list_rule.calls (blocks two_cells) }
-    ensures body_to { IsBodyTo defs at_seven (node 1 ∷ node 2 ∷ node 3 ∷ []) list_id (node 3) [] 0 list_rule.block list_rule.contents list_rule.calls (blocks first_cell) }
+    ensures body { IsBody defs at_seven
+        (node 1 ∷ node 2 ∷ node 3 ∷ []) list_rule.block list_rule.contents list_rule.calls (blocks two_cells) }
+    ensures body_to { IsBodyTo defs at_seven (node 1 ∷ node 2 ∷ node 3 ∷ []) list_id (node 3)
+        [] 0 list_rule.block list_rule.contents list_rule.calls (blocks first_cell) }
 {
     examples_fit();
     example_premises();

@@ -32,12 +32,15 @@ pending (false ∷ used) (e ∷ es) = length (nodes_of e.1) + pending used es
 -- an edge is used already, or starts at no node that equals this one; else it is used now, and its nodes are found
 abbrev pub IsOpened : State → NodeId → ℕ → (found : List NodeId) (used : List Bool) (found' : List NodeId) (used' : List Bool) → Type 0
 IsOpened s node i found used found' used' =
-    ((found' ≡ found) × (used' ≡ used) × ((slice_get used i ≡ Some true) ⊎ ((e : EdgeId × Edge) → slice_get s.graph.edges i ≡ Some e → AreEqual s (start_of e.1) node → ⊥)))
+    ((found' ≡ found) × (used' ≡ used) ×
+    ((slice_get used i ≡ Some true)
+    ⊎ ((e : EdgeId × Edge) → slice_get s.graph.edges i ≡ Some e → AreEqual s (start_of e.1) node → ⊥)))
     ⊎ ((e : EdgeId × Edge) × (slice_get s.graph.edges i ≡ Some e) × AreEqual s (start_of e.1) node × (slice_get used i ≡ Some false)
     × (found' ≡ found ++ nodes_of e.1) × (used' ≡ slice_set used i true))
 
 -- of the first edges, those that start at a node which equals this one are used now, and their nodes are found
-pub record Opens (s : State) (node : NodeId) (count : ℕ) (found : List NodeId) (used : List Bool) (found' : List NodeId) (used' : List Bool) : Type 0 where
+pub record Opens (s : State) (node : NodeId) (count : ℕ) (found : List NodeId) (used : List Bool)
+    (found' : List NodeId) (used' : List Bool) : Type 0 where
   pub more : (k : ℕ) (n : NodeId) → slice_get found k ≡ Some n → slice_get found' k ≡ Some n
   pub still : (i : ℕ) → slice_get used i ≡ Some true → slice_get used' i ≡ Some true
   pub sound : IsReached s node → AreReached s found → AreReached s found'

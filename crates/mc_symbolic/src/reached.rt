@@ -77,7 +77,9 @@ fn open_all(
     used: &mut Vec<bool>,
 ) -> Result<(), NoMemory>
     requires long { length used.old.items ≡ length state.now.graph.edges }
-    ensures { OnOk result (Opens state.now node (length state.now.graph.edges) found.old.items used.old.items found.new.items used.new.items) }
+    ensures { OnOk result
+        (Opens state.now node
+        (length state.now.graph.edges) found.old.items used.old.items found.new.items used.new.items) }
 {
     for place in 0..state.edges().len() {
         open_at(state, node, place, found, used)?;

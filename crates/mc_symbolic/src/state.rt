@@ -324,7 +324,8 @@ impl State {
     /// Gives a field of a block a node, where the block and the field are there.
     pub fn set_field(&mut self, id: EdgeId, f: u64, node: NodeId)
         requires { IsNode self.old.kinds node }
-        ensures there { (e : _) → edge_with self.old.graph.edges id ≡ Some e → self.new ≡ with_only_edges self.old (replaced self.old.graph.edges id (with_field_node f node e)) }
+        ensures there { (e : _) → edge_with self.old.graph.edges id ≡ Some e → self.new
+            ≡ with_only_edges self.old (replaced self.old.graph.edges id (with_field_node f node e)) }
         ensures absent { edge_with self.old.graph.edges id ≡ None → self.new ≡ self.old }
     {
         mc_state::numbers_stay_bounded();

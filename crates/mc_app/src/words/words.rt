@@ -153,7 +153,8 @@ fn analyse_of<'w>(found: &ArgMatches<'w>) -> Option<Analyse<'w>>
 // The words behind `check`.
 fn asked_check<'w>(alloc: Global, words: &'w [String]) -> Result<Option<Request<'w>>, AllocError>
     requires { (rest : List (List ℕ)) × (map string_bytes words.now ≡ codes "check" ∷ rest) }
-    ensures { IfOk result (λ r. MatchOption r ((a : Meant) → Asks (map string_bytes words.entry.now) a → ⊥) (Asks (map string_bytes words.entry.now))) }
+    ensures { IfOk result (λ r. MatchOption r ((a : Meant) → Asks (map string_bytes words.entry.now) a → ⊥)
+        (Asks (map string_bytes words.entry.now))) }
 {
     let command = commands::check(alloc)?;
     let Some(found) = matches(command, words)? else {
@@ -168,7 +169,8 @@ fn asked_check<'w>(alloc: Global, words: &'w [String]) -> Result<Option<Request<
 // The words behind `run`.
 fn asked_run<'w>(alloc: Global, words: &'w [String]) -> Result<Option<Request<'w>>, AllocError>
     requires { (rest : List (List ℕ)) × (map string_bytes words.now ≡ codes "run" ∷ rest) }
-    ensures { IfOk result (λ r. MatchOption r ((a : Meant) → Asks (map string_bytes words.entry.now) a → ⊥) (Asks (map string_bytes words.entry.now))) }
+    ensures { IfOk result (λ r. MatchOption r ((a : Meant) → Asks (map string_bytes words.entry.now) a → ⊥)
+        (Asks (map string_bytes words.entry.now))) }
 {
     let command = commands::run(alloc)?;
     let Some(found) = matches(command, words)? else {
@@ -183,7 +185,8 @@ fn asked_run<'w>(alloc: Global, words: &'w [String]) -> Result<Option<Request<'w
 // The words behind `analyse`.
 fn asked_analyse<'w>(alloc: Global, words: &'w [String]) -> Result<Option<Request<'w>>, AllocError>
     requires { (rest : List (List ℕ)) × (map string_bytes words.now ≡ codes "analyse" ∷ rest) }
-    ensures { IfOk result (λ r. MatchOption r ((a : Meant) → Asks (map string_bytes words.entry.now) a → ⊥) (Asks (map string_bytes words.entry.now))) }
+    ensures { IfOk result (λ r. MatchOption r ((a : Meant) → Asks (map string_bytes words.entry.now) a → ⊥)
+        (Asks (map string_bytes words.entry.now))) }
 {
     let command = commands::analyse(alloc)?;
     let Some(found) = matches(command, words)? else {
@@ -198,7 +201,8 @@ fn asked_analyse<'w>(alloc: Global, words: &'w [String]) -> Result<Option<Reques
 /// What the words ask for, if they ask for something. The first one names the command, and that command's parser reads
 /// the others.
 pub fn asked<'w>(alloc: Global, words: &'w [String]) -> Result<Option<Request<'w>>, AllocError>
-    ensures { IfOk result (λ r. MatchOption r ((a : Meant) → Asks (map string_bytes words.entry.now) a → ⊥) (Asks (map string_bytes words.entry.now))) }
+    ensures { IfOk result (λ r. MatchOption r ((a : Meant) → Asks (map string_bytes words.entry.now) a → ⊥)
+        (Asks (map string_bytes words.entry.now))) }
 {
     let [name, ..] = words else {
         return Ok(None);

@@ -92,7 +92,8 @@ pub fn are_other_calls(
     ids: &[EdgeId],
 ) -> bool
     requires inside { place < length calls.now }
-    ensures { (know : Test) → Tells know s.now → result ≡ all_both (is_call_at know s.now.graph.edges names.now) (remove calls.now place) ids.now }
+    ensures { (know : Test) → Tells know s.now → result
+        ≡ all_both (is_call_at know s.now.graph.edges names.now) (remove calls.now place) ids.now }
 {
     if ids.len() < place {
         return false;

@@ -22,7 +22,8 @@ IsIntRange range = (range.lo ≤ℤ range.hi) × IsInt range.lo × IsInt range.h
 -- the least range that holds each number of a set: whatever ends hold them all hold it too
 pub record IsLeastRange (In : ℤ → Type 0) (range : Range) : Type 0 where
   pub all : (number : ℤ) → In number → Holds range number
-  pub least : (low high : ℤ) → ((number : ℤ) → In number → IsBetween low high number) → (number : ℤ) → Holds range number → IsBetween low high number
+  pub least : (low high : ℤ) → ((number : ℤ) → In number → IsBetween low high number) → (number : ℤ)
+      → Holds range number → IsBetween low high number
 
 -- a number lies in one of two ranges
 abbrev pub InEither : (left right : Range) (number : ℤ) → Type 0

@@ -10,7 +10,8 @@ max_number = 2147483647
 pub data Spells (word : List ℕ) (value : ℕ) : Type 0 where
   as_zero : word ≡ codes "0" → value ≡ 0 → Spells word value
   as_decimal : IsNumeral 10 word → slice_index word 0 ≢ 48 → value ≡ digits_value 10 word → Spells word value
-  as_hexadecimal : (digits : List ℕ) → word ≡ codes "0x" ++ digits → IsNumeral 16 digits → value ≡ digits_value 16 digits → Spells word value
+  as_hexadecimal : (digits : List ℕ) → word ≡ codes "0x" ++ digits → IsNumeral 16 digits → value
+      ≡ digits_value 16 digits → Spells word value
 
 -- a word spells no number that a text may have
 abbrev pub IsNoNumber : List ℕ → Type 0

@@ -30,7 +30,14 @@ program_of first second third fourth fifth sixth =
       body = Some (record {
         place = at 9;
         statements =
-            declaration (record { base = Base.Int (at 11); items = record { declarator = record { pointer = None; name = x_at 15 }; value = Some (expression (number first (at 19))) } ∷ [] })
+            declaration (record {
+              base = Base.Int (at 11);
+              items = record {
+                declarator = record { pointer = None; name = x_at 15 };
+                value = Some
+                    (expression (number first (at 19)));
+              } ∷ [];
+            })
             ∷ for_loop
             (record {
               place = at 23;
@@ -39,8 +46,14 @@ program_of first second third fourth fifth sixth =
               last = None;
             })
             (simple (add (variable_at 45) (minus (at 50) (number fourth (at 51)))))
-            ∷ assert_shape (at 55) (record { text = codes "s"; place = at 68 }) (Argument.Name (x_at 71)) (Argument.Negative fifth (at 74) ∷ [])
-            ∷ returns (at 80) (Some (result_of (record { function = record { text = codes "f"; place = at 87 }; arguments = number sixth (at 89) ∷ [] })))
+            ∷ assert_shape (at 55) (record { text = codes "s"; place = at 68 }) (Argument.Name (x_at 71))
+            (Argument.Negative fifth (at 74) ∷ [])
+            ∷ returns (at 80) (Some (result_of
+            (record {
+              function = record { text = codes "f"; place = at 87 };
+              arguments = number sixth (at 89)
+                  ∷ [];
+            })))
             ∷ [];
       });
     })

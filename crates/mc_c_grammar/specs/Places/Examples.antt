@@ -16,7 +16,8 @@ x_at column = record { pointer = None; name = record { text = codes "x"; place =
 
 -- `int x;`
 abbrev pub declares_x : ℕ → Stmt
-declares_x column = declaration (record { base = Base.Int (at (column - 4)); items = record { declarator = x_at column; value = None } ∷ [] })
+declares_x column = declaration (record
+    { base = Base.Int (at (column - 4)); items = record { declarator = x_at column; value = None } ∷ [] })
 
 -- `int f(int x) { if (input()) int x; else { int x; } for (int x;;) int x; }`, with its `x` at these columns
 abbrev pub program_at : (parameter first second third fourth : ℕ) → UnitTree

@@ -18,7 +18,8 @@ AreAscending places = AllPairs IsBefore places
 
 -- equal places of the list stand at one position of it: at different positions they differ
 abbrev pub AreDistinct : List Place → Type 0
-AreDistinct places = (i j : ℕ) (d : Place) → i < length places → j < length places → slice_index_or places i d ≡ slice_index_or places j d → i ≡ j
+AreDistinct places = (i j : ℕ) (d : Place) → i < length places → j < length places → slice_index_or places i d
+    ≡ slice_index_or places j d → i ≡ j
 
 -- the places of the names of the variables that are declared in a declaration, a statement, and so on up to a program, in the order of the text
 abbrev pub declarator_place : Declarator → Place

@@ -115,7 +115,8 @@ start_aside (declares d) = declares (declaration_aside d)
 start_aside (performs s) = performs (simple_aside s)
 
 abbrev pub head_aside : Head → Head
-head_aside h = record { place = nowhere; start = start_aside h.start; condition = option_map condition_aside h.condition; last = option_map simple_aside h.last }
+head_aside h = record
+    { place = nowhere; start = start_aside h.start; condition = option_map condition_aside h.condition; last = option_map simple_aside h.last }
 
 abbrev mutual
   pub statement_aside : Stmt → Stmt
@@ -126,8 +127,10 @@ abbrev mutual
   statement_aside (free p e) = free nowhere (expression_aside e)
   statement_aside (assert p c) = assert nowhere (condition_aside c)
   statement_aside (assume p c) = assume nowhere (condition_aside c)
-  statement_aside (assume_shape p predicate variable args) = assume_shape nowhere (name_aside predicate) (name_aside variable) (map argument_aside args)
-  statement_aside (assert_shape p predicate start args) = assert_shape nowhere (name_aside predicate) (argument_aside start) (map argument_aside args)
+  statement_aside (assume_shape p predicate variable args) = assume_shape nowhere (name_aside predicate)
+      (name_aside variable) (map argument_aside args)
+  statement_aside (assert_shape p predicate start args) = assert_shape nowhere (name_aside predicate)
+      (argument_aside start) (map argument_aside args)
   statement_aside (assert_empty p) = assert_empty nowhere
   statement_aside (if_only p c s) = if_only nowhere (condition_aside c) (statement_aside s)
   statement_aside (if_else p c s t) = if_else nowhere (condition_aside c) (statement_aside s) (statement_aside t)
@@ -172,7 +175,13 @@ body_aside b = record { place = nowhere; statements = map statement_aside b.stat
 
 abbrev pub function_aside : FunctionTree → FunctionTree
 function_aside f =
-    record { static_place = star_aside f.static_place; returned = returned_aside f.returned; name = name_aside f.name; parameters = parameters_aside f.parameters; body = option_map body_aside f.body }
+    record {
+      static_place = star_aside f.static_place;
+      returned = returned_aside f.returned;
+      name = name_aside f.name;
+      parameters = parameters_aside f.parameters;
+      body = option_map body_aside f.body;
+    }
 
 abbrev pub item_aside : ItemTree → ItemTree
 item_aside (structure s) = structure (struct_aside s)

@@ -12,4 +12,11 @@ at line column = record { line = line; column = column }
 -- `int f();` on this line, with this name in place of f
 abbrev pub prototype_of : ℕ → List ℕ → UnitTree
 prototype_of line name =
-    function (record { static_place = None; returned = Returned.Value (Base.Int (at line 1)) None; name = record { text = name; place = at line 5 }; parameters = unnamed; body = None }) ∷ []
+    function (record {
+      static_place = None;
+      returned = Returned.Value (Base.Int (at line 1)) None;
+      name = record
+          { text = name; place = at line 5 };
+      parameters = unnamed;
+      body = None;
+    }) ∷ []

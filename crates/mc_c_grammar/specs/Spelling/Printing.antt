@@ -70,7 +70,8 @@ abbrev pub statement_part_words : StatementPart → Words → Words
 statement_part_words (Statement.Whole s) more = statement_words (statement_of s.now) more
 statement_part_words (Statement.Several ss) more = statements_words (stmts_of (map statement_of ss.now)) more
 statement_part_words (Statement.Mark mark) more = mark.now ∷ more
-statement_part_words (Statement.Until c) more = codes "while" ∷ codes "(" ∷ condition_words (condition_of c.now) (codes ")" ∷ codes ";" ∷ more)
+statement_part_words (Statement.Until c) more = codes "while"
+    ∷ codes "(" ∷ condition_words (condition_of c.now) (codes ")" ∷ codes ";" ∷ more)
 
 abbrev pub statement_parts_words : List StatementPart → Words → Words
 statement_parts_words [] more = more

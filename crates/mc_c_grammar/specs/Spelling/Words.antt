@@ -159,7 +159,9 @@ start_words (declares d) more = declaration_words d more
 start_words (performs s) more = simple_words s (codes ";" ∷ more)
 
 abbrev pub head_words : Head → Words → Words
-head_words h more = codes "for" ∷ codes "(" ∷ start_words h.start (maybe_words condition_words h.condition (codes ";" ∷ maybe_words simple_words h.last (codes ")" ∷ more)))
+head_words h more = codes "for" ∷ codes "("
+    ∷ start_words h.start (maybe_words condition_words h.condition
+    (codes ";" ∷ maybe_words simple_words h.last (codes ")" ∷ more)))
 
 abbrev mutual
   pub statement_words : Stmt → Words → Words
@@ -178,9 +180,11 @@ abbrev mutual
       ∷ argument_words start (more_words argument_words args (codes ")" ∷ codes ";" ∷ more))
   statement_words (assert_empty p) more = codes "assert_empty" ∷ codes "(" ∷ codes ")" ∷ codes ";" ∷ more
   statement_words (if_only p c s) more = codes "if" ∷ codes "(" ∷ condition_words c (codes ")" ∷ statement_words s more)
-  statement_words (if_else p c s t) more = codes "if" ∷ codes "(" ∷ condition_words c (codes ")" ∷ statement_words s (codes "else" ∷ statement_words t more))
+  statement_words (if_else p c s t) more = codes "if"
+      ∷ codes "(" ∷ condition_words c (codes ")" ∷ statement_words s (codes "else" ∷ statement_words t more))
   statement_words (while_loop p c s) more = codes "while" ∷ codes "(" ∷ condition_words c (codes ")" ∷ statement_words s more)
-  statement_words (do_loop p s c) more = codes "do" ∷ statement_words s (codes "while" ∷ codes "(" ∷ condition_words c (codes ")" ∷ codes ";" ∷ more))
+  statement_words (do_loop p s c) more = codes "do"
+      ∷ statement_words s (codes "while" ∷ codes "(" ∷ condition_words c (codes ")" ∷ codes ";" ∷ more))
   statement_words (for_loop h s) more = head_words h (statement_words s more)
   statement_words (break_loop p) more = codes "break" ∷ codes ";" ∷ more
   statement_words (continue_loop p) more = codes "continue" ∷ codes ";" ∷ more
@@ -224,7 +228,9 @@ body_words None more = codes ";" ∷ more
 body_words (Some b) more = codes "{" ∷ statements_words (stmts_of b.statements) (codes "}" ∷ more)
 
 abbrev pub function_words : FunctionTree → Words → Words
-function_words f more = static_words f.static_place (returned_words f.returned (f.name.text ∷ codes "(" ∷ parameters_words f.parameters (codes ")" ∷ body_words f.body more)))
+function_words f more = static_words f.static_place
+    (returned_words f.returned (f.name.text
+    ∷ codes "(" ∷ parameters_words f.parameters (codes ")" ∷ body_words f.body more)))
 
 abbrev pub item_words : ItemTree → Words → Words
 item_words (structure s) more = struct_words s (codes ";" ∷ more)

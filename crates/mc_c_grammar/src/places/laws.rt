@@ -10,7 +10,8 @@ ghost use Rattle.std.specs.Prelude.{◌≡◌, ℕ, List, [], ◌∷◌};
 
 /// The variables of a program that was read from a text are declared at different places, in the order of the text.
 pub fn declared_places_ascend()
-    ensures { (text : List ℕ) (tokens : List Token) (unit : UnitTree) → Lexes text (Ok tokens) → IsUnit unit tokens → HasDistinctPlaces unit }
+    ensures { (text : List ℕ) (tokens : List Token) (unit : UnitTree) → Lexes text (Ok tokens) → IsUnit unit tokens
+        → HasDistinctPlaces unit }
 {}
 
 /// Places that ascend differ at different positions.

@@ -19,7 +19,8 @@ pub fn printed_words_are_read()
 
 /// What is printed of a program that was read is read again, and as nothing but the same program, its places aside.
 pub fn printed_programs_are_read()
-    ensures read { (text : List ℕ) (unit : UnitTree) → IsReadAs text unit → (other : UnitTree) × IsReadAs (printed unit) other × IsSameAside unit other }
+    ensures read { (text : List ℕ) (unit : UnitTree) → IsReadAs text unit → (other : UnitTree)
+        × IsReadAs (printed unit) other × IsSameAside unit other }
     ensures only { (text : List ℕ) (unit other : UnitTree) → IsReadAs text unit → IsReadAs (printed unit) other → IsSameAside unit other }
 {
     printed_words_are_read();
@@ -29,7 +30,8 @@ pub fn printed_programs_are_read()
 
 /// The same text is printed of two programs that were read exactly where they are the same, their places aside.
 pub fn printing_tells_programs_apart()
-    ensures { (text another : List ℕ) (unit other : UnitTree) → IsReadAs text unit → IsReadAs another other → IsSameAside unit other ↔ (printed unit ≡ printed other) }
+    ensures { (text another : List ℕ) (unit other : UnitTree) → IsReadAs text unit → IsReadAs another other
+        → IsSameAside unit other ↔ (printed unit ≡ printed other) }
 {
     printed_words_are_read();
     readings_are_unique();

@@ -42,8 +42,12 @@ fn print_first<'a>(
     parts: &mut Vec<ConditionPart<'a>>,
     condition: &'a Condition,
 ) -> Result<(), AllocError>
-    ensures prints { IfOk result (λ _. Continues out.old.items (λ more. condition_words (condition_of condition.now) (condition_parts_words parts.old.items more)) out.new.items (condition_parts_words parts.new.items)) }
-    ensures steps { IfOk result (λ _. condition_parts_steps parts.new.items < condition_parts_steps parts.old.items + condition_steps (condition_of condition.now)) }
+    ensures prints { IfOk result (λ _. Continues out.old.items
+        (λ more. condition_words (condition_of condition.now)
+        (condition_parts_words parts.old.items more)) out.new.items (condition_parts_words parts.new.items)) }
+    ensures steps { IfOk result
+        (λ _. condition_parts_steps parts.new.items < condition_parts_steps parts.old.items + condition_steps
+        (condition_of condition.now)) }
 {
     match condition {
         Condition::Plain(expression) => print_expression(alloc, out, expression)?,
@@ -90,7 +94,10 @@ fn push_both<'a>(
     ensures words { IfOk result (λ _. (more : Words)
         → condition_parts_words parts.new.items more ≡ condition_words (condition_of first.now) (mark.now
         ∷ condition_words (condition_of second.now) (condition_parts_words parts.old.items more))) }
-    ensures steps { IfOk result (λ _. condition_parts_steps parts.new.items ≡ condition_parts_steps parts.old.items + condition_steps (condition_of first.now) + condition_steps (condition_of second.now) + 1) }
+    ensures steps { IfOk result
+        (λ _. condition_parts_steps parts.new.items
+        ≡ condition_parts_steps parts.old.items + condition_steps (condition_of first.now) + condition_steps
+        (condition_of second.now) + 1) }
 {
     push(parts, ConditionPart::Whole(second))?;
     push(parts, ConditionPart::Mark(mark))?;
@@ -99,8 +106,11 @@ fn push_both<'a>(
 }
 
 fn push<'a>(parts: &mut Vec<ConditionPart<'a>>, part: ConditionPart<'a>) -> Result<(), AllocError>
-    ensures words { IfOk result (λ _. (more : Words) → condition_parts_words parts.new.items more ≡ condition_part_words part.entry (condition_parts_words parts.old.items more)) }
-    ensures steps { IfOk result (λ _. condition_parts_steps parts.new.items ≡ condition_parts_steps parts.old.items + condition_part_steps part.entry) }
+    ensures words { IfOk result (λ _. (more : Words) → condition_parts_words parts.new.items more
+        ≡ condition_part_words part.entry (condition_parts_words parts.old.items more)) }
+    ensures steps { IfOk result
+        (λ _. condition_parts_steps parts.new.items
+        ≡ condition_parts_steps parts.old.items + condition_part_steps part.entry) }
 {
     parts.push(part)?;
     Ok(())

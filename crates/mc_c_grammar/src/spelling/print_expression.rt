@@ -40,8 +40,12 @@ fn print_first<'a>(
     parts: &mut Vec<ExpressionPart<'a>>,
     expression: &'a Expression,
 ) -> Result<(), AllocError>
-    ensures prints { IfOk result (λ _. Continues out.old.items (λ more. expression_words (expression_of expression.now) (expression_parts_words parts.old.items more)) out.new.items (expression_parts_words parts.new.items)) }
-    ensures steps { IfOk result (λ _. expression_parts_steps parts.new.items < expression_parts_steps parts.old.items + expression_steps (expression_of expression.now)) }
+    ensures prints { IfOk result (λ _. Continues out.old.items
+        (λ more. expression_words (expression_of expression.now)
+        (expression_parts_words parts.old.items more)) out.new.items (expression_parts_words parts.new.items)) }
+    ensures steps { IfOk result
+        (λ _. expression_parts_steps parts.new.items < expression_parts_steps parts.old.items + expression_steps
+        (expression_of expression.now)) }
 {
     match expression {
         Expression::Number(number, _) => print_number(alloc, out, *number)?,
@@ -77,7 +81,10 @@ fn push_both<'a>(
     ensures words { IfOk result (λ _. (more : Words)
         → expression_parts_words parts.new.items more ≡ expression_words (expression_of first.now) (mark.now
         ∷ expression_words (expression_of second.now) (expression_parts_words parts.old.items more))) }
-    ensures steps { IfOk result (λ _. expression_parts_steps parts.new.items ≡ expression_parts_steps parts.old.items + expression_steps (expression_of first.now) + expression_steps (expression_of second.now) + 1) }
+    ensures steps { IfOk result
+        (λ _. expression_parts_steps parts.new.items
+        ≡ expression_parts_steps parts.old.items + expression_steps (expression_of first.now) + expression_steps
+        (expression_of second.now) + 1) }
 {
     push(parts, ExpressionPart::Whole(second))?;
     push(parts, ExpressionPart::Mark(mark))?;
@@ -86,8 +93,11 @@ fn push_both<'a>(
 }
 
 fn push<'a>(parts: &mut Vec<ExpressionPart<'a>>, part: ExpressionPart<'a>) -> Result<(), AllocError>
-    ensures words { IfOk result (λ _. (more : Words) → expression_parts_words parts.new.items more ≡ expression_part_words part.entry (expression_parts_words parts.old.items more)) }
-    ensures steps { IfOk result (λ _. expression_parts_steps parts.new.items ≡ expression_parts_steps parts.old.items + expression_part_steps part.entry) }
+    ensures words { IfOk result (λ _. (more : Words) → expression_parts_words parts.new.items more
+        ≡ expression_part_words part.entry (expression_parts_words parts.old.items more)) }
+    ensures steps { IfOk result
+        (λ _. expression_parts_steps parts.new.items
+        ≡ expression_parts_steps parts.old.items + expression_part_steps part.entry) }
 {
     parts.push(part)?;
     Ok(())

@@ -206,7 +206,11 @@ pub fn print_head(alloc: Global, out: &mut Vec<u8>, head: &ForHead) -> Result<()
 
 // What stands behind the first `;` of a `for`.
 fn print_rest(alloc: Global, out: &mut Vec<u8>, head: &ForHead) -> Result<(), AllocError>
-    ensures { IfOk result (λ _. Prints out.old.items (λ more. maybe_words condition_words (option_map condition_of head.now.condition) (codes ";" ∷ maybe_words simple_words (option_map simple_of head.now.last) (codes ")" ∷ more))) out.new.items) }
+    ensures { IfOk result
+        (λ _. Prints out.old.items
+        (λ more. maybe_words condition_words (option_map condition_of head.now.condition)
+        (codes ";" ∷ maybe_words simple_words (option_map simple_of head.now.last) (codes ")"
+        ∷ more))) out.new.items) }
 {
     print_maybe_condition(alloc, out, &head.condition)?;
     print_word(out, b";")?;

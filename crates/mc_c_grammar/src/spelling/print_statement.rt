@@ -53,8 +53,12 @@ fn print_first<'a>(
     parts: &mut Vec<StatementPart<'a>>,
     statement: &'a Statement,
 ) -> Result<(), AllocError>
-    ensures prints { IfOk result (λ _. Continues out.old.items (λ more. statement_words (statement_of statement.now) (statement_parts_words parts.old.items more)) out.new.items (statement_parts_words parts.new.items)) }
-    ensures steps { IfOk result (λ _. statement_parts_steps parts.new.items < statement_parts_steps parts.old.items + statement_steps (statement_of statement.now)) }
+    ensures prints { IfOk result (λ _. Continues out.old.items
+        (λ more. statement_words (statement_of statement.now)
+        (statement_parts_words parts.old.items more)) out.new.items (statement_parts_words parts.new.items)) }
+    ensures steps { IfOk result
+        (λ _. statement_parts_steps parts.new.items < statement_parts_steps parts.old.items + statement_steps
+        (statement_of statement.now)) }
 {
     match statement {
         Statement::Declaration(declaration) => print_declaration(alloc, out, declaration)?,
@@ -109,7 +113,9 @@ fn print_first<'a>(
 }
 
 fn print_free(alloc: Global, out: &mut Vec<u8>, pointer: &Expression) -> Result<(), AllocError>
-    ensures { IfOk result (λ _. Prints out.old.items (λ more. codes "free" ∷ codes "(" ∷ expression_words (expression_of pointer.now) (codes ")" ∷ codes ";" ∷ more)) out.new.items) }
+    ensures { IfOk result (λ _. Prints out.old.items
+        (λ more. codes "free" ∷ codes "(" ∷ expression_words (expression_of pointer.now) (codes ")" ∷ codes ";"
+        ∷ more)) out.new.items) }
 {
     print_opening(out, b"free")?;
     print_expression(alloc, out, pointer)?;
@@ -124,7 +130,9 @@ fn print_checked(
     word: &[u8],
     condition: &Condition,
 ) -> Result<(), AllocError>
-    ensures { IfOk result (λ _. Prints out.old.items (λ more. word.now ∷ codes "(" ∷ condition_words (condition_of condition.now) (codes ")" ∷ codes ";" ∷ more)) out.new.items) }
+    ensures { IfOk result (λ _. Prints out.old.items
+        (λ more. word.now ∷ codes "(" ∷ condition_words (condition_of condition.now) (codes ")" ∷ codes ";"
+        ∷ more)) out.new.items) }
 {
     print_opening(out, word)?;
     print_condition(alloc, out, condition)?;
@@ -139,7 +147,9 @@ fn print_guard(
     word: &[u8],
     condition: &Condition,
 ) -> Result<(), AllocError>
-    ensures { IfOk result (λ _. Prints out.old.items (λ more. word.now ∷ codes "(" ∷ condition_words (condition_of condition.now) (codes ")" ∷ more)) out.new.items) }
+    ensures { IfOk result (λ _. Prints out.old.items
+        (λ more. word.now ∷ codes "(" ∷ condition_words (condition_of condition.now) (codes ")"
+        ∷ more)) out.new.items) }
 {
     print_opening(out, word)?;
     print_condition(alloc, out, condition)?;
@@ -164,7 +174,9 @@ fn print_assume_shape(
 
 // What stands behind the predicate.
 fn print_variable(alloc: Global, out: &mut Vec<u8>, shape: &AssumeShape) -> Result<(), AllocError>
-    ensures { IfOk result (λ _. Prints out.old.items (λ more. codes "," ∷ shape.now.variable.text ∷ more_words argument_words shape.now.arguments.items (codes ")" ∷ codes ";" ∷ more)) out.new.items) }
+    ensures { IfOk result (λ _. Prints out.old.items
+        (λ more. codes "," ∷ shape.now.variable.text
+        ∷ more_words argument_words shape.now.arguments.items (codes ")" ∷ codes ";" ∷ more)) out.new.items) }
 {
     print_word(out, b",")?;
     print_name(out, &shape.variable)?;
@@ -203,7 +215,8 @@ fn print_start(alloc: Global, out: &mut Vec<u8>, shape: &AssertShape) -> Result<
 }
 
 fn print_assert_empty(out: &mut Vec<u8>) -> Result<(), AllocError>
-    ensures { IfOk result (λ _. Prints out.old.items (λ more. codes "assert_empty" ∷ codes "(" ∷ codes ")" ∷ codes ";" ∷ more) out.new.items) }
+    ensures { IfOk result (λ _. Prints out.old.items
+        (λ more. codes "assert_empty" ∷ codes "(" ∷ codes ")" ∷ codes ";" ∷ more) out.new.items) }
 {
     print_opening(out, b"assert_empty")?;
     print_ending(out)?;
@@ -215,7 +228,9 @@ fn print_return(
     out: &mut Vec<u8>,
     value: &Option<RightSide>,
 ) -> Result<(), AllocError>
-    ensures { IfOk result (λ _. Prints out.old.items (λ more. codes "return" ∷ maybe_words right_words (option_map right_of value.now) (codes ";" ∷ more)) out.new.items) }
+    ensures { IfOk result (λ _. Prints out.old.items
+        (λ more. codes "return" ∷ maybe_words right_words (option_map right_of value.now)
+        (codes ";" ∷ more)) out.new.items) }
 {
     print_word(out, b"return")?;
     print_returned(alloc, out, value)?;
@@ -246,7 +261,10 @@ fn push_else<'a>(
     ensures words { IfOk result (λ _. (more : Words)
         → statement_parts_words parts.new.items more ≡ statement_words (statement_of first.now) (codes "else"
         ∷ statement_words (statement_of second.now) (statement_parts_words parts.old.items more))) }
-    ensures steps { IfOk result (λ _. statement_parts_steps parts.new.items ≡ statement_parts_steps parts.old.items + statement_steps (statement_of first.now) + statement_steps (statement_of second.now) + 1) }
+    ensures steps { IfOk result
+        (λ _. statement_parts_steps parts.new.items
+        ≡ statement_parts_steps parts.old.items + statement_steps (statement_of first.now) + statement_steps
+        (statement_of second.now) + 1) }
 {
     push(parts, StatementPart::Whole(second))?;
     push(parts, StatementPart::Mark(b"else"))?;
@@ -260,8 +278,12 @@ fn push_several<'a>(
     several: &'a [Statement],
 ) -> Result<(), AllocError>
     ensures words { IfOk result (λ _. (more : Words)
-        → statement_parts_words parts.new.items more ≡ statements_words (stmts_of (map statement_of several.now)) (statement_parts_words parts.old.items more)) }
-    ensures steps { IfOk result (λ _. statement_parts_steps parts.new.items < statement_parts_steps parts.old.items + statements_steps (stmts_of (map statement_of several.now))) }
+        → statement_parts_words parts.new.items more
+        ≡ statements_words (stmts_of (map statement_of several.now))
+        (statement_parts_words parts.old.items more)) }
+    ensures steps { IfOk result
+        (λ _. statement_parts_steps parts.new.items < statement_parts_steps parts.old.items + statements_steps
+        (stmts_of (map statement_of several.now))) }
 {
     if let [first, rest @ ..] = several {
         push(parts, StatementPart::Several(rest))?;
@@ -271,8 +293,11 @@ fn push_several<'a>(
 }
 
 fn push<'a>(parts: &mut Vec<StatementPart<'a>>, part: StatementPart<'a>) -> Result<(), AllocError>
-    ensures words { IfOk result (λ _. (more : Words) → statement_parts_words parts.new.items more ≡ statement_part_words part.entry (statement_parts_words parts.old.items more)) }
-    ensures steps { IfOk result (λ _. statement_parts_steps parts.new.items ≡ statement_parts_steps parts.old.items + statement_part_steps part.entry) }
+    ensures words { IfOk result (λ _. (more : Words) → statement_parts_words parts.new.items more
+        ≡ statement_part_words part.entry (statement_parts_words parts.old.items more)) }
+    ensures steps { IfOk result
+        (λ _. statement_parts_steps parts.new.items
+        ≡ statement_parts_steps parts.old.items + statement_part_steps part.entry) }
 {
     parts.push(part)?;
     Ok(())

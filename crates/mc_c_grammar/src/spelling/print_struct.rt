@@ -10,7 +10,9 @@ use std::alloc::AllocError;
 
 /// Prints declarators, with a `,` between each two, and a `;`.
 fn print_declarators(out: &mut Vec<u8>, declarators: &[Declarator]) -> Result<(), AllocError>
-    ensures { IfOk result (λ _. Prints out.old.items (λ more. listed_words declarator_words declarators.now (codes ";" ∷ more)) out.new.items) }
+    ensures { IfOk result
+        (λ _. Prints out.old.items
+        (λ more. listed_words declarator_words declarators.now (codes ";" ∷ more)) out.new.items) }
 {
     if let [first, rest @ ..] = declarators {
         print_declarator(out, first)?;
@@ -58,7 +60,9 @@ pub fn print_struct(out: &mut Vec<u8>, structure: &Struct) -> Result<(), AllocEr
 
 // Prints fields in braces.
 fn print_braces(out: &mut Vec<u8>, fields: &[Field]) -> Result<(), AllocError>
-    ensures { IfOk result (λ _. Prints out.old.items (λ more. codes "{" ∷ all_words field_list_words (map field_of fields.now) (codes "}" ∷ more)) out.new.items) }
+    ensures { IfOk result (λ _. Prints out.old.items
+        (λ more. codes "{" ∷ all_words field_list_words (map field_of fields.now) (codes "}"
+        ∷ more)) out.new.items) }
 {
     print_word(out, b"{")?;
     print_field_lists(out, fields)?;

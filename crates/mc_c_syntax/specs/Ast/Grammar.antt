@@ -32,12 +32,14 @@ pub data Fields : Left → Tokens → Left → Tokens → Type 0 where
 
 -- a variable, or a field behind it
 pub data IsLeft : Left → Tokens → Tokens → Type 0 where
-  named : {l : Left} {name : Token} {tokens rest : Tokens} → IsName name → Fields (record { name = name_of name; fields = [] }) tokens l rest → IsLeft l (name ∷ tokens) rest
+  named : {l : Left} {name : Token} {tokens rest : Tokens} → IsName name
+      → Fields (record { name = name_of name; fields = [] }) tokens l rest → IsLeft l (name ∷ tokens) rest
 
 mutual
   -- a number, `NULL`, `input()`, a variable or field, one of these behind `-`, or an expression in parentheses
   pub data IsUnary : Expr → Tokens → Tokens → Type 0 where
-    negative : {e : Expr} {token : Token} {tokens rest : Tokens} → IsMark (codes "-") token → IsUnary e tokens rest → IsUnary (minus token.place e) (token ∷ tokens) rest
+    negative : {e : Expr} {token : Token} {tokens rest : Tokens} → IsMark (codes "-") token → IsUnary e tokens rest
+        → IsUnary (minus token.place e) (token ∷ tokens) rest
     numeral : {n : ℕ} {token : Token} {tokens : Tokens} → IsNumber token n → IsUnary (number n token.place) (token ∷ tokens) tokens
     null_word : {token : Token} {tokens : Tokens} → IsWord (codes "NULL") token → IsUnary (null token.place) (token ∷ tokens) tokens
     input_call : {token before after : Token} {tokens : Tokens} → IsWord (codes "input") token
@@ -51,7 +53,8 @@ mutual
   -- `*` and what it multiplies by, as often as one likes, from the left
   pub data Factors : Expr → Tokens → Expr → Tokens → Type 0 where
     no_factor : {e : Expr} {tokens : Tokens} → Factors e tokens e tokens
-    factor : {a b e : Expr} {star : Token} {tokens mid rest : Tokens} → IsMark (codes "*") star → IsUnary b tokens mid → Factors (times a b) mid e rest → Factors a (star ∷ tokens) e rest
+    factor : {a b e : Expr} {star : Token} {tokens mid rest : Tokens} → IsMark (codes "*") star
+        → IsUnary b tokens mid → Factors (times a b) mid e rest → Factors a (star ∷ tokens) e rest
 
   -- a product
   pub data IsTerm : Expr → Tokens → Tokens → Type 0 where
@@ -60,8 +63,10 @@ mutual
   -- `+` or `-` and what is added or taken away, as often as one likes, from the left
   pub data Terms : Expr → Tokens → Expr → Tokens → Type 0 where
     no_term : {e : Expr} {tokens : Tokens} → Terms e tokens e tokens
-    added : {a b e : Expr} {mark : Token} {tokens mid rest : Tokens} → IsMark (codes "+") mark → IsTerm b tokens mid → Terms (plus a b) mid e rest → Terms a (mark ∷ tokens) e rest
-    taken : {a b e : Expr} {mark : Token} {tokens mid rest : Tokens} → IsMark (codes "-") mark → IsTerm b tokens mid → Terms (difference a b) mid e rest → Terms a (mark ∷ tokens) e rest
+    added : {a b e : Expr} {mark : Token} {tokens mid rest : Tokens} → IsMark (codes "+") mark → IsTerm b tokens mid
+        → Terms (plus a b) mid e rest → Terms a (mark ∷ tokens) e rest
+    taken : {a b e : Expr} {mark : Token} {tokens mid rest : Tokens} → IsMark (codes "-") mark → IsTerm b tokens mid
+        → Terms (difference a b) mid e rest → Terms a (mark ∷ tokens) e rest
 
   -- a sum, which is an expression
   pub data IsSum : Expr → Tokens → Tokens → Type 0 where
@@ -79,8 +84,10 @@ IsProper (either c d) = Unit {0}
 mutual
   -- `!` before a `!`, a variable or field, `input()`, or a condition in parentheses
   pub data IsBang : Cond → Tokens → Tokens → Type 0 where
-    bang_bang : {c : Cond} {token : Token} {tokens rest : Tokens} → IsMark (codes "!") token → IsBang c tokens rest → IsBang (negation token.place c) (token ∷ tokens) rest
-    bang_variable : {l : Left} {token : Token} {tokens rest : Tokens} → IsMark (codes "!") token → IsLeft l tokens rest → IsBang (negation token.place (plain (value l))) (token ∷ tokens) rest
+    bang_bang : {c : Cond} {token : Token} {tokens rest : Tokens} → IsMark (codes "!") token → IsBang c tokens rest
+        → IsBang (negation token.place c) (token ∷ tokens) rest
+    bang_variable : {l : Left} {token : Token} {tokens rest : Tokens} → IsMark (codes "!") token
+        → IsLeft l tokens rest → IsBang (negation token.place (plain (value l))) (token ∷ tokens) rest
     bang_input : {token word before after : Token} {tokens : Tokens} → IsMark (codes "!") token
         → IsWord (codes "input") word → IsMark (codes "(") before → IsMark (codes ")") after
         → IsBang (negation token.place (plain (input word.place))) (token ∷ word ∷ before ∷ after ∷ tokens) tokens
@@ -91,7 +98,8 @@ mutual
   -- what `&&` and `||` join; parentheses that can be read both ways are an expression
   pub data IsOne : Cond → Tokens → Tokens → Type 0 where
     plain_one : {e : Expr} {tokens rest : Tokens} → IsSum e tokens rest → IsOne (plain e) tokens rest
-    comparison : {a b : Expr} {c : Comparison} {mark : Token} {tokens mid rest : Tokens} → IsSum a tokens (mark ∷ mid) → IsMark (mark_of c) mark → IsSum b mid rest → IsOne (compare c a b) tokens rest
+    comparison : {a b : Expr} {c : Comparison} {mark : Token} {tokens mid rest : Tokens}
+        → IsSum a tokens (mark ∷ mid) → IsMark (mark_of c) mark → IsSum b mid rest → IsOne (compare c a b) tokens rest
     negated : {c : Cond} {tokens rest : Tokens} → IsBang c tokens rest → IsOne c tokens rest
     condition_parens : {c : Cond} {before after : Token} {tokens rest : Tokens}
         → IsMark (codes "(") before → IsCondition c tokens (after ∷ rest) → IsMark (codes ")") after → IsProper c
@@ -100,7 +108,8 @@ mutual
   -- `&&` and a condition, as often as one likes, from the left
   pub data Boths : Cond → Tokens → Cond → Tokens → Type 0 where
     no_both : {c : Cond} {tokens : Tokens} → Boths c tokens c tokens
-    one_more : {a b c : Cond} {mark : Token} {tokens mid rest : Tokens} → IsMark (codes "&&") mark → IsOne b tokens mid → Boths (both a b) mid c rest → Boths a (mark ∷ tokens) c rest
+    one_more : {a b c : Cond} {mark : Token} {tokens mid rest : Tokens} → IsMark (codes "&&") mark
+        → IsOne b tokens mid → Boths (both a b) mid c rest → Boths a (mark ∷ tokens) c rest
 
   -- conditions joined by `&&`
   pub data IsBoth : Cond → Tokens → Tokens → Type 0 where
@@ -109,7 +118,8 @@ mutual
   -- `||` and a condition, as often as one likes, from the left
   pub data Eithers : Cond → Tokens → Cond → Tokens → Type 0 where
     no_either : {c : Cond} {tokens : Tokens} → Eithers c tokens c tokens
-    or_else : {a b c : Cond} {mark : Token} {tokens mid rest : Tokens} → IsMark (codes "||") mark → IsBoth b tokens mid → Eithers (either a b) mid c rest → Eithers a (mark ∷ tokens) c rest
+    or_else : {a b c : Cond} {mark : Token} {tokens mid rest : Tokens} → IsMark (codes "||") mark
+        → IsBoth b tokens mid → Eithers (either a b) mid c rest → Eithers a (mark ∷ tokens) c rest
 
   -- a condition
   pub data IsCondition : Cond → Tokens → Tokens → Type 0 where
@@ -135,7 +145,8 @@ pub data IsCall : CallTree → Tokens → Tokens → Type 0 where
 -- `int`, `struct S`, or a name that a typedef introduced
 pub data IsBase (aliases : List (List ℕ)) : Base → Tokens → Tokens → Type 0 where
   int : {token : Token} {tokens : Tokens} → IsWord (codes "int") token → IsBase aliases (Base.Int token.place) (token ∷ tokens) tokens
-  tagged : {token name : Token} {tokens : Tokens} → IsWord (codes "struct") token → IsName name → IsBase aliases (Base.Struct token.place (name_of name)) (token ∷ name ∷ tokens) tokens
+  tagged : {token name : Token} {tokens : Tokens} → IsWord (codes "struct") token → IsName name
+      → IsBase aliases (Base.Struct token.place (name_of name)) (token ∷ name ∷ tokens) tokens
   alias : {token : Token} {tokens : Tokens} → IsAlias aliases token → IsBase aliases (Base.Alias (name_of token)) (token ∷ tokens) tokens
 
 -- `*`, or nothing
@@ -181,7 +192,8 @@ pub data IsRight (aliases : List (List ℕ)) : Right → Tokens → Tokens → T
 
 -- a declarator, perhaps with its value
 pub data IsInitial (aliases : List (List ℕ)) : InitialTree → Tokens → Tokens → Type 0 where
-  bare : {d : Declarator} {tokens rest : Tokens} → IsDeclarator d tokens rest → IsInitial aliases (record { declarator = d; value = None }) tokens rest
+  bare : {d : Declarator} {tokens rest : Tokens} → IsDeclarator d tokens rest
+      → IsInitial aliases (record { declarator = d; value = None }) tokens rest
   with_value : {d : Declarator} {r : Right} {mark : Token} {tokens mid rest : Tokens}
       → IsDeclarator d tokens (mark ∷ mid) → IsMark (codes "=") mark → IsRight aliases r mid rest
       → IsInitial aliases (record { declarator = d; value = Some r }) tokens rest
@@ -204,21 +216,29 @@ pub data IsDeclaration (aliases : List (List ℕ)) : DeclarationTree → Tokens 
 pub data IsSimple (aliases : List (List ℕ)) : SimpleTree → Tokens → Tokens → Type 0 where
   assigned : {l : Left} {r : Right} {mark : Token} {tokens mid rest : Tokens} → IsLeft l tokens (mark ∷ mid)
       → IsMark (codes "=") mark → IsRight aliases r mid rest → IsSimple aliases (assign l r) tokens rest
-  adding : {l : Left} {e : Expr} {mark : Token} {tokens mid rest : Tokens} → IsLeft l tokens (mark ∷ mid) → IsMark (codes "+=") mark → IsSum e mid rest → IsSimple aliases (add l e) tokens rest
+  adding : {l : Left} {e : Expr} {mark : Token} {tokens mid rest : Tokens} → IsLeft l tokens (mark ∷ mid)
+      → IsMark (codes "+=") mark → IsSum e mid rest → IsSimple aliases (add l e) tokens rest
   subtracting : {l : Left} {e : Expr} {mark : Token} {tokens mid rest : Tokens} → IsLeft l tokens (mark ∷ mid)
       → IsMark (codes "-=") mark → IsSum e mid rest → IsSimple aliases (subtract l e) tokens rest
-  incremented : {l : Left} {mark : Token} {tokens rest : Tokens} → IsLeft l tokens (mark ∷ rest) → IsMark (codes "++") mark → IsSimple aliases (increment l) tokens rest
-  decremented : {l : Left} {mark : Token} {tokens rest : Tokens} → IsLeft l tokens (mark ∷ rest) → IsMark (codes "--") mark → IsSimple aliases (decrement l) tokens rest
-  incremented_first : {l : Left} {mark : Token} {tokens rest : Tokens} → IsMark (codes "++") mark → IsLeft l tokens rest → IsSimple aliases (increment_first mark.place l) (mark ∷ tokens) rest
-  decremented_first : {l : Left} {mark : Token} {tokens rest : Tokens} → IsMark (codes "--") mark → IsLeft l tokens rest → IsSimple aliases (decrement_first mark.place l) (mark ∷ tokens) rest
+  incremented : {l : Left} {mark : Token} {tokens rest : Tokens} → IsLeft l tokens (mark ∷ rest)
+      → IsMark (codes "++") mark → IsSimple aliases (increment l) tokens rest
+  decremented : {l : Left} {mark : Token} {tokens rest : Tokens} → IsLeft l tokens (mark ∷ rest)
+      → IsMark (codes "--") mark → IsSimple aliases (decrement l) tokens rest
+  incremented_first : {l : Left} {mark : Token} {tokens rest : Tokens} → IsMark (codes "++") mark
+      → IsLeft l tokens rest → IsSimple aliases (increment_first mark.place l) (mark ∷ tokens) rest
+  decremented_first : {l : Left} {mark : Token} {tokens rest : Tokens} → IsMark (codes "--") mark
+      → IsLeft l tokens rest → IsSimple aliases (decrement_first mark.place l) (mark ∷ tokens) rest
   performed : {c : CallTree} {tokens rest : Tokens} → IsCall c tokens rest → IsSimple aliases (call c) tokens rest
 
 -- an argument of a shape command
 pub data IsArgument : Argument → Tokens → Tokens → Type 0 where
   name_argument : {token : Token} {tokens : Tokens} → IsName token → IsArgument (Argument.Name (name_of token)) (token ∷ tokens) tokens
-  null_argument : {token : Token} {tokens : Tokens} → IsWord (codes "NULL") token → IsArgument (Argument.Null token.place) (token ∷ tokens) tokens
-  number_argument : {n : ℕ} {token : Token} {tokens : Tokens} → IsNumber token n → IsArgument (Argument.Number n token.place) (token ∷ tokens) tokens
-  negative_argument : {n : ℕ} {mark token : Token} {tokens : Tokens} → IsMark (codes "-") mark → IsNumber token n → IsArgument (Argument.Negative n mark.place) (mark ∷ token ∷ tokens) tokens
+  null_argument : {token : Token} {tokens : Tokens} → IsWord (codes "NULL") token
+      → IsArgument (Argument.Null token.place) (token ∷ tokens) tokens
+  number_argument : {n : ℕ} {token : Token} {tokens : Tokens} → IsNumber token n
+      → IsArgument (Argument.Number n token.place) (token ∷ tokens) tokens
+  negative_argument : {n : ℕ} {mark token : Token} {tokens : Tokens} → IsMark (codes "-") mark → IsNumber token n
+      → IsArgument (Argument.Negative n mark.place) (mark ∷ token ∷ tokens) tokens
 
 -- `,` and an argument, as often as one likes
 pub data MoreArguments : List Argument → Tokens → List Argument → Tokens → Type 0 where
@@ -230,7 +250,8 @@ pub data MoreArguments : List Argument → Tokens → List Argument → Tokens �
 -- what a `for` begins with, with its first `;`
 pub data IsStart (aliases : List (List ℕ)) : Start → Tokens → Tokens → Type 0 where
   starts_empty : {semicolon : Token} {tokens : Tokens} → IsMark (codes ";") semicolon → IsStart aliases nothing (semicolon ∷ tokens) tokens
-  starts_declaring : {d : DeclarationTree} {tokens rest : Tokens} → IsDeclaration aliases d tokens rest → IsStart aliases (declares d) tokens rest
+  starts_declaring : {d : DeclarationTree} {tokens rest : Tokens} → IsDeclaration aliases d tokens rest
+      → IsStart aliases (declares d) tokens rest
   starts_performing : {s : SimpleTree} {semicolon : Token} {tokens rest : Tokens}
       → IsSimple aliases s tokens (semicolon ∷ rest) → IsMark (codes ";") semicolon
       → IsStart aliases (performs s) tokens rest
@@ -257,11 +278,13 @@ pub data IsHead (aliases : List (List ℕ)) : Head → Tokens → Tokens → Typ
 mutual
   -- a statement; an `else` belongs to the nearest `if`
   pub data IsStatement (aliases : List (List ℕ)) : Stmt → Tokens → Tokens → Type 0 where
-    declares_statement : {d : DeclarationTree} {tokens rest : Tokens} → IsDeclaration aliases d tokens rest → IsStatement aliases (declaration d) tokens rest
+    declares_statement : {d : DeclarationTree} {tokens rest : Tokens} → IsDeclaration aliases d tokens rest
+        → IsStatement aliases (declaration d) tokens rest
     block_statement : {ss : List Stmt} {before after : Token} {tokens rest : Tokens}
         → IsMark (codes "{") before → MoreStatements aliases [] tokens ss (after ∷ rest) → IsMark (codes "}") after
         → IsStatement aliases (block before.place (stmts_of ss)) (before ∷ tokens) rest
-    empty_statement : {semicolon : Token} {rest : Tokens} → IsMark (codes ";") semicolon → IsStatement aliases (empty semicolon.place) (semicolon ∷ rest) rest
+    empty_statement : {semicolon : Token} {rest : Tokens} → IsMark (codes ";") semicolon
+        → IsStatement aliases (empty semicolon.place) (semicolon ∷ rest) rest
     simple_statement : {s : SimpleTree} {semicolon : Token} {tokens rest : Tokens}
         → IsSimple aliases s tokens (semicolon ∷ rest) → IsMark (codes ";") semicolon
         → IsStatement aliases (simple s) tokens rest
@@ -312,8 +335,10 @@ mutual
         → IsWord (codes "while") again
         → IsMark (codes "(") before → IsCondition c mid (after ∷ semicolon ∷ rest) → IsMark (codes ")") after
         → IsMark (codes ";") semicolon → IsStatement aliases (do_loop word.place s c) (word ∷ tokens) rest
-    for_statement : {h : Head} {s : Stmt} {tokens mid rest : Tokens} → IsHead aliases h tokens mid → IsStatement aliases s mid rest → IsStatement aliases (for_loop h s) tokens rest
-    break_statement : {word semicolon : Token} {rest : Tokens} → IsWord (codes "break") word → IsMark (codes ";") semicolon → IsStatement aliases (break_loop word.place) (word ∷ semicolon ∷ rest) rest
+    for_statement : {h : Head} {s : Stmt} {tokens mid rest : Tokens} → IsHead aliases h tokens mid
+        → IsStatement aliases s mid rest → IsStatement aliases (for_loop h s) tokens rest
+    break_statement : {word semicolon : Token} {rest : Tokens} → IsWord (codes "break") word
+        → IsMark (codes ";") semicolon → IsStatement aliases (break_loop word.place) (word ∷ semicolon ∷ rest) rest
     continue_statement : {word semicolon : Token} {rest : Tokens} → IsWord (codes "continue") word
         → IsMark (codes ";") semicolon
         → IsStatement aliases (continue_loop word.place) (word ∷ semicolon ∷ rest) rest
@@ -339,7 +364,8 @@ pub data MoreDeclarators : List Declarator → Tokens → List Declarator → To
 
 -- one declarator or more
 pub data IsDeclarators : List Declarator → Tokens → Tokens → Type 0 where
-  declarators : {d : Declarator} {ds : List Declarator} {tokens mid rest : Tokens} → IsDeclarator d tokens mid → MoreDeclarators (d ∷ []) mid ds rest → IsDeclarators ds tokens rest
+  declarators : {d : Declarator} {ds : List Declarator} {tokens mid rest : Tokens} → IsDeclarator d tokens mid
+      → MoreDeclarators (d ∷ []) mid ds rest → IsDeclarators ds tokens rest
 
 -- fields of one base
 pub data IsField (aliases : List (List ℕ)) : FieldTree → Tokens → Tokens → Type 0 where
@@ -379,7 +405,8 @@ pub data IsTypedef (aliases : List (List ℕ)) : TypedefTree → Tokens → Toke
 
 -- what a function gives
 pub data IsReturned (aliases : List (List ℕ)) : Returned → Tokens → Tokens → Type 0 where
-  gives_nothing : {word : Token} {rest : Tokens} → IsWord (codes "void") word → IsReturned aliases (Returned.Void word.place) (word ∷ rest) rest
+  gives_nothing : {word : Token} {rest : Tokens} → IsWord (codes "void") word
+      → IsReturned aliases (Returned.Void word.place) (word ∷ rest) rest
   gives_value : {base : Base} {pointer : Option Place} {tokens mid rest : Tokens} → IsBase aliases base tokens mid
       → IsStar pointer mid rest → IsReturned aliases (Returned.Value base pointer) tokens rest
 
@@ -398,7 +425,8 @@ pub data MoreParameters (aliases : List (List ℕ)) : List Parameter → Tokens 
 -- the parameters of a function
 pub data IsParameters (aliases : List (List ℕ)) : ParametersTree → Tokens → Tokens → Type 0 where
   no_parameters : {tokens : Tokens} → IsParameters aliases unnamed tokens tokens
-  void_parameters : {word : Token} {tokens : Tokens} → IsWord (codes "void") word → IsParameters aliases (void word.place) (word ∷ tokens) tokens
+  void_parameters : {word : Token} {tokens : Tokens} → IsWord (codes "void") word
+      → IsParameters aliases (void word.place) (word ∷ tokens) tokens
   some_parameters : {p : Parameter} {ps : List Parameter} {tokens mid rest : Tokens}
       → IsParameter aliases p tokens mid → MoreParameters aliases (p ∷ []) mid ps rest
       → IsParameters aliases (listed ps) tokens rest
@@ -431,7 +459,9 @@ pub data IsFunction (aliases : List (List ℕ)) : FunctionTree → Tokens → To
 
 -- a struct with its `;`, a typedef or a function
 pub data IsItem (aliases : List (List ℕ)) : ItemTree → Tokens → Tokens → Type 0 where
-  struct_item : {s : StructTree} {semicolon : Token} {tokens rest : Tokens} → IsStruct aliases s tokens (semicolon ∷ rest) → IsMark (codes ";") semicolon → IsItem aliases (structure s) tokens rest
+  struct_item : {s : StructTree} {semicolon : Token} {tokens rest : Tokens}
+      → IsStruct aliases s tokens (semicolon ∷ rest) → IsMark (codes ";") semicolon
+      → IsItem aliases (structure s) tokens rest
   typedef_item : {t : TypedefTree} {tokens rest : Tokens} → IsTypedef aliases t tokens rest → IsItem aliases (typedef t) tokens rest
   function_item : {f : FunctionTree} {tokens rest : Tokens} → IsFunction aliases f tokens rest → IsItem aliases (function f) tokens rest
 

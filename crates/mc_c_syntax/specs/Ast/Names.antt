@@ -20,9 +20,11 @@ reserved_words =
     ∷ codes "double" ∷ codes "else" ∷ codes "enum" ∷ codes "extern" ∷ codes "float" ∷ codes "for" ∷ codes "goto" ∷ codes "if"
     ∷ codes "inline" ∷ codes "int" ∷ codes "long" ∷ codes "register" ∷ codes "restrict" ∷ codes "return" ∷ codes "short" ∷ codes "signed"
     ∷ codes "sizeof" ∷ codes "static" ∷ codes "struct" ∷ codes "switch" ∷ codes "typedef" ∷ codes "union" ∷ codes "unsigned" ∷ codes "void"
-    ∷ codes "volatile" ∷ codes "while" ∷ codes "_Alignas" ∷ codes "_Alignof" ∷ codes "_Atomic" ∷ codes "_Bool" ∷ codes "_Complex" ∷ codes "_Generic"
+    ∷ codes "volatile" ∷ codes "while" ∷ codes "_Alignas" ∷ codes "_Alignof" ∷ codes "_Atomic" ∷ codes "_Bool"
+    ∷ codes "_Complex" ∷ codes "_Generic"
     ∷ codes "_Imaginary" ∷ codes "_Noreturn" ∷ codes "_Static_assert" ∷ codes "_Thread_local"
-    ∷ codes "NULL" ∷ codes "malloc" ∷ codes "free" ∷ codes "input" ∷ codes "assert" ∷ codes "assume" ∷ codes "assume_shape" ∷ codes "assert_shape" ∷ codes "assert_empty" ∷ []
+    ∷ codes "NULL" ∷ codes "malloc" ∷ codes "free" ∷ codes "input" ∷ codes "assert" ∷ codes "assume"
+    ∷ codes "assume_shape" ∷ codes "assert_shape" ∷ codes "assert_empty" ∷ []
 
 -- two words are the same
 abbrev pub is_same : List ℕ → List ℕ → Bool

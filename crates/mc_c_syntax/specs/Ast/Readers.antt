@@ -5,7 +5,8 @@ use Rattle.mc_c_syntax.specs.Ast.Names.{Tokens, is_in}
 
 -- the reader takes the token: what completes it then completes it now with the token before it, and nothing else does; only these marks go on where it was complete
 pub record Takes {X : Type 0} (marks : List (List ℕ)) (now later : Tokens → Tokens → X → Type 0) (token : Token) : Type 0 where
-  pub forward : (tokens rest : Tokens) (x : X) → now (token ∷ tokens) rest x → later tokens rest x ⊎ ((rest ≡ token ∷ tokens) × IsTrue (is_in marks token.text))
+  pub forward : (tokens rest : Tokens) (x : X) → now (token ∷ tokens) rest x → later tokens rest x
+      ⊎ ((rest ≡ token ∷ tokens) × IsTrue (is_in marks token.text))
   pub backward : (tokens rest : Tokens) (x : X) → later tokens rest x → now (token ∷ tokens) rest x
 
 -- the reader is complete before the token, with this and nothing else, and the token can't go on

@@ -98,7 +98,8 @@ start_of (ForStart.Declaration d) = declares (declaration_of d)
 start_of (ForStart.Simple s) = performs (simple_of s)
 
 abbrev pub head_of : ForHead → Head
-head_of h = record { place = h.place; start = start_of h.start; condition = option_map condition_of h.condition; last = option_map simple_of h.last }
+head_of h = record
+    { place = h.place; start = start_of h.start; condition = option_map condition_of h.condition; last = option_map simple_of h.last }
 
 -- one level of a statement
 abbrev pub statement_step : Statement-F Stmt → Stmt
@@ -146,7 +147,8 @@ abbrev pub body_of : Body → BodyTree
 body_of b = record { place = b.place; statements = map statement_of b.statements.items }
 
 abbrev pub function_of : Function → FunctionTree
-function_of f = record { static_place = f.static_place; returned = f.returned; name = f.name; parameters = parameters_of f.parameters; body = option_map body_of f.body }
+function_of f = record
+    { static_place = f.static_place; returned = f.returned; name = f.name; parameters = parameters_of f.parameters; body = option_map body_of f.body }
 
 abbrev pub item_of : Item → ItemTree
 item_of (Item.Struct s) = structure (struct_of s)

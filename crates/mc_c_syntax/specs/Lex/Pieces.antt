@@ -64,10 +64,13 @@ pub data IsPiece (spot : Spot) (text : List ℕ) : Piece → Type 0 where
   include_line : {n : ℕ} → IsTrue spot.at_line_start → IsInclude text → n ≡ line_len text → IsPiece spot text (Gap n)
   -- a token, which is as long as it can be
   name : {n : ℕ} → IsTrue (is_letter (first text)) → n ≡ word_len text → IsPiece spot text (Lexeme Name n)
-  number : {n value : ℕ} → IsTrue (is_digit (first text)) → n ≡ word_len text → Spells (take n text) value → value ≤ max_number → IsPiece spot text (Lexeme Number n)
-  mark : {n : ℕ} → 0 < n → n ≡ mark_len text → ¬ Begins (codes "//") text → ¬ Begins (codes "/*") text → ¬ (IsTrue spot.at_line_start × IsInclude text) → IsPiece spot text (Lexeme Mark n)
+  number : {n value : ℕ} → IsTrue (is_digit (first text)) → n ≡ word_len text → Spells (take n text) value
+      → value ≤ max_number → IsPiece spot text (Lexeme Number n)
+  mark : {n : ℕ} → 0 < n → n ≡ mark_len text → ¬ Begins (codes "//") text → ¬ Begins (codes "/*") text
+      → ¬ (IsTrue spot.at_line_start × IsInclude text) → IsPiece spot text (Lexeme Mark n)
   -- what can't be read on
-  bad_byte : 0 < length text → IsFalse (is_separator (first text)) → IsFalse (is_word (first text)) → mark_len text ≡ 0 → IsPiece spot text (Fault (BadByte spot.place))
+  bad_byte : 0 < length text → IsFalse (is_separator (first text)) → IsFalse (is_word (first text)) → mark_len text
+      ≡ 0 → IsPiece spot text (Fault (BadByte spot.place))
   open_comment : Begins (codes "/*") text → ((k : ℕ) → ¬ Closes (drop 2 text) k) → IsPiece spot text (Fault (OpenComment spot.place))
   bad_number : IsTrue (is_digit (first text)) → IsNoNumber (take (word_len text) text) → IsPiece spot text (Fault (BadNumber spot.place))
 

@@ -26,7 +26,8 @@ onto token (Err fault) = Err fault
 pub data Reads : Spot → List ℕ → Reading → Type 0 where
   at_end : {spot : Spot} {text : List ℕ} → IsPiece spot text End → Reads spot text (Ok (token_at spot end_kind [] ∷ []))
   at_fault : {spot : Spot} {text : List ℕ} {fault : LexFault} → IsPiece spot text (Fault fault) → Reads spot text (Err fault)
-  past_gap : {spot : Spot} {text : List ℕ} {n : ℕ} {reading : Reading} → IsPiece spot text (Gap n) → Reads (behind spot (take n text)) (drop n text) reading → Reads spot text reading
+  past_gap : {spot : Spot} {text : List ℕ} {n : ℕ} {reading : Reading} → IsPiece spot text (Gap n)
+      → Reads (behind spot (take n text)) (drop n text) reading → Reads spot text reading
   past_token : {spot : Spot} {text : List ℕ} {kind : TokenKind} {n : ℕ} {rest whole : Reading}
       → IsPiece spot text (Lexeme kind n) → Reads (behind spot (take n text)) (drop n text) rest
       → whole ≡ onto (token_at spot kind (take n text)) rest → Reads spot text whole

@@ -12,7 +12,12 @@ abbrev pub step : Spot → ℕ → Spot
 step spot byte =
     if byte == 10
     then record { place = record { line = spot.place.line + 1; column = 1 }; at_line_start = true }
-    else record { place = record { line = spot.place.line; column = spot.place.column + 1 }; at_line_start = spot.at_line_start && is_blank byte }
+    else record {
+      place = record
+          { line = spot.place.line; column = spot.place.column + 1 };
+      at_line_start = spot.at_line_start
+          && is_blank byte;
+    }
 
 -- behind these bytes
 abbrev pub behind : Spot → List ℕ → Spot

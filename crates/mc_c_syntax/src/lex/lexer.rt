@@ -18,7 +18,8 @@ pub const MAX_BYTES: usize = 4294967294;
 /// no comment. The bytes of a comment count as bytes of their lines, so a `#` behind one is a mark.
 pub fn lex(alloc: Global, bytes: &[u8]) -> Result<Vec<Token>, LexFault>
     requires { length bytes.now ≤ MAX_BYTES }
-    ensures reading { MatchResult result (λ tokens. Lexes bytes.now (Ok tokens.items)) (λ fault. fault ≢ LexFault.NoMemory → Lexes bytes.now (Err fault)) }
+    ensures reading { MatchResult result (λ tokens. Lexes bytes.now (Ok tokens.items))
+        (λ fault. fault ≢ LexFault.NoMemory → Lexes bytes.now (Err fault)) }
     ensures end { IfOk result (λ tokens. EndsOnce tokens.items) }
 {
     let mut tokens = Vec::new(alloc);

@@ -15,7 +15,8 @@ use mc_symbolic::State;
 
 // Adds the nodes of fields, and answers whether all are known.
 fn push_fields(names: &mut Vec<Term>, fields: &[Option<NodeId>]) -> Result<bool, NoMemory>
-    ensures { IfOk result (λ all. (if all then Some names.new.items else None) ≡ option_map (λ nodes. names.old.items ++ map plain nodes) (all_there fields.now)) }
+    ensures { IfOk result (λ all. (if all then Some names.new.items else None)
+        ≡ option_map (λ nodes. names.old.items ++ map plain nodes) (all_there fields.now)) }
 {
     for field in fields {
         match field {
@@ -41,7 +42,9 @@ fn push_block(
     shape: StructId,
     edge: &Edge,
 ) -> Result<bool, NoMemory>
-    ensures { IfOk result (λ there. (know : Test) → Tells know state.now → (if there then Some names.new.items else None) ≡ option_map (λ nodes. names.old.items ++ map plain nodes) (whole_block know at.now shape edge.now)) }
+    ensures { IfOk result (λ there. (know : Test) → Tells know state.now
+        → (if there then Some names.new.items else None)
+        ≡ option_map (λ nodes. names.old.items ++ map plain nodes) (whole_block know at.now shape edge.now)) }
 {
     match edge {
         Edge::Block {
@@ -68,7 +71,10 @@ pub fn push_contents(
     block: Option<StructId>,
     id: Option<EdgeId>,
 ) -> Result<bool, NoMemory>
-    ensures { IfOk result (λ there. (know : Test) → Tells know state.now → (if there then Some names.new.items else None) ≡ option_map (λ nodes. names.old.items ++ map plain nodes) (contents_by know (free_edges state.now used.now) at.now block id)) }
+    ensures { IfOk result (λ there. (know : Test) → Tells know state.now
+        → (if there then Some names.new.items else None)
+        ≡ option_map (λ nodes. names.old.items ++ map plain nodes)
+        (contents_by know (free_edges state.now used.now) at.now block id)) }
 {
     match block {
         None => Ok(id.is_none()),

@@ -44,7 +44,8 @@ pub fn free_edge<'a>(state: &'a State, used: &[EdgeId], id: EdgeId) -> Option<&'
 
 // Whether an edge starts at a node that equals the term, and may be taken.
 fn is_near(state: &State, used: &[EdgeId], at: &Term, id: EdgeId, edge: &Edge) -> bool
-    ensures { (know : Test) → Tells know state.now → result ≡ (equal_terms know at.now (plain (start_of edge.now)) && not (is_among id used.now)) }
+    ensures { (know : Test) → Tells know state.now → result
+        ≡ (equal_terms know at.now (plain (start_of edge.now)) && not (is_among id used.now)) }
 {
     are_equal(state, at, &plain(edge.start())) && !is_used(used, id)
 }
@@ -57,7 +58,8 @@ fn push_near(
     at: &Term,
     e: &(EdgeId, Edge),
 ) -> Result<(), NoMemory>
-    ensures { IfOk result (λ _. (know : Test) → Tells know state.now → ids.new.items ≡ ids.old.items ++ ids_of (near know at.now (filter (is_unused used.now) (e.now ∷ [])))) }
+    ensures { IfOk result (λ _. (know : Test) → Tells know state.now → ids.new.items ≡ ids.old.items
+        ++ ids_of (near know at.now (filter (is_unused used.now) (e.now ∷ [])))) }
 {
     if is_near(state, used, at, e.0, &e.1) {
         ids.push(e.0)?;
@@ -72,7 +74,8 @@ pub fn near_ids(
     used: &[EdgeId],
     at: &Term,
 ) -> Result<Vec<EdgeId>, NoMemory>
-    ensures { IfOk result (λ ids. (know : Test) → Tells know state.now → ids.items ≡ ids_of (near know at.now (free_edges state.now used.now))) }
+    ensures { IfOk result (λ ids. (know : Test) → Tells know state.now → ids.items
+        ≡ ids_of (near know at.now (free_edges state.now used.now))) }
 {
     state.is_bounded();
     let mut ids = Vec::new(alloc);

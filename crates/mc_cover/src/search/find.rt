@@ -35,7 +35,8 @@ fn find(
     goal: Goal,
 ) -> Result<Option<Vec<Mark>>, NoMemory>
     requires sound { IsFalse state.now → ⊥ }
-    ensures { IfOk result (λ found. (know : Test) → Tells know state.now → option_map (λ log. log.items) found ≡ first_marks (setting know defs.now state.now used.now) goal) }
+    ensures { IfOk result (λ found. (know : Test) → Tells know state.now → option_map (λ log. log.items) found
+        ≡ first_marks (setting know defs.now state.now used.now) goal) }
 {
     near_is_first();
     is_told(state);
@@ -66,8 +67,12 @@ pub fn cover(
     args: &[Term],
 ) -> Result<Option<Vec<Mark>>, NoMemory>
     requires sound { IsFalse state.now → ⊥ }
-    ensures marks { IfOk result (λ found. (know : Test) → Tells know state.now → option_map (λ log. log.items) found ≡ first_marks (setting know defs.now state.now used.now) (record { pred = pred; at = at; args = args.now; stop = None })) }
-    ensures first { IfOk result (λ found. (know : Test) → Tells know state.now → option_map (choice_of (free_edges state.now used.now)) (option_map (λ log. log.items) found) ≡ first_cover know defs.now pred at args.now (free_edges state.now used.now)) }
+    ensures marks { IfOk result (λ found. (know : Test) → Tells know state.now → option_map (λ log. log.items) found
+        ≡ first_marks (setting know defs.now state.now used.now)
+        (record { pred = pred; at = at; args = args.now; stop = None })) }
+    ensures first { IfOk result (λ found. (know : Test) → Tells know state.now
+        → option_map (choice_of (free_edges state.now used.now)) (option_map (λ log. log.items) found)
+        ≡ first_cover know defs.now pred at args.now (free_edges state.now used.now)) }
 {
     let goal = Goal {
         pred,
@@ -92,8 +97,12 @@ pub fn seg_cover(
     ends: &[Term],
 ) -> Result<Option<Vec<Mark>>, NoMemory>
     requires sound { IsFalse state.now → ⊥ }
-    ensures marks { IfOk result (λ found. (know : Test) → Tells know state.now → option_map (λ log. log.items) found ≡ first_marks (setting know defs.now state.now used.now) (record { pred = pred; at = at; args = args.now; stop = Some (end, ends.now) })) }
-    ensures first { IfOk result (λ found. (know : Test) → Tells know state.now → option_map (choice_of (free_edges state.now used.now)) (option_map (λ log. log.items) found) ≡ first_seg_cover know defs.now pred at args.now end ends.now (free_edges state.now used.now)) }
+    ensures marks { IfOk result (λ found. (know : Test) → Tells know state.now → option_map (λ log. log.items) found
+        ≡ first_marks (setting know defs.now state.now used.now)
+        (record { pred = pred; at = at; args = args.now; stop = Some (end, ends.now) })) }
+    ensures first { IfOk result (λ found. (know : Test) → Tells know state.now
+        → option_map (choice_of (free_edges state.now used.now)) (option_map (λ log. log.items) found)
+        ≡ first_seg_cover know defs.now pred at args.now end ends.now (free_edges state.now used.now)) }
 {
     let goal = Goal {
         pred,

@@ -25,7 +25,8 @@ pub fn is_told(state: &State)
 /// No term with a number outside the bounds of offsets lies in the range of a kind, where the state is not false.
 pub fn terms_are_near(state: &State)
     requires { IsFalse state.now → ⊥ }
-    ensures { (know : Test) → Tells know state.now → (kinds : List Kind) (ts : List At) → all_near ts ≡ false → all_lie_in know kinds ts ≡ false }
+    ensures { (know : Test) → Tells know state.now → (kinds : List Kind) (ts : List At) → all_near ts ≡ false
+        → all_lie_in know kinds ts ≡ false }
 {
     mc_pure::normal_forms_say_all();
     let pure = state.known();
@@ -34,5 +35,6 @@ pub fn terms_are_near(state: &State)
 
 /// The numbers that atoms of definitions add are small.
 pub fn numbers_are_small()
-    ensures { (defs : List Def) (p place : _) (def : Def) (rule : Rule) → IsDefs defs → slice_get defs p ≡ Some def → slice_get def.rules place ≡ Some rule → AllByRecursion AddsSmall rule.atoms }
+    ensures { (defs : List Def) (p place : _) (def : Def) (rule : Rule) → IsDefs defs → slice_get defs p ≡ Some def
+        → slice_get def.rules place ≡ Some rule → AllByRecursion AddsSmall rule.atoms }
 {}

@@ -53,7 +53,8 @@ pub fn marks_of(
     used: &[EdgeId],
     goal: &Goal,
 ) -> Result<Vec<Mark>, NoMemory>
-    ensures { IfOk result (λ all. (know : Test) → Tells know state.now → all.items ≡ near_marks (setting know defs.now state.now used.now) goal.now) }
+    ensures { IfOk result (λ all. (know : Test) → Tells know state.now → all.items
+        ≡ near_marks (setting know defs.now state.now used.now) goal.now) }
 {
     let ids = near_ids(alloc, state, used, &goal.at)?;
     let all = marks_on(alloc, &ids, def_of(defs, goal.pred))?;
@@ -98,7 +99,8 @@ fn ind_fits(
     goal: &Goal,
     id: EdgeId,
 ) -> Result<bool, NoMemory>
-    ensures { IfOk result (λ is. (know : Test) → Tells know state.now → is ≡ (not (is_some goal.now.stop) && is_ind know goal.now (edge_with (free_edges state.now used.now) id))) }
+    ensures { IfOk result (λ is. (know : Test) → Tells know state.now → is
+        ≡ (not (is_some goal.now.stop) && is_ind know goal.now (edge_with (free_edges state.now used.now) id))) }
 {
     if goal.stop.is_some() {
         return Ok(false);
@@ -122,7 +124,10 @@ fn push_by_rule(
     requires sound { IsFalse state.now → ⊥ }
     requires arena { IsArena (reverse cells.old.items) }
     requires within { rest ≤ length (reverse cells.old.items) }
-    ensures { IfOk result (λ top. (know : Test) → Tells know state.now → IsPushed (fits (setting know defs.now state.now used.now) goal.now (mark.ByRule place block)) (calls_of (setting know defs.now state.now used.now) goal.now (mark.ByRule place block)) cells.old.items cells.new.items rest top) }
+    ensures { IfOk result (λ top. (know : Test) → Tells know state.now
+        → IsPushed (fits (setting know defs.now state.now used.now) goal.now (mark.ByRule place block))
+        (calls_of (setting know defs.now state.now used.now) goal.now
+        (mark.ByRule place block)) cells.old.items cells.new.items rest top) }
 {
     numbers_are_small();
     if has_stop(goal) {
@@ -155,7 +160,10 @@ fn push_by_call(
     requires sound { IsFalse state.now → ⊥ }
     requires arena { IsArena (reverse cells.old.items) }
     requires within { rest ≤ length (reverse cells.old.items) }
-    ensures { IfOk result (λ top. (know : Test) → Tells know state.now → IsPushed (fits (setting know defs.now state.now used.now) goal.now (mark.ByCall place block call)) (calls_of (setting know defs.now state.now used.now) goal.now (mark.ByCall place block call)) cells.old.items cells.new.items rest top) }
+    ensures { IfOk result (λ top. (know : Test) → Tells know state.now
+        → IsPushed (fits (setting know defs.now state.now used.now) goal.now (mark.ByCall place block call))
+        (calls_of (setting know defs.now state.now used.now) goal.now
+        (mark.ByCall place block call)) cells.old.items cells.new.items rest top) }
 {
     numbers_are_small();
     if !has_stop(goal) {
@@ -188,7 +196,10 @@ pub fn push_mark(
     requires sound { IsFalse state.now → ⊥ }
     requires arena { IsArena (reverse cells.old.items) }
     requires within { rest ≤ length (reverse cells.old.items) }
-    ensures { IfOk result (λ top. (know : Test) → Tells know state.now → IsPushed (fits (setting know defs.now state.now used.now) goal.now mark) (calls_of (setting know defs.now state.now used.now) goal.now mark) cells.old.items cells.new.items rest top) }
+    ensures { IfOk result (λ top. (know : Test) → Tells know state.now
+        → IsPushed (fits (setting know defs.now state.now used.now) goal.now mark)
+        (calls_of
+        (setting know defs.now state.now used.now) goal.now mark) cells.old.items cells.new.items rest top) }
 {
     match mark {
         Mark::AtEnd => {

@@ -132,7 +132,8 @@ fn all_known(state: &State, names: &[Term], atoms: &[DefAtom]) -> bool
 
 // Adds the name that an atom introduces, if it does. With false its number lies outside the bounds.
 fn push_sum(names: &mut Vec<Term>, atom: DefAtom) -> Result<bool, NoMemory>
-    ensures made { IfOk result (λ near. IsTrue near → (rest : List Statement) → with_fixed names.new.items rest ≡ with_fixed names.old.items (atom ∷ rest)) }
+    ensures made { IfOk result (λ near. IsTrue near → (rest : List Statement) → with_fixed names.new.items rest
+        ≡ with_fixed names.old.items (atom ∷ rest)) }
     ensures far { IfOk result (λ near. near ≡ false → IntroducesFar names.old.items atom) }
 {
     let DefAtom::Eq {
@@ -189,7 +190,10 @@ pub fn names_with(
 ) -> Result<Option<Vec<Term>>, NoMemory>
     requires sound { IsFalse state.now → ⊥ }
     requires small { AllByRecursion AddsSmall rule.now.atoms }
-    ensures { IfOk result (λ made. (know : Test) → Tells know state.now → (contents : List Node) → names.items ≡ goal.now.at ∷ (goal.now.args ++ map plain contents) → length contents ≡ held → option_map (λ v. record { rule = rule.now; names = v.items }) made ≡ named_with know goal.now def.now rule.now contents) }
+    ensures { IfOk result (λ made. (know : Test) → Tells know state.now → (contents : List Node) → names.items
+        ≡ goal.now.at ∷ (goal.now.args ++ map plain contents) → length contents ≡ held
+        → option_map (λ v. record { rule = rule.now; names = v.items }) made
+        ≡ named_with know goal.now def.now rule.now contents) }
 {
     terms_are_near(state);
     if goal.args.len() != def.params.len() || held != rule.contents.len() {

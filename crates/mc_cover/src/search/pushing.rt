@@ -108,7 +108,8 @@ fn push_goals(
 ) -> Result<usize, NoMemory>
     requires arena { IsArena (reverse cells.old.items) }
     requires within { rest ≤ length (reverse cells.old.items) }
-    ensures { IfOk result (λ top. Pushes (map (goal_of names.now None) calls.now) (reverse cells.old.items) (reverse cells.new.items) rest top) }
+    ensures { IfOk result (λ top. Pushes (map (goal_of names.now None) calls.now) (reverse cells.old.items)
+        (reverse cells.new.items) rest top) }
 {
     let mut top = rest;
     let mut i = calls.len();
@@ -133,7 +134,8 @@ fn push_goals_to(
     requires arena { IsArena (reverse cells.old.items) }
     requires within { rest ≤ length (reverse cells.old.items) }
     requires inside { place < length calls.now }
-    ensures { IfOk result (λ top. Pushes (goals_to names.now stop.now place calls.now) (reverse cells.old.items) (reverse cells.new.items) rest top) }
+    ensures { IfOk result (λ top. Pushes (goals_to names.now stop.now place calls.now) (reverse cells.old.items)
+        (reverse cells.new.items) rest top) }
 {
     let last = calls_behind(calls, place);
     let first = calls_before(calls, place);
@@ -156,7 +158,9 @@ pub fn names_by(
 ) -> Result<Option<Vec<Term>>, NoMemory>
     requires sound { IsFalse state.now → ⊥ }
     requires small { AllByRecursion AddsSmall rule.now.atoms }
-    ensures { IfOk result (λ made. (know : Test) (defs : List Definition) → Tells know state.now → option_map (λ v. record { rule = rule.now; names = v.items }) made ≡ named_by (setting know defs state.now used.now) goal.now block def.now rule.now) }
+    ensures { IfOk result (λ made. (know : Test) (defs : List Definition) → Tells know state.now
+        → option_map (λ v. record { rule = rule.now; names = v.items }) made
+        ≡ named_by (setting know defs state.now used.now) goal.now block def.now rule.now) }
 {
     is_told(state);
     let mut names = front_names(alloc, goal)?;
@@ -181,7 +185,9 @@ fn has_call(pred: PredId, place: usize, rule: &Rule) -> bool
 
 // Whether the segment that a goal asks for ends where it begins.
 fn ends_at(state: &State, def: &Def, goal: &Goal, at: &Term, args: &[Term]) -> bool
-    ensures { (know : Test) → Tells know state.now → result ≡ (equal_terms know goal.now.at at.now && (all_equal_terms know goal.now.args args.now && all_lie_in know def.now.params goal.now.args)) }
+    ensures { (know : Test) → Tells know state.now → result
+        ≡ (equal_terms know goal.now.at at.now
+        && (all_equal_terms know goal.now.args args.now && all_lie_in know def.now.params goal.now.args)) }
 {
     are_equal(state, &goal.at, at)
         && (are_all_equal(state, goal.args.as_slice(), args)
@@ -210,7 +216,9 @@ fn is_summary(
     at: NodeId,
     args: &[NodeId],
 ) -> Result<bool, NoMemory>
-    ensures { IfOk result (λ is. (know : Test) → Tells know state.now → is ≡ (pred.0 == goal.now.pred.0 && (equal_terms know goal.now.at (plain at) && all_equal_terms know goal.now.args (map plain args.now)))) }
+    ensures { IfOk result (λ is. (know : Test) → Tells know state.now → is
+        ≡ (pred.0 == goal.now.pred.0 &&
+        (equal_terms know goal.now.at (plain at) && all_equal_terms know goal.now.args (map plain args.now)))) }
 {
     let terms = plain_terms(alloc, args)?;
     Ok(
@@ -251,7 +259,10 @@ fn push_behind(
 ) -> Result<usize, NoMemory>
     requires arena { IsArena (reverse cells.old.items) }
     requires within { rest ≤ length (reverse cells.old.items) }
-    ensures { IfOk result (λ top. Pushes (record { pred = goal.now.pred; at = plain end; args = map plain ends.now; stop = goal.now.stop } ∷ []) (reverse cells.old.items) (reverse cells.new.items) rest top) }
+    ensures { IfOk result
+        (λ top. Pushes
+        (record { pred = goal.now.pred; at = plain end; args = map plain ends.now; stop = goal.now.stop } ∷ [])
+        (reverse cells.old.items) (reverse cells.new.items) rest top) }
 {
     let args = plain_terms(alloc, ends)?;
     let stop = copied_stop(alloc, &goal.stop)?;
@@ -276,7 +287,9 @@ pub fn push_seg(
 ) -> Result<Option<usize>, NoMemory>
     requires arena { IsArena (reverse cells.old.items) }
     requires within { rest ≤ length (reverse cells.old.items) }
-    ensures { IfOk result (λ top. (know : Test) → Tells know state.now → IsPushed (is_seg know goal.now (option_copied edge.entry)) (behind_seg goal.now (option_copied edge.entry)) cells.old.items cells.new.items rest top) }
+    ensures { IfOk result (λ top. (know : Test) → Tells know state.now
+        → IsPushed (is_seg know goal.now (option_copied edge.entry))
+        (behind_seg goal.now (option_copied edge.entry)) cells.old.items cells.new.items rest top) }
 {
     match edge {
         None => Ok(None),
@@ -316,7 +329,11 @@ pub fn push_rule(
     requires small { AllByRecursion AddsSmall rule.now.atoms }
     requires arena { IsArena (reverse cells.old.items) }
     requires within { rest ≤ length (reverse cells.old.items) }
-    ensures { IfOk result (λ top. (know : Test) (defs : List Definition) → Tells know state.now → IsPushed (is_some (named_by (setting know defs state.now used.now) goal.now block def.now rule.now)) (calls_of_rule (named_by (setting know defs state.now used.now) goal.now block def.now rule.now)) cells.old.items cells.new.items rest top) }
+    ensures { IfOk result (λ top. (know : Test) (defs : List Definition) → Tells know state.now
+        → IsPushed (is_some (named_by (setting know defs state.now used.now) goal.now block def.now rule.now))
+        (calls_of_rule
+        (named_by
+        (setting know defs state.now used.now) goal.now block def.now rule.now)) cells.old.items cells.new.items rest top) }
 {
     match names_by(alloc, state, used, goal, block, def, rule)? {
         None => Ok(None),
@@ -344,7 +361,12 @@ pub fn push_call(
     requires small { AllByRecursion AddsSmall rule.now.atoms }
     requires arena { IsArena (reverse cells.old.items) }
     requires within { rest ≤ length (reverse cells.old.items) }
-    ensures { IfOk result (λ top. (know : Test) (defs : List Definition) → Tells know state.now → IsPushed (on_some (has_call goal.now.pred place) (named_by (setting know defs state.now used.now) goal.now block def.now rule.now)) (calls_of_rule_to goal.now.stop place (named_by (setting know defs state.now used.now) goal.now block def.now rule.now)) cells.old.items cells.new.items rest top) }
+    ensures { IfOk result (λ top. (know : Test) (defs : List Definition) → Tells know state.now
+        → IsPushed (on_some (has_call goal.now.pred place)
+        (named_by (setting know defs state.now used.now) goal.now block def.now rule.now))
+        (calls_of_rule_to goal.now.stop place
+        (named_by
+        (setting know defs state.now used.now) goal.now block def.now rule.now)) cells.old.items cells.new.items rest top) }
 {
     match names_by(alloc, state, used, goal, block, def, rule)? {
         None => Ok(None),

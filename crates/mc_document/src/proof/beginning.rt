@@ -49,7 +49,8 @@ fn listed(alloc: Global, flow: &Flow, heads: &[Head]) -> Result<Vec<Branch>, NoM
 /// The branches that a reading begins with. Their states are well made where those of heads are.
 pub fn roots(alloc: Global, flow: &Flow, heads: &[Head]) -> Result<Stack, NoMemory>
     ensures are { IfOk result (λ stack. stack ≡ roots flow.now (map head_of heads.now)) }
-    ensures made { IfOk result (λ stack. (defs : List Def) → HeadsAreMade flow.now defs (map head_of heads.now) → AreMade flow.now defs stack) }
+    ensures made { IfOk result (λ stack. (defs : List Def) → HeadsAreMade flow.now defs (map head_of heads.now)
+        → AreMade flow.now defs stack) }
 {
     // For the proof alone: the state of the entry is well made.
     mc_state::numbers_stay_bounded();

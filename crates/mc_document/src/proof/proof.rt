@@ -237,7 +237,8 @@ impl<'f> Proof<'f> {
 
     /// The line of a rule, where rule lines are read.
     fn go_on(&mut self, line: &Line) -> Result<(), ApplyFault>
-        ensures { (k : Knowledge) → AnswersAll k self.old.flow self.old.defs → ComesTo (ruling_at k line.now self.old) self.old self.new result }
+        ensures { (k : Knowledge) → AnswersAll k self.old.flow self.old.defs
+            → ComesTo (ruling_at k line.now self.old) self.old self.new result }
     {
         let stuck = self.stuck_behind(line)?;
         let setting = Setting {
@@ -293,7 +294,8 @@ impl<'f> Proof<'f> {
 
     /// The line of a rule.
     fn rule(&mut self, line: &Line) -> Result<(), ApplyFault>
-        ensures { (k : Knowledge) → AnswersAll k self.old.flow self.old.defs → ComesTo (rule_at k line.now self.old) self.old self.new result }
+        ensures { (k : Knowledge) → AnswersAll k self.old.flow self.old.defs
+            → ComesTo (rule_at k line.now self.old) self.old self.new result }
     {
         if !self.is_ready() {
             return Err(ApplyFault::Premise(1));

@@ -95,7 +95,8 @@ pub fn next_line(
     ensures rests { IfOk result (λ asked. (GoesOn (path branch.now) → ⊥) → asked ≡ None) }
     ensures first { IfOk result (λ asked. (know : Test) (line : Written) → Tells know branch.now.state → GoesOn (path branch.now)
         → false_or_null know branch.now.state.graph.edges ≡ Some line → asked ≡ Some line) }
-    ensures at_cut { IfOk result (λ asked. (know : Test) → Tells know branch.now.state → false_or_null know branch.now.state.graph.edges ≡ None
+    ensures at_cut { IfOk result (λ asked. (know : Test) → Tells know branch.now.state
+        → false_or_null know branch.now.state.graph.edges ≡ None
         → (branch.now.moved && is_cut cuts.now branch.now.point) ≡ true → asked ≡ None) }
     ensures gap { IfOk result (λ asked. (know : Test) → Tells know branch.now.state → GoesOn (path branch.now)
         → IsAtCode know cuts.now (path branch.now) → HasGap flow.now defs.now (path branch.now) → asked ≡ stuck form) }

@@ -17,7 +17,8 @@ use std::alloc::Global;
 
 /// Adds the nodes of fields, and answers whether all are known.
 fn push_fields(nodes: &mut Vec<NodeId>, fields: &[Option<NodeId>]) -> Result<bool, NoMemory>
-    ensures { IfOk result (λ all. (if all then Some nodes.new.items else None) ≡ option_map (λ known. nodes.old.items ++ known) (all_there fields.now)) }
+    ensures { IfOk result (λ all. (if all then Some nodes.new.items else None)
+        ≡ option_map (λ known. nodes.old.items ++ known) (all_there fields.now)) }
 {
     for field in fields {
         match field {
@@ -55,7 +56,8 @@ fn whole_at(
     shape: StructId,
     edge: &Edge,
 ) -> Result<Option<Vec<NodeId>>, NoMemory>
-    ensures { IfOk result (λ found. (know : Test) → Tells know state.now → option_map (λ nodes. nodes.items) found ≡ whole_block know at.now shape edge.now) }
+    ensures { IfOk result (λ found. (know : Test) → Tells know state.now → option_map (λ nodes. nodes.items) found
+        ≡ whole_block know at.now shape edge.now) }
 {
     match edge {
         Edge::Block {
@@ -82,7 +84,8 @@ pub fn block(
     at: &Term,
     shape: StructId,
 ) -> Result<Option<(EdgeId, Vec<NodeId>)>, NoMemory>
-    ensures { IfOk result (λ found. (know : Test) → Tells know state.now → option_map (λ b. (b.0, b.1.items)) found ≡ first_edge (whole_block know at.now shape) (free_edges state.now used.now)) }
+    ensures { IfOk result (λ found. (know : Test) → Tells know state.now → option_map (λ b. (b.0, b.1.items)) found
+        ≡ first_edge (whole_block know at.now shape) (free_edges state.now used.now)) }
 {
     state.is_bounded();
     for entry in state.edges() {

@@ -74,7 +74,8 @@ fn summary_at(
     at: &Term,
     edge: &Edge,
 ) -> Result<Option<Vec<Term>>, NoMemory>
-    ensures { IfOk result (λ found. (know : Test) → Tells know state.now → option_map (λ terms. terms.items) found ≡ option_map (λ (args : List Node). map plain args) (summary_of know pred at.now edge.now)) }
+    ensures { IfOk result (λ found. (know : Test) → Tells know state.now → option_map (λ terms. terms.items) found
+        ≡ option_map (λ (args : List Node). map plain args) (summary_of know pred at.now edge.now)) }
 {
     match edge {
         Edge::Block { .. } => Ok(None),
@@ -110,7 +111,8 @@ pub fn summary(
     pred: PredId,
     at: &Term,
 ) -> Result<Option<Vec<Term>>, NoMemory>
-    ensures { IfOk result (λ found. (know : Test) → Tells know state.now → option_map (λ terms. terms.items) found ≡ by_summary know pred at.now (free_edges state.now used.now)) }
+    ensures { IfOk result (λ found. (know : Test) → Tells know state.now → option_map (λ terms. terms.items) found
+        ≡ by_summary know pred at.now (free_edges state.now used.now)) }
 {
     state.is_bounded();
     for entry in state.edges() {

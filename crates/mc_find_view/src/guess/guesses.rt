@@ -21,7 +21,8 @@ fn by_stop(
     at: &Term,
     stop: &Option<(Term, Items<Term>)>,
 ) -> Result<Option<Vec<Term>>, NoMemory>
-    ensures { IfOk result (λ found. (know : Test) → Tells know state.now → option_map (λ terms. terms.items) found ≡ by_stop know at.now stop.now) }
+    ensures { IfOk result (λ found. (know : Test) → Tells know state.now → option_map (λ terms. terms.items) found
+        ≡ by_stop know at.now stop.now) }
 {
     match stop {
         None => Ok(None),
@@ -65,7 +66,9 @@ fn given_by_rule(
     at: Term,
     contents: &[NodeId],
 ) -> Result<Vec<Term>, NoMemory>
-    ensures { IfOk result (λ terms. (know : Test) → Tells know state.now → terms.items ≡ given_by_rule (guess_at know defs.now stop.now left) pred def.now rule.now at contents.now (free_edges state.now used.now)) }
+    ensures { IfOk result (λ terms. (know : Test) → Tells know state.now → terms.items
+        ≡ given_by_rule (guess_at know defs.now stop.now left) pred def.now rule.now at contents.now
+        (free_edges state.now used.now)) }
 {
     let mut names = begin(alloc, rule, def.params.len(), at, contents)?;
     for call in rule.calls.as_slice() {
@@ -98,7 +101,8 @@ fn guess_at(
     pred: PredId,
     at: Term,
 ) -> Result<Vec<Term>, NoMemory>
-    ensures { IfOk result (λ terms. (know : Test) → Tells know state.now → terms.items ≡ guess_at know defs.now stop.now left pred at (free_edges state.now used.now)) }
+    ensures { IfOk result (λ terms. (know : Test) → Tells know state.now → terms.items
+        ≡ guess_at know defs.now stop.now left pred at (free_edges state.now used.now)) }
 {
     if left == 0 {
         return Ok(Vec::new(alloc));
@@ -163,7 +167,8 @@ pub fn guess(
     at: Term,
     stop: &Option<(Term, Items<Term>)>,
 ) -> Result<Vec<Term>, NoMemory>
-    ensures { IfOk result (λ terms. (know : Test) → Tells know state.now → terms.items ≡ guess know defs.now pred at stop.now (free_edges state.now used.now)) }
+    ensures { IfOk result (λ terms. (know : Test) → Tells know state.now → terms.items
+        ≡ guess know defs.now pred at stop.now (free_edges state.now used.now)) }
 {
     let Some(left) = depth(state, used).checked_add(1) else {
         return Err(AllocError);

@@ -28,7 +28,9 @@ fn with_block<'a>(
     at: &Term,
     rule: &'a Rule,
 ) -> Result<Option<BlockFor<'a>>, NoMemory>
-    ensures { IfOk result (λ found. (know : Test) → Tells know state.now → option_map (λ b. record { rule = b.rule.now; id = b.id; contents = b.contents.items }) found ≡ block_of_rule know at.now (free_edges state.now used.now) rule.now rule.now.block) }
+    ensures { IfOk result (λ found. (know : Test) → Tells know state.now
+        → option_map (λ b. record { rule = b.rule.now; id = b.id; contents = b.contents.items }) found
+        ≡ block_of_rule know at.now (free_edges state.now used.now) rule.now rule.now.block) }
 {
     match rule.block {
         None => Ok(None),
@@ -51,7 +53,9 @@ pub fn first_block<'a>(
     at: &Term,
     rules: &'a [Rule],
 ) -> Result<Option<BlockFor<'a>>, NoMemory>
-    ensures { IfOk result (λ found. (know : Test) → Tells know state.now → option_map (λ b. record { rule = b.rule.now; id = b.id; contents = b.contents.items }) found ≡ first_block know at.now (free_edges state.now used.now) rules.now) }
+    ensures { IfOk result (λ found. (know : Test) → Tells know state.now
+        → option_map (λ b. record { rule = b.rule.now; id = b.id; contents = b.contents.items }) found
+        ≡ first_block know at.now (free_edges state.now used.now) rules.now) }
 {
     for rule in rules {
         match with_block(alloc, state, used, at, rule)? {

@@ -50,7 +50,8 @@ SidesFit names known left base add = (kind : Kind) × IsKnown names known kind l
 
 -- the next name, and a sum of its kind
 abbrev pub FixingFits : List Kind → ℕ → ℕ → Option ℕ → ℤ → Type 0
-FixingFits names known left base add = (kind : Kind) × (left ≡ known) × (slice_get names left ≡ Some kind) × SumFits names known kind base add
+FixingFits names known left base add = (kind : Kind) × (left ≡ known) × (slice_get names left ≡ Some kind)
+    × SumFits names known kind base add
 
 -- an atom speaks of names that are known by then, or fixes the next one
 abbrev pub AtomFits : List Kind → ℕ → DefAtom → Type 0

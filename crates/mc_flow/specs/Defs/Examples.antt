@@ -12,10 +12,18 @@ use Rattle.mc_flow.specs.declared.defs.shapes.StructInfo.{StructInfo}
 
 -- struct cell { int data; struct cell *next; }; struct fork { struct fork *left, *right; };
 abbrev pub cell_struct : StructInfo
-cell_struct = record { name = codes "cell"; fields = record { name = codes "data"; kind = Int } ∷ record { name = codes "next"; kind = Ptr } ∷ [] }
+cell_struct = record {
+  name = codes "cell";
+  fields = record { name = codes "data"; kind = Int }
+      ∷ record { name = codes "next"; kind = Ptr } ∷ [];
+}
 
 abbrev pub fork_struct : StructInfo
-fork_struct = record { name = codes "fork"; fields = record { name = codes "left"; kind = Ptr } ∷ record { name = codes "right"; kind = Ptr } ∷ [] }
+fork_struct = record {
+  name = codes "fork";
+  fields = record { name = codes "left"; kind = Ptr }
+      ∷ record { name = codes "right"; kind = Ptr } ∷ [];
+}
 
 abbrev pub structs : List StructInfo
 structs = cell_struct ∷ fork_struct ∷ []
@@ -42,12 +50,26 @@ null_rule = record { block = None; contents = []; names = Ptr ∷ []; calls = []
 -- rule { this->cell { data: d, next: n }; list(n); }
 abbrev pub list_rule : Rule
 list_rule =
-    record { block = Some cell_id; contents = 1 ∷ 2 ∷ []; names = Ptr ∷ Int ∷ Ptr ∷ []; calls = record { pred = list_id; at = 2; args = [] } ∷ []; atoms = [] }
+    record {
+      block = Some cell_id;
+      contents = 1 ∷ 2 ∷ [];
+      names = Ptr ∷ Int ∷ Ptr
+          ∷ [];
+      calls = record { pred = list_id; at = 2; args = [] } ∷ [];
+      atoms = [];
+    }
 
 -- rule { this = 0; length = 0; }
 abbrev pub no_length_rule : Rule
 no_length_rule =
-    record { block = None; contents = []; names = Ptr ∷ Int ∷ []; calls = []; atoms = Eq 0 None (pos 0) false ∷ Eq 1 None (pos 0) false ∷ [] }
+    record {
+      block = None;
+      contents = [];
+      names = Ptr ∷ Int ∷ [];
+      calls = [];
+      atoms = Eq 0 None (pos 0) false
+          ∷ Eq 1 None (pos 0) false ∷ [];
+    }
 
 -- rule { this->cell { data: d, next: n }; int rest = length - 1; lenlist(n, rest); }
 abbrev pub lenlist_rule : Rule

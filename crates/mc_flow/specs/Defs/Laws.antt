@@ -61,7 +61,8 @@ SegThenSat =
 -- a segment and, apart from it, a segment from its end make one segment
 abbrev pub SegThenSeg : Type 0
 SegThenSeg =
-    (defs : List Def) (pred : PredId) (value : ℤ) (args : List ℤ) (middle : ℤ) (middles : List ℤ) (end : ℤ) (ends : List ℤ) (region left right : Region)
+    (defs : List Def) (pred : PredId) (value : ℤ) (args : List ℤ) (middle : ℤ) (middles : List ℤ) (end : ℤ)
+    (ends : List ℤ) (region left right : Region)
     → Split region left right → Seg defs pred value args middle middles left → Seg defs pred middle middles end ends right
     → Seg defs pred value args end ends region
 

@@ -33,7 +33,8 @@ pub record RuleValues (defs : List Def) (pred : PredId) (value : ℤ) (args : Li
 abbrev pub BlockMeets : Option StructId → List ℕ → List ℤ → Region → Type 0
 BlockMeets None contents names region = IsEmpty region
 BlockMeets (Some shape) contents names region =
-    (at : ℕ) × (value_of names 0 ≡ pos at) × IsCell region at (record { shape = shape.0; fields = map (λ name. Some (value_of names name)) contents })
+    (at : ℕ) × (value_of names 0 ≡ pos at)
+    × IsCell region at (record { shape = shape.0; fields = map (λ name. Some (value_of names name)) contents })
 
 -- the call holds by a meaning
 abbrev pub CallMeets : Meaning → List ℤ → Call → Region → Type 0

@@ -36,4 +36,5 @@ HasAddresses heap = IsAtAddresses (region_of heap)
 -- a block is stored as the pair of its struct and its fields
 abbrev pub block_code : Coded Block
 block_code =
-    code_by (ℕ × List (Option ℤ)) (coded× coded_ℕ (coded_list (coded_option coded_ℤ))) (λ b. (b.shape, b.fields)) (λ p. record { shape = p.0; fields = p.1 }) (λ _. refl)
+    code_by (ℕ × List (Option ℤ)) (coded× coded_ℕ (coded_list (coded_option coded_ℤ))) (λ b. (b.shape, b.fields))
+    (λ p. record { shape = p.0; fields = p.1 }) (λ _. refl)

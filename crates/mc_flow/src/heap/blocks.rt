@@ -143,7 +143,9 @@ impl Heap {
     /// Writes a field, and answers whether it is there. With false nothing changes.
     pub fn write(&mut self, address: u64, shape: u64, field: u64, value: i64) -> bool
         ensures there { IsTrue result ↔ IsSome (field_at (map.get self.old address) shape field) }
-        ensures written { IsTrue result → IsSomeAnd (map.get self.old address) (λ block. self.new ≡ map.insert self.old address (with_field block field value)) }
+        ensures written { IsTrue result
+            → IsSomeAnd (map.get self.old address)
+            (λ block. self.new ≡ map.insert self.old address (with_field block field value)) }
         ensures kept { result ≡ false → self.new ≡ self.old }
     {
         let Some(cell) = self.blocks.get_mut(&address) else {

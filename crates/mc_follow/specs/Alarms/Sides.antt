@@ -37,7 +37,8 @@ TellsFalse p answer = (goal : Goal) (s : State) (others : List Path) → IsSide 
 
 -- whether it is not
 abbrev pub TellsSound : Position → Bool → Type 0
-TellsSound p answer = (goal : Goal) (s : State) (others : List Path) → IsSide p goal s others → (answer ≡ true → IsFalse s → ⊥) × (answer ≡ false → IsFalse s)
+TellsSound p answer = (goal : Goal) (s : State) (others : List Path) → IsSide p goal s others
+    → (answer ≡ true → IsFalse s → ⊥) × (answer ≡ false → IsFalse s)
 
 -- it is not false
 abbrev pub IsSound : Position → Type 0
@@ -103,7 +104,8 @@ pub record IsNamedSide (p : Position) (goal : Goal) (before s : State) (others :
 abbrev pub HasName : Position → Position → Kind → Term → Option NodeId → Type 0
 HasName old new kind t None = (goal : Goal) (s : State) (others : List Path) → IsToName goal s others old kind t → IsWrong new others
 HasName old new kind t (Some n) =
-    (goal : Goal) (s : State) (others : List Path) → IsToName goal s others old kind t → (u : State) × IsNamedSide new goal s u others × IsNamed u kind t n
+    (goal : Goal) (s : State) (others : List Path) → IsToName goal s others old kind t → (u : State)
+    × IsNamedSide new goal s u others × IsNamed u kind t n
 
 -- each term has one, or the state is false
 abbrev pub HaveNames : Position → Position → List Kind → List Term → Option (List NodeId) → Type 0
@@ -120,7 +122,8 @@ pub record IsBegun (flow : Flow) (defs : List Def) (w : Task) (others : List Pat
   pub task : IsTask flow.structs.list defs flow.vars w
 
 -- its goal is made as far as these marks are left, and these edges make the goals that are open
-pub record IsUnderway (flow : Flow) (defs : List Def) (w : Task) (others : List Path) (p : Position) (front : List Met) (ids : List EdgeId) : Type 0 where
+pub record IsUnderway (flow : Flow) (defs : List Def) (w : Task) (others : List Path) (p : Position)
+    (front : List Met) (ids : List EdgeId) : Type 0 where
   pub state : State
   pub side : IsSide p w.goal state others
   pub task : IsTask flow.structs.list defs flow.vars w
@@ -142,7 +145,8 @@ pub record IsAtMark (flow : Flow) (defs : List Def) (p : Position) (met : Met) (
 -- it is left no longer
 abbrev pub IsMarkMet : Flow → List Def → Met → Position → List EdgeId → Position → List EdgeId → Bool → Type 0
 IsMarkMet flow defs met old ids new more on =
-    (w : Task) (others : List Path) (front : List Met) → IsUnderway flow defs w others old (met ∷ front) ids → GoesOn flow defs w others new front more on
+    (w : Task) (others : List Path) (front : List Met) → IsUnderway flow defs w others old (met ∷ front) ids
+    → GoesOn flow defs w others new front more on
 
 -- marks are left
 pub record IsAtMarks (flow : Flow) (defs : List Def) (p : Position) (front : List Met) (ids : List EdgeId) : Type 0 where
@@ -164,7 +168,8 @@ pub record IsAtGoal (flow : Flow) (defs : List Def) (p : Position) : Type 0 wher
 -- all that is known is written
 abbrev pub IsKnownWritten : Flow → List Def → Position → Position → Bool → Type 0
 IsKnownWritten flow defs old new on =
-    (w : Task) (others : List Path) (front : List Met) → IsBegun flow defs w others old → AreOpened defs w front → GoesOn flow defs w others new front [] on
+    (w : Task) (others : List Path) (front : List Met) → IsBegun flow defs w others old → AreOpened defs w front
+    → GoesOn flow defs w others new front [] on
 
 -- the goals that the marks of the first cover of a goal in a state meet, in order; none where there is no cover
 abbrev pub IsCoverFound : List Def → State → Goal → Option (List Met) → Type 0
@@ -174,7 +179,8 @@ IsCoverFound defs s goal (Some mets) = (know : Test) → Tells know s → Opened
 
 -- the goals that the marks of the first cover of its goal meet, the last one first
 abbrev pub AreMetsOf : List Def → Position → List Met → Type 0
-AreMetsOf defs p front = (goal : Goal) (s : State) (others : List Path) (know : Test) → IsSide p goal s others → Tells know s → Opened (setting_in know defs s) (asked_for goal) front []
+AreMetsOf defs p front = (goal : Goal) (s : State) (others : List Path) (know : Test) → IsSide p goal s others
+    → Tells know s → Opened (setting_in know defs s) (asked_for goal) front []
 
 -- an edge meets its goal, or the state is false
 abbrev pub HasMet : Position → Position → Option EdgeId → Type 0

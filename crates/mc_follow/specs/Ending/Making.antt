@@ -53,14 +53,16 @@ setting_in know defs s = record { know = know; defs = defs; edges = s.graph.edge
 
 -- a goal is made in a state that comes later: of its marks these are left, and the goals that are open then are made by
 -- these edges
-pub record IsMaking (know : Test) (defs : List Def) (before : State) (g : Goal) (s : State) (front : List Met) (ids : List EdgeId) : Type 0 where
+pub record IsMaking (know : Test) (defs : List Def) (before : State) (g : Goal) (s : State) (front : List Met)
+    (ids : List EdgeId) : Type 0 where
   pub open_goals : List Goal
   pub opened : Opened (setting_in know defs before) g front open_goals
   pub made : AreMadeBy s open_goals ids
   pub later : IsLater before s
   pub apart : are_distinct ids ≡ true
   pub unused : AllByRecursion (λ id. uses takes (marks_of front) id.0 ≡ false) ids
-  pub kept : (id : EdgeId) (e : Edge) → uses takes (marks_of front) id.0 ≡ true → edge_with before.graph.edges id ≡ Some e → edge_with s.graph.edges id ≡ Some e
+  pub kept : (id : EdgeId) (e : Edge) → uses takes (marks_of front) id.0 ≡ true → edge_with before.graph.edges id
+      ≡ Some e → edge_with s.graph.edges id ≡ Some e
 
 -- the nodes of the fields of a block, where all are known
 abbrev pub fields_of_block : Option Edge → Option (List NodeId)

@@ -98,7 +98,8 @@ KnownIsWritten =
     (structs : List StructInfo) (defs : List Def) (vars : List VarInfo) (w : Task) → IsTask structs defs vars w
     → (Contains (w.goal.at ∷ w.goal.args) (next_node w.before) → ⊥)
     × Gives (NamesSpare null (pos 0) Ptr w.before)
-    (λ z. (IsFalse z → ⊥) → Gives (ForgetsNode (next_node w.before) z) (λ t. (front : List Met) → AreOpened defs w front → Makes defs w t front []))
+    (λ z. (IsFalse z → ⊥) → Gives (ForgetsNode (next_node w.before) z)
+    (λ t. (front : List Met) → AreOpened defs w front → Makes defs w t front []))
 
 -- a term that may be named gets a node
 abbrev pub TermsAreNamed : Type 0
@@ -145,9 +146,11 @@ abbrev pub RulesAreFolded : Type 0
 RulesAreFolded =
     (structs : List StructInfo) (defs : List Def) (vars : List VarInfo) (w : Task) → IsTask structs defs vars w
     → (s : State) (met : Met) (front : List Met) (own ids : List EdgeId) (place : ℕ) (block : Option EdgeId) (def : Def) (rule : Rule)
-    (nodes : List NodeId) → met.mark ≡ ByRule place block → slice_get defs met.goal.pred.0 ≡ Some def → slice_get def.rules place ≡ Some rule
+    (nodes : List NodeId) → met.mark ≡ ByRule place block → slice_get defs met.goal.pred.0 ≡ Some def
+    → slice_get def.rules place ≡ Some rule
     → IsBounded s → (IsFalse s → ⊥) → AreNamed s rule.names met.names.items nodes → length own ≡ length rule.calls
-    → Makes defs w s (met ∷ front) (own ++ ids) → Gives (FoldsInd defs met.goal.pred place nodes block own s) (λ t. MakesNext defs w t front ids)
+    → Makes defs w s (met ∷ front) (own ++ ids)
+    → Gives (FoldsInd defs met.goal.pred place nodes block own s) (λ t. MakesNext defs w t front ids)
 
 -- no goal is met by a mark of a segment
 abbrev pub NoOtherMarks : Type 0

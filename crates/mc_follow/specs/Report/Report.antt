@@ -35,7 +35,8 @@ read_struct other = None
 -- the name of a field of a struct
 abbrev pub field_name : List StructInfo → Option StructId → ℕ → Text
 field_name structs shape f =
-    unwrap_or (option_map (λ field. field.name) (option_and_then (λ info. slice_get info.fields f) (option_and_then (λ s. slice_get structs s.0) shape))) []
+    unwrap_or (option_map (λ field. field.name)
+    (option_and_then (λ info. slice_get info.fields f) (option_and_then (λ s. slice_get structs s.0) shape))) []
 
 -- what the instruction at a point lacks
 abbrev pub gap_text : Flow → List Def → PointId → Gap → Text
@@ -52,7 +53,8 @@ gap_text flow defs p (NotEmpty false) = codes "NotEmpty lost"
 
 -- the line of a stuck branch: its place, what its instruction lacks, and its state
 abbrev pub alarm_line : Flow → List Def → PointId → Gap → Text → Text
-alarm_line flow defs p gap state = codes "alarm at " ++ point_text flow p ++ codes " " ++ gap_text flow defs p gap ++ codes ": " ++ state ++ codes "\n"
+alarm_line flow defs p gap state = codes "alarm at " ++ point_text flow p ++ codes " " ++ gap_text flow defs p gap
+    ++ codes ": " ++ state ++ codes "\n"
 
 -- the line is that of a branch at a point and a state: the gap is there, and the text is that of the state
 pub record IsAlarmLine (flow : Flow) (defs : List Def) (p : PointId) (s : State) (line : Text) : Type 0 where
@@ -78,7 +80,8 @@ pub record IsHeadLine (flow : Flow) (defs : List Def) (number : ℕ) (h : Writte
 abbrev pub AreAlarmLines : Flow → List Def → List Path → Text → Type 0
 AreAlarmLines flow defs [] text = text ≡ []
 AreAlarmLines flow defs (b ∷ stuck) text =
-    (line : Text) × (later : Text) × IsAlarmLine flow defs b.point b.state line × AreAlarmLines flow defs stuck later × (text ≡ line ++ later)
+    (line : Text) × (later : Text) × IsAlarmLine flow defs b.point b.state line × AreAlarmLines flow defs stuck later
+    × (text ≡ line ++ later)
 
 -- how many there are
 abbrev pub count_line : ℕ → Text

@@ -236,7 +236,8 @@ impl Walk<'_> {
         requires followed { IsWalk flow.now defs.now self.old }
         requires here { MayNameAll self.old.proof kinds.now terms.now }
         ensures follows { OnOk result (IsWalk flow.now defs.now self.new) }
-        ensures named { IfOk result (λ found. HaveNames self.old.proof self.new.proof kinds.now terms.now (option_map (λ nodes. nodes.items) found)) }
+        ensures named { IfOk result (λ found. HaveNames self.old.proof self.new.proof kinds.now terms.now
+            (option_map (λ nodes. nodes.items) found)) }
     {
         let mut nodes = Vec::new(self.alloc);
         for (i, kind) in kinds.iter().enumerate() {
@@ -287,7 +288,9 @@ impl Walk<'_> {
         requires mark { met.now.mark ≡ mark.ByRule place block }
         requires here { IsAtMark flow.now defs.now self.old.proof met.now (reverse made.old.items) }
         ensures follows { OnOk result (IsWalk flow.now defs.now self.new) }
-        ensures met { IfOk result (IsMarkMet flow.now defs.now met.now self.old.proof (reverse made.old.items) self.new.proof (reverse made.new.items)) }
+        ensures met { IfOk result
+            (IsMarkMet flow.now defs.now met.now self.old.proof (reverse made.old.items) self.new.proof
+            (reverse made.new.items)) }
     {
         // For the proof alone: the rule is there, its names may be named, and it folds.
         documents_are_followed();
@@ -327,7 +330,9 @@ impl Walk<'_> {
         requires mark { met.now.mark ≡ mark.BySeg seg }
         requires here { IsAtMark flow.now defs.now self.old.proof met.now (reverse made.old.items) }
         ensures follows { OnOk result (IsWalk flow.now defs.now self.new) }
-        ensures met { IfOk result (IsMarkMet flow.now defs.now met.now self.old.proof (reverse made.old.items) self.new.proof (reverse made.new.items)) }
+        ensures met { IfOk result
+            (IsMarkMet flow.now defs.now met.now self.old.proof (reverse made.old.items) self.new.proof
+            (reverse made.new.items)) }
     {
         // For the proof alone: what is behind the segment is made, and it closes.
         documents_are_followed();
@@ -352,7 +357,9 @@ impl Walk<'_> {
         requires followed { IsWalk flow.now defs.now self.old }
         requires here { IsAtMark flow.now defs.now self.old.proof met.now (reverse made.old.items) }
         ensures follows { OnOk result (IsWalk flow.now defs.now self.new) }
-        ensures met { IfOk result (IsMarkMet flow.now defs.now met.now self.old.proof (reverse made.old.items) self.new.proof (reverse made.new.items)) }
+        ensures met { IfOk result
+            (IsMarkMet flow.now defs.now met.now self.old.proof (reverse made.old.items) self.new.proof
+            (reverse made.new.items)) }
     {
         // For the proof alone: an Ind is there, and no mark is one of a segment.
         goals_are_made();
@@ -385,7 +392,9 @@ impl Walk<'_> {
         requires followed { IsWalk flow.now defs.now self.old }
         requires here { IsAtMarks flow.now defs.now self.old.proof (reverse mets.items) (reverse made.old.items) }
         ensures follows { OnOk result (IsWalk flow.now defs.now self.new) }
-        ensures met { IfOk result (AreMarksMet flow.now defs.now (reverse mets.items) self.old.proof (reverse made.old.items) self.new.proof (reverse made.new.items)) }
+        ensures met { IfOk result
+            (AreMarksMet flow.now defs.now (reverse mets.items) self.old.proof
+            (reverse made.old.items) self.new.proof (reverse made.new.items)) }
     {
         while let Some(met) = take_met(&mut mets) {
             if !self.meet(flow, defs, &met, made)? {

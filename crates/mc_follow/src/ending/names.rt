@@ -89,7 +89,8 @@ fn push_fixed(names: &mut Vec<Term>, atoms: &[DefAtom]) -> Result<(), NoMemory>
 
 // Adds the nodes of fields, and answers whether all are known.
 fn push_fields(names: &mut Vec<Term>, fields: &[Option<NodeId>]) -> Result<bool, NoMemory>
-    ensures { IfOk result (λ all. (if all then Some names.new.items else None) ≡ option_map (λ nodes. names.old.items ++ map plain nodes) (all_there fields.now)) }
+    ensures { IfOk result (λ all. (if all then Some names.new.items else None)
+        ≡ option_map (λ nodes. names.old.items ++ map plain nodes) (all_there fields.now)) }
 {
     for field in fields {
         match field {
@@ -102,7 +103,8 @@ fn push_fields(names: &mut Vec<Term>, fields: &[Option<NodeId>]) -> Result<bool,
 
 // Adds what a block holds, and answers whether it is one and all its fields are known.
 fn push_block(names: &mut Vec<Term>, edge: Option<&Edge>) -> Result<bool, NoMemory>
-    ensures { IfOk result (λ all. (if all then Some names.new.items else None) ≡ option_map (λ nodes. names.old.items ++ map plain nodes) (fields_of_block (option_copied edge.entry))) }
+    ensures { IfOk result (λ all. (if all then Some names.new.items else None)
+        ≡ option_map (λ nodes. names.old.items ++ map plain nodes) (fields_of_block (option_copied edge.entry))) }
 {
     match edge {
         Some(Edge::Block { fields, .. }) => {
@@ -134,7 +136,9 @@ pub fn rule_names(
     rule: &Rule,
     block: Option<EdgeId>,
 ) -> Result<Option<Vec<Term>>, NoMemory>
-    ensures { IfOk result (λ made. (know : Test) (contents : List Node) → contents_by know state.now.graph.edges goal.now.at rule.now.block block ≡ Some contents → option_map (λ v. v.items) made ≡ Some (names_at goal.now rule.now contents)) }
+    ensures { IfOk result (λ made. (know : Test) (contents : List Node)
+        → contents_by know state.now.graph.edges goal.now.at rule.now.block block ≡ Some contents
+        → option_map (λ v. v.items) made ≡ Some (names_at goal.now rule.now contents)) }
 {
     let mut names = front_names(alloc, goal)?;
     if let Some(id) = block {

@@ -23,7 +23,8 @@ use std::alloc::Global;
 
 /// The rule of a predicate at a place.
 pub fn rule_of(defs: &Defs, pred: PredId, place: usize) -> Option<&Rule>
-    ensures there { (rule : _) → result ≡ Some rule → (def : _) × (slice_get defs.now pred.0 ≡ Some def) × (slice_get def.rules place ≡ Some rule.now) }
+    ensures there { (rule : _) → result ≡ Some rule → (def : _) × (slice_get defs.now pred.0 ≡ Some def)
+        × (slice_get def.rules place ≡ Some rule.now) }
     ensures none { result ≡ None → (def : _) → slice_get defs.now pred.0 ≡ Some def → slice_get def.rules place ≡ None }
 {
     match defs.as_slice().get(pred.0 as usize) {
@@ -122,7 +123,9 @@ fn open_seg(
     open: &mut Vec<Goal>,
 ) -> Result<(), NoMemory>
     requires { (know : Test) × (is_seg know goal.now (edge_with state.now.graph.edges seg) ≡ true) }
-    ensures { OnOk result ((next : _) × (behind_seg (record goal.now { stop = None }) (edge_with state.now.graph.edges seg) ≡ next ∷ []) × (reverse open.new.items ≡ next ∷ reverse open.old.items)) }
+    ensures { OnOk result ((next : _) ×
+        (behind_seg (record goal.now { stop = None }) (edge_with state.now.graph.edges seg) ≡ next ∷ [])
+        × (reverse open.new.items ≡ next ∷ reverse open.old.items)) }
 {
     let next = behind(alloc, goal, state.edge(seg))?;
     open.push(next)?;
@@ -140,7 +143,10 @@ fn open_rule(
     open: &mut Vec<Goal>,
 ) -> Result<Vec<Term>, NoMemory>
     requires { (know : Test) × (fits (setting_in know defs.now state.now) goal.now (mark.ByRule place block) ≡ true) }
-    ensures { IfOk result (λ names. (know : Test) → fits (setting_in know defs.now state.now) goal.now (mark.ByRule place block) ≡ true → IsOpenedBy (setting_in know defs.now state.now) goal.now (mark.ByRule place block) names.items (reverse open.new.items) (reverse open.old.items)) }
+    ensures { IfOk result (λ names. (know : Test)
+        → fits (setting_in know defs.now state.now) goal.now (mark.ByRule place block) ≡ true
+        → IsOpenedBy (setting_in know defs.now state.now) goal.now (mark.ByRule place block) names.items
+        (reverse open.new.items) (reverse open.old.items)) }
 {
     let rule = match rule_of(defs, goal.pred, place) {
         Some(rule) => rule,
@@ -165,7 +171,9 @@ fn open_mark(
 ) -> Result<Vec<Term>, NoMemory>
     requires fits { (know : Test) × (fits (setting_in know defs.now state.now) goal.now mark ≡ true) }
     requires plain { goal.now.stop ≡ None }
-    ensures { IfOk result (λ names. (know : Test) → fits (setting_in know defs.now state.now) goal.now mark ≡ true → goal.now.stop ≡ None → IsOpenedBy (setting_in know defs.now state.now) goal.now mark names.items (reverse open.new.items) (reverse open.old.items)) }
+    ensures { IfOk result (λ names. (know : Test) → fits (setting_in know defs.now state.now) goal.now mark ≡ true
+        → goal.now.stop ≡ None → IsOpenedBy (setting_in know defs.now state.now) goal.now mark names.items
+        (reverse open.new.items) (reverse open.old.items)) }
 {
     match mark {
         Mark::ByInd(_) => Ok(Vec::new(alloc)),
@@ -192,7 +200,8 @@ pub fn all_met(
 ) -> Result<Vec<Met>, NoMemory>
     requires plain { first.stop ≡ None }
     requires marks { (know : Test) → Tells know state.now → first_marks (setting_in know defs.now state.now) first ≡ Some marks.now }
-    ensures { IfOk result (λ mets. (know : Test) → Tells know state.now → Opened (setting_in know defs.now state.now) first (reverse mets.items) []) }
+    ensures { IfOk result (λ mets. (know : Test) → Tells know state.now
+        → Opened (setting_in know defs.now state.now) first (reverse mets.items) []) }
 {
     // For the proof alone: a test tells what is derived in the state.
     each_is_decided();

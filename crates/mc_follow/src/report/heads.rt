@@ -56,7 +56,8 @@ pub fn certificate_report(
     lines: &[Line],
 ) -> Result<Vec<u8>, NoMemory>
     requires { IsValidCertificate flow.now defs.now lines.now }
-    ensures { (c : IsValidCertificate flow.now defs.now lines.now) → IfOk result (λ text. IsCertificateReport flow.now defs.now c.heads text.items) }
+    ensures { (c : IsValidCertificate flow.now defs.now lines.now)
+        → IfOk result (λ text. IsCertificateReport flow.now defs.now c.heads text.items) }
 {
     let mut text = Vec::new(alloc);
     let mut points = Vec::new(alloc);

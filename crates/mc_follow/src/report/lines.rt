@@ -112,7 +112,8 @@ pub fn push_head(
     raw: &RawState,
 ) -> Result<(), NoMemory>
     requires { IsWellFormedRaw defs.now flow.now.vars flow.now.structs.list raw.now }
-    ensures { OnOk result ((line : Text) × IsHeadLine flow.now defs.now number (point, raw.now) line × (out.new.items ≡ out.old.items ++ line)) }
+    ensures { OnOk result ((line : Text) × IsHeadLine flow.now defs.now number (point, raw.now) line
+        × (out.new.items ≡ out.old.items ++ line)) }
 {
     let found = mc_state_io::raw::state_of(
         alloc,

@@ -157,7 +157,13 @@ abbrev pub reading_rule : Lore → Flow → List Def → Line → Reading → Ju
 reading_rule k flow defs l r =
     need 1 (is_passing r.stage)
     (have 1 (first_branch r.branches) (λ b.
-    then_give (λ out. record r { heads = out.heads; branches = out.next ++ b.1; stuck = r.stuck ++ marked l b.0; changed = r.changed || changes l })
+    then_give (λ out. record r {
+      heads = out.heads;
+      branches = out.next ++ b.1;
+      stuck = r.stuck ++ marked l b.0;
+      changed = r.changed
+          || changes l;
+    })
     (passing_line k flow defs r.round (over r.cuts r.heads) l b.0)))
 
 -- what a chain becomes by a line, or the first premise of the line that is unmet

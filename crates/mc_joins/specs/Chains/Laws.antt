@@ -28,7 +28,8 @@ abbrev pub Made : Flow → List Def → State → Type 0
 Made flow defs s = IsWellMade defs flow.vars flow.structs.list s
 
 -- a join of two well-made tidy states by steps is whole
-pub record IsWholeJoin (know : State → Test) (flow : Flow) (defs : List Def) (left right : State) (steps : List JoinStep) (last : Joining) : Type 0 where
+pub record IsWholeJoin (know : State → Test) (flow : Flow) (defs : List Def) (left right : State)
+    (steps : List JoinStep) (last : Joining) : Type 0 where
   pub left_made : Made flow defs left
   pub right_made : Made flow defs right
   pub left_tidy : IsTidy left

@@ -40,7 +40,8 @@ pub record AreTidy (lefts : List State) (b : Path) : Type 0 where
 -- ---- lines
 
 -- C2: the branch ends, and its state, numbered anew, is a state more of the cut; these are the states of cuts then
-pub record OpensState (w : Basis) (g : Setting) (tries : List (List JoinStep)) (b : Path) (next : List Path) (heads : List Head) : Type 0 where
+pub record OpensState (w : Basis) (g : Setting) (tries : List (List JoinStep)) (b : Path) (next : List Path)
+    (heads : List Head) : Type 0 where
   -- 1
   pub may : MayChange g b
   -- 2
@@ -55,7 +56,8 @@ pub record OpensState (w : Basis) (g : Setting) (tries : List (List JoinStep)) (
   pub gives : heads ≡ with_state_at b.point (anew b.state) g.heads
 
 -- C3: the branch ends, and what a whole join of a state of the cut with its state gives takes that state's place
-pub record JoinsState (w : Basis) (round : ℕ) (thresholds : List ℤ) (g : Setting) (j : ℕ) (steps : List JoinStep) (b : Path) (next : List Path)
+pub record JoinsState (w : Basis) (round : ℕ) (thresholds : List ℤ) (g : Setting) (j : ℕ) (steps : List JoinStep)
+    (b : Path) (next : List Path)
     (heads : List Head) : Type 0 where
   -- 1
   pub may : MayChange g b

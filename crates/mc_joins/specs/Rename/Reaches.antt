@@ -9,7 +9,8 @@ use Rattle.mc_state.specs.Graph.Graph.{Edges}
 -- the nodes that are reached from some: these, and the other nodes of an edge that starts at one
 pub data Reaches (es : Edges) (roots : List NodeId) : NodeId → Type 0 where
   from_root : {n : NodeId} → Contains roots n → Reaches es roots n
-  along_edge : {n : NodeId} (e : EdgeId × Edge) → Contains es e → Reaches es roots (start_of e.1) → Contains (other_nodes e.1) n → Reaches es roots n
+  along_edge : {n : NodeId} (e : EdgeId × Edge) → Contains es e → Reaches es roots (start_of e.1)
+      → Contains (other_nodes e.1) n → Reaches es roots n
 
 -- no node stands twice
 abbrev pub AreDistinct : List NodeId → Type 0

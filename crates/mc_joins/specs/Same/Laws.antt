@@ -17,13 +17,15 @@ use Rattle.mc_joins.specs.Same.Same.{AreSameUnder, anew}
 -- where nodes go to nodes, and what is known follows there, renamed, so does what follows
 abbrev pub FollowsRenamed : Type 0
 FollowsRenamed =
-    (p q : Pure) (f : ℕ → ℕ) → ((n : NodeId) → IsNode p.kinds n → IsNode q.kinds (moved f n)) → ((a : Atom) → Base p a → Follows q (moved_atom f a))
+    (p q : Pure) (f : ℕ → ℕ) → ((n : NodeId) → IsNode p.kinds n → IsNode q.kinds (moved f n))
+    → ((a : Atom) → Base p a → Follows q (moved_atom f a))
     → (a : Atom) → Follows p a → Follows q (moved_atom f a)
 
 -- and what is false stays false
 abbrev pub FalseRenamed : Type 0
 FalseRenamed =
-    (p q : Pure) (f : ℕ → ℕ) → ((n : NodeId) → IsNode p.kinds n → IsNode q.kinds (moved f n)) → ((a : Atom) → Base p a → Follows q (moved_atom f a))
+    (p q : Pure) (f : ℕ → ℕ) → ((n : NodeId) → IsNode p.kinds n → IsNode q.kinds (moved f n))
+    → ((a : Atom) → Base p a → Follows q (moved_atom f a))
     → IsFalse p → IsFalse q
 
 -- a state is the same as itself
@@ -46,4 +48,5 @@ AnewIsBounded = (s : State) → IsBounded s → IsBounded (anew s)
 
 -- and whatever stands for the state stands for it
 abbrev pub AnewStands : Type 0
-AnewStands = (defs : List Def) (values : List (Option ℤ)) (region : Region) (s : State) → IsBounded s → Stands defs values region s → Stands defs values region (anew s)
+AnewStands = (defs : List Def) (values : List (Option ℤ)) (region : Region) (s : State) → IsBounded s
+    → Stands defs values region s → Stands defs values region (anew s)

@@ -23,7 +23,8 @@ pub fn assertion_alarms()
 /// A tree is a state of its own beside a list, since no step joins them. A cell is not: the list of steps stops before
 /// one that applies. Nor without a list of steps for the state, or with steps that do not apply.
 pub fn tries_of_c2()
-    ensures opened { (k : Lore) → opening_state (told k) defs (with_one a_list) ([] ∷ []) (arrived a_tree) ≡ Ok ((at 1, a_list) ∷ (at 1, anew a_tree) ∷ []) }
+    ensures opened { (k : Lore) → opening_state (told k) defs (with_one a_list) ([] ∷ []) (arrived a_tree)
+        ≡ Ok ((at 1, a_list) ∷ (at 1, anew a_tree) ∷ []) }
     ensures too_early { (k : Lore) → opening_state (told k) defs (with_one a_list) ([] ∷ []) (arrived a_cell) ≡ Err 5 }
     ensures no_tries { (k : Lore) → opening_state (told k) defs (with_one a_list) [] (arrived a_tree) ≡ Err 3 }
     ensures wrong { (k : Lore) → opening_state (told k) defs (with_one a_list) ((J2 ∷ []) ∷ []) (arrived a_tree) ≡ Err 5 }
@@ -33,8 +34,11 @@ pub fn tries_of_c2()
 /// A cell and a list give a list in the cell's place. A list and a cell give the list that is there already; a cut has
 /// no state of another number; and a join that is not done gives nothing.
 pub fn joins_of_c3()
-    ensures joined { (k : Lore) → joining_state (told_same false k) defs 1 (with_one a_cell) 0 (J4 list_id ∷ []) (arrived a_list) ≡ Ok ((at 1, a_list) ∷ []) }
-    ensures unchanged { (k : Lore) → joining_state (told_same true k) defs 1 (with_one a_list) 0 (J4 list_id ∷ []) (arrived a_cell) ≡ Err 6 }
-    ensures no_state { (k : Lore) → joining_state (told_same false k) defs 1 (with_one a_cell) 1 (J4 list_id ∷ []) (arrived a_list) ≡ Err 3 }
+    ensures joined { (k : Lore) → joining_state (told_same false k) defs 1 (with_one a_cell) 0 (J4 list_id ∷ [])
+        (arrived a_list) ≡ Ok ((at 1, a_list) ∷ []) }
+    ensures unchanged { (k : Lore) → joining_state (told_same true k) defs 1 (with_one a_list) 0 (J4 list_id ∷ [])
+        (arrived a_cell) ≡ Err 6 }
+    ensures no_state { (k : Lore) → joining_state (told_same false k) defs 1 (with_one a_cell) 1 (J4 list_id ∷ [])
+        (arrived a_list) ≡ Err 3 }
     ensures open_still { (k : Lore) → joining_state (told_same false k) defs 1 (with_one a_cell) 0 [] (arrived a_list) ≡ Err 5 }
 {}

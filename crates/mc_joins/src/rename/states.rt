@@ -43,7 +43,8 @@ fn fill_past_all(filled: &mut State, nodes: &[NodeId]) -> Result<(), NoMemory>
 
 /// Nodes alone: as many as the state had, and all images.
 fn filled(alloc: Global, state: &State, images: &Pure) -> Result<State, NoMemory>
-    ensures { IfOk result (λ filled. IsFilled (unknown (length state.now.env)) (above_all state.now.next (all_nodes images.now.kinds)) filled) }
+    ensures { IfOk result (λ filled. IsFilled (unknown (length state.now.env))
+        (above_all state.now.next (all_nodes images.now.kinds)) filled) }
 {
     state.is_bounded();
     let mut filled = State::unknown(alloc, state.env().len())?;
@@ -60,7 +61,8 @@ fn put_edge(
     id: EdgeId,
     renaming: &Renaming,
 ) -> Result<(), NoMemory>
-    requires there { (e : _) → edge_with state.now.graph.edges id ≡ Some e → AreNodes renamed.old.kinds (nodes_of (moved_edge (image renaming.now) e)) }
+    requires there { (e : _) → edge_with state.now.graph.edges id ≡ Some e
+        → AreNodes renamed.old.kinds (nodes_of (moved_edge (image renaming.now) e)) }
     ensures { OnOk result (renamed.new ≡ with_image (image renaming.now) renamed.old (edge_with state.now.graph.edges id)) }
 {
     match state.edge(id) {
@@ -81,7 +83,8 @@ fn put_edges(
     renaming: &Renaming,
 ) -> Result<(), NoMemory>
     requires none { renamed.old.graph ≡ no_edges }
-    requires there { AllByRecursion (λ e. AreNodes renamed.old.kinds (nodes_of (moved_edge (image renaming.now) e.1))) state.now.graph.edges }
+    requires there { AllByRecursion (λ e. AreNodes renamed.old.kinds
+        (nodes_of (moved_edge (image renaming.now) e.1))) state.now.graph.edges }
     ensures { OnOk result (renamed.new ≡ record renamed.old { graph = moved_graph (image renaming.now) state.now.graph }) }
 {
     state.is_bounded();

@@ -44,9 +44,11 @@ data_of S18 = named_data (codes "S18") []
 data_of (L1 e) = named_data (codes "L1") (edge_id_data e ∷ [])
 data_of (L2 e) = named_data (codes "L2") (edge_id_data e ∷ [])
 data_of (L3 pred rule names block calls) =
-    named_data (codes "L3") (pred_data pred ∷ count_data rule ∷ list_data node_data names ∷ option_data edge_id_data block ∷ list_data edge_id_data calls ∷ [])
+    named_data (codes "L3") (pred_data pred ∷ count_data rule ∷ list_data node_data names
+    ∷ option_data edge_id_data block ∷ list_data edge_id_data calls ∷ [])
 data_of (L4 pred rule names block calls call) =
-    named_data (codes "L4") (pred_data pred ∷ count_data rule ∷ list_data node_data names ∷ edge_id_data block ∷ list_data edge_id_data calls ∷ count_data call ∷ [])
+    named_data (codes "L4") (pred_data pred ∷ count_data rule ∷ list_data node_data names ∷ edge_id_data block
+    ∷ list_data edge_id_data calls ∷ count_data call ∷ [])
 data_of (L5 i j) = named_data (codes "L5") (edge_id_data i ∷ edge_id_data j ∷ [])
 data_of (L6 i j) = named_data (codes "L6") (edge_id_data i ∷ edge_id_data j ∷ [])
 data_of (L7 pred a args b ends) =

@@ -108,7 +108,8 @@ step_data (J7 pred side pair) = named_data (codes "J7") (pred_data pred ∷ side
 -- ---- states
 
 abbrev pub edge_data : Edge → Data
-edge_data (Block at shape fields) = named_data (codes "B") (node_data at ∷ struct_data shape ∷ list_data (option_data node_data) fields ∷ [])
+edge_data (Block at shape fields) = named_data (codes "B")
+    (node_data at ∷ struct_data shape ∷ list_data (option_data node_data) fields ∷ [])
 edge_data (Ind at pred args) = named_data (codes "I") (node_data at ∷ pred_data pred ∷ list_data node_data args ∷ [])
 edge_data (Seg at args pred «end» ends) =
     named_data (codes "S") (node_data at ∷ list_data node_data args ∷ pred_data pred ∷ node_data end ∷ list_data node_data ends ∷ [])
@@ -130,7 +131,8 @@ whole_entry true = boolean true ∷ []
 whole_entry false = []
 
 abbrev pub state_entries : RawState → List Data
-state_entries raw = list_data (option_data node_data) raw.vars ∷ list_data node_kind_data raw.kinds ∷ list_data edge_data raw.edges ∷ list_data atom_data raw.atoms ∷ whole_entry raw.whole
+state_entries raw = list_data (option_data node_data) raw.vars ∷ list_data node_kind_data raw.kinds
+    ∷ list_data edge_data raw.edges ∷ list_data atom_data raw.atoms ∷ whole_entry raw.whole
 
 abbrev pub state_data : RawState → Data
 state_data raw = values_data (state_entries raw)

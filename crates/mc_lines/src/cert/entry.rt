@@ -40,7 +40,8 @@ fn count(value: &Value) -> Option<u64>
 }
 
 fn signed(value: &Value) -> Option<i64>
-    ensures { MatchOption result ((z : ℤ) → IsSigned z → view value.now ≢ signed_data z) (λ z. (view value.now ≡ signed_data z) × IsSigned z) }
+    ensures { MatchOption result ((z : ℤ) → IsSigned z → view value.now ≢ signed_data z)
+        (λ z. (view value.now ≡ signed_data z) × IsSigned z) }
 {
     let number = value.as_i64()?;
     if number < 0 || value.is_u64() {
@@ -291,7 +292,8 @@ impl Entry for Side {
 
 /// The values of an array; None where the value is no array.
 pub fn values_of(value: &Value) -> Option<&[Value]>
-    ensures { MatchOption result ((ds : List Data) → view value.now ≢ values_data ds) (λ vs. view value.now ≡ values_data (map view vs.now)) }
+    ensures { MatchOption result ((ds : List Data) → view value.now ≢ values_data ds)
+        (λ vs. view value.now ≡ values_data (map view vs.now)) }
 {
     match value {
         Value::Array(values) => Some(values.as_slice()),
@@ -373,7 +375,8 @@ pub fn three<A: Entry + Drop, B: Entry + Drop, C: Entry + Drop>(
     b: &Value,
     c: &Value,
 ) -> Result<(A, B, C), LineFault>
-    ensures { Reads (λ x. A.spelled x.0 ∷ B.spelled x.1 ∷ C.spelled x.2 ∷ []) (λ x. A.fits x.0 × B.fits x.1 × C.fits x.2) (view a.now ∷ view b.now ∷ view c.now ∷ []) result }
+    ensures { Reads (λ x. A.spelled x.0 ∷ B.spelled x.1 ∷ C.spelled x.2 ∷ [])
+        (λ x. A.fits x.0 × B.fits x.1 × C.fits x.2) (view a.now ∷ view b.now ∷ view c.now ∷ []) result }
 {
     let a = A::read(alloc, a)?;
     let b = B::read(alloc, b)?;

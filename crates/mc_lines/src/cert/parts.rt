@@ -18,7 +18,8 @@ use std::alloc::{AllocError, Global};
 
 /// The name that an array begins with, and the entries after it; None where the value is no such array.
 pub fn named(value: &Value) -> Option<(&str, &[Value])>
-    ensures { MatchOption result ((name : List ℕ) (entries : List Data) → view value.now ≢ named_data name entries) (λ n. view value.now ≡ named_data n.0.now (map view n.1.now)) }
+    ensures { MatchOption result ((name : List ℕ) (entries : List Data) → view value.now ≢ named_data name entries)
+        (λ n. view value.now ≡ named_data n.0.now (map view n.1.now)) }
 {
     match values_of(value)? {
         [] => None,
@@ -69,7 +70,8 @@ fn step_in(alloc: Global, name: &str, entries: &[Value]) -> Result<JoinStep, Lin
 }
 
 fn plain_step(name: &str) -> Option<JoinStep>
-    ensures { MatchOption result ((step : Step) → named_data name.now [] ≢ step_data step) (λ step. named_data name.now [] ≡ step_data step) }
+    ensures { MatchOption result ((step : Step) → named_data name.now [] ≢ step_data step)
+        (λ step. named_data name.now [] ≡ step_data step) }
 {
     match name {
         "J1" => Some(JoinStep::J1),
@@ -208,7 +210,8 @@ fn segment(
     end: &Value,
     ends: &Value,
 ) -> Result<Edge, LineFault>
-    ensures { Reads edge_data Fits (named_data name.now (view at.now ∷ view args.now ∷ view pred.now ∷ view «end».now ∷ view ends.now ∷ [])) result }
+    ensures { Reads edge_data Fits (named_data name.now
+        (view at.now ∷ view args.now ∷ view pred.now ∷ view «end».now ∷ view ends.now ∷ [])) result }
 {
     if name != "S" {
         return Err(LineFault::Form);
@@ -337,7 +340,9 @@ fn whole_state(
     atoms: &Value,
     whole: &Value,
 ) -> Result<RawState, LineFault>
-    ensures { Reads state_data StateFits (values_data (view vars.now ∷ view kinds.now ∷ view edges.now ∷ view atoms.now ∷ view whole.now ∷ [])) result }
+    ensures { Reads state_data StateFits
+        (values_data (view vars.now ∷ view kinds.now ∷ view edges.now ∷ view atoms.now ∷ view whole.now
+        ∷ [])) result }
 {
     if is_true(whole) {
         state_in(alloc, vars, kinds, edges, atoms, true)
@@ -354,7 +359,8 @@ fn state_in(
     atoms: &Value,
     whole: bool,
 ) -> Result<RawState, LineFault>
-    ensures { Reads state_data StateFits (values_data (view vars.now ∷ view kinds.now ∷ view edges.now ∷ view atoms.now ∷ whole_entry whole)) result }
+    ensures { Reads state_data StateFits
+        (values_data (view vars.now ∷ view kinds.now ∷ view edges.now ∷ view atoms.now ∷ whole_entry whole)) result }
 {
     let (vars, kinds) = two(alloc, vars, kinds)?;
     let (edges, atoms) = two(alloc, edges, atoms)?;
@@ -401,7 +407,9 @@ pub fn array_of_three<A: Entry, B: Entry, C: Entry>(
     b: &B,
     c: &C,
 ) -> Result<Value, AllocError>
-    ensures { IfOk result (λ v. (view v ≡ named_data name.now (A.spelled a.now ∷ B.spelled b.now ∷ C.spelled c.now ∷ [])) × A.fits a.now × B.fits b.now × C.fits c.now) }
+    ensures { IfOk result (λ v. (view v
+        ≡ named_data name.now (A.spelled a.now ∷ B.spelled b.now ∷ C.spelled c.now ∷ [])) × A.fits a.now
+        × B.fits b.now × C.fits c.now) }
 {
     let mut values = begin(alloc, name)?;
     put(alloc, &mut values, a)?;

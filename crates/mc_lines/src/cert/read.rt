@@ -15,7 +15,8 @@ use std::alloc::Global;
 
 // The line of a name alone.
 fn plain(name: &str) -> Option<Line>
-    ensures { MatchOption result ((line : Form) → named_data name.now [] ≢ data_of line) (λ line. (named_data name.now [] ≡ data_of line) × LineFits line) }
+    ensures { MatchOption result ((line : Form) → named_data name.now [] ≢ data_of line)
+        (λ line. (named_data name.now [] ≡ data_of line) × LineFits line) }
 {
     match name {
         "pass" => Some(Line::Pass),
@@ -177,7 +178,8 @@ fn of_six(
     e: &Value,
     f: &Value,
 ) -> Result<Line, LineFault>
-    ensures { Reads data_of LineFits (named_data name.now (view a.now ∷ view b.now ∷ view c.now ∷ view d.now ∷ view e.now ∷ view f.now ∷ [])) result }
+    ensures { Reads data_of LineFits (named_data name.now
+        (view a.now ∷ view b.now ∷ view c.now ∷ view d.now ∷ view e.now ∷ view f.now ∷ [])) result }
 {
     if name != "L4" {
         return Err(LineFault::Form);

@@ -17,8 +17,10 @@ use Rattle.mc_load.specs.Read.Programs.{IsReadAs}
 -- the text is refused for this entry: it has no tokens, its tokens spell no tree, or its tree is not well typed; the first fault is told
 pub data IsRefused (text entry : List ℕ) (refusal : Refusal) : Type 0 where
   by_bytes : (fault : LexFault) → Lexes text (Err fault) → lexical_refusal fault ≡ Some refusal → IsRefused text entry refusal
-  by_tokens : (tokens : List Token) (fault : ParseFault) → Lexes text (Ok tokens) → IsFaultOf tokens fault → grammatical_refusal fault ≡ Some refusal → IsRefused text entry refusal
-  by_types : (unit : UnitTree) (fault : Fault) → IsReadAs text unit → IsFirstFault unit entry fault → typing_refusal fault ≡ refusal → IsRefused text entry refusal
+  by_tokens : (tokens : List Token) (fault : ParseFault) → Lexes text (Ok tokens) → IsFaultOf tokens fault
+      → grammatical_refusal fault ≡ Some refusal → IsRefused text entry refusal
+  by_types : (unit : UnitTree) (fault : Fault) → IsReadAs text unit → IsFirstFault unit entry fault
+      → typing_refusal fault ≡ refusal → IsRefused text entry refusal
 
 -- a fault tells why the text is refused; memory may always be missing
 abbrev pub IsFault : List ℕ → List ℕ → ReadFault → Type 0

@@ -41,7 +41,8 @@ fn read_program(
     start: &str,
 ) -> Result<Result<Typed, NoProgram>, AllocError>
     requires { length bytes.now ≤ 2 ^ 20 }
-    ensures read { IfOk result (λ r. MatchResult r (λ t. IsProgramHere start.now bytes.now (unit_of t.unit)) (IsUnread start.now bytes.now)) }
+    ensures read { IfOk result (λ r. MatchResult r (λ t. IsProgramHere start.now bytes.now (unit_of t.unit))
+        (IsUnread start.now bytes.now)) }
     ensures well_formed { IfOk result (λ r. IfOk r (λ t. IsWellFormed start.now (unit_of t.unit))) }
     ensures start { IfOk result (λ r. IfOk r (λ t. t.entry ≡ start.now)) }
 {
@@ -58,7 +59,9 @@ fn program_in<F: Files>(
     name: &str,
     start: &str,
 ) -> Result<Result<Typed, NoProgram>, FileFault>
-    ensures told { WhereTold (F.holds files.old name.now) (λ text. IfOk result (λ r. MatchResult r (λ t. IsProgramHere start.now text (unit_of t.unit)) (IsUnread start.now text))) }
+    ensures told { WhereTold (F.holds files.old name.now)
+        (λ text. IfOk result (λ r. MatchResult r (λ t. IsProgramHere start.now text (unit_of t.unit))
+        (IsUnread start.now text))) }
     ensures well_formed { IfOk result (λ r. IfOk r (λ t. IsWellFormed start.now (unit_of t.unit))) }
     ensures start { IfOk result (λ r. IfOk r (λ t. t.entry ≡ start.now)) }
     ensures same { Stays (F.holds files.old) (F.holds files.new) }
@@ -80,7 +83,8 @@ fn read_definitions(
     typed: &Typed,
 ) -> Result<Result<Defs, NoDefinitions>, AllocError>
     requires { length bytes.now ≤ 2 ^ 18 }
-    ensures read { IfOk result (λ r. MatchResult r (λ defs. AreDefinitions (unit_of typed.now.unit) defs bytes.now) (λ cause. IsUndefined (unit_of typed.now.unit) cause bytes.now)) }
+    ensures read { IfOk result (λ r. MatchResult r (λ defs. AreDefinitions (unit_of typed.now.unit) defs bytes.now)
+        (λ cause. IsUndefined (unit_of typed.now.unit) cause bytes.now)) }
     ensures fit { IfOk result (λ r. IfOk r (λ defs. DefsFit (struct_infos (unit_of typed.now.unit)) defs)) }
 {
     match read_defs(alloc, bytes, typed.structs()) {
@@ -96,7 +100,9 @@ fn definitions_in<F: Files>(
     name: &str,
     typed: &Typed,
 ) -> Result<Result<Defs, NoDefinitions>, FileFault>
-    ensures told { WhereTold (F.holds files.old name.now) (λ text. IfOk result (λ r. MatchResult r (λ defs. AreDefinitions (unit_of typed.now.unit) defs text) (λ cause. IsUndefined (unit_of typed.now.unit) cause text))) }
+    ensures told { WhereTold (F.holds files.old name.now)
+        (λ text. IfOk result (λ r. MatchResult r (λ defs. AreDefinitions (unit_of typed.now.unit) defs text)
+        (λ cause. IsUndefined (unit_of typed.now.unit) cause text))) }
     ensures fit { IfOk result (λ r. IfOk r (λ defs. DefsFit (struct_infos (unit_of typed.now.unit)) defs)) }
     ensures same { Stays (F.holds files.old) (F.holds files.new) }
     ensures cause { HasCause (F.faults files.old) (F.faults files.new) result }
@@ -113,7 +119,8 @@ fn definitions_in<F: Files>(
 // The program with its definitions, or the first fault of its shape commands.
 fn bound(alloc: Global, typed: Typed, defs: Defs) -> Result<Result<Bound, ProgramFault>, AllocError>
     requires { DefsFit (struct_infos (unit_of typed.unit)) defs }
-    ensures { IfOk result (λ r. MatchResult r (λ bound. Binds bound typed defs × IsBound (unit_of typed.unit) defs) (HasMisfit (unit_of typed.unit) defs)) }
+    ensures { IfOk result (λ r. MatchResult r (λ bound. Binds bound typed defs × IsBound (unit_of typed.unit) defs)
+        (HasMisfit (unit_of typed.unit) defs)) }
 {
     match bind(alloc, typed, defs) {
         Ok(bound) => {
@@ -133,7 +140,8 @@ fn with_definitions<F: Files>(
     sources: Sources<'_>,
     typed: Typed,
 ) -> Result<Result<Bound, Refusal>, FileFault>
-    ensures read { IfOk result (λ r. MatchResult r (IsBoundIn (F.holds files.old) sources.entry typed) (IsRefusedWith (F.holds files.old) sources.entry (unit_of typed.unit))) }
+    ensures read { IfOk result (λ r. MatchResult r (IsBoundIn (F.holds files.old) sources.entry typed)
+        (IsRefusedWith (F.holds files.old) sources.entry (unit_of typed.unit))) }
     ensures same { Stays (F.holds files.old) (F.holds files.new) }
     ensures cause { HasCause (F.faults files.old) (F.faults files.new) result }
 {
@@ -153,7 +161,9 @@ pub fn read<F: Files>(
     files: &mut F,
     sources: Sources<'_>,
 ) -> Result<Result<Bound, Refusal>, FileFault>
-    ensures read { IfOk result (λ r. MatchResult r (λ bound. AreInputs (F.holds files.old) sources.entry (unit_of bound.typed.unit) bound.defs) (IsRefused (F.holds files.old) sources.entry)) }
+    ensures read { IfOk result (λ r. MatchResult r
+        (λ bound. AreInputs (F.holds files.old) sources.entry (unit_of bound.typed.unit) bound.defs)
+        (IsRefused (F.holds files.old) sources.entry)) }
     ensures well_formed { IfOk result (λ r. IfOk r (λ bound. IsWellFormed sources.entry.start.now (unit_of bound.typed.unit))) }
     ensures start { IfOk result (λ r. IfOk r (λ bound. bound.typed.entry ≡ sources.entry.start.now)) }
     ensures same { Stays (F.holds files.old) (F.holds files.new) }

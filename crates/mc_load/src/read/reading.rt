@@ -19,7 +19,8 @@ use std::alloc::Global;
 // The tokens of a text.
 fn tokens(alloc: Global, text: &[u8]) -> Result<Vec<Token>, ReadFault>
     requires { length text.now ≤ MAX_BYTES }
-    ensures read { MatchResult result (λ tokens. Lexes text.now (Ok tokens.items)) (λ fault. (entry : List ℕ) → IsFault text.now entry fault) }
+    ensures read { MatchResult result (λ tokens. Lexes text.now (Ok tokens.items))
+        (λ fault. (entry : List ℕ) → IsFault text.now entry fault) }
     ensures end { IfOk result (λ tokens. EndsOnce tokens.items) }
 {
     match mc_c_syntax::lex::lex(alloc, text) {

@@ -16,7 +16,12 @@ named text column = record { text = text; place = at column }
 -- `typedef A A; int main() { A x; free(x); }`
 abbrev pub names_itself : UnitTree
 names_itself =
-    typedef (record { place = at 1; aliased = of_base (Base.Alias (named (codes "A") 9)); declarators = record { pointer = None; name = named (codes "A") 11 } ∷ [] })
+    typedef (record {
+      place = at 1;
+      aliased = of_base (Base.Alias (named (codes "A") 9));
+      declarators = record
+          { pointer = None; name = named (codes "A") 11 } ∷ [];
+    })
     ∷ function (record {
       static_place = None;
       returned = Returned.Value (Base.Int (at 14)) None;
@@ -25,7 +30,11 @@ names_itself =
       body = Some (record {
         place = at 25;
         statements =
-            declaration (record { base = Base.Alias (named (codes "A") 27); items = record { declarator = record { pointer = None; name = named (codes "x") 29 }; value = None } ∷ [] })
+            declaration (record {
+              base = Base.Alias (named (codes "A") 27);
+              items = record
+                  { declarator = record { pointer = None; name = named (codes "x") 29 }; value = None } ∷ [];
+            })
             ∷ free (at 32) (value (record { name = named (codes "x") 37; fields = [] }))
             ∷ [];
       });

@@ -69,7 +69,10 @@ impl<'a> Counter<'a> {
 
     // Declarators.
     fn declare(&mut self, items: &[Initial]) -> Result<(), NoMemory>
-        ensures { OnOk result ((tasks : List Waiting) → total self.new tasks ≡ self.old.points + declaring self.old.table.now (map initial_of items.now) + left self.old.table.now (self.old.made.items ++ items_declared (map initial_of items.now)) self.old.blocks.items tasks) }
+        ensures { OnOk result
+            ((tasks : List Waiting) → total self.new tasks
+            ≡ self.old.points + declaring self.old.table.now (map initial_of items.now) + left self.old.table.now
+            (self.old.made.items ++ items_declared (map initial_of items.now)) self.old.blocks.items tasks) }
     {
         for at in 0..items.len() {
             let more = initializing(self.alloc, self.table, &items[at])?;
@@ -81,7 +84,10 @@ impl<'a> Counter<'a> {
 
     // The first part of a `for`.
     fn start(&mut self, start: &ForStart) -> Result<(), NoMemory>
-        ensures { OnOk result ((tasks : List Waiting) → total self.new tasks ≡ self.old.points + starting self.old.table.now (start_of start.now) + left self.old.table.now (self.old.made.items ++ start_declared (start_of start.now)) self.old.blocks.items tasks) }
+        ensures { OnOk result
+            ((tasks : List Waiting) → total self.new tasks
+            ≡ self.old.points + starting self.old.table.now (start_of start.now) + left self.old.table.now
+            (self.old.made.items ++ start_declared (start_of start.now)) self.old.blocks.items tasks) }
     {
         match start {
             ForStart::Nothing => Ok(()),
@@ -100,7 +106,8 @@ impl<'a> Counter<'a> {
     // These blocks are around; those that were around before.
     fn enter(&mut self, blocks: Vec<usize>) -> Vec<usize>
         ensures outer { result.items ≡ self.old.blocks.items }
-        ensures inner { (tasks : List Waiting) → total self.new tasks ≡ self.old.points + left self.old.table.now self.old.made.items blocks.items tasks }
+        ensures inner { (tasks : List Waiting) → total self.new tasks
+            ≡ self.old.points + left self.old.table.now self.old.made.items blocks.items tasks }
     {
         mem::replace(&mut self.blocks, blocks)
     }
@@ -112,7 +119,14 @@ impl<'a> Counter<'a> {
         numbers: &'a [usize],
         statements: &'a [Statement],
     ) -> Result<(), NoMemory>
-        ensures { OnOk result (total self.new tasks.new ≡ self.old.points + stretch_all self.old.table.now self.old.made.items (numbers.now ++ self.old.blocks.items) (stmts_of (map statement_of statements.now)) + (leaving numbers.now (self.old.made.items ++ all_declared (stmts_of (map statement_of statements.now))) + left self.old.table.now (self.old.made.items ++ all_declared (stmts_of (map statement_of statements.now))) self.old.blocks.items tasks.old)) }
+        ensures { OnOk result
+            (total self.new tasks.new
+            ≡ self.old.points + stretch_all self.old.table.now self.old.made.items
+            (numbers.now ++ self.old.blocks.items) (stmts_of (map statement_of statements.now)) +
+            (leaving numbers.now (self.old.made.items
+            ++ all_declared (stmts_of (map statement_of statements.now))) + left self.old.table.now
+            (self.old.made.items
+            ++ all_declared (stmts_of (map statement_of statements.now))) self.old.blocks.items tasks.old)) }
     {
         let mut inner = Vec::from_slice(self.alloc, numbers)?;
         inner.extend_from_slice(self.blocks.as_slice())?;
@@ -139,7 +153,9 @@ impl<'a> Counter<'a> {
 
     // Variables are left, and the blocks are those around.
     fn end(&mut self, numbers: &[usize], outer: Vec<usize>) -> Result<(), NoMemory>
-        ensures { OnOk result ((tasks : List Waiting) → total self.new tasks ≡ self.old.points + (leaving numbers.now self.old.made.items + left self.old.table.now self.old.made.items outer.items tasks)) }
+        ensures { OnOk result ((tasks : List Waiting) → total self.new tasks
+            ≡ self.old.points +
+            (leaving numbers.now self.old.made.items + left self.old.table.now self.old.made.items outer.items tasks)) }
     {
         let more = leaving(numbers, self.made.as_slice());
         self.enter(outer);
@@ -149,7 +165,8 @@ impl<'a> Counter<'a> {
 
     // A condition, and so many points beside it.
     fn test(&mut self, condition: &Condition, beside: usize) -> Result<(), NoMemory>
-        ensures { OnOk result ((tasks : List Waiting) → total self.new tasks ≡ testing (condition_of condition.now) + beside + total self.old tasks) }
+        ensures { OnOk result ((tasks : List Waiting) → total self.new tasks
+            ≡ testing (condition_of condition.now) + beside + total self.old tasks) }
     {
         let count = testing(self.alloc, condition)?;
         let more = sum(count, beside)?;
@@ -159,7 +176,9 @@ impl<'a> Counter<'a> {
 
     // `free`.
     fn free(&mut self, pointer: &Expression) -> Result<(), NoMemory>
-        ensures { OnOk result ((tasks : List Waiting) → total self.new tasks ≡ operations (expression_of pointer.now) + suc (clearing (operations (expression_of pointer.now))) + total self.old tasks) }
+        ensures { OnOk result ((tasks : List Waiting) → total self.new tasks
+            ≡ operations (expression_of pointer.now) + suc
+            (clearing (operations (expression_of pointer.now))) + total self.old tasks) }
     {
         let temporaries = operations(self.alloc, pointer)?;
         let more = sum(temporaries, 1 + clearing(temporaries))?;
@@ -174,7 +193,12 @@ impl<'a> Counter<'a> {
         head: &'a ForHead,
         body: &'a Statement,
     ) -> Result<(), NoMemory>
-        ensures { OnOk result (total self.new tasks.new ≡ self.old.points + stretch self.old.table.now self.old.made.items self.old.blocks.items (for_loop (head_of head.now) (statement_of body.now)) + left self.old.table.now (self.old.made.items ++ declared (for_loop (head_of head.now) (statement_of body.now))) self.old.blocks.items tasks.old) }
+        ensures { OnOk result
+            (total self.new tasks.new
+            ≡ self.old.points + stretch self.old.table.now self.old.made.items self.old.blocks.items
+            (for_loop (head_of head.now) (statement_of body.now)) + left self.old.table.now
+            (self.old.made.items ++ declared
+            (for_loop (head_of head.now) (statement_of body.now))) self.old.blocks.items tasks.old) }
     {
         let tested = testing_perhaps(self.alloc, head.condition.as_ref())?;
         let finished = finishing(self.alloc, self.table, head.last.as_ref())?;
@@ -188,7 +212,9 @@ impl<'a> Counter<'a> {
 
     // `break` and `continue`.
     fn jump(&mut self) -> Result<(), NoMemory>
-        ensures { OnOk result ((tasks : List Waiting) → total self.new tasks ≡ leaving self.old.blocks.items self.old.made.items + total self.old tasks) }
+        ensures { OnOk result
+            ((tasks : List Waiting) → total self.new tasks
+            ≡ leaving self.old.blocks.items self.old.made.items + total self.old tasks) }
     {
         let more = leaving(self.blocks.as_slice(), self.made.as_slice());
         self.add(more)?;
@@ -197,7 +223,8 @@ impl<'a> Counter<'a> {
 
     // `return`, perhaps with a value.
     fn returns(&mut self, value: Option<&RightSide>) -> Result<(), NoMemory>
-        ensures { OnOk result ((tasks : List Waiting) → total self.new tasks ≡ returning self.old.table.now (option_map (λ r. right_of r.now) value.entry) + total self.old tasks) }
+        ensures { OnOk result ((tasks : List Waiting) → total self.new tasks
+            ≡ returning self.old.table.now (option_map (λ r. right_of r.now) value.entry) + total self.old tasks) }
     {
         let more = returning(self.alloc, self.table, value)?;
         self.add(more)?;
@@ -206,7 +233,8 @@ impl<'a> Counter<'a> {
 
     // A simple statement.
     fn simple(&mut self, simple: &Simple) -> Result<(), NoMemory>
-        ensures { OnOk result ((tasks : List Waiting) → total self.new tasks ≡ acting self.old.table.now (action_of simple.now.action) + total self.old tasks) }
+        ensures { OnOk result ((tasks : List Waiting) → total self.new tasks
+            ≡ acting self.old.table.now (action_of simple.now.action) + total self.old tasks) }
     {
         let more = acting(self.alloc, self.table, &simple.action)?;
         self.add(more)?;

@@ -52,7 +52,8 @@ fn push_parts<'e>(
     first: &'e Expression,
     second: &'e Expression,
 ) -> Result<(), NoMemory>
-    ensures { OnOk result (parts_left work.new ≡ operations (expression_of first.now) + operations (expression_of second.now) + parts_left work.old) }
+    ensures { OnOk result (parts_left work.new
+        ≡ operations (expression_of first.now) + operations (expression_of second.now) + parts_left work.old) }
 {
     push_part(work, second)?;
     push_part(work, first)?;
@@ -138,7 +139,8 @@ fn push_tests<'c>(
     first: &'c Condition,
     second: &'c Condition,
 ) -> Result<(), NoMemory>
-    ensures { OnOk result (tests_left work.new ≡ testing (condition_of first.now) + testing (condition_of second.now) + tests_left work.old) }
+    ensures { OnOk result (tests_left work.new
+        ≡ testing (condition_of first.now) + testing (condition_of second.now) + tests_left work.old) }
 {
     push_test(work, second)?;
     push_test(work, first)?;

@@ -35,4 +35,5 @@ IsHeirBelow p lost nodes n (Some heir) =
 -- with one node more
 abbrev pub IsNextHeir : Pure → NodeId → NodeId → (old new : Option ClassPlace) → Type 0
 IsNextHeir p lost other old new =
-    (nodes : List NodeId) (i : ℕ) → IsLeast p lost → slice_get nodes i ≡ Some other → IsHeirBelow p lost nodes i old → IsHeirBelow p lost nodes (suc i) new
+    (nodes : List NodeId) (i : ℕ) → IsLeast p lost → slice_get nodes i ≡ Some other → IsHeirBelow p lost nodes i old
+    → IsHeirBelow p lost nodes (suc i) new

@@ -22,7 +22,8 @@ key (Ne a b c) = record { rank = 2; node = a.0; second = pos b.0; third = c }
 abbrev pub KeyBefore : Key → Key → Type 0
 KeyBefore p q =
     (p.rank < q.rank)
-    ⊎ ((p.rank ≡ q.rank) × ((p.node < q.node) ⊎ ((p.node ≡ q.node) × ((p.second <ℤ q.second) ⊎ ((p.second ≡ q.second) × (p.third <ℤ q.third))))))
+    ⊎ ((p.rank ≡ q.rank) × ((p.node < q.node)
+    ⊎ ((p.node ≡ q.node) × ((p.second <ℤ q.second) ⊎ ((p.second ≡ q.second) × (p.third <ℤ q.third))))))
 
 -- where a key stands to another
 abbrev pub PlaceIs : Key → Key → Place → Type 0

@@ -70,7 +70,8 @@ pub fn put_differences(
 ) -> Result<(), NoMemory>
     requires left_true { IsFalse left.now → ⊥ }
     requires right_true { IsFalse right.now → ⊥ }
-    ensures { IfOk result (λ _. Gains (Below (λ i. Below (DifferenceAt left.now right.now pairs.now i) i) (length pairs.now)) joint.old joint.new) }
+    ensures { IfOk result (λ _. Gains (Below (λ i. Below (DifferenceAt left.now right.now pairs.now i) i)
+        (length pairs.now)) joint.old joint.new) }
 {
     for i in 0..pairs.len() {
         put_differences_of(joint, left, right, pairs, i)?;
@@ -137,7 +138,9 @@ fn put_listed_atom(
     pairs: &[(NodeId, NodeId)],
 ) -> Result<(), NoMemory>
     requires { IsFalse other.now → ⊥ }
-    ensures { IfOk result (λ _. Gains (Below (λ i. Below (ListedAt other.now pairs.now atom.now i) (length pairs.now)) (length pairs.now)) joint.old joint.new) }
+    ensures { IfOk result (λ _. Gains (Below
+        (λ i. Below (ListedAt other.now pairs.now atom.now i) (length pairs.now))
+        (length pairs.now)) joint.old joint.new) }
 {
     for i in 0..pairs.len() {
         put_listed_of(joint, atom, other, pairs, i)?;
@@ -153,7 +156,9 @@ pub fn put_listed(
     pairs: &[(NodeId, NodeId)],
 ) -> Result<(), NoMemory>
     requires { IsFalse other.now → ⊥ }
-    ensures { IfOk result (λ _. Gains (Below (AtPlace (λ atom. Below (λ i. Below (ListedAt other.now pairs.now atom i) (length pairs.now)) (length pairs.now)) list.now) (length list.now)) joint.old joint.new) }
+    ensures { IfOk result (λ _. Gains (Below
+        (AtPlace (λ atom. Below (λ i. Below (ListedAt other.now pairs.now atom i) (length pairs.now))
+        (length pairs.now)) list.now) (length list.now)) joint.old joint.new) }
 {
     for atom in list {
         put_listed_atom(joint, atom, other, pairs)?;

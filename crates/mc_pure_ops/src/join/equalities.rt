@@ -27,7 +27,8 @@ fn shift_of(by: i64) -> Shift
 
 /// The difference of two offsets, where it is a number of 64 bits.
 fn difference(first: &ClassPlace, second: &ClassPlace) -> Option<Shift>
-    ensures { MatchOption result (IsOffset (first.now.offset -ℤ second.now.offset) → ⊥) (λ d. d.by ≡ first.now.offset -ℤ second.now.offset) }
+    ensures { MatchOption result (IsOffset (first.now.offset -ℤ second.now.offset) → ⊥)
+        (λ d. d.by ≡ first.now.offset -ℤ second.now.offset) }
 {
     match first.offset.checked_sub(second.offset) {
         Some(by) => Some(shift_of(by)),
@@ -111,7 +112,8 @@ pub fn put_equalities(
     requires left_true { IsFalse left.now → ⊥ }
     requires right_true { IsFalse right.now → ⊥ }
     requires there { AreThere left.now right.now pairs.now }
-    ensures { IfOk result (λ _. Gains (Below (λ i. Below (EqualityAt left.now right.now pairs.now i) i) (length pairs.now)) joint.old joint.new) }
+    ensures { IfOk result (λ _. Gains (Below (λ i. Below (EqualityAt left.now right.now pairs.now i) i)
+        (length pairs.now)) joint.old joint.new) }
 {
     for i in 0..pairs.len() {
         put_equalities_of(joint, left, right, pairs, i)?;

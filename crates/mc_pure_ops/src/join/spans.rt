@@ -101,7 +101,8 @@ pub fn put_ranges(
     requires joinable { AreJoinable left.now right.now pairs.now }
     requires there { AreThere left.now right.now pairs.now }
     requires ints { All IsInt thresholds.now }
-    ensures { IfOk result (λ _. Gains (Below (RangeAt left.now right.now pairs.now round thresholds.now) (length pairs.now)) joint.old joint.new) }
+    ensures { IfOk result (λ _. Gains (Below (RangeAt left.now right.now pairs.now round thresholds.now)
+        (length pairs.now)) joint.old joint.new) }
 {
     for i in 0..pairs.len() {
         put_some(joint, range(left, right, pairs, round, thresholds, i))?;

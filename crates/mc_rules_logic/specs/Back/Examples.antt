@@ -21,7 +21,8 @@ abbrev pub node_struct : StructInfo
 node_struct =
     record {
       name = codes "node";
-      fields = record { name = codes "data"; kind = Int } ∷ record { name = codes "next"; kind = Ptr } ∷ record { name = codes "prev"; kind = Ptr } ∷ [];
+      fields = record { name = codes "data"; kind = Int } ∷ record { name = codes "next"; kind = Ptr }
+          ∷ record { name = codes "prev"; kind = Ptr } ∷ [];
     }
 
 abbrev pub structs : List StructInfo

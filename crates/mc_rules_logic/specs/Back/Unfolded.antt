@@ -42,7 +42,8 @@ atoms_behind nodes stop ends rule place =
 abbrev pub unfolded_back : State → EdgeId → NodeId → List NodeId → PredId → NodeId → List NodeId → Rule → ℕ → State
 unfolded_back s edge at args pred stop ends rule place =
     with_atoms
-    (with_edges (with_only_edges (with_nodes s rule.names) (without s.graph.edges edge)) (body_behind at args pred (new_nodes s rule) rule place))
+    (with_edges (with_only_edges (with_nodes s rule.names) (without s.graph.edges edge))
+    (body_behind at args pred (new_nodes s rule) rule place))
     (atoms_behind (new_nodes s rule) stop ends rule place)
 
 -- what a Seg becomes: nothing, or for each rule and each of its calls of the predicate a segment and the rule's body

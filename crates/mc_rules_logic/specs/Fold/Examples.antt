@@ -26,7 +26,15 @@ valued values n = get_or (pos 0 ∷ values) n (pos 0)
 
 -- a whole state without variables and atoms, of these kinds and edges, with the next numbers of edges and nodes
 abbrev pub left_with : Kinds → Edges → ℕ → ℕ → State
-left_with kinds edges next_edge next = record { env = []; kinds = kinds; graph = record { edges = edges; next = next_edge }; atoms = []; next = next; whole = true }
+left_with kinds edges next_edge next = record {
+  env = [];
+  kinds = kinds;
+  graph = record { edges = edges; next = next_edge };
+  atoms =
+      [];
+  next = next;
+  whole = true;
+}
 
 -- ---- folding
 
@@ -36,7 +44,8 @@ cell_folded = left_with ((node 1, Ptr) ∷ (node 2, Int) ∷ (node 3, Ptr) ∷ [
 
 -- the cell alone is a segment to the list behind it
 abbrev pub cell_as_segment : State
-cell_as_segment = left_with ((node 1, Ptr) ∷ (node 2, Int) ∷ (node 3, Ptr) ∷ []) (entry 1 rest_list ∷ entry 2 (Seg (node 1) [] list_id (node 3) []) ∷ []) 3 4
+cell_as_segment = left_with ((node 1, Ptr) ∷ (node 2, Int) ∷ (node 3, Ptr) ∷ [])
+    (entry 1 rest_list ∷ entry 2 (Seg (node 1) [] list_id (node 3) []) ∷ []) 3 4
 
 -- a cell and a list of a length are a list of one more, node 5
 abbrev pub length_folded : State
@@ -68,7 +77,8 @@ segment_closed = left_with ((node 1, Ptr) ∷ (node 2, Ptr) ∷ []) (entry 2 (In
 
 -- two segments, one behind the other
 abbrev pub two_segments : State
-two_segments = state_of ((node 1, Ptr) ∷ (node 2, Ptr) ∷ (node 3, Ptr) ∷ []) (Seg (node 1) [] list_id (node 2) [] ∷ Seg (node 2) [] list_id (node 3) [] ∷ []) []
+two_segments = state_of ((node 1, Ptr) ∷ (node 2, Ptr) ∷ (node 3, Ptr) ∷ [])
+    (Seg (node 1) [] list_id (node 2) [] ∷ Seg (node 2) [] list_id (node 3) [] ∷ []) []
 
 -- the two as one
 abbrev pub segments_joined : State
@@ -136,7 +146,8 @@ list_goal = record { pred = list_id; at = node 1; args = [] }
 
 -- a fork both of whose pointers point to one tree
 abbrev pub shared_tree : State
-shared_tree = state_of ((node 1, Ptr) ∷ (node 2, Ptr) ∷ []) (Fork (node 1) fork_id (Some (node 2) ∷ Some (node 2) ∷ []) ∷ Ind (node 2) tree_id [] ∷ []) []
+shared_tree = state_of ((node 1, Ptr) ∷ (node 2, Ptr) ∷ [])
+    (Fork (node 1) fork_id (Some (node 2) ∷ Some (node 2) ∷ []) ∷ Ind (node 2) tree_id [] ∷ []) []
 
 -- the fork and its shared tree as one tree
 abbrev pub shared_folded : State
@@ -162,11 +173,13 @@ second_fork = (9, fork_with (pos 0) (pos 0)) ∷ []
 
 -- a segment, and a list at another node than its end
 abbrev pub list_apart : State
-list_apart = state_of ((node 1, Ptr) ∷ (node 2, Ptr) ∷ (node 3, Ptr) ∷ []) (Seg (node 1) [] list_id (node 2) [] ∷ Ind (node 3) list_id [] ∷ []) []
+list_apart = state_of ((node 1, Ptr) ∷ (node 2, Ptr) ∷ (node 3, Ptr) ∷ [])
+    (Seg (node 1) [] list_id (node 2) [] ∷ Ind (node 3) list_id [] ∷ []) []
 
 -- a cell of whose pointer nothing is known, and a list
 abbrev pub cell_unknown : State
-cell_unknown = state_of ((node 1, Ptr) ∷ (node 2, Int) ∷ (node 3, Ptr) ∷ []) (Fork (node 1) cell_id (Some (node 2) ∷ None ∷ []) ∷ rest_list ∷ []) []
+cell_unknown = state_of ((node 1, Ptr) ∷ (node 2, Int) ∷ (node 3, Ptr) ∷ [])
+    (Fork (node 1) cell_id (Some (node 2) ∷ None ∷ []) ∷ rest_list ∷ []) []
 
 -- a predicate of cells with a list behind them: its rule calls another predicate
 abbrev pub other_defs : List Def

@@ -32,7 +32,8 @@ FieldsMatch s names (name ∷ contents) [] = ⊥
 
 -- the edge is a Block of the struct, at a node equal to `this`, and its fields match
 abbrev pub BlockMatches : State → List NodeId → StructId → List ℕ → Edge → Type 0
-BlockMatches s names shape contents (Block at own fields) = (own ≡ shape) × AreEqual s (node_of names 0) at × FieldsMatch s names contents fields
+BlockMatches s names shape contents (Block at own fields) = (own ≡ shape) × AreEqual s (node_of names 0) at
+    × FieldsMatch s names contents fields
 BlockMatches s names shape contents (Ind at pred args) = ⊥
 BlockMatches s names shape contents (Seg at args pred «end» ends) = ⊥
 
@@ -46,7 +47,8 @@ BlocksMatch s names (Some shape) contents (e ∷ f ∷ es) = ⊥
 
 -- the edge is an Ind of the call's predicate with equal start and arguments
 abbrev pub CallMatches : State → List NodeId → Call → Edge → Type 0
-CallMatches s names call (Ind at pred args) = (pred ≡ call.pred) × AreEqual s (node_of names call.at) at × AreAllEqual s (map (node_of names) call.args) args
+CallMatches s names call (Ind at pred args) = (pred ≡ call.pred) × AreEqual s (node_of names call.at) at
+    × AreAllEqual s (map (node_of names) call.args) args
 CallMatches s names call (Block at shape fields) = ⊥
 CallMatches s names call (Seg at args pred «end» ends) = ⊥
 
@@ -58,7 +60,8 @@ CallsMatch s names [] (e ∷ es) = ⊥
 CallsMatch s names (call ∷ calls) [] = ⊥
 
 -- the premises that folding a rule into an Ind and into a Seg share; of the calls those are asked for that are listed
-pub record Matches (defs : List Def) (s : State) (pred : PredId) (rule : ℕ) (names : List NodeId) (block : Option EdgeId) (edges : List EdgeId) (calls : Rule → List Call) : Type 0 where
+pub record Matches (defs : List Def) (s : State) (pred : PredId) (rule : ℕ) (names : List NodeId)
+    (block : Option EdgeId) (edges : List EdgeId) (calls : Rule → List Call) : Type 0 where
   -- 3: the named edges exist and are distinct
   pub blocks : List Edge
   pub inds : List Edge
@@ -84,19 +87,22 @@ pub record Matches (defs : List Def) (s : State) (pred : PredId) (rule : ℕ) (n
   pub atoms : AllByRecursion (λ a. Derives s (atom_of names a)) by.atoms
 
 -- L3: a rule's block and calls become an Ind
-pub record FoldsInd (defs : List Def) (pred : PredId) (rule : ℕ) (names : List NodeId) (block : Option EdgeId) (edges : List EdgeId) (s : State) (next : List State) : Type 0 where
+pub record FoldsInd (defs : List Def) (pred : PredId) (rule : ℕ) (names : List NodeId) (block : Option EdgeId)
+    (edges : List EdgeId) (s : State) (next : List State) : Type 0 where
   pub consistent : IsFalse s → ⊥
   pub body : Matches defs s pred rule names block edges (λ r. r.calls)
   pub gives : next ≡ folded s body.left (Ind body.this pred body.args) ∷ []
 
 -- L4: a rule's block and calls without one of the predicate become a Seg to that call
-pub record FoldsSeg (defs : List Def) (pred : PredId) (rule : ℕ) (names : List NodeId) (block : EdgeId) (edges : List EdgeId) (call : ℕ) (s : State) (next : List State) : Type 0 where
+pub record FoldsSeg (defs : List Def) (pred : PredId) (rule : ℕ) (names : List NodeId) (block : EdgeId)
+    (edges : List EdgeId) (call : ℕ) (s : State) (next : List State) : Type 0 where
   pub consistent : IsFalse s → ⊥
   pub body : Matches defs s pred rule names (Some block) edges (λ r. remove r.calls call)
   pub open_call : Call
   pub called : slice_get body.by.calls call ≡ Some open_call
   pub own : open_call.pred ≡ pred
-  pub gives : next ≡ folded s body.left (Seg body.this body.args pred (node_of names open_call.at) (map (node_of names) open_call.args)) ∷ []
+  pub gives : next ≡ folded s body.left
+      (Seg body.this body.args pred (node_of names open_call.at) (map (node_of names) open_call.args)) ∷ []
 
 -- L5: a Seg and an Ind of its predicate at its end, with equal arguments there, become an Ind
 pub record ClosesSeg (first second : EdgeId) (s : State) (next : List State) : Type 0 where
@@ -133,7 +139,8 @@ pub record JoinsSegs (first second : EdgeId) (s : State) (next : List State) : T
   pub gives : next ≡ folded s left (Seg at args pred last last_args) ∷ []
 
 -- L7: a Seg from a node to an equal one, with equal arguments, takes no memory
-pub record MakesEmptySeg (defs : List Def) (pred : PredId) (at : NodeId) (args : List NodeId) (stop : NodeId) (ends : List NodeId) (s : State) (next : List State) : Type 0 where
+pub record MakesEmptySeg (defs : List Def) (pred : PredId) (at : NodeId) (args : List NodeId) (stop : NodeId)
+    (ends : List NodeId) (s : State) (next : List State) : Type 0 where
   pub consistent : IsFalse s → ⊥
   pub at_is : HasKind s.kinds Ptr at
   pub args_are : ArgsFit defs s.kinds pred args

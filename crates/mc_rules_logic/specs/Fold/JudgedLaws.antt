@@ -25,24 +25,30 @@ FailsAt s judge k = (know : Test) → Tells know s → judge know s ≡ Err k
 -- L3 is judged by its instances
 abbrev pub FoldIndIsJudged : Type 0
 FoldIndIsJudged =
-    (know : Test) (defs : List Def) (pred : PredId) (rule : ℕ) (names : List NodeId) (block : Option EdgeId) (edges : List EdgeId) (s : State)
-    → IsBounded s → Tells know s → IsJudged (folding_ind know defs pred rule names block edges s) (FoldsInd defs pred rule names block edges s)
+    (know : Test) (defs : List Def) (pred : PredId) (rule : ℕ) (names : List NodeId) (block : Option EdgeId)
+    (edges : List EdgeId) (s : State)
+    → IsBounded s → Tells know s → IsJudged (folding_ind know defs pred rule names block edges s)
+    (FoldsInd defs pred rule names block edges s)
 
 -- L4 is judged by its instances
 abbrev pub FoldSegIsJudged : Type 0
 FoldSegIsJudged =
-    (know : Test) (defs : List Def) (pred : PredId) (rule : ℕ) (names : List NodeId) (block : EdgeId) (edges : List EdgeId) (call : ℕ) (s : State)
-    → IsBounded s → Tells know s → IsJudged (folding_seg know defs pred rule names block edges call s) (FoldsSeg defs pred rule names block edges call s)
+    (know : Test) (defs : List Def) (pred : PredId) (rule : ℕ) (names : List NodeId) (block : EdgeId)
+    (edges : List EdgeId) (call : ℕ) (s : State)
+    → IsBounded s → Tells know s → IsJudged (folding_seg know defs pred rule names block edges call s)
+    (FoldsSeg defs pred rule names block edges call s)
 
 -- L5 is judged by its instances
 abbrev pub CloseSegIsJudged : Type 0
 CloseSegIsJudged =
-    (know : Test) (first second : EdgeId) (s : State) → IsBounded s → Tells know s → IsJudged (closing_seg know first second s) (ClosesSeg first second s)
+    (know : Test) (first second : EdgeId) (s : State) → IsBounded s → Tells know s
+    → IsJudged (closing_seg know first second s) (ClosesSeg first second s)
 
 -- L6 is judged by its instances
 abbrev pub JoinSegsIsJudged : Type 0
 JoinSegsIsJudged =
-    (know : Test) (first second : EdgeId) (s : State) → IsBounded s → Tells know s → IsJudged (joining_segs know first second s) (JoinsSegs first second s)
+    (know : Test) (first second : EdgeId) (s : State) → IsBounded s → Tells know s
+    → IsJudged (joining_segs know first second s) (JoinsSegs first second s)
 
 -- L7 is judged by its instances
 abbrev pub EmptySegIsJudged : Type 0
@@ -52,11 +58,13 @@ EmptySegIsJudged =
 
 -- L8 is judged by its instances
 abbrev pub SpareIsJudged : Type 0
-SpareIsJudged = (know : Test) (node : NodeId) (add : ℤ) (kind : Kind) (s : State) → Tells know s → IsJudged (naming_spare know node add kind s) (NamesSpare node add kind s)
+SpareIsJudged = (know : Test) (node : NodeId) (add : ℤ) (kind : Kind) (s : State) → Tells know s
+    → IsJudged (naming_spare know node add kind s) (NamesSpare node add kind s)
 
 -- L9 is judged by its instances
 abbrev pub MergeIsJudged : Type 0
-MergeIsJudged = (know : Test) (keep gone : NodeId) (s : State) → Tells know s → IsJudged (merging_nodes know keep gone s) (MergesNodes keep gone s)
+MergeIsJudged = (know : Test) (keep gone : NodeId) (s : State) → Tells know s
+    → IsJudged (merging_nodes know keep gone s) (MergesNodes keep gone s)
 
 -- the nodes that are reached are those that the judge finds
 abbrev pub ReachedIsTold : Type 0
@@ -64,7 +72,8 @@ ReachedIsTold = (know : Test) (s : State) (n : NodeId) → IsBounded s → Tells
 
 -- L10 is judged by its instances
 abbrev pub DropIsJudged : Type 0
-DropIsJudged = (know : Test) (edge : EdgeId) (s : State) → IsBounded s → Tells know s → IsJudged (dropping_edge know edge s) (DropsEdge edge s)
+DropIsJudged = (know : Test) (edge : EdgeId) (s : State) → IsBounded s → Tells know s
+    → IsJudged (dropping_edge know edge s) (DropsEdge edge s)
 
 -- L11 is judged by its instances, where the atoms are those that are written
 abbrev pub ForgetIsJudged : Type 0
@@ -74,4 +83,5 @@ ForgetIsJudged =
 
 -- L14 is judged by its instances
 abbrev pub GoalIsJudged : Type 0
-GoalIsJudged = (know : Test) (goal : Goal) (edge : EdgeId) (s : State) → Tells know s → IsJudged (meeting_goal know goal edge s) (λ done. MeetsGoal goal edge s)
+GoalIsJudged = (know : Test) (goal : Goal) (edge : EdgeId) (s : State) → Tells know s
+    → IsJudged (meeting_goal know goal edge s) (λ done. MeetsGoal goal edge s)

@@ -35,7 +35,8 @@ block_fits block shape = if is_some block then is_some shape else not (is_some s
 -- numbers and kinds fit the rule, of whose calls those count that are listed
 abbrev pub fits_rule : Kinds → Def → Rule → List Call → List NodeId → Option EdgeId → List EdgeId → Bool
 fits_rule kinds def by calls names block ids =
-    nat_lt (length def.params) (length names) && all_both (has_kind kinds) by.names names && length calls == length ids && block_fits block by.block
+    nat_lt (length def.params) (length names) && all_both (has_kind kinds) by.names names && length calls
+    == length ids && block_fits block by.block
 
 -- the name's node is equal
 abbrev pub is_named : Test → List NodeId → ℕ → NodeId → Bool
@@ -76,7 +77,8 @@ knows_rule know names by = list_all (λ a. know (atom_of names a)) by.atoms
 -- the premises that L3 and L4 share: premise 4 also asks the rule for what stays open, and edges stand for the calls
 -- that are listed; given are the predicate's definition and what stays open
 abbrev pub matching :
-    {Open : Type 0} → Test → List Def → PredId → ℕ → List NodeId → Option EdgeId → List EdgeId → (Rule → Option Open) → (Rule → List Call) → State
+    {Open : Type 0} → Test → List Def → PredId → ℕ → List NodeId → Option EdgeId → List EdgeId → (Rule → Option Open)
+    → (Rule → List Call) → State
     → Judged (Def × Open)
 matching know defs pred rule names block ids stays calls s =
     need 2 (not (is_false know))
@@ -114,7 +116,8 @@ abbrev pub folding_seg : Test → List Def → PredId → ℕ → List NodeId �
 folding_seg know defs pred rule names block ids call s =
     then_give
     (λ m.
-    with_fold s (named_ids (Some block) ids) (Seg (node_of names 0) (arguments m.0 names) pred (node_of names m.1.at) (map (node_of names) m.1.args)) ∷ [])
+    with_fold s (named_ids (Some block) ids)
+    (Seg (node_of names 0) (arguments m.0 names) pred (node_of names m.1.at) (map (node_of names) m.1.args)) ∷ [])
     (matching know defs pred rule names (Some block) ids (λ by. own_call pred (slice_get by.calls call)) (λ by. remove by.calls call) s)
 
 -- ---- segments

@@ -24,39 +24,46 @@ IsLawful defs s next = IsSound defs s next × AllByRecursion IsBounded next
 -- an instance of L3 is lawful
 abbrev pub LawOfFoldInd : Type 0
 LawOfFoldInd =
-    (defs : List Def) (pred : PredId) (rule : ℕ) (names : List NodeId) (block : Option EdgeId) (edges : List EdgeId) (s : State) (next : List State)
+    (defs : List Def) (pred : PredId) (rule : ℕ) (names : List NodeId) (block : Option EdgeId) (edges : List EdgeId)
+    (s : State) (next : List State)
     → IsBounded s → FoldsInd defs pred rule names block edges s next → IsLawful defs s next
 
 -- an instance of L4 is lawful
 abbrev pub LawOfFoldSeg : Type 0
 LawOfFoldSeg =
-    (defs : List Def) (pred : PredId) (rule : ℕ) (names : List NodeId) (block : EdgeId) (edges : List EdgeId) (call : ℕ) (s : State) (next : List State)
+    (defs : List Def) (pred : PredId) (rule : ℕ) (names : List NodeId) (block : EdgeId) (edges : List EdgeId)
+    (call : ℕ) (s : State) (next : List State)
     → IsBounded s → FoldsSeg defs pred rule names block edges call s next → IsLawful defs s next
 
 -- an instance of L5 is lawful
 abbrev pub LawOfCloseSeg : Type 0
-LawOfCloseSeg = (defs : List Def) (first second : EdgeId) (s : State) (next : List State) → IsBounded s → ClosesSeg first second s next → IsLawful defs s next
+LawOfCloseSeg = (defs : List Def) (first second : EdgeId) (s : State) (next : List State) → IsBounded s
+    → ClosesSeg first second s next → IsLawful defs s next
 
 -- an instance of L6 is lawful
 abbrev pub LawOfJoinSegs : Type 0
-LawOfJoinSegs = (defs : List Def) (first second : EdgeId) (s : State) (next : List State) → IsBounded s → JoinsSegs first second s next → IsLawful defs s next
+LawOfJoinSegs = (defs : List Def) (first second : EdgeId) (s : State) (next : List State) → IsBounded s
+    → JoinsSegs first second s next → IsLawful defs s next
 
 -- an instance of L7 is lawful
 abbrev pub LawOfEmptySeg : Type 0
 LawOfEmptySeg =
-    (defs : List Def) (pred : PredId) (at : NodeId) (args : List NodeId) (stop : NodeId) (ends : List NodeId) (s : State) (next : List State)
+    (defs : List Def) (pred : PredId) (at : NodeId) (args : List NodeId) (stop : NodeId) (ends : List NodeId)
+    (s : State) (next : List State)
     → IsBounded s → MakesEmptySeg defs pred at args stop ends s next → IsLawful defs s next
 
 -- an instance of L8 is lawful
 abbrev pub LawOfSpare : Type 0
-LawOfSpare = (defs : List Def) (node : NodeId) (add : ℤ) (kind : Kind) (s : State) (next : List State) → IsBounded s → NamesSpare node add kind s next → IsLawful defs s next
+LawOfSpare = (defs : List Def) (node : NodeId) (add : ℤ) (kind : Kind) (s : State) (next : List State) → IsBounded s
+    → NamesSpare node add kind s next → IsLawful defs s next
 
 -- where two nodes are merged, both had the value that the one keeps
 abbrev pub LawOfMerge : Type 0
 LawOfMerge =
     (defs : List Def) (keep gone : NodeId) (s : State) (next : List State) → IsBounded s → MergesNodes keep gone s next
     → IsLawful defs s next
-    × ((v : Valuation) (values : List (Option ℤ)) (region : Region) → IsAtAddresses region → StandsBy defs v values region s → v gone.0 ≡ v keep.0)
+    × ((v : Valuation) (values : List (Option ℤ)) (region : Region) → IsAtAddresses region
+    → StandsBy defs v values region s → v gone.0 ≡ v keep.0)
 
 -- an instance of L10 is lawful
 abbrev pub LawOfDrop : Type 0
@@ -64,7 +71,8 @@ LawOfDrop = (defs : List Def) (edge : EdgeId) (s : State) (next : List State) �
 
 -- an instance of L11 is lawful
 abbrev pub LawOfForget : Type 0
-LawOfForget = (defs : List Def) (node : NodeId) (s : State) (next : List State) → IsBounded s → ForgetsNode node s next → IsLawful defs s next
+LawOfForget = (defs : List Def) (node : NodeId) (s : State) (next : List State) → IsBounded s
+    → ForgetsNode node s next → IsLawful defs s next
 
 -- a side branch whose goal an Ind meets: the goal holds on some part of the memory
 abbrev pub LawOfGoal : Type 0
@@ -77,36 +85,43 @@ LawOfGoal =
 -- L3 gives one list of successors at most
 abbrev pub FoldIndIsDetermined : Type 0
 FoldIndIsDetermined =
-    (defs : List Def) (pred : PredId) (rule : ℕ) (names : List NodeId) (block : Option EdgeId) (edges : List EdgeId) (s : State) (next other : List State)
+    (defs : List Def) (pred : PredId) (rule : ℕ) (names : List NodeId) (block : Option EdgeId) (edges : List EdgeId)
+    (s : State) (next other : List State)
     → FoldsInd defs pred rule names block edges s next → FoldsInd defs pred rule names block edges s other → next ≡ other
 
 -- L4 gives one list of successors at most
 abbrev pub FoldSegIsDetermined : Type 0
 FoldSegIsDetermined =
-    (defs : List Def) (pred : PredId) (rule : ℕ) (names : List NodeId) (block : EdgeId) (edges : List EdgeId) (call : ℕ) (s : State) (next other : List State)
+    (defs : List Def) (pred : PredId) (rule : ℕ) (names : List NodeId) (block : EdgeId) (edges : List EdgeId)
+    (call : ℕ) (s : State) (next other : List State)
     → FoldsSeg defs pred rule names block edges call s next → FoldsSeg defs pred rule names block edges call s other → next ≡ other
 
 -- L5 gives one list of successors at most
 abbrev pub CloseSegIsDetermined : Type 0
-CloseSegIsDetermined = (first second : EdgeId) (s : State) (next other : List State) → ClosesSeg first second s next → ClosesSeg first second s other → next ≡ other
+CloseSegIsDetermined = (first second : EdgeId) (s : State) (next other : List State) → ClosesSeg first second s next
+    → ClosesSeg first second s other → next ≡ other
 
 -- L6 gives one list of successors at most
 abbrev pub JoinSegsIsDetermined : Type 0
-JoinSegsIsDetermined = (first second : EdgeId) (s : State) (next other : List State) → JoinsSegs first second s next → JoinsSegs first second s other → next ≡ other
+JoinSegsIsDetermined = (first second : EdgeId) (s : State) (next other : List State) → JoinsSegs first second s next
+    → JoinsSegs first second s other → next ≡ other
 
 -- L7 gives one list of successors at most
 abbrev pub EmptySegIsDetermined : Type 0
 EmptySegIsDetermined =
-    (defs : List Def) (pred : PredId) (at : NodeId) (args : List NodeId) (stop : NodeId) (ends : List NodeId) (s : State) (next other : List State)
+    (defs : List Def) (pred : PredId) (at : NodeId) (args : List NodeId) (stop : NodeId) (ends : List NodeId)
+    (s : State) (next other : List State)
     → MakesEmptySeg defs pred at args stop ends s next → MakesEmptySeg defs pred at args stop ends s other → next ≡ other
 
 -- L8 gives one list of successors at most
 abbrev pub SpareIsDetermined : Type 0
-SpareIsDetermined = (node : NodeId) (add : ℤ) (kind : Kind) (s : State) (next other : List State) → NamesSpare node add kind s next → NamesSpare node add kind s other → next ≡ other
+SpareIsDetermined = (node : NodeId) (add : ℤ) (kind : Kind) (s : State) (next other : List State)
+    → NamesSpare node add kind s next → NamesSpare node add kind s other → next ≡ other
 
 -- L9 gives one list of successors at most
 abbrev pub MergeIsDetermined : Type 0
-MergeIsDetermined = (keep gone : NodeId) (s : State) (next other : List State) → MergesNodes keep gone s next → MergesNodes keep gone s other → next ≡ other
+MergeIsDetermined = (keep gone : NodeId) (s : State) (next other : List State) → MergesNodes keep gone s next
+    → MergesNodes keep gone s other → next ≡ other
 
 -- L10 gives one list of successors at most
 abbrev pub DropIsDetermined : Type 0
@@ -114,4 +129,5 @@ DropIsDetermined = (edge : EdgeId) (s : State) (next other : List State) → Dro
 
 -- L11 gives one list of successors at most
 abbrev pub ForgetIsDetermined : Type 0
-ForgetIsDetermined = (node : NodeId) (s : State) (next other : List State) → ForgetsNode node s next → ForgetsNode node s other → next ≡ other
+ForgetIsDetermined = (node : NodeId) (s : State) (next other : List State) → ForgetsNode node s next
+    → ForgetsNode node s other → next ≡ other

@@ -21,13 +21,15 @@ StayWellMade defs vars structs s next = IsWellMade defs vars structs s → AllBy
 -- what L3 makes is well made, where the definitions are
 abbrev pub FoldIndStaysMade : Type 0
 FoldIndStaysMade =
-    (defs : List Def) (vars : List VarInfo) (structs : List StructInfo) (pred : PredId) (rule : ℕ) (names : List NodeId) (block : Option EdgeId) (edges : List EdgeId) (s : State) (next : List State)
+    (defs : List Def) (vars : List VarInfo) (structs : List StructInfo) (pred : PredId) (rule : ℕ)
+    (names : List NodeId) (block : Option EdgeId) (edges : List EdgeId) (s : State) (next : List State)
     → IsDefs defs → FoldsInd defs pred rule names block edges s next → StayWellMade defs vars structs s next
 
 -- what L4 makes is well made, where the definitions are
 abbrev pub FoldSegStaysMade : Type 0
 FoldSegStaysMade =
-    (defs : List Def) (vars : List VarInfo) (structs : List StructInfo) (pred : PredId) (rule : ℕ) (names : List NodeId) (block : EdgeId) (edges : List EdgeId) (call : ℕ) (s : State) (next : List State)
+    (defs : List Def) (vars : List VarInfo) (structs : List StructInfo) (pred : PredId) (rule : ℕ)
+    (names : List NodeId) (block : EdgeId) (edges : List EdgeId) (call : ℕ) (s : State) (next : List State)
     → IsDefs defs → FoldsSeg defs pred rule names block edges call s next → StayWellMade defs vars structs s next
 
 -- what L5 makes is well made
@@ -45,13 +47,15 @@ JoinSegsStaysMade =
 -- what L7 makes is well made
 abbrev pub EmptySegStaysMade : Type 0
 EmptySegStaysMade =
-    (defs : List Def) (vars : List VarInfo) (structs : List StructInfo) (pred : PredId) (at : NodeId) (args : List NodeId) (stop : NodeId) (ends : List NodeId) (s : State) (next : List State)
+    (defs : List Def) (vars : List VarInfo) (structs : List StructInfo) (pred : PredId) (at : NodeId)
+    (args : List NodeId) (stop : NodeId) (ends : List NodeId) (s : State) (next : List State)
     → MakesEmptySeg defs pred at args stop ends s next → StayWellMade defs vars structs s next
 
 -- what L8 makes is well made
 abbrev pub SpareStaysMade : Type 0
 SpareStaysMade =
-    (defs : List Def) (vars : List VarInfo) (structs : List StructInfo) (node : NodeId) (add : ℤ) (kind : Kind) (s : State) (next : List State)
+    (defs : List Def) (vars : List VarInfo) (structs : List StructInfo) (node : NodeId) (add : ℤ) (kind : Kind)
+    (s : State) (next : List State)
     → NamesSpare node add kind s next → StayWellMade defs vars structs s next
 
 -- what L9 makes is well made

@@ -30,7 +30,8 @@ without_all es [] = es
 without_all es (id ∷ ids) = without_all (without es id) ids
 
 -- L3 in which the named edges need not be distinct
-pub record FoldsShared (defs : List Def) (pred : PredId) (rule : ℕ) (names : List NodeId) (block : Option EdgeId) (edges : List EdgeId) (s : State) (next : List State) : Type 0 where
+pub record FoldsShared (defs : List Def) (pred : PredId) (rule : ℕ) (names : List NodeId) (block : Option EdgeId)
+    (edges : List EdgeId) (s : State) (next : List State) : Type 0 where
   pub consistent : IsFalse s → ⊥
   pub blocks : List Edge
   pub inds : List Edge
@@ -54,7 +55,8 @@ pub record FoldsShared (defs : List Def) (pred : PredId) (rule : ℕ) (names : L
 -- what the law of L3 would say of it
 abbrev pub SharedFoldIsSound : Type 0
 SharedFoldIsSound =
-    (defs : List Def) (pred : PredId) (rule : ℕ) (names : List NodeId) (block : Option EdgeId) (edges : List EdgeId) (s : State) (next : List State)
+    (defs : List Def) (pred : PredId) (rule : ℕ) (names : List NodeId) (block : Option EdgeId) (edges : List EdgeId)
+    (s : State) (next : List State)
     → IsBounded s → FoldsShared defs pred rule names block edges s next → IsSound defs s next
 
 -- L5 in which the arguments at the Seg's end need not be those of the Ind
@@ -74,7 +76,8 @@ pub record ClosesAnyArgs (first second : EdgeId) (s : State) (next : List State)
 
 -- what the law of L5 would say of it
 abbrev pub ClosingAnyArgsIsSound : Type 0
-ClosingAnyArgsIsSound = (defs : List Def) (first second : EdgeId) (s : State) (next : List State) → IsBounded s → ClosesAnyArgs first second s next → IsSound defs s next
+ClosingAnyArgsIsSound = (defs : List Def) (first second : EdgeId) (s : State) (next : List State) → IsBounded s
+    → ClosesAnyArgs first second s next → IsSound defs s next
 
 -- L10 that leaves the state whole where it was
 abbrev pub DropsAndKeepsWhole : EdgeId → State → List State → Type 0
@@ -82,4 +85,5 @@ DropsAndKeepsWhole edge s next = (after : State) × DropsEdge edge s (after ∷ 
 
 -- what the law of L10 would say of it
 abbrev pub DroppingKeepsWhole : Type 0
-DroppingKeepsWhole = (defs : List Def) (edge : EdgeId) (s : State) (next : List State) → IsBounded s → DropsAndKeepsWhole edge s next → IsSound defs s next
+DroppingKeepsWhole = (defs : List Def) (edge : EdgeId) (s : State) (next : List State) → IsBounded s
+    → DropsAndKeepsWhole edge s next → IsSound defs s next

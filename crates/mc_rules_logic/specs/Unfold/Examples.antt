@@ -22,7 +22,15 @@ one_list = state_of ((node 1, Ptr) ∷ []) (Ind (node 1) list_id [] ∷ []) []
 
 -- null, and nothing
 abbrev pub no_cell : State
-no_cell = record { env = []; kinds = (node 1, Ptr) ∷ []; graph = record { edges = []; next = 1 }; atoms = Eq (node 1) null (pos 0) ∷ []; next = 2; whole = true }
+no_cell = record {
+  env = [];
+  kinds = (node 1, Ptr)
+      ∷ [];
+  graph = record { edges = []; next = 1 };
+  atoms = Eq (node 1) null (pos 0) ∷ [];
+  next = 2;
+  whole = true;
+}
 
 -- a cell with a list behind it
 abbrev pub cell_then_list : State
@@ -30,7 +38,11 @@ cell_then_list =
     record {
       env = [];
       kinds = (node 1, Ptr) ∷ (node 2, Int) ∷ (node 3, Ptr) ∷ [];
-      graph = record { edges = entry 1 (Cell (node 1) cell_id (Some (node 2) ∷ Some (node 3) ∷ [])) ∷ entry 2 (Ind (node 3) list_id []) ∷ []; next = 3 };
+      graph = record {
+        edges = entry 1 (Cell (node 1) cell_id (Some (node 2) ∷ Some (node 3) ∷ []))
+            ∷ entry 2 (Ind (node 3) list_id []) ∷ [];
+        next = 3;
+      };
       atoms = [];
       next = 4;
       whole = true;
@@ -58,7 +70,11 @@ cell_then_segment =
     record {
       env = [];
       kinds = (node 1, Ptr) ∷ (node 2, Ptr) ∷ (node 3, Int) ∷ (node 4, Ptr) ∷ [];
-      graph = record { edges = entry 1 (Cell (node 1) cell_id (Some (node 3) ∷ Some (node 4) ∷ [])) ∷ entry 2 (Seg (node 4) [] list_id (node 2) []) ∷ []; next = 3 };
+      graph = record {
+        edges = entry 1 (Cell (node 1) cell_id (Some (node 3) ∷ Some (node 4) ∷ []))
+            ∷ entry 2 (Seg (node 4) [] list_id (node 2) []) ∷ [];
+        next = 3;
+      };
       atoms = [];
       next = 5;
       whole = true;
@@ -78,7 +94,11 @@ fork_then left right =
     record {
       env = [];
       kinds = (node 1, Ptr) ∷ (node 2, Ptr) ∷ (node 3, Ptr) ∷ (node 4, Ptr) ∷ [];
-      graph = record { edges = entry 1 (Cell (node 1) fork_id (Some (node 3) ∷ Some (node 4) ∷ [])) ∷ entry 2 left ∷ entry 3 right ∷ []; next = 4 };
+      graph = record {
+        edges = entry 1 (Cell (node 1) fork_id (Some (node 3) ∷ Some (node 4) ∷ [])) ∷ entry 2 left
+            ∷ entry 3 right ∷ [];
+        next = 4;
+      };
       atoms = [];
       next = 5;
       whole = true;

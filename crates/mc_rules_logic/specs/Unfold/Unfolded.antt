@@ -29,7 +29,8 @@ rule_nodes s at args rule = at ∷ (args ++ numbered_nodes s.next (length (new_k
 -- the state with these edges in place of one, with new nodes and the atoms of the rule
 abbrev pub opened : State → EdgeId → NodeId → List NodeId → Rule → List Edge → State
 opened s edge at args rule body =
-    with_atoms (with_edges (with_only_edges (with_nodes s (new_kinds args rule)) (without s.graph.edges edge)) body) (map (atom_of (rule_nodes s at args rule)) rule.atoms)
+    with_atoms (with_edges (with_only_edges (with_nodes s (new_kinds args rule)) (without s.graph.edges edge)) body)
+    (map (atom_of (rule_nodes s at args rule)) rule.atoms)
 
 -- the state with the body of a rule in place of an Ind
 abbrev pub unfolded : State → EdgeId → NodeId → List NodeId → Rule → State
@@ -53,7 +54,8 @@ emptied s edge at args «end» ends = with_atoms (with_only_edges s (without s.g
 -- the places, from one on, of the calls of a predicate
 abbrev pub own_places : PredId → ℕ → List Call → List ℕ
 own_places pred place [] = []
-own_places pred place (call ∷ calls) = if call.pred.0 == pred.0 then place ∷ own_places pred (suc place) calls else own_places pred (suc place) calls
+own_places pred place (call ∷ calls) = if call.pred.0 == pred.0 then place
+    ∷ own_places pred (suc place) calls else own_places pred (suc place) calls
 
 -- L1: the Ind of an edge, at null or at the accessed node, is the body of one of its predicate's rules
 pub record UnfoldsInd (defs : List Def) (accessed : Option NodeId) (edge : EdgeId) (s : State) (next : List State) : Type 0 where

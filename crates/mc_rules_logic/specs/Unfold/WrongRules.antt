@@ -16,7 +16,8 @@ EdgeRule = List Def → Option NodeId → EdgeId → State → List State → Ty
 -- a rule gives only successors that are sound
 abbrev pub IsSoundRule : EdgeRule → Type 0
 IsSoundRule Rule =
-    (defs : List Def) (accessed : Option NodeId) (edge : EdgeId) (s : State) (next : List State) → IsBounded s → Rule defs accessed edge s next → IsSound defs s next
+    (defs : List Def) (accessed : Option NodeId) (edge : EdgeId) (s : State) (next : List State) → IsBounded s
+    → Rule defs accessed edge s next → IsSound defs s next
 
 -- L2 without the successor in which the Seg is empty
 abbrev pub NeverEmpty : EdgeRule

@@ -27,7 +27,9 @@ pub fn example_folds()
     ensures bounded { IsBounded cell_and_list }
     ensures ind { FoldsInd defs list_id 1 (node 1 ∷ node 2 ∷ node 3 ∷ []) (Some (edge 0)) (edge 1 ∷ []) cell_and_list (cell_folded ∷ []) }
     ensures seg { FoldsSeg defs list_id 1 (node 1 ∷ node 2 ∷ node 3 ∷ []) (edge 0) [] 0 cell_and_list (cell_as_segment ∷ []) }
-    ensures not_shared { (next : List Symbolic) → ¬ FoldsInd defs tree_id 1 (node 1 ∷ node 2 ∷ node 2 ∷ []) (Some (edge 0)) (edge 1 ∷ edge 1 ∷ []) shared_tree next }
+    ensures not_shared { (next : List Symbolic)
+        → ¬ FoldsInd defs tree_id 1 (node 1 ∷ node 2 ∷ node 2 ∷ []) (Some (edge 0))
+        (edge 1 ∷ edge 1 ∷ []) shared_tree next }
 {
     example_predicates();
     body_premises();
@@ -37,7 +39,8 @@ pub fn example_folds()
 /// A cell and a list of a length behind it are folded: the arguments and an atom of the rule match.
 pub fn example_of_arguments()
     ensures bounded { IsBounded cell_and_length }
-    ensures ind { FoldsInd defs lenlist_id 1 (node 1 ∷ node 5 ∷ node 2 ∷ node 3 ∷ node 4 ∷ []) (Some (edge 0)) (edge 1 ∷ []) cell_and_length (length_folded ∷ []) }
+    ensures ind { FoldsInd defs lenlist_id 1 (node 1 ∷ node 5 ∷ node 2 ∷ node 3 ∷ node 4 ∷ []) (Some (edge 0))
+        (edge 1 ∷ []) cell_and_length (length_folded ∷ []) }
     ensures stands { StandsBy defs (valued (pos 7 ∷ pos 5 ∷ pos 9 ∷ pos 1 ∷ pos 2 ∷ [])) [] (blocks two_cells) cell_and_length }
 {
     parts_regroup();

@@ -17,7 +17,8 @@ ghost use Rattle.mc_rules_logic.specs.Fold.ChangeJudges.{naming_spare, merging_n
 /// one edge for two calls, a list for a tree, and a fork that is not null.
 pub fn examples_of_forks_refused()
     ensures twice { FailsAt fork_and_tree (λ know. folding_ind know defs tree_id 1 first_three (Some (edge 1)) (edge 2 ∷ edge 2 ∷ [])) 3 }
-    ensures block_twice { FailsAt fork_and_tree (λ know. folding_ind know defs tree_id 1 first_three (Some (edge 1)) (edge 1 ∷ edge 2 ∷ [])) 3 }
+    ensures block_twice { FailsAt fork_and_tree
+        (λ know. folding_ind know defs tree_id 1 first_three (Some (edge 1)) (edge 1 ∷ edge 2 ∷ [])) 3 }
     ensures absent { FailsAt fork_and_tree (λ know. folding_ind know defs tree_id 1 first_three (Some (edge 1)) (edge 2 ∷ edge 3 ∷ [])) 3 }
     ensures fewer { FailsAt fork_and_tree (λ know. folding_ind know defs tree_id 1 first_three (Some (edge 1)) (edge 2 ∷ [])) 4 }
     ensures bare { FailsAt fork_and_tree (λ know. folding_ind know defs tree_id 1 first_three None (edge 2 ∷ [])) 4 }
@@ -35,10 +36,12 @@ pub fn examples_of_forks_refused()
 /// left open, and at another node; and its nodes, which are of two kinds or not known to be equal.
 pub fn examples_of_cells_refused()
     ensures no_block { FailsAt cell_and_list (λ know. folding_ind know defs list_id 1 first_three None (edge 1 ∷ [])) 4 }
-    ensures kind { FailsAt cell_and_list (λ know. folding_ind know defs list_id 1 (node 1 ∷ node 1 ∷ node 3 ∷ []) (Some (edge 0)) (edge 1 ∷ [])) 4 }
+    ensures kind { FailsAt cell_and_list
+        (λ know. folding_ind know defs list_id 1 (node 1 ∷ node 1 ∷ node 3 ∷ []) (Some (edge 0)) (edge 1 ∷ [])) 4 }
     ensures unknown { FailsAt cell_unknown (λ know. folding_ind know defs list_id 1 first_three (Some (edge 0)) (edge 1 ∷ [])) 5 }
     ensures other_call { FailsAt cell_and_list (λ know. folding_seg know other_defs lenlist_id 0 first_three (edge 0) [] 0) 4 }
-    ensures elsewhere { FailsAt cell_and_list (λ know. folding_ind know defs list_id 1 (node 3 ∷ node 2 ∷ node 3 ∷ []) (Some (edge 0)) (edge 1 ∷ [])) 5 }
+    ensures elsewhere { FailsAt cell_and_list
+        (λ know. folding_ind know defs list_id 1 (node 3 ∷ node 2 ∷ node 3 ∷ []) (Some (edge 0)) (edge 1 ∷ [])) 5 }
     ensures two_kinds { FailsAt cell_and_list (λ know. merging_nodes know (node 1) (node 2)) 4 }
     ensures apart { FailsAt cell_and_list (λ know. merging_nodes know (node 1) (node 3)) 5 }
 {

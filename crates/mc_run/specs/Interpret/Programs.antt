@@ -25,7 +25,8 @@ outcome_of (Bad number) = outcomes.Bad number
 abbrev pub ProgramRuns : UnitTree → (entry : List ℕ) → List Def → (script : List (List ℕ)) → (fuel : ℕ) → Ending → Type 0
 ProgramRuns unit entry defs script fuel ending =
     (f : FunctionTree) × (called_function (tables_of unit) entry ≡ Some f)
-    × RunsTo (Step (program_of unit defs)) (Asks (program_of unit defs)) (struct_infos unit) (start (program_of unit defs) f) script fuel (outcome_of ending)
+    × RunsTo (Step (program_of unit defs)) (Asks (program_of unit defs)) (struct_infos unit)
+    (start (program_of unit defs) f) script fuel (outcome_of ending)
 
 -- the same for the program with its names put away, which may be stuck
 abbrev pub ResolvedRuns : UnitTree → (entry : List ℕ) → List Def → (script : List (List ℕ)) → (fuel : ℕ) → Outcome → Type 0

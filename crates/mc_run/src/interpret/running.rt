@@ -28,7 +28,9 @@ fn run_with(
     script: &[u8],
     fuel: u64,
 ) -> Result<Outcome, NoMemory>
-    ensures { IfOk result (λ outcome. RunsFrom (program_of resolved.now defs.now) structs.now (lines_of script.now) fuel outcome (slice_get (program_of resolved.now defs.now).functions (program_of resolved.now defs.now).entry)) }
+    ensures { IfOk result
+        (λ outcome. RunsFrom (program_of resolved.now defs.now) structs.now (lines_of script.now) fuel outcome
+        (slice_get (program_of resolved.now defs.now).functions (program_of resolved.now defs.now).entry)) }
 {
     let program = Program {
         resolved,
@@ -41,7 +43,9 @@ fn run_with(
 
 // What the program with its names put away comes to.
 fn run_resolved(alloc: Global, bound: &Bound, script: &[u8], fuel: u64) -> Result<Outcome, NoMemory>
-    ensures { IfOk result (λ outcome. ResolvedRuns (unit_of bound.now.typed.unit) bound.now.typed.entry bound.now.defs (lines_of script.now) fuel outcome) }
+    ensures { IfOk result
+        (λ outcome. ResolvedRuns (unit_of bound.now.typed.unit) bound.now.typed.entry bound.now.defs
+        (lines_of script.now) fuel outcome) }
 {
     let resolved = resolve(alloc, bound)?;
     let infos = bound.typed().structs().list.as_slice();
@@ -53,7 +57,9 @@ fn run_resolved(alloc: Global, bound: &Bound, script: &[u8], fuel: u64) -> Resul
 
 /// What the program comes to with the choices of a script, in at most so many steps. The only error is want of memory.
 pub fn interpret(alloc: Global, bound: &Bound, script: &[u8], fuel: u64) -> Result<Ending, NoMemory>
-    ensures { IfOk result (λ ending. ProgramRuns (unit_of bound.now.typed.unit) bound.now.typed.entry bound.now.defs (lines_of script.now) fuel ending) }
+    ensures { IfOk result
+        (λ ending. ProgramRuns (unit_of bound.now.typed.unit) bound.now.typed.entry bound.now.defs
+        (lines_of script.now) fuel ending) }
 {
     // For the proof alone: the program runs as its resolved program does, and is never stuck.
     resolved_programs_run_alike();

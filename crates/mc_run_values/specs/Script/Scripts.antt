@@ -13,7 +13,8 @@ use Rattle.mc_run_values.specs.Script.Lines.{SpellsLine}
 -- a block at its address, of the struct of its name, each field with its value; none where there is no such struct
 abbrev pub block_in : List StructInfo → NamedBlock → Option (ℕ × Block)
 block_in structs b =
-    option_map (λ n. (b.address, record { shape = n; fields = map Some b.fields })) (position (λ s. is_same s.name (string_bytes b.shape)) structs)
+    option_map (λ n. (b.address, record { shape = n; fields = map Some b.fields }))
+    (position (λ s. is_same s.name (string_bytes b.shape)) structs)
 
 abbrev pub blocks_in : List StructInfo → List NamedBlock → Option (List (ℕ × Block))
 blocks_in structs [] = Some []
@@ -37,7 +38,8 @@ pub data Answered : Type 0 where
 
 -- the bytes spell no line, or a line that means no choice
 abbrev pub IsNoChoice : List StructInfo → List ℕ → Type 0
-IsNoChoice structs bytes = ((line : ScriptLine) → SpellsLine bytes line → ⊥) ⊎ ((line : ScriptLine) × SpellsLine bytes line × (choice_in structs line ≡ None))
+IsNoChoice structs bytes = ((line : ScriptLine) → SpellsLine bytes line → ⊥)
+    ⊎ ((line : ScriptLine) × SpellsLine bytes line × (choice_in structs line ≡ None))
 
 -- what a line answers: its choice, or that it means none
 abbrev pub IsAnswer : List StructInfo → List ℕ → Answered → Type 0

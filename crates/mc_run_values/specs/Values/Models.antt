@@ -41,7 +41,8 @@ change_of (Ok done) values heap = changed values heap
 change_of (Err kind) values heap = fault_in kind
 
 -- on the way from these lines to those, something comes to this, or asks for an input in vain
-abbrev pub IsAnswered : List StructInfo → (List Choice → Evaluated → Type 0) → (List Choice → List Choice → Type 0) → List (List ℕ) → code.Evaluated → List (List ℕ) → Type 0
+abbrev pub IsAnswered : List StructInfo → (List Choice → Evaluated → Type 0) → (List Choice → List Choice → Type 0)
+    → List (List ℕ) → code.Evaluated → List (List ℕ) → Type 0
 IsAnswered structs Comes Asks old (Value v) new = WithTaken structs old new (λ choices rest. Comes choices (value_of v rest))
 IsAnswered structs Comes Asks old (Fault kind) new = WithTaken structs old new (λ choices rest. Comes choices (fault_of kind))
 IsAnswered structs Comes Asks old (Unanswered why) new = IsRefusedBehind structs an_input old why new Asks
@@ -49,7 +50,8 @@ IsAnswered structs Comes Asks old (Unanswered why) new = IsRefusedBehind structs
 -- the same of an expression
 abbrev pub IsEvaluated : List StructInfo → Values → Heap → Expr → List (List ℕ) → code.Evaluated → List (List ℕ) → Type 0
 IsEvaluated structs values heap e old answer new =
-    IsAnswered structs (λ choices r. Evaluates values heap e choices r) (λ choices left. ValueAsks values heap e choices left) old answer new
+    IsAnswered structs (λ choices r. Evaluates values heap e choices r)
+    (λ choices left. ValueAsks values heap e choices left) old answer new
 
 -- the same of arguments, one after the other
 abbrev pub AreEvaluated : List StructInfo → Values → Heap → List Expr → List (List ℕ) → code_all.Arguments → List (List ℕ) → Type 0

@@ -28,6 +28,7 @@ IsRefused structs request (line ∷ lines) NotAllowed left =
     ((c : Choice) × IsChoice structs line c × (IsAllowed request c → ⊥)) × (left ≡ lines)
 
 -- with the choices that are taken before, this asks for another one, which the next line refuses
-abbrev pub IsRefusedBehind : List StructInfo → Request → List (List ℕ) → Refusal → List (List ℕ) → (List Choice → List Choice → Type 0) → Type 0
+abbrev pub IsRefusedBehind : List StructInfo → Request → List (List ℕ) → Refusal → List (List ℕ)
+    → (List Choice → List Choice → Type 0) → Type 0
 IsRefusedBehind structs request old why new Asks =
     (next : List (List ℕ)) × WithTaken structs old next Asks × IsRefused structs request next why new

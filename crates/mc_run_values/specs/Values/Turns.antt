@@ -58,7 +58,8 @@ Asks values heap hand ps choices left =
 
 -- ---- a turn
 -- from one thing to another, with the choices of some lines
-abbrev pub Leads : List StructInfo → (Comes From : List Choice → Evaluated → Type 0) → (Asks AskedFrom : List Choice → List Choice → Type 0) → (old new : List (List ℕ)) → Type 0
+abbrev pub Leads : List StructInfo → (Comes From : List Choice → Evaluated → Type 0)
+    → (Asks AskedFrom : List Choice → List Choice → Type 0) → (old new : List (List ℕ)) → Type 0
 Leads structs Comes From Asks AskedFrom old new =
     (used : List Choice) × Takes structs old used new
     × ((rest : List Choice) (r : Evaluated) → From rest r → Comes (used ++ rest) r)
@@ -67,7 +68,8 @@ Leads structs Comes From Asks AskedFrom old new =
 abbrev pub IsTurn : List StructInfo → Values → Heap → Hand → List Pending → List (List ℕ) → Turn → List Pending → List (List ℕ) → Type 0
 IsTurn structs values heap hand ps old (Turn.Goes next) qs new =
     Leads structs (Comes values heap hand ps) (Comes values heap next qs) (Asks values heap hand ps) (Asks values heap next qs) old new
-IsTurn structs values heap hand ps old (Turn.Ends answer) qs new = IsAnswered structs (Comes values heap hand ps) (Asks values heap hand ps) old answer new
+IsTurn structs values heap hand ps old (Turn.Ends answer) qs new = IsAnswered structs (Comes values heap hand ps)
+    (Asks values heap hand ps) old answer new
 
 -- the turn that an answer leads to
 abbrev pub Gets : code.Evaluated → Turn → Type 0

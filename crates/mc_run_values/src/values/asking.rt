@@ -24,7 +24,8 @@ fn is_int(number: &i64) -> bool
 
 // The input that a choice is.
 fn input_in(given: &Choice) -> Option<i64>
-    ensures { MatchOption result (IsAllowed an_input (choice given.now) → ⊥) (λ value. (choice given.now ≡ choose_input value) × InKind Int value) }
+    ensures { MatchOption result (IsAllowed an_input (choice given.now) → ⊥)
+        (λ value. (choice given.now ≡ choose_input value) × InKind Int value) }
 {
     match given {
         Choice::Input(value) => { if is_int(value) { Some(*value) } else { None } }
@@ -57,7 +58,8 @@ pub fn input(
 
 // The address or null that a choice is.
 fn address_in(given: &Choice) -> Option<u64>
-    ensures { MatchOption result ((heap : HeapModel) → IsAllowed (an_address heap) (choice given.now) → ⊥) (λ at. (choice given.now ≡ choose_malloc at) × (at < 2 ^ 62)) }
+    ensures { MatchOption result ((heap : HeapModel) → IsAllowed (an_address heap) (choice given.now) → ⊥)
+        (λ at. (choice given.now ≡ choose_malloc at) × (at < 2 ^ 62)) }
 {
     match given {
         Choice::Input(_) => None,

@@ -19,7 +19,8 @@ fn put(
     value: Option<i64>,
     pointer: Option<i64>,
 ) -> Result<(), FaultKind>
-    ensures change { (values : List (Option ℤ)) → change_of result values heap.new ≡ put values heap.old (field_of field.now) value pointer }
+    ensures change { (values : List (Option ℤ)) → change_of result values heap.new
+        ≡ put values heap.old (field_of field.now) value pointer }
     ensures kept { OnErr result (heap.new ≡ heap.old) }
 {
     let Some(value) = value else {

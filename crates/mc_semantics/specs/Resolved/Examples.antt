@@ -28,7 +28,8 @@ f_function =
       locals = int_at x_word 102 ∷ [];
       parameters = 1;
       result = Some int_kind;
-      body = then (while_loop (at 104) (plain (at 105) (number 1)) (block [] (then (returns (at 107) (Some (expression (value (local 0))))) no_more))) no_more;
+      body = then (while_loop (at 104) (plain (at 105) (number 1))
+          (block [] (then (returns (at 107) (Some (expression (value (local 0))))) no_more))) no_more;
     }
 
 -- the program with this `main`
@@ -69,7 +70,8 @@ turning_resolved =
       variables = 0 ∷ [];
     })
     (block (1 ∷ []) (then (declaration (at 8) (record { variable = 1; value = None } ∷ [])) no_more)))
-    (then (for_loop (record { place = at 9; start = nothing; condition = None; last = None; variables = [] }) (break_loop (at 10))) no_more))
+    (then (for_loop (record { place = at 9; start = nothing; condition = None; last = None; variables = [] })
+    (break_loop (at 10))) no_more))
 
 -- `struct node *p = malloc(sizeof(struct node)); p->next = p;`
 abbrev pub linking : List tree.Stmt
@@ -82,4 +84,9 @@ abbrev pub linking_resolved : Program
 linking_resolved =
     with_main (record { name = p_word; place = at 1; kind = pointer_kind } ∷ [])
     (then (declaration (at 1) (record { variable = 0; value = Some (allocation 0 2) } ∷ []))
-    (then (simple (record { place = at 3; action = assign (record { variable = 0; fields = record { shape = 0; field = 1 } ∷ [] }) (expression (value (local 0))) })) no_more))
+    (then (simple (record {
+      place = at 3;
+      action = assign
+          (record { variable = 0; fields = record { shape = 0; field = 1 } ∷ [] })
+          (expression (value (local 0)));
+    })) no_more))

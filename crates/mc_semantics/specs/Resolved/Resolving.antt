@@ -127,7 +127,8 @@ resolved_condition n vs (tree.either c d) = either (resolved_condition n vs c) (
 -- ---- simple statements and declarations
 -- the arguments of a call are resolved where the call stands
 abbrev pub resolved_call : Naming → List Variable → tree.CallTree → Call
-resolved_call n vs c = record { function = function_number n.tables c.function.text; arguments = map (resolved_expression n vs) c.arguments }
+resolved_call n vs c = record
+    { function = function_number n.tables c.function.text; arguments = map (resolved_expression n vs) c.arguments }
 
 abbrev pub allocated_struct : Tables → List Variable → Malloc → ℕ
 allocated_struct t vs m = struct_of (size_meaning t vs m.size)
@@ -135,7 +136,8 @@ allocated_struct t vs m = struct_of (size_meaning t vs m.size)
 abbrev pub resolved_right : Naming → List Variable → tree.Right → Right
 resolved_right n vs (tree.expression e) = expression (resolved_expression n vs e)
 resolved_right n vs (tree.result_of c) = result_of (resolved_call n vs c)
-resolved_right n vs (tree.allocation m) = allocation (allocated_struct n.tables vs m) (field_count n.tables (allocated_struct n.tables vs m))
+resolved_right n vs (tree.allocation m) = allocation (allocated_struct n.tables vs m)
+    (field_count n.tables (allocated_struct n.tables vs m))
 
 -- `++` and `--` add and subtract 1
 abbrev pub resolved_action : Naming → List Variable → tree.SimpleTree → Action
@@ -204,7 +206,8 @@ abbrev mutual
   resolved_statement n s (tree.if_else p c a b) =
       if_else p (resolved_condition n (visible s) c) (resolved_statement n s a) (resolved_statement n (behind n.tables s a) b)
   resolved_statement n s (tree.while_loop p c a) = while_loop p (resolved_condition n (visible s) c) (resolved_statement n s a)
-  resolved_statement n s (tree.do_loop p a c) = do_loop p (resolved_statement n s a) (resolved_condition n (visible (behind n.tables s a)) c)
+  resolved_statement n s (tree.do_loop p a c) = do_loop p (resolved_statement n s a)
+      (resolved_condition n (visible (behind n.tables s a)) c)
   resolved_statement n s (tree.for_loop h a) = for_loop (resolved_head n s h) (resolved_statement n (behind_start n.tables s h.start) a)
   resolved_statement n s (tree.break_loop p) = break_loop p
   resolved_statement n s (tree.continue_loop p) = continue_loop p

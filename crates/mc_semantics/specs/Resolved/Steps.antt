@@ -102,7 +102,12 @@ passed (suc more) (x ∷ xs) (v ∷ vs) = Some v ∷ passed more xs vs
 abbrev pub begun : Here → Function → Target → Place → Tasks → List Choice → Option (List ℤ) → Result
 begun h f target place rest choices None = last (fault Uninit place)
 begun h f target place rest choices (Some vs) =
-    next (record { tasks = in_a_row f.body (task (end_call h.values target) rest); values = passed f.parameters f.locals vs; heap = h.heap }) choices
+    next (record {
+      tasks = in_a_row f.body
+          (task (end_call h.values target) rest);
+      values = passed f.parameters f.locals vs;
+      heap = h.heap;
+    }) choices
 
 abbrev pub AfterArguments : Here → Option Function → Target → Place → Tasks → Arguments → Result → Type 0
 AfterArguments h f target place rest (no_arguments kind) r = r ≡ last (fault kind place)
@@ -134,7 +139,8 @@ Performs p h (call c) place rest choices r = Passes p h c nowhere place rest cho
 
 -- the first declarator of several: without a value its variable is undefined
 abbrev pub Declares : Program → Here → Initial → Place → Tasks → List Choice → Option Right → Result → Type 0
-Declares p h x place rest choices None r = r ≡ next (record { tasks = rest; values = with_variable h.values x.variable None; heap = h.heap }) choices
+Declares p h x place rest choices None r = r
+    ≡ next (record { tasks = rest; values = with_variable h.values x.variable None; heap = h.heap }) choices
 Declares p h x place rest choices (Some right) r = Assigns p h (record { variable = x.variable; fields = [] }) right place rest choices r
 
 abbrev pub DeclaresFirst : Program → Here → List Initial → Place → Tasks → List Choice → Result → Type 0
@@ -162,7 +168,8 @@ Assumes defs predicate h x rest place choices (Some args) r = AddsShape defs pre
 
 -- the run goes on where this holds, and has this fault where it does not
 abbrev pub Demands : Type 0 → FaultKind → Here → Tasks → Place → List Choice → Result → Type 0
-Demands P kind h rest place choices r = (P × (r ≡ after rest place choices (changed h.values h.heap))) ⊎ ((¬ P) × (r ≡ last (fault kind place)))
+Demands P kind h rest place choices r = (P × (r ≡ after rest place choices (changed h.values h.heap)))
+    ⊎ ((¬ P) × (r ≡ last (fault kind place)))
 
 -- a shape is asserted: the value is taken, then the arguments, and the predicate is to hold of them on some part of the heap
 abbrev pub Asserts : List Def → PredId → Here → Tasks → Place → List Choice → Option ℤ → Option (List ℤ) → Result → Type 0
@@ -178,7 +185,8 @@ returned_value heap rest place choices (Some v) = gone_back heap rest (Some v) c
 
 abbrev pub Returns : Program → Here → Option Right → Tasks → Place → List Choice → Result → Type 0
 Returns p h None rest place choices r = r ≡ gone_back h.heap rest None choices
-Returns p h (Some (expression e)) rest place choices r = WithValue h e place choices (λ v left other. other ≡ returned_value h.heap rest place left v) r
+Returns p h (Some (expression e)) rest place choices r = WithValue h e place choices
+    (λ v left other. other ≡ returned_value h.heap rest place left v) r
 Returns p h (Some (result_of c)) rest place choices r = Passes p h c (returned place) place rest choices r
 Returns p h (Some (allocation shape fields)) rest place choices r =
     Allocates h.heap shape fields choices (λ v heap left other. other ≡ gone_back heap rest (Some v) left) r

@@ -48,7 +48,8 @@ adding_undefined = node_is 1 (Some (allocates 2)) ∷ int_is 3 x_word None ∷ s
 -- `struct node *p; int x; assume_shape(lenlist, p, x);`: x is taken before the shape is chosen
 abbrev pub assuming_undefined : List Stmt
 assuming_undefined =
-    node_is 1 None ∷ int_is 2 x_word None ∷ assume_shape (at 3) (name 4 (codes "lenlist")) (name 5 p_word) (Argument.Name (name 6 x_word) ∷ []) ∷ []
+    node_is 1 None ∷ int_is 2 x_word None
+    ∷ assume_shape (at 3) (name 4 (codes "lenlist")) (name 5 p_word) (Argument.Name (name 6 x_word) ∷ []) ∷ []
 
 -- `struct node *p; assert_shape(list, p);`: p is taken before the shape is looked for
 abbrev pub asserting_undefined : List Stmt

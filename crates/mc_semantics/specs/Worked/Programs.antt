@@ -121,7 +121,8 @@ forgetting =
     ∷ while_loop (at 3) (compare Comparison.Below (var 4 i_word) (num 5 2))
     (block (at 6)
     (then (int_is 7 x_word None)
-    (then (if_only (at 8) (compare Comparison.Equal (var 9 i_word) (num 10 0)) (simple (assign (variable 11 x_word) (expression (num 11 5)))))
+    (then (if_only (at 8) (compare Comparison.Equal (var 9 i_word) (num 10 0))
+    (simple (assign (variable 11 x_word) (expression (num 11 5)))))
     (then (is_equal 12 (var 13 x_word) (num 14 5))
     (then (simple (increment (variable 15 i_word)))
     no_more)))))
@@ -141,7 +142,11 @@ deep =
             int_is 104 y_word (Some (expression (var 105 x_word)))
             ∷ block (at 106)
             (then (int_is 107 x_word (Some (expression (num 108 7))))
-            (then (while_loop (at 109) (plain (num 110 1)) (block (at 111) (then (block (at 112) (then (returns (at 113) (Some (expression (plus (var 114 x_word) (var 115 y_word))))) no_more)) no_more)))
+            (then (while_loop (at 109) (plain (num 110 1))
+            (block (at 111) (then
+            (block (at 112)
+            (then (returns (at 113)
+            (Some (expression (plus (var 114 x_word) (var 115 y_word))))) no_more)) no_more)))
             no_more))
             ∷ [];
       });
@@ -155,7 +160,11 @@ perhaps =
       returned = Returned.Value (Base.Int (at 120)) None;
       name = name 120 (codes "h");
       parameters = listed (record { base = Base.Int (at 121); declarator = record { pointer = None; name = name 122 x_word } } ∷ []);
-      body = Some (record { place = at 123; statements = if_only (at 124) (plain (var 125 x_word)) (returns (at 126) (Some (expression (num 127 1)))) ∷ [] });
+      body = Some (record {
+        place = at 123;
+        statements = if_only (at 124) (plain (var 125 x_word))
+            (returns (at 126) (Some (expression (num 127 1)))) ∷ [];
+      });
     }
 
 abbrev pub calls_h : ℕ → Expr → CallTree
@@ -217,4 +226,5 @@ asserting_no_list = node_is 1 (Some (allocates 2)) ∷ assert_shape (at 3) (name
 
 -- a run comes to this within so many steps where `list` is a list of the program's nodes
 abbrev pub ComesWithLists : List Stmt → ℕ → List Choice → Final → Type 0
-ComesWithLists ss n choices f = Reaches (Step (program_of (unit_of ss) defs)) n (start (program_of (unit_of ss) defs) (main_of ss)) choices f
+ComesWithLists ss n choices f = Reaches (Step (program_of (unit_of ss) defs)) n
+    (start (program_of (unit_of ss) defs) (main_of ss)) choices f

@@ -20,11 +20,19 @@ with_functions functions ss = node_struct ∷ (map function functions ++ functio
 
 -- without a choice a run of such a program comes to this within so many steps
 abbrev pub RunsTo : List FunctionTree → List Stmt → ℕ → Final → Type 0
-RunsTo functions ss n f = Reaches (Step (program_of (with_functions functions ss) [])) n (start (program_of (with_functions functions ss) []) (main_of ss)) [] f
+RunsTo functions ss n f = Reaches (Step (program_of (with_functions functions ss) [])) n
+    (start (program_of (with_functions functions ss) []) (main_of ss)) [] f
 
 abbrev pub function_of : Returned → ℕ → List ℕ → ParametersTree → ℕ → List Stmt → FunctionTree
 function_of returned n text parameters m ss =
-    record { static_place = None; returned = returned; name = name n text; parameters = parameters; body = Some (record { place = at m; statements = ss }) }
+    record {
+      static_place = None;
+      returned = returned;
+      name = name n text;
+      parameters = parameters;
+      body = Some
+          (record { place = at m; statements = ss });
+    }
 
 abbrev pub an_int : Returned
 an_int = Returned.Value (Base.Int (at 1)) None

@@ -13,14 +13,18 @@ ghost use Rattle.std.specs.Prelude.{◌≡◌, ℕ, List};
 
 /// A program and its resolved program run alike, step by step: with the same choices, faults, places, ends, stops and waits.
 pub fn resolved_programs_run_alike()
-    ensures steps { (t : Tables) (defs : List Def) (entry : List ℕ) (c : NamedConfig) (d : Config) (choices : List Choice) → Match t defs c d → StepAlike t defs entry c d choices }
-    ensures runs { (t : Tables) (defs : List Def) (entry : List ℕ) (f : FunctionTree) → called_function t entry ≡ Some f → RunAlike t defs entry f }
+    ensures steps { (t : Tables) (defs : List Def) (entry : List ℕ) (c : NamedConfig) (d : Config)
+        (choices : List Choice) → Match t defs c d → StepAlike t defs entry c d choices }
+    ensures runs { (t : Tables) (defs : List Def) (entry : List ℕ) (f : FunctionTree) → called_function t entry
+        ≡ Some f → RunAlike t defs entry f }
 {}
 
 /// Between two steps they are alike too: each name and each expression has the same value in both, and where the one comes to its
 /// next step the other comes to the same step.
 pub fn resolved_programs_stand_alike()
-    ensures values { (t : Tables) (defs : List Def) (locals : List Variable) (vs : List Variable) (values : NamedValues) (numbered : Values) (heap : Heap) → Agree locals values numbered → AreKnown locals vs → ValuesAlike t defs locals vs values numbered heap }
+    ensures values { (t : Tables) (defs : List Def) (locals : List Variable) (vs : List Variable)
+        (values : NamedValues) (numbered : Values) (heap : Heap) → Agree locals values numbered → AreKnown locals vs
+        → ValuesAlike t defs locals vs values numbered heap }
     ensures arrivals { (t : Tables) (defs : List Def) (c : NamedConfig) (d : Config) → Match t defs c d → ArriveAlike t defs c d }
 {}
 

@@ -105,7 +105,8 @@ fn all_true(names: &[i64], atoms: &[DefAtom]) -> bool
 
 // Adds the name that an atom introduces, if it does. With false its value is far from the range of its kind.
 fn push_sum(names: &mut Vec<i64>, atom: DefAtom) -> Result<bool, NoMemory>
-    ensures made { IfOk result (λ near. IsTrue near → (rest : List DefAtom) → with_fixed names.new.items rest ≡ with_fixed names.old.items (atom ∷ rest)) }
+    ensures made { IfOk result (λ near. IsTrue near → (rest : List DefAtom) → with_fixed names.new.items rest
+        ≡ with_fixed names.old.items (atom ∷ rest)) }
     ensures far { IfOk result (λ near. near ≡ false → IntroducesFar names.old.items atom) }
 {
     let DefAtom::Eq {
@@ -129,7 +130,8 @@ fn push_sum(names: &mut Vec<i64>, atom: DefAtom) -> Result<bool, NoMemory>
 // Adds the names that atoms introduce. With false one of them has a value that is far from the range of its kind.
 fn push_fixed(names: &mut Vec<i64>, atoms: &[DefAtom]) -> Result<bool, NoMemory>
     ensures made { IfOk result (λ near. IsTrue near → names.new.items ≡ with_fixed names.old.items atoms.now) }
-    ensures far { IfOk result (λ near. near ≡ false → (kinds : List kind.Kind) → all_in_kinds kinds (with_fixed names.old.items atoms.now) ≡ false) }
+    ensures far { IfOk result (λ near. near ≡ false → (kinds : List kind.Kind)
+        → all_in_kinds kinds (with_fixed names.old.items atoms.now) ≡ false) }
 {
     for atom in atoms {
         if !push_sum(names, *atom)? {
@@ -141,7 +143,8 @@ fn push_fixed(names: &mut Vec<i64>, atoms: &[DefAtom]) -> Result<bool, NoMemory>
 
 // Adds the values of fields, and answers whether all are defined.
 fn push_defined(names: &mut Vec<i64>, fields: &[Option<i64>]) -> Result<bool, NoMemory>
-    ensures { IfOk result (λ all. (if all then Some names.new.items else None) ≡ option_map (λ values. names.old.items ++ values) (all_defined fields.now)) }
+    ensures { IfOk result (λ all. (if all then Some names.new.items else None)
+        ≡ option_map (λ values. names.old.items ++ values) (all_defined fields.now)) }
 {
     for field in fields {
         match field {
@@ -166,7 +169,8 @@ fn push_contents(
     value: i64,
     block: Option<StructId>,
 ) -> Result<bool, NoMemory>
-    ensures { IfOk result (λ there. (if there then Some names.new.items else None) ≡ option_map (λ values. names.old.items ++ values) (contents_at heap.now value block)) }
+    ensures { IfOk result (λ there. (if there then Some names.new.items else None)
+        ≡ option_map (λ values. names.old.items ++ values) (contents_at heap.now value block)) }
 {
     let Some(shape) = block else {
         return Ok(true);
@@ -199,7 +203,8 @@ fn names_with(
     def: &Def,
     rule: &Rule,
 ) -> Result<Option<Vec<i64>>, NoMemory>
-    ensures { IfOk result (λ made. (contents : List ℤ) → names.items ≡ goal.now.at ∷ (goal.now.args ++ contents) → length contents ≡ held → option_map (λ v. v.items) made ≡ names_with goal.now def.now rule.now contents) }
+    ensures { IfOk result (λ made. (contents : List ℤ) → names.items ≡ goal.now.at ∷ (goal.now.args ++ contents)
+        → length contents ≡ held → option_map (λ v. v.items) made ≡ names_with goal.now def.now rule.now contents) }
 {
     if goal.args.len() != def.params.len() || held != rule.contents.len() {
         return Ok(None);

@@ -95,9 +95,12 @@ fn push_rule(
 ) -> Result<Option<usize>, NoMemory>
     requires arena { IsArena (reverse cells.old.items) }
     requires within { rest ≤ length (reverse cells.old.items) }
-    ensures fits { IfOk result (λ top. MatchOption top (named_by heap.now goal.now block def.now rule.now ≡ None) (λ _. IsSome (named_by heap.now goal.now block def.now rule.now))) }
+    ensures fits { IfOk result (λ top. MatchOption top (named_by heap.now goal.now block def.now rule.now ≡ None)
+        (λ _. IsSome (named_by heap.now goal.now block def.now rule.now))) }
     ensures kept { IfOk result (λ top. top ≡ None → cells.new.items ≡ cells.old.items) }
-    ensures pushed { IfOk result (λ top. MatchOption top (Unit {0}) (λ p. Pushes (calls_of (named_by heap.now goal.now block def.now rule.now)) (reverse cells.old.items) (reverse cells.new.items) rest p)) }
+    ensures pushed { IfOk result (λ top. MatchOption top (Unit {0})
+        (λ p. Pushes (calls_of (named_by heap.now goal.now block def.now rule.now)) (reverse cells.old.items)
+        (reverse cells.new.items) rest p)) }
 {
     if !same_block(block_for(rule.block, goal.at), block) {
         return Ok(None);

@@ -22,7 +22,9 @@ pub fn holds(
     value: i64,
     args: &[i64],
 ) -> Result<Option<Vec<u64>>, NoMemory>
-    ensures { IfOk result (λ found. MatchOption found (¬ HoldsSomewhere defs.now pred value args.now (region_of heap.now)) (λ addresses. AreMeeting defs.now pred value args.now heap.now addresses.items)) }
+    ensures { IfOk result
+        (λ found. MatchOption found (¬ HoldsSomewhere defs.now pred value args.now (region_of heap.now))
+        (λ addresses. AreMeeting defs.now pred value args.now heap.now addresses.items)) }
 {
     let search = HeapSearch {
         heap,

@@ -112,7 +112,8 @@ atom_text (In n lo hi) = range_text n lo hi
 -- known variables, edges and these atoms
 abbrev pub state_text : List VarInfo → List Def → List StructInfo → State → List Atom → Text
 state_text vars defs structs s atoms =
-    part (codes " ") (var_texts vars 0 s.env) ++ codes "; " ++ part (codes ", ") (map (λ e. edge_text defs structs e.1) s.graph.edges) ++ codes "; "
+    part (codes " ") (var_texts vars 0 s.env) ++ codes "; "
+    ++ part (codes ", ") (map (λ e. edge_text defs structs e.1) s.graph.edges) ++ codes "; "
     ++ part (codes ", ") (map atom_text atoms)
 
 -- the text of a state: that of its canonical list of atoms

@@ -90,7 +90,8 @@ fn put_at(edges: &mut Vec<(EdgeId, Edge)>, id: EdgeId, place: usize, edge: Edge)
 /// Gives a field of the block at a place a node.
 fn set_field_at(edges: &mut Vec<(EdgeId, Edge)>, place: usize, f: u64, node: NodeId)
     requires { place < length edges.old.items }
-    ensures { (e : _) → slice_get edges.old.items place ≡ Some e → edges.new.items ≡ slice_set edges.old.items place (e.0, with_field_node f node e.1) }
+    ensures { (e : _) → slice_get edges.old.items place ≡ Some e → edges.new.items
+        ≡ slice_set edges.old.items place (e.0, with_field_node f node e.1) }
 {
     let e = &mut edges[place];
     e.1.set_field(f, node);
@@ -321,7 +322,8 @@ impl Graph {
 
     /// Gives a field of a block a node, where the block and the field are there.
     pub fn set_field(&mut self, id: EdgeId, f: u64, node: NodeId)
-        ensures there { (e : _) → edge_with self.old.edges id ≡ Some e → self.new ≡ with_only self.old (replaced self.old.edges id (with_field_node f node e)) }
+        ensures there { (e : _) → edge_with self.old.edges id ≡ Some e → self.new
+            ≡ with_only self.old (replaced self.old.edges id (with_field_node f node e)) }
         ensures absent { edge_with self.old.edges id ≡ None → self.new ≡ self.old }
     {
         match find(self.edges.as_slice(), self.next, id) {
