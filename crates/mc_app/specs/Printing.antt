@@ -12,7 +12,7 @@ use Rattle.mc_document.specs.declared.judge.verdict.Refusal.{Refusal as Mistake}
 use Rattle.mc_document.specs.declared.judge.verdict.Refusal.TheVariants as mistake
 use Rattle.mc_document.specs.declared.judge.verdict.Verdict.{Verdict}
 use Rattle.mc_document.specs.declared.judge.verdict.Verdict.TheVariants as verdict
-use Rattle.mc_load.specs.Read.Printing.{place_text}
+use Rattle.mc_base.specs.Text.Places.{place_text}
 use Rattle.mc_find.specs.declared.analysis.analysis.Analysis.TheVariants as analysis
 use Rattle.mc_app.specs.declared.analysing.Analysed.{Analysed as Results}
 use Rattle.mc_app.specs.declared.analysing.Analysed.TheVariants as results

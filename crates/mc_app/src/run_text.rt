@@ -1,13 +1,11 @@
 // What is printed of runs.
-ghost use Rattle.std.specs.Fmt.{decimal};
 ghost use Rattle.std.specs.Prelude.{◌≡◌, ◌++◌, OnOk, codes};
-ghost use Rattle.mc_load.specs.Read.Printing.{place_text};
+ghost use Rattle.mc_base.specs.Text.Places.{place_text};
 ghost use Rattle.mc_app.specs.Printing.{ending_text, kind_text, ran_text};
 
 use crate::running::Ran;
-use crate::verdict_text::print_number;
 use mc_base::FaultKind;
-use mc_base::text::Place;
+use mc_base::text::{Place, print_number, print_place};
 use mc_run::interpret::Ending;
 use std::alloc::{AllocError, Global};
 
@@ -37,9 +35,7 @@ fn print_fault(
     out.extend_from_slice(b"fault: ")?;
     print_kind(out, kind)?;
     out.extend_from_slice(b" at ")?;
-    print_number(alloc, out, place.line as u64)?;
-    out.extend_from_slice(b":")?;
-    print_number(alloc, out, place.column as u64)?;
+    print_place(alloc, out, place)?;
     Ok(())
 }
 

@@ -4,18 +4,10 @@ ghost use Rattle.std.specs.Prelude.{◌≡◌, ◌++◌, OnOk, codes};
 ghost use Rattle.mc_app.specs.Printing.{checked_text, line_text, line_fault_text, mistake_text, verdict_text};
 
 use crate::checking::Checked;
+use mc_base::text::print_number;
 use mc_document::judge::{Refusal, Verdict};
 use mc_lines::cert::LineFault;
 use std::alloc::{AllocError, Global};
-
-/// A number in decimal digits.
-pub fn print_number(alloc: Global, out: &mut Vec<u8>, number: u64) -> Result<(), AllocError>
-    ensures { OnOk result (out.new.items ≡ out.old.items ++ decimal number) }
-{
-    let text = format!(in alloc; "{number}")?;
-    out.extend_from_slice(text.as_bytes())?;
-    Ok(())
-}
 
 // The number of a line, and a comma behind it.
 fn print_line(alloc: Global, out: &mut Vec<u8>, number: u64) -> Result<(), AllocError>

@@ -3,10 +3,12 @@
 
 mod number;
 mod place;
+mod print;
 mod text;
 mod token;
 
 pub use number::number_value;
 pub use place::Place;
+pub use print::{print_number, print_place};
 pub use text::Text;
 pub use token::{Token, TokenKind};

@@ -49,6 +49,12 @@ find-last name_of (x ∷ xs) name =
 abbrev pub names_of : List Named → List (List ℕ)
 names_of vs = map (λ v. v.name.now) vs
 
+-- the variable whose name stands last
+pub named_found : (vs : List Named) (names : List (List ℕ)) (name : List ℕ) (o : Option ℕ) (found : Option Named) → names ≡ names_of vs → o ≡ last_place names name
+    → found ≡ option_and_then (λ i. slice_get vs i) o → found ≡ find (λ v. is_same v.name.now name) (reverse vs)
+named_found vs names name o found held is at =
+    at ∙ ap (option_and_then (λ i. slice_get vs i)) (is ∙ ap (λ ns. last_place ns name) held) ∙ sym (find-last (λ (v : Named). v.name.now) vs name)
+
 pub type_found : (vs : List Named) (names : List (List ℕ)) (name : List ℕ) (o : Option ℕ) (found : Option Named) → names ≡ names_of vs → o ≡ last_place names name
     → found ≡ option_and_then (λ i. slice_get vs i) o → option_map (λ v. v.variable_type) found ≡ type_in (variables_held vs) name
 type_found vs names name o found held is at =

@@ -1,5 +1,7 @@
 // The variables that are visible.
-ghost use Rattle.std.specs.Prelude.{◌≡◌, ◌-◌, ◌≤◌, [], OnOk, drop, insert, is_some, length, take};
+ghost use Rattle.std.specs.Prelude.{◌≡◌, ◌-◌, ◌≤◌, [], OnOk, drop, find, insert, is_some, length, reverse, take};
+ghost use Rattle.std.specs.Option.{option_copied};
+ghost use Rattle.mc_c_syntax.specs.Ast.Names.{is_same};
 ghost use Rattle.mc_c_types.specs.Held.{variables_held};
 ghost use Rattle.mc_c_types.specs.Tables.{type_in};
 
@@ -59,6 +61,26 @@ impl<'a> Visible<'a> {
         ensures { result ≡ length self.now }
     {
         self.variables.len()
+    }
+
+    /// All of them, in order.
+    pub fn as_slice(&self) -> &[Named<'a>]
+        ensures { result.now ≡ self.now }
+    {
+        self.variables.as_slice()
+    }
+
+    /// The variable of this name that hides the others.
+    pub fn find(&self, name: &Text) -> Option<&Named<'a>>
+        ensures { option_copied result ≡ find (λ v. is_same v.name.now name.now) (reverse self.now) }
+    {
+        match self.names.last(name) {
+            None => None,
+            Some(place) => match self.variables.as_slice().get(place) {
+                None => None,
+                Some(found) => Some(found),
+            },
+        }
     }
 
     /// The type of the variable of this name that hides the others.

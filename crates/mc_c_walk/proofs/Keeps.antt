@@ -82,6 +82,15 @@ outside_start t s d m heads own =
     ∙ ap (λ vs. record { heads = (behind_items t d.base (inside s) d.items).own ++ take m.heads vs; own = take m.own (drop m.heads vs); outer = drop m.own (drop m.heads vs) }) (items_outer t d.base (inside s) d.items)
     ∙ ap (λ (p : Scope). record { heads = (behind_items t d.base (inside s) d.items).own ++ p.heads; own = p.own; outer = p.outer }) (parted_visible s.heads s.own s.outer m.heads m.own heads own)
 
+-- the variables that a `for` declares become those of its head
+pub head_begun : (t : Tables) (s begun within after : Scope) (d : DeclarationTree) (start : Start) (m : Marks) → start ≡ declares d → m.heads ≡ length s.heads → m.own ≡ length s.own
+    → begun ≡ inside s → within ≡ behind_items t d.base begun d.items → after ≡ as_head m within → after ≡ behind_start t s start
+head_begun t s begun within after d start m is heads own inner behind made =
+    made
+    ∙ ap (λ (v : Scope). as_head m v) (behind ∙ ap (λ (v : Scope). behind_items t d.base v d.items) inner)
+    ∙ outside_start t s d m heads own
+    ∙ sym (ap (λ (h : Start). behind_start t s h) is)
+
 -- what a `for` adds to the heads
 added : (t : Tables) (s : Scope) (start : Start) → List Variable
 added t s nothing = []

@@ -1,5 +1,7 @@
 -- What the code has of the visible variables, the last first.
-use Rattle.std.proofs.Common.{◌≡◌, ℕ, ◌+◌, ◌-◌, ◌≤◌, min, List, [], ◌∷◌, ◌++◌, length, map, reverse, take, drop, insert, refl, ap, sym, ◌∙◌, arith, append_assoc, add-one, length-append}
+use Rattle.std.proofs.Common.{◌≡◌, ℕ, ◌+◌, ◌-◌, ◌≤◌, Bool, true, false, cond, min, List, [], ◌∷◌, ◌++◌, length, map, reverse, take, drop, insert, refl, ap, sym, ◌∙◌, arith, append_assoc, add-one, length-append}
+use Rattle.std.specs.Prelude.{Option, Some, None, find, option_map}
+use Rattle.mc_c_syntax.specs.Ast.Names.{is_same}
 use Rattle.std.proofs.lemmas.List.{drop-drop, drop-take, drop_at, drop_min, length-drop, length-map, length-reverse, length-take, map-append, reverse-append, take-append-drop, take-take, take_at, take_min}
 use Rattle.mc_c_types.specs.Held.{variable_held, variables_held}
 use Rattle.mc_c_types.specs.Scopes.{Scope, declare}
@@ -104,3 +106,14 @@ own_held h o vs within =
     (held_first o h (drop (length vs - h - o) vs) (omega (arith, length-drop (length vs - h - o) vs))
     ∙ ap (λ zs. drop h zs) (held_last (length vs - h - o) (h + o) vs (omega arith))
     ∙ drop-take h o (variables_held vs))
+
+-- ---- the variable of a name
+found_step : (v : Named) (b : Bool) (rest : Option Named) → option_map variable_held (cond b (Some v) rest) ≡ cond b (Some (variable_held v)) (option_map variable_held rest)
+found_step v true rest = refl
+found_step v false rest = refl
+
+pub found_held : (name : List ℕ) (vs : List Named) → option_map variable_held (find (λ v. is_same v.name.now name) vs) ≡ find (λ v. is_same v.name name) (map variable_held vs)
+found_held name [] = refl
+found_held name (v ∷ vs) =
+    found_step v (is_same v.name.now name) (find (λ v. is_same v.name.now name) vs)
+    ∙ ap (cond (is_same v.name.now name) (Some (variable_held v))) (found_held name vs)

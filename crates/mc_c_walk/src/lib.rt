@@ -11,4 +11,5 @@ mod walking;
 
 pub use laws::{visits_give_calls, visits_give_faults, visits_give_uses};
 pub use parts::Part;
+pub use variables::{Marks, Variables};
 pub use walking::Walk;

@@ -1,5 +1,7 @@
 // The variables that are visible at a point, and which of them belong to the block there.
-ghost use Rattle.std.specs.Prelude.{◌≡◌, OnOk, [], is_some, length};
+ghost use Rattle.std.specs.Prelude.{◌≡◌, OnOk, [], find, is_some, length, option_map};
+ghost use Rattle.std.specs.Option.{option_copied};
+ghost use Rattle.mc_c_syntax.specs.Ast.Names.{is_same};
 ghost use Rattle.mc_c_types.specs.Held.{variable_held, variables_held};
 ghost use Rattle.mc_c_types.specs.Scopes.{declare, inside, visible};
 ghost use Rattle.mc_c_types.specs.Tables.{type_in};
@@ -68,6 +70,21 @@ impl<'a> Variables<'a> {
         &self.variables
     }
 
+    /// The variable of this name that hides the others.
+    pub fn find(&self, name: &Text) -> Option<&Named<'a>>
+        ensures { option_map variable_held (option_copied result) ≡ find (λ v. is_same v.name name.now) (visible self.now) }
+    {
+        self.all().find(name)
+    }
+
+    /// Those of the block, later ones last.
+    pub fn own(&self) -> &[Named<'a>]
+        ensures { variables_held result.now ≡ self.now.own }
+    {
+        let end = self.variables.len() - self.heads;
+        &self.variables.as_slice()[end - self.own..end]
+    }
+
     /// How many belong to the heads and to the block.
     pub fn marks(&self) -> Marks
         ensures heads { result.heads ≡ length self.now.heads }
@@ -87,7 +104,7 @@ impl<'a> Variables<'a> {
         self.variables.has_between(name, end - self.own, end)
     }
 
-    /// A variable comes into the block.
+    /// A variable comes into the block. After that fails for memory, nothing is known of the scope.
     pub fn declare(&mut self, variable: Named<'a>) -> Result<(), AllocError>
         ensures { OnOk result (self.new ≡ declare self.old (variable_held variable.entry)) }
     {

@@ -22,7 +22,7 @@ fn operand_node(s: &State, o: Operand) -> Option<NodeId>
 }
 
 /// The node that an instruction accesses, where it is known.
-fn accessed_by(s: &State, code: &Instr) -> Option<NodeId>
+pub fn accessed_by(s: &State, code: &Instr) -> Option<NodeId>
     ensures { result ≡ accessed_by s.now (Some code.now) }
 {
     match code {

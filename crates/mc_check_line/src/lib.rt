@@ -16,5 +16,6 @@ mod steps;
 mod stuck;
 mod unfolds;
 
+pub use access::accessed_by;
 pub use branch::{Branch, Head, Next, Refused, Setting};
 pub use lines::judge;

@@ -1,7 +1,7 @@
-mod Options
-mod Terms
-mod Fixed
-mod Parts
+pub mod Options
+pub mod Terms
+pub mod Fixed
+pub mod Parts
 mod Left
 mod Sound
 mod Listed

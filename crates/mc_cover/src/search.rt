@@ -17,3 +17,6 @@ mod search;
 mod terms;
 
 pub use find::{cover, seg_cover};
+pub use names::{base_at, front_names, term_at};
+pub use pushing::{goal_of, plain_terms};
+pub use terms::plain;

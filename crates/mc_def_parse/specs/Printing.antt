@@ -1,7 +1,6 @@
 -- How a refusal of definitions is printed.
 use Rattle.std.specs.Prelude.{ℕ, List, ◌++◌, codes}
-use Rattle.std.specs.Fmt.{decimal}
-use Rattle.mc_base.specs.declared.text.place.Place.{Place}
+use Rattle.mc_base.specs.Text.Places.{place_text}
 use Rattle.mc_def_parse.specs.declared.fault.Cause.{Cause}
 use Rattle.mc_def_parse.specs.declared.fault.Cause.TheVariants.{Syntax, UnknownName, Kind, Twice, Unguarded, Undetermined, MissingField, Arity}
 use Rattle.mc_def_parse.specs.declared.fault.Refusal.{Refusal}
@@ -16,10 +15,6 @@ cause_text Unguarded = codes "Unguarded"
 cause_text Undetermined = codes "Undetermined"
 cause_text MissingField = codes "MissingField"
 cause_text Arity = codes "Arity"
-
--- line and column
-abbrev pub place_text : Place → List ℕ
-place_text place = decimal place.line ++ codes ":" ++ decimal place.column
 
 -- the cause, and its place
 abbrev pub refusal_text : Refusal → List ℕ

@@ -11,3 +11,4 @@ mod stage;
 pub use fault::{ApplyFault, Complete};
 pub use mc_check_line::Branch;
 pub use proof::Proof;
+pub use stack::Stack;

@@ -4,7 +4,6 @@
 mod advancing;
 mod entering;
 mod paths;
-mod stack;
 
 pub use mc_check_line::Branch;
 pub use paths::Paths;

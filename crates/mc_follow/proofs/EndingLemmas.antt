@@ -5,10 +5,6 @@ pub mod Naming
 pub mod Forgetting
 pub mod Kinded
 pub mod Ends
-pub mod Options
-pub mod Tested
-pub mod Fixed
-pub mod Fitted
 pub mod Machine
 pub mod Leading
 pub mod Steps

@@ -13,10 +13,10 @@ use Rattle.mc_semantics.specs.Resolved.Resolving.{Naming, numbers_in, resolved_h
 use Rattle.mc_semantics.specs.Resolved.Views.{statement_of, stmts_of}
 use Rattle.mc_c_walk.specs.Tasks.{behind_all}
 use Rattle.mc_resolve.specs.Frames.{Placed, before, block_left, plugged}
-use Rattle.mc_resolve.specs.Parting.{behind_heads, outside}
-use Rattle.mc_resolve.specs.declared.scope.Marks.{Marks}
+use Rattle.mc_c_walk.specs.Parting.{behind_heads, outside}
+use Rattle.mc_c_walk.specs.declared.variables.Marks.{Marks}
 use Rattle.mc_resolve.specs.declared.statements.Frame.{Frame}
-use Rattle.mc_resolve.proofs.Keeps.{outside_block, outside_for}
+use Rattle.mc_c_walk.proofs.Keeps.{outside_block, outside_for}
 
 -- a list without elements
 pub none_left : {X : Type 0} (xs : List X) → length xs ≡ 0 → xs ≡ []

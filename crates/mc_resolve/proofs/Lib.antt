@@ -1,9 +1,6 @@
 pub mod Seeing
 pub mod FieldNumbers
 pub mod FunctionNumbers
-pub mod Parted
-pub mod Keeps
 pub mod Frames
 pub mod Numbers
 pub mod WholeFunctions
-pub mod Latest

@@ -12,16 +12,6 @@ use Rattle.mc_c_types.specs.Faults.{variable_type}
 use Rattle.mc_semantics.specs.Values.{variable_of}
 use Rattle.mc_semantics.specs.Resolved.Resolving.{Naming, number_in, numbers_in, resolved_variable}
 
-found_step : (v : Named) (b : Bool) (rest : Option Named) → option_map variable_held (cond b (Some v) rest) ≡ cond b (Some (variable_held v)) (option_map variable_held rest)
-found_step v true rest = refl
-found_step v false rest = refl
-
-pub found_held : (name : List ℕ) (vs : List Named) → option_map variable_held (find (λ v. is_same v.name.now name) vs) ≡ find (λ v. is_same v.name name) (map variable_held vs)
-found_held name [] = refl
-found_held name (v ∷ vs) =
-    found_step v (is_same v.name.now name) (find (λ v. is_same v.name.now name) vs)
-    ∙ ap (cond (is_same v.name.now name) (Some (variable_held v))) (found_held name vs)
-
 pub number_found : (n : Naming) (vs : List Variable) (name : Name) (found : Option Variable) → found ≡ variable_of vs name
     → option_map_or (λ v. number_in n.locals v.place) found (length n.locals) ≡ resolved_variable n vs name
 number_found n vs name found e = ap (λ o. option_map_or (λ v. number_in n.locals v.place) o (length n.locals)) e

@@ -8,8 +8,8 @@ use Rattle.mc_semantics.specs.Resolved.Programs.{Stmt, block, if_only, if_else, 
 use Rattle.mc_semantics.specs.Resolved.Resolving.{Naming, numbers_in, resolved_condition, resolved_statement, resolved_statements}
 use Rattle.mc_semantics.specs.Resolved.Views.{condition_of, head_of, statement_of}
 use Rattle.mc_c_walk.specs.Tasks.{behind_all, statement_steps, statements_steps}
-use Rattle.mc_resolve.specs.Parting.{outside, behind_heads}
-use Rattle.mc_resolve.specs.declared.scope.Marks.{Marks}
+use Rattle.mc_c_walk.specs.Parting.{outside, behind_heads}
+use Rattle.mc_c_walk.specs.declared.variables.Marks.{Marks}
 use Rattle.mc_resolve.specs.declared.statements.Frame.{Frame}
 use Rattle.mc_resolve.specs.declared.statements.Next.{Next}
 

@@ -13,11 +13,11 @@ use crate::condition::resolve_condition;
 use crate::locals::named;
 use crate::naming::{NamesHere, Naming};
 use crate::right::{resolve_right, resolve_simple};
-use crate::scope::Scope;
 use mc_base::text::Place;
 use mc_c_syntax::ast as tree;
 use mc_c_syntax::ast::Base;
 use mc_c_types::Named;
+use mc_c_walk::Variables;
 use mc_semantics::resolved::{Condition, ForHead, ForStart, Initial, RightSide, Simple};
 use std::alloc::{AllocError, Global};
 
@@ -103,7 +103,7 @@ fn resolve_maybe_simple(
 pub fn resolve_items<'a>(
     alloc: Global,
     naming: Naming<'_, 'a>,
-    scope: &mut Scope<'a>,
+    scope: &mut Variables<'a>,
     base: &Base,
     items: &'a [tree::Initial],
 ) -> Result<Vec<Initial>, AllocError>
@@ -126,11 +126,11 @@ pub fn resolve_items<'a>(
 }
 
 /// What a `for` begins with, and the variables that it declares.
-#[tactic(auto, using(crate::proofs::Keeps::outside_start))]
+#[tactic(auto, using(mc_c_walk::proofs::Keeps::outside_start))]
 fn resolve_start<'a>(
     alloc: Global,
     naming: Naming<'_, 'a>,
-    scope: &mut Scope<'a>,
+    scope: &mut Variables<'a>,
     start: &'a tree::ForStart,
 ) -> Result<(ForStart, Vec<usize>), AllocError>
     requires { IsNumbered naming }
@@ -163,7 +163,7 @@ fn resolve_start<'a>(
 pub fn resolve_head<'a>(
     alloc: Global,
     naming: Naming<'_, 'a>,
-    scope: &mut Scope<'a>,
+    scope: &mut Variables<'a>,
     head: &'a tree::ForHead,
 ) -> Result<ForHead, AllocError>
     requires { IsNumbered naming }

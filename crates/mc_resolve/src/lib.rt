@@ -13,9 +13,7 @@ mod locals;
 mod naming;
 mod program;
 mod right;
-mod scope;
 mod shapes;
 mod statements;
-mod visible;
 
 pub use program::resolve;

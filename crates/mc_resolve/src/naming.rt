@@ -5,11 +5,11 @@ ghost use Rattle.mc_c_syntax.specs.Ast.Names.{is_same};
 use crate::fields::FieldNames;
 use crate::functions::FunctionNames;
 use crate::locals::Locals;
-use crate::scope::Scope;
 use mc_base::text::Text;
 use mc_base::{PredId, StructId};
 use mc_c_syntax::ast::{LeftValue as NamedLeft, Name};
 use mc_c_types::{NameTables, VariableType};
+use mc_c_walk::Variables;
 use mc_flow::defs::Def;
 use mc_semantics::resolved::{FieldAt, LeftValue};
 use std::alloc::{AllocError, Global};
@@ -28,7 +28,7 @@ pub struct Naming<'s, 'a> {
 #[derive(Clone, Copy)]
 pub struct NamesHere<'s, 'a> {
     pub naming: Naming<'s, 'a>,
-    pub scope: &'s Scope<'a>,
+    pub scope: &'s Variables<'a>,
 }
 
 ghost use Rattle.mc_semantics.specs.Values.{struct_behind};

@@ -12,13 +12,13 @@ use crate::functions::FunctionNames;
 use crate::gather::body_of;
 use crate::locals::{Locals, named};
 use crate::naming::Naming;
-use crate::scope::Scope;
 use crate::statements::resolve_body;
 use mc_base::Kind;
 use mc_base::text::Text;
 use mc_c_check::{Bound, collect_tables};
 use mc_c_syntax::ast as tree;
 use mc_c_types::{NameTables, Named, VariableType, parameters};
+use mc_c_walk::Variables;
 use mc_flow::defs::Def;
 use mc_semantics::resolved::{Function, Local, Resolved};
 use std::alloc::{AllocError, Global};
@@ -71,10 +71,10 @@ fn body_scope<'a>(
     alloc: Global,
     tables: &NameTables,
     function: &'a tree::Function,
-) -> Result<Scope<'a>, AllocError>
+) -> Result<Variables<'a>, AllocError>
     ensures { IfOk result (λ scope. scope ≡ parameter_scope (tables_held tables.now) (named_function function.now)) }
 {
-    let mut scope = Scope::new(alloc);
+    let mut scope = Variables::new(alloc);
     let listed = parameters(function);
     for parameter in listed {
         scope.declare(named(tables, &parameter.base, &parameter.declarator))?;

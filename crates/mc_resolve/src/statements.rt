@@ -9,7 +9,7 @@ ghost use Rattle.mc_c_types.specs.Scopes.{behind, inside};
 ghost use Rattle.mc_c_walk.specs.Tasks.{behind_all, statements_steps};
 ghost use Rattle.mc_resolve.specs.Frames.{block_left, finished, frame_steps, frames_steps, left_steps, plugged};
 ghost use Rattle.mc_resolve.specs.Named.{IsNumbered, naming_held};
-ghost use Rattle.mc_resolve.specs.Parting.{outside};
+ghost use Rattle.mc_c_walk.specs.Parting.{outside};
 ghost use Rattle.mc_resolve.specs.declared.statements.Next.TheVariants as Next;
 
 use crate::condition::{condition_place, resolve_condition};
@@ -19,11 +19,11 @@ use crate::declarations::{
 use crate::expression::resolve_expression;
 use crate::naming::{NamesHere, Naming};
 use crate::right::resolve_simple;
-use crate::scope::{Marks, Scope};
 use crate::shapes::{resolve_assert_shape, resolve_assume_shape};
 use mc_base::stack::Stack;
 use mc_base::text::Place;
 use mc_c_syntax::ast as tree;
+use mc_c_walk::{Marks, Variables};
 use mc_semantics::resolved::{Condition, ForHead, Statement};
 use std::alloc::{AllocError, Global};
 
@@ -61,7 +61,7 @@ fn block_of(variables: Vec<usize>, done: Vec<Statement>) -> Statement
 fn go_on<'a>(
     alloc: Global,
     naming: Naming<'_, 'a>,
-    scope: &mut Scope<'a>,
+    scope: &mut Variables<'a>,
     frames: &mut Stack<Frame<'a>>,
     rest: &'a [tree::Statement],
     done: Vec<Statement>,
@@ -95,7 +95,7 @@ fn go_on<'a>(
 fn enter_block<'a>(
     alloc: Global,
     naming: Naming<'_, 'a>,
-    scope: &mut Scope<'a>,
+    scope: &mut Variables<'a>,
     frames: &mut Stack<Frame<'a>>,
     statements: &'a [tree::Statement],
 ) -> Result<Next<'a>, AllocError>
@@ -118,7 +118,7 @@ fn enter_block<'a>(
 fn enter_for<'a>(
     alloc: Global,
     naming: Naming<'_, 'a>,
-    scope: &mut Scope<'a>,
+    scope: &mut Variables<'a>,
     frames: &mut Stack<Frame<'a>>,
     head: &'a tree::ForHead,
 ) -> Result<(), AllocError>
@@ -141,7 +141,7 @@ fn enter_for<'a>(
 fn resolve_declaration<'a>(
     alloc: Global,
     naming: Naming<'_, 'a>,
-    scope: &mut Scope<'a>,
+    scope: &mut Variables<'a>,
     declaration: &'a tree::Declaration,
 ) -> Result<Statement, AllocError>
     requires { IsNumbered naming }
@@ -161,7 +161,7 @@ fn resolve_declaration<'a>(
 fn enter<'a>(
     alloc: Global,
     naming: Naming<'_, 'a>,
-    scope: &mut Scope<'a>,
+    scope: &mut Variables<'a>,
     frames: &mut Stack<Frame<'a>>,
     statement: &'a tree::Statement,
 ) -> Result<Next<'a>, AllocError>
@@ -238,7 +238,7 @@ fn enter<'a>(
 fn close<'a>(
     alloc: Global,
     naming: Naming<'_, 'a>,
-    scope: &mut Scope<'a>,
+    scope: &mut Variables<'a>,
     frames: &mut Stack<Frame<'a>>,
     frame: Frame<'a>,
     made: Statement,
@@ -282,7 +282,7 @@ fn close<'a>(
 fn resolve_statement<'a>(
     alloc: Global,
     naming: Naming<'_, 'a>,
-    scope: &mut Scope<'a>,
+    scope: &mut Variables<'a>,
     statement: &'a tree::Statement,
 ) -> Result<Statement, AllocError>
     requires { IsNumbered naming }
@@ -308,7 +308,7 @@ fn resolve_statement<'a>(
 pub fn resolve_body<'a>(
     alloc: Global,
     naming: Naming<'_, 'a>,
-    mut scope: Scope<'a>,
+    mut scope: Variables<'a>,
     statements: &'a [tree::Statement],
 ) -> Result<Vec<Statement>, AllocError>
     requires { IsNumbered naming }

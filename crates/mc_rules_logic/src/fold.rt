@@ -5,7 +5,6 @@ mod judged;
 mod laws;
 mod made;
 mod refused;
-mod rules;
 mod wrong;
 
 pub use examples::{
@@ -23,8 +22,5 @@ pub use refused::{
     examples_of_cells_refused, examples_of_closing_refused, examples_of_dropping_refused,
     examples_of_false_state, examples_of_forks_refused, examples_of_joining_refused,
     examples_of_making_refused, examples_of_naming_refused,
-};
-pub use rules::{
-    CloseSeg, DropEdge, EmptySeg, FoldInd, FoldSeg, ForgetNode, JoinSegs, MergeNodes, SpareNode,
 };
 pub use wrong::{wrong_closing, wrong_drop, wrong_fold};

@@ -17,7 +17,7 @@ use mc_symbolic::State;
 pub use names::push_var;
 use names::var_texts;
 use nodes::atom_texts;
-pub use nodes::{push_node, push_number};
+pub use nodes::push_node;
 use std::alloc::Global;
 
 /// The text of a state, where these are its atoms.

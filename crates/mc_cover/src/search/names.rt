@@ -32,8 +32,8 @@ pub fn term_at(names: &[Term], name: u64) -> Term
     }
 }
 
-// The term of the base of a sum.
-fn base_at(names: &[Term], base: Option<u64>) -> Term
+/// The term of the base of a sum.
+pub fn base_at(names: &[Term], base: Option<u64>) -> Term
     ensures { result ≡ base_term names.now base }
 {
     match base {

@@ -42,8 +42,8 @@ pub fn copied_stop(
     }
 }
 
-// Nodes as terms.
-fn plain_terms(alloc: Global, nodes: &[NodeId]) -> Result<Vec<Term>, NoMemory>
+/// Nodes as terms.
+pub fn plain_terms(alloc: Global, nodes: &[NodeId]) -> Result<Vec<Term>, NoMemory>
     ensures { IfOk result (λ terms. terms.items ≡ map plain nodes.now) }
 {
     let mut terms = Vec::new(alloc);
@@ -64,8 +64,8 @@ fn terms_at(alloc: Global, names: &[Term], args: &[u64]) -> Result<Vec<Term>, No
     Ok(terms)
 }
 
-// What a call asks for.
-fn goal_of(
+/// What a call asks for.
+pub fn goal_of(
     alloc: Global,
     names: &[Term],
     stop: Option<(Term, Items<Term>)>,

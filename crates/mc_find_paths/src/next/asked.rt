@@ -9,12 +9,11 @@ ghost use Rattle.mc_state.specs.Known.{Test, Tells};
 ghost use Rattle.mc_kernel.specs.Progress.Asked.{at_code, false_or_null};
 ghost use Rattle.mc_rules_steps.specs.Operands.{code_at};
 
-use crate::next::access::accessed;
 use crate::next::stepping::instance;
 use crate::next::unfolding::{at_node, false_or_null};
 use mc_apply_steps::instructions::code_at;
 use mc_base::{NoMemory, PointId};
-use mc_check_line::Branch;
+use mc_check_line::{Branch, accessed_by};
 use mc_flow::defs::Defs;
 use mc_flow::{Flow, Instr};
 use mc_gaps::lacking::lacking_at;
@@ -52,7 +51,7 @@ pub fn at_code(defs: &Defs, code: &Instr, state: &State) -> Option<Line>
     if let Some(line) = instance(state, code) {
         return Some(line);
     }
-    match accessed(state, code) {
+    match accessed_by(state, code) {
         Some(node) => at_node(state, defs, node),
         None => None,
     }

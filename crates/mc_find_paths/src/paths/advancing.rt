@@ -3,9 +3,9 @@ ghost use Rattle.std.specs.Prelude.{◌≡◌};
 ghost use Rattle.mc_flow.specs.Valid.{IsValid};
 ghost use Rattle.mc_document.specs.Proof.Stacks.{AreMade};
 
-use crate::paths::stack::Stack;
 use mc_base::NoMemory;
 use mc_check_line::{Refused, Setting, judge};
+use mc_document::proof::Stack;
 use mc_flow::{Defs, Flow};
 use mc_lines::cert::Line;
 use std::alloc::{AllocError, Global};

@@ -5,9 +5,9 @@ ghost use Rattle.mc_base.specs.Ranges.Ends.{IsInt};
 
 use crate::paths::advancing::advance;
 use crate::paths::entering::{begins, entry};
-use crate::paths::stack::Stack;
 use mc_base::{NoMemory, PointId};
 use mc_check_line::{Branch, Setting};
+use mc_document::proof::Stack;
 use mc_flow::{Defs, Flow, Instr};
 use mc_gaps::lacking::lacking_at;
 use mc_lines::cert::Line;

@@ -30,9 +30,9 @@ use Rattle.mc_state.specs.Fits.{IsBounded}
 use Rattle.mc_state.specs.State.{State, pure_of}
 use Rattle.mc_follow.specs.declared.ending.met.Met.{Met}
 use Rattle.mc_follow.specs.Ending.Making.{HaveNoStop, IsOpenedBy, LeadsOn, Opened, marks_of}
-use Rattle.mc_follow.proofs.EndingLemmas.Fitted.{rule_parts}
+use Rattle.mc_cover.proofs.Parts.{rule_parts}
 use Rattle.mc_follow.proofs.EndingLemmas.Forgetting.{made_fits, made_rises}
-use Rattle.mc_follow.proofs.EndingLemmas.Options.{same_some, there}
+use Rattle.mc_cover.proofs.Options.{same_some, there}
 
 or_turned : (a b : Bool) → (a || b) ≡ (b || a)
 or_turned true true = refl

@@ -38,13 +38,13 @@ use Rattle.mc_follow.specs.Ending.Ending.{AreNamed, AreSameTerms, AreAllSameTerm
 use Rattle.mc_follow.specs.Ending.Making.{AreMadeBy, AreNamesOf, IsMaking, Opened, marks_of, setting_in}
 use Rattle.mc_follow.proofs.EndingLemmas.Edges.{is_new, next_none, stays}
 use Rattle.mc_follow.proofs.EndingLemmas.Ends.{among_none, apart_more, clash, lie_count, made_grown, same_id, there_or}
-use Rattle.mc_follow.proofs.EndingLemmas.Fitted.{RuleParts, block_parts, ind_parts, rule_parts, seg_parts}
-use Rattle.mc_follow.proofs.EndingLemmas.Fixed.{fixed_front, fixed_fixes}
+use Rattle.mc_cover.proofs.Parts.{RuleParts, block_parts, ind_parts, rule_parts, seg_parts}
+use Rattle.mc_cover.proofs.Fixed.{fixed_front, fixed_fixes}
 use Rattle.mc_follow.proofs.EndingLemmas.Folding.{BlockIsThere, CallsAreMade, all_at, folds, rule_fits}
 use Rattle.mc_follow.proofs.EndingLemmas.Kinded.{AllKnown, HaveTermKinds, IsKinded, call_kinded, contents_kinded, each_known, end_kinded, names_known, no_contents_kinded, rule_fits_structs}
 use Rattle.mc_follow.proofs.EndingLemmas.Naming.{closes}
-use Rattle.mc_follow.proofs.EndingLemmas.Options.{not_there, same_some, then_some, there}
-use Rattle.mc_follow.proofs.EndingLemmas.Tested.{all_equal_from, all_lie_from, atoms_from, equal_from}
+use Rattle.mc_cover.proofs.Options.{not_there, same_some, then_some, there}
+use Rattle.mc_cover.proofs.Terms.{all_equal_from, all_lie_from, atoms_from, equal_from}
 use Rattle.mc_follow.proofs.EndingLemmas.Written.{all_same_grown, later_on, same_grown}
 
 -- ---- what marks take

@@ -32,13 +32,13 @@ use Rattle.mc_follow.specs.declared.ending.met.Met.{Met}
 use Rattle.mc_follow.specs.Ending.Ending.{AreNamed, IsLater}
 use Rattle.mc_follow.specs.Ending.Making.{AreNamesOf, setting_in}
 use Rattle.mc_follow.specs.Ending.Steps.{AllMayBeNamed, AreOpened, Gives, GoalsAreMade, IsTask, Makes, MakesNext, Task, TermsAreNamed, asked_for}
-use Rattle.mc_follow.proofs.EndingLemmas.Fitted.{rule_parts}
+use Rattle.mc_cover.proofs.Parts.{rule_parts}
 use Rattle.mc_follow.proofs.EndingLemmas.Forgetting.{forgets_zero, forgotten, forgotten_later, made_fits, made_rises, names_zero, none_is_next, zeroed}
 use Rattle.mc_follow.proofs.EndingLemmas.Kinded.{HaveTermKinds, goal_kinded}
 use Rattle.mc_follow.proofs.EndingLemmas.Machine as machine
 use Rattle.mc_follow.proofs.EndingLemmas.Machine.{IsAsked}
 use Rattle.mc_follow.proofs.EndingLemmas.Naming.{meets}
-use Rattle.mc_follow.proofs.EndingLemmas.Options.{same_some}
+use Rattle.mc_cover.proofs.Options.{same_some}
 use Rattle.mc_follow.proofs.EndingLemmas.Written.{derives, plain_named, spare, spare_grown, spare_named}
 
 -- a rule that gives one list at most gives one state

@@ -3,7 +3,7 @@ use Rattle.std.specs.Prelude.{◌≡◌, ◌++◌, ◌∷◌, ℕ, true, false, 
 use Rattle.std.specs.Fmt.{decimal}
 use Rattle.mc_base.specs.declared.ids.PointId.{PointId}
 use Rattle.mc_base.specs.declared.ids.StructId.{StructId}
-use Rattle.mc_base.specs.declared.text.place.Place.{Place}
+use Rattle.mc_base.specs.Text.Places.{place_text}
 use Rattle.mc_flow.specs.declared.defs.rules.Def.{Def}
 use Rattle.mc_flow.specs.declared.defs.shapes.StructInfo.{StructInfo}
 use Rattle.mc_flow.specs.declared.graph.Flow.{Flow}
@@ -18,10 +18,6 @@ use Rattle.mc_rules_steps.specs.Operands.{code_at}
 use Rattle.mc_rules_steps.specs.Unmet.{IsUnmet}
 use Rattle.mc_kernel.specs.Branches.{Path, states_at}
 use Rattle.mc_kernel.specs.Certificates.{WrittenHead, states_of}
-
--- a place: its line and its column
-abbrev pub place_text : Place → Text
-place_text place = decimal place.line ++ codes ":" ++ decimal place.column
 
 -- the place of a point's instruction
 abbrev pub point_text : Flow → PointId → Text

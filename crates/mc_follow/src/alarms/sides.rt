@@ -12,31 +12,13 @@ use crate::alarms::laws::documents_are_followed;
 use crate::alarms::walk::Walk;
 use crate::ending::{Met, all_met, goals_are_made, rule_of};
 use mc_base::{EdgeId, Items, Kind, NoMemory, NodeId};
-use mc_cover::search::cover;
+use mc_cover::search::{cover, plain, plain_terms};
 use mc_cover::{Goal, Mark, none_is_missed};
 use mc_flow::{Defs, Flow};
 use mc_lines::cert::Line;
 use mc_state::{Goal as SideGoal, Term};
 use mc_symbolic::State;
 use std::alloc::Global;
-
-// A node alone.
-fn plain(node: NodeId) -> Term
-    ensures { result ≡ plain node }
-{
-    Term { node, add: 0 }
-}
-
-// Nodes as terms.
-fn plain_terms(alloc: Global, nodes: &[NodeId]) -> Result<Vec<Term>, NoMemory>
-    ensures { IfOk result (λ terms. terms.items ≡ map plain nodes.now) }
-{
-    let mut terms = Vec::with_capacity(alloc, nodes.len())?;
-    for node in nodes {
-        terms.push(plain(*node))?;
-    }
-    Ok(terms)
-}
 
 /// The goals that the marks of the first cover of a side branch's goal meet, in order. None where there is no cover. The
 /// state must not be false.

@@ -12,38 +12,12 @@ ghost use Rattle.std.specs.Option.{option_copied};
 
 use mc_base::{EdgeId, NoMemory, NodeId};
 use mc_cover::Goal;
+use mc_cover::search::{base_at, front_names, plain};
 use mc_flow::defs::{DefAtom, Rule};
 use mc_state::Term;
 use mc_state::graph::Edge;
 use mc_symbolic::State;
 use std::alloc::{AllocError, Global};
-
-/// A node alone.
-pub fn plain(node: NodeId) -> Term
-    ensures { result ≡ plain node }
-{
-    Term { node, add: 0 }
-}
-
-/// The term of a name.
-pub fn term_at(names: &[Term], name: u64) -> Term
-    ensures { result ≡ term_of names.now name }
-{
-    match names.get(name as usize) {
-        Some(term) => *term,
-        None => plain(NodeId(0)),
-    }
-}
-
-// The term of the base of a sum.
-fn base_at(names: &[Term], base: Option<u64>) -> Term
-    ensures { result ≡ base_term names.now base }
-{
-    match base {
-        Some(name) => term_at(names, name),
-        None => plain(NodeId(0)),
-    }
-}
 
 // A term and a number more. No memory where the sum has more than 64 bits, which it has at no name that fits.
 fn moved(base: &Term, add: i64) -> Result<Term, NoMemory>
@@ -115,17 +89,6 @@ fn push_block(names: &mut Vec<Term>, edge: Option<&Edge>) -> Result<bool, NoMemo
         Some(Edge::Seg { .. }) => Ok(false),
         None => Ok(false),
     }
-}
-
-// The term and the arguments of a goal.
-fn front_names(alloc: Global, goal: &Goal) -> Result<Vec<Term>, NoMemory>
-    ensures { IfOk result (λ names. names.items ≡ goal.now.at ∷ goal.now.args) }
-{
-    let mut names = vec![in alloc; goal.at]?;
-    for arg in goal.args.as_slice() {
-        names.push(*arg)?;
-    }
-    Ok(names)
 }
 
 /// The terms of a rule's names at a goal, with a block whose fields are known. None where it is not there.

@@ -11,8 +11,9 @@ ghost use Rattle.mc_state.specs.Known.{Test, Tells};
 ghost use Rattle.mc_state.specs.Terms.{plain, term_of};
 
 use crate::ending::met::Met;
-use crate::ending::names::{plain, rule_names, term_at};
+use crate::ending::names::rule_names;
 use mc_base::{EdgeId, Items, NoMemory, NodeId, PredId};
+use mc_cover::search::{goal_of, plain, plain_terms};
 use mc_cover::{Goal, Mark};
 use mc_flow::defs::{Call, Defs, Rule};
 use mc_pure::each_is_decided;
@@ -33,41 +34,6 @@ pub fn rule_of(defs: &Defs, pred: PredId, place: usize) -> Option<&Rule>
     }
 }
 
-// Nodes as terms.
-fn plain_terms(alloc: Global, nodes: &[NodeId]) -> Result<Vec<Term>, NoMemory>
-    ensures { IfOk result (λ terms. terms.items ≡ map plain nodes.now) }
-{
-    let mut terms = Vec::new(alloc);
-    for node in nodes {
-        terms.push(plain(*node))?;
-    }
-    Ok(terms)
-}
-
-// The terms of names.
-fn terms_at(alloc: Global, names: &[Term], args: &[u64]) -> Result<Vec<Term>, NoMemory>
-    ensures { IfOk result (λ terms. terms.items ≡ map (term_of names.now) args.now) }
-{
-    let mut terms = Vec::new(alloc);
-    for name in args {
-        terms.push(term_at(names, *name))?;
-    }
-    Ok(terms)
-}
-
-// What a call asks for.
-fn call_goal(alloc: Global, names: &[Term], call: &Call) -> Result<Goal, NoMemory>
-    ensures { IfOk result (λ made. made ≡ goal_of names.now None call.now) }
-{
-    let args = terms_at(alloc, names, call.args.as_slice())?;
-    Ok(Goal {
-        pred: call.pred,
-        at: term_at(names, call.at),
-        args: Items::of(args),
-        stop: None,
-    })
-}
-
 // Puts what calls ask for on a stack, the first one at the top.
 fn push_calls(
     alloc: Global,
@@ -80,7 +46,7 @@ fn push_calls(
     let mut i = calls.len();
     while i > 0 {
         i -= 1;
-        let goal = call_goal(alloc, names, &calls[i])?;
+        let goal = goal_of(alloc, names, None, &calls[i])?;
         open.push(goal)?;
     }
     Ok(())

@@ -1,26 +1,17 @@
 // Places of points, and what instructions lack there.
 ghost use Rattle.std.specs.Prelude.{◌≡◌, ◌++◌, Some, OnOk, codes};
 ghost use Rattle.mc_state_io.specs.Text.Text.{node_text};
-ghost use Rattle.mc_follow.specs.Report.Report.{field_name, gap_text, place_text, point_text, read_struct};
+ghost use Rattle.mc_follow.specs.Report.Report.{field_name, gap_text, point_text, read_struct};
 ghost use Rattle.mc_rules_steps.specs.Operands.{code_at};
 
 use mc_apply_steps::instructions::code_at;
-use mc_base::text::Place;
+use mc_base::text::print_place;
 use mc_base::{NoMemory, NodeId, PointId, StructId};
 use mc_flow::defs::{Defs, StructInfo};
 use mc_flow::{Flow, Instr};
 use mc_rules_steps::Gap;
-use mc_state_io::text::{push_node, push_number, push_pred, push_var};
+use mc_state_io::text::{push_node, push_pred, push_var};
 use std::alloc::Global;
-
-/// Adds a place.
-fn push_place(alloc: Global, out: &mut Vec<u8>, place: Place) -> Result<(), NoMemory>
-    ensures { OnOk result (out.new.items ≡ out.old.items ++ place_text place) }
-{
-    push_number(alloc, out, place.line as u64)?;
-    out.push(b':')?;
-    push_number(alloc, out, place.column as u64)
-}
 
 /// Adds the place of a point's instruction.
 pub fn push_point(
@@ -32,7 +23,7 @@ pub fn push_point(
     ensures { OnOk result (out.new.items ≡ out.old.items ++ point_text flow.now point) }
 {
     match flow.points.as_slice().get(point.0 as usize) {
-        Some(there) => push_place(alloc, out, there.place),
+        Some(there) => print_place(alloc, out, there.place),
         None => Ok(()),
     }
 }

@@ -8,13 +8,14 @@ ghost use Rattle.mc_rules_steps.specs.declared.gap.Gap.{Gap as Lacked};
 ghost use Rattle.mc_rules_steps.specs.Unmet.{IsUnmet};
 
 use crate::report::gaps::{push_gap, push_point};
+use mc_base::text::print_number;
 use mc_base::{NoMemory, PointId};
 use mc_flow::Flow;
 use mc_flow::defs::Defs;
 use mc_gaps::lacking::lacking_at;
 use mc_rules_steps::Gap;
 use mc_state::RawState;
-use mc_state_io::text::{print, push_number};
+use mc_state_io::text::print;
 use mc_symbolic::State;
 use std::alloc::Global;
 
@@ -75,7 +76,7 @@ pub fn push_count(alloc: Global, out: &mut Vec<u8>, count: u64) -> Result<(), No
     ensures { OnOk result (out.new.items ≡ out.old.items ++ count_line count) }
 {
     out.extend_from_slice(b"alarms: ")?;
-    push_number(alloc, out, count)?;
+    print_number(alloc, out, count)?;
     out.push(b'\n')?;
     Ok(())
 }
@@ -94,7 +95,7 @@ fn push_head_line(
     out.extend_from_slice(b"at ")?;
     push_point(alloc, out, flow, point)?;
     out.extend_from_slice(b" #")?;
-    push_number(alloc, out, number)?;
+    print_number(alloc, out, number)?;
     out.extend_from_slice(b": ")?;
     out.extend_from_slice(state)?;
     out.push(b'\n')?;

@@ -1,7 +1,6 @@
 -- How a refusal is printed.
 use Rattle.std.specs.Prelude.{ℕ, List, ◌++◌, codes}
-use Rattle.std.specs.Fmt.{decimal}
-use Rattle.mc_base.specs.declared.text.place.Place.{Place}
+use Rattle.mc_base.specs.Text.Places.{place_text}
 use Rattle.mc_load.specs.declared.read.cause.Cause.{Cause}
 use Rattle.mc_load.specs.declared.read.cause.Cause.TheVariants.{BadByte, OpenComment, BadNumber, Unexpected, LeftOut, Unknown, Mismatch, Twice, Recursion, NoEntry, BadSizeof, Arity}
 use Rattle.mc_load.specs.declared.read.cause.Refusal.{Refusal}
@@ -20,10 +19,6 @@ cause_text Recursion = codes "Recursion"
 cause_text NoEntry = codes "NoEntry"
 cause_text BadSizeof = codes "BadSizeof"
 cause_text Arity = codes "Arity"
-
--- line and column
-abbrev pub place_text : Place → List ℕ
-place_text place = decimal place.line ++ codes ":" ++ decimal place.column
 
 -- the cause, and its place
 abbrev pub refusal_text : Refusal → List ℕ

@@ -1,28 +1,10 @@
 // How a refusal is printed.
-ghost use Rattle.mc_load.specs.Read.Printing.{cause_text, place_text, refusal_text};
-ghost use Rattle.std.specs.Fmt.{decimal};
+ghost use Rattle.mc_load.specs.Read.Printing.{cause_text, refusal_text};
 ghost use Rattle.std.specs.Prelude.{◌≡◌, ◌++◌, OnOk, codes};
 
 use crate::read::{Cause, Refusal};
-use mc_base::text::Place;
+use mc_base::text::print_place;
 use std::alloc::{AllocError, Global};
-
-fn print_number(alloc: Global, out: &mut Vec<u8>, number: u32) -> Result<(), AllocError>
-    ensures { OnOk result (out.new.items ≡ out.old.items ++ decimal number) }
-{
-    let text = format!(in alloc; "{number}")?;
-    out.extend_from_slice(text.as_bytes())?;
-    Ok(())
-}
-
-fn print_place(alloc: Global, out: &mut Vec<u8>, place: Place) -> Result<(), AllocError>
-    ensures { OnOk result (out.new.items ≡ out.old.items ++ place_text place) }
-{
-    print_number(alloc, out, place.line)?;
-    out.extend_from_slice(b":")?;
-    print_number(alloc, out, place.column)?;
-    Ok(())
-}
 
 fn print_cause(out: &mut Vec<u8>, cause: &Cause) -> Result<(), AllocError>
     ensures { OnOk result (out.new.items ≡ out.old.items ++ cause_text cause.now) }

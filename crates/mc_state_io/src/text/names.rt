@@ -2,7 +2,8 @@
 ghost use Rattle.std.specs.Prelude.{◌≡◌, ◌++◌, OnOk, IfOk, codes};
 ghost use Rattle.mc_state_io.specs.Text.Text.{is_name_of, node_text, var_name, var_text, var_texts};
 
-use crate::text::nodes::{push_node, push_number};
+use crate::text::nodes::push_node;
+use mc_base::text::print_number;
 use mc_base::{Items, NoMemory, NodeId, VarInfo};
 use std::alloc::Global;
 
@@ -30,12 +31,12 @@ fn push_name(
 {
     if name.is_empty() {
         out.push(b'$')?;
-        return push_number(alloc, out, x);
+        return print_number(alloc, out, x);
     }
     out.extend_from_slice(name)?;
     if is_name_of(before, name) {
         out.push(b'.')?;
-        push_number(alloc, out, x)?;
+        print_number(alloc, out, x)?;
     }
     Ok(())
 }

@@ -1,19 +1,11 @@
 // The texts of nodes and atoms.
 ghost use Rattle.std.specs.Prelude.{◌≡◌, ◌++◌, OnOk, IfOk, codes, map};
-ghost use Rattle.std.specs.Fmt.{decimal, signed_decimal};
+ghost use Rattle.std.specs.Fmt.{signed_decimal};
 ghost use Rattle.mc_state_io.specs.Text.Text.{node_text, known_text, offset_text, range_text, atom_text};
 
+use mc_base::text::print_number;
 use mc_base::{Atom, Items, NoMemory, NodeId};
 use std::alloc::Global;
-
-/// Adds a number.
-pub fn push_number(alloc: Global, out: &mut Vec<u8>, number: u64) -> Result<(), NoMemory>
-    ensures { OnOk result (out.new.items ≡ out.old.items ++ decimal number) }
-{
-    let text = format!(in alloc; "{number}")?;
-    out.extend_from_slice(text.as_bytes())?;
-    Ok(())
-}
 
 /// Adds a number with its sign, where it is negative.
 fn push_signed(alloc: Global, out: &mut Vec<u8>, number: i64) -> Result<(), NoMemory>
@@ -33,7 +25,7 @@ pub fn push_node(alloc: Global, out: &mut Vec<u8>, node: NodeId) -> Result<(), N
         return Ok(());
     }
     out.push(b'n')?;
-    push_number(alloc, out, node.0)
+    print_number(alloc, out, node.0)
 }
 
 /// Adds a node, and `?` where it is not known.

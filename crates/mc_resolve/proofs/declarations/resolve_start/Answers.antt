@@ -2,7 +2,7 @@ use Rattle.std.proofs.Common.{ap, map, ◌∙◌}
 use Rattle.mc_c_syntax.specs.Ast.Views.{declaration_of, initial_of, start_of}
 use Rattle.mc_c_types.specs.Held.{tables_held}
 use Rattle.mc_c_types.specs.Scopes.{behind_items}
-use Rattle.mc_resolve.proofs.Keeps.{head_begun}
+use Rattle.mc_c_walk.proofs.Keeps.{head_begun}
 use Rattle.mc_resolve.proofs.declarations.resolve_start.Goals as goal
 
 pub returns-in_ok-variables-in-Declaration-clause-scope : goal.returns-in_ok-variables-in-Declaration-clause-scope

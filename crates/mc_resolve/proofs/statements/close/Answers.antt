@@ -6,7 +6,7 @@ use Rattle.mc_semantics.specs.Resolved.Views.{statement_of}
 use Rattle.mc_c_walk.specs.Tasks.{behind_all}
 use Rattle.mc_resolve.specs.Frames.{plugged}
 use Rattle.mc_resolve.specs.Named.{naming_held}
-use Rattle.mc_resolve.specs.Parting.{outside}
+use Rattle.mc_c_walk.specs.Parting.{outside}
 use Rattle.mc_resolve.specs.declared.statements.Frame.{Frame}
 use Rattle.mc_resolve.proofs.Frames.{block_more}
 use Rattle.mc_resolve.proofs.statements.close.Goals as goal

@@ -2,8 +2,8 @@ use Rattle.std.proofs.Common.{ap, ◌∙◌, reverse}
 use Rattle.std.specs.Prelude.{find, option_map}
 use Rattle.mc_c_syntax.specs.Ast.Names.{is_same}
 use Rattle.mc_c_types.specs.Held.{variable_held}
-use Rattle.mc_resolve.proofs.Seeing.{found_held}
-use Rattle.mc_resolve.proofs.scope.Scope.find.Goals as goal
+use Rattle.mc_c_walk.proofs.Parted.{found_held}
+use Rattle.mc_c_walk.proofs.variables.Variables.find.Goals as goal
 
 pub returns : goal.returns
 returns c =

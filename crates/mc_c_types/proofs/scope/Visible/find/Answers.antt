@@ -2,8 +2,8 @@ use Rattle.std.proofs.Common.{◌≡◌, ap, length, refl, reverse, sym, ◌∙�
 use Rattle.std.proofs.lemmas.Option.{slice_get_past, slice_get_read}
 use Rattle.std.specs.Prelude.{find, slice_get}
 use Rattle.mc_c_syntax.specs.Ast.Names.{is_same}
-use Rattle.mc_resolve.proofs.Latest.{named_found}
-use Rattle.mc_resolve.proofs.visible.Visible.find.Goals as goal
+use Rattle.mc_c_types.proofs.Latest.{named_found}
+use Rattle.mc_c_types.proofs.scope.Visible.find.Goals as goal
 
 pub returns-in-None : goal.returns-in-None
 returns-in-None c =

@@ -1,6 +1,6 @@
 use Rattle.std.proofs.Common.{sym}
-use Rattle.mc_resolve.proofs.Parted.{own_held}
-use Rattle.mc_resolve.proofs.scope.Scope.own.Goals as goal
+use Rattle.mc_c_walk.proofs.Parted.{own_held}
+use Rattle.mc_c_walk.proofs.variables.Variables.own.Goals as goal
 
 pub returns : goal.returns
 returns c =

@@ -1,0 +1,8 @@
+-- How places are printed.
+use Rattle.std.specs.Prelude.{ℕ, List, ◌++◌, codes}
+use Rattle.std.specs.Fmt.{decimal}
+use Rattle.mc_base.specs.declared.text.place.Place.{Place}
+
+-- line and column
+abbrev pub place_text : Place → List ℕ
+place_text place = decimal place.line ++ codes ":" ++ decimal place.column
